@@ -33,13 +33,13 @@ use Rattle.b67_emitter.specs.declared.names.Target as kept
 use Rattle.b67_emitter.specs.Values.{labels, labels_found, lows, lows_found, meant, target_told}
 use Rattle.b67_emit_text.specs.Entries.{Entry}
 use Rattle.b67_emit_text.specs.Targets as table
-use Rattle.b67_emit_text.specs.Targets.{or_target, target_there, target_at, targets_from, targets_in}
+use Rattle.b67_emit_text.specs.Targets.{or_target, target_at, targets_from, targets_in}
 use Rattle.b67_emit_text.specs.Texts.{Text, texts}
 use Rattle.b67_fitting.specs.Fitted.{AreTargets, declared_at, meant_as, target_numbered, target_of}
 use Rattle.b67_templates.specs.Names.{HasNames}
-use Rattle.b67_fitting.proofs.Apart.{IsIn, same_place, same_self}
+use Rattle.b67_fitting.proofs.Apart.{IsIn, same_place}
 use Rattle.b67_fitting.proofs.Lists.{each_front, each_back, each_both}
-use Rattle.b67_fitting.proofs.Numbering.{block_is, each_at}
+use Rattle.b67_fitting.proofs.Numbering.{block_is, each_at, same_self}
 use Rattle.b67_fitting.proofs.SurroundedSites.{each_number}
 use Rattle.b67_compile.proofs.Entries.{entries_in_text, entries_numbered, entries_among}
 use Rattle.b67_compile.proofs.LabelPlaces.{IsLabelOf, label_of_entry, entry_at, in_text, of_text}
@@ -47,7 +47,7 @@ use Rattle.b67_compile.proofs.Labelled.{entries_are}
 use Rattle.b67_compile.proofs.LabelsDeclared.{InBlocks, label_in_blocks}
 use Rattle.b67_compile.proofs.LabelsKnown.{first_of, HasLabels, IsRow, IsLabelThere, decls_labels, stmts_labels, same_depth}
 use Rattle.b67_compile.proofs.Meanings.{all_held, held_found, known_from, meant_known}
-use Rattle.b67_compile.proofs.Places.{block_there}
+use Rattle.b67_fitting.proofs.Fits.{got_numbered}
 
 -- ---- in a list of texts
 
@@ -177,7 +177,7 @@ module _ (at : Spot) (ds : PDecls) (ss : PStmts) (names : Names) (order : IsInOr
   ts = texts (tree.body at ds ss)
 
   own_number : (j : ℕ) → j < length blocks → number_at blocks (block_numbered blocks j).spot ≡ j
-  own_number j h = each_number p order j (block_numbered blocks j) (block_there blocks j h)
+  own_number j h = each_number p order j (block_numbered blocks j) (got_numbered blocks j h)
 
   -- the labels of each block are known so
   all_labels : AllByRecursion (HasLabels blocks all) blocks
@@ -238,10 +238,10 @@ module _ (at : Spot) (ds : PDecls) (ss : PStmts) (names : Names) (order : IsInOr
         let there : slice_get (entries_among blocks k blocks) r.place ≡ Some e =
         ap (λ (es : List Entry). slice_get es r.place) (entries_are at ds ss order named k)
         ∙ ap (λ (n : ℕ). slice_get (entries_numbered 0 ts n) r.place) (sym same) ∙ of_text 0 ts k r.place r.text e r.there r.entry_there in
-        let l : IsLabelOf sc (block_there blocks) own_number k r.place e = label_of_entry sc (block_there blocks) own_number k r.place e there in
+        let l : IsLabelOf sc (got_numbered blocks) own_number k r.place e = label_of_entry sc (got_numbered blocks) own_number k r.place e there in
         let j = l.block in
         let b = block_numbered blocks j in
-        let its : HasLabels blocks all b = each_at (HasLabels blocks all) blocks j b all_labels (block_there blocks j l.within) in
+        let its : HasLabels blocks all b = each_at (HasLabels blocks all) blocks j b all_labels (got_numbered blocks j l.within) in
         let known : IsLabelThere blocks all (number_at blocks b.spot) (length b.outer) e.name =
         each_at (IsLabelThere blocks all (number_at blocks b.spot) (length b.outer)) (labels_in b.decls) l.index e.name its.there l.label_is in
         let D : Declared = record { name = e.name.name; spot = e.name.spot; block = number_at blocks b.spot; depth = length b.outer; sort = sort.label; class = class.label } in
@@ -275,7 +275,7 @@ module _ (at : Spot) (ds : PDecls) (ss : PStmts) (names : Names) (order : IsInOr
         let k = segment_of blocks j.0 in
         let e : Entry = record { level = level_of b; name = r.one; stmts = b.stmts } in
         let there : slice_get (entries_among blocks k blocks) (labels_before sc k j.0 + i.0) ≡ Some e =
-        entry_at sc (block_there blocks) own_number j.0 i.0 r.one less (ap (λ (z : Block). slice_get (labels_in z.decls) i.0) same ∙ i.1) in
+        entry_at sc (got_numbered blocks) own_number j.0 i.0 r.one less (ap (λ (z : Block). slice_get (labels_in z.decls) i.0) same ∙ i.1) in
         let zero_first : 0 + k ≡ k = omega arith in
         let q = in_text 0 ts k (labels_before sc k j.0 + i.0) e
         (ap (λ (n : ℕ). slice_get (entries_numbered 0 ts n) (labels_before sc k j.0 + i.0)) zero_first

@@ -1,6 +1,5 @@
 -- The labels that the blocks of a program declare are those of the tables of its texts, and have their numbers there.
 use Rattle.std.proofs.Common.{arith, ◌≡◌, ℕ, suc, ◌+◌, ◌<◌, List, [], ◌∷◌, ◌++◌, length, Some, refl, sym, ap, ◌∙◌, slice_get}
-use Rattle.std.specs.List.{AllByRecursion}
 use Rattle.algol_tree.specs.declared.token.Spot.{Spot}
 use Rattle.algol_tree.specs.declared.tree.Named.{Named}
 use Rattle.algol_tree.specs.Ascending.{IsInOrder}
@@ -19,12 +18,9 @@ use Rattle.b67_fitting.proofs.Numbering.{block_is}
 use Rattle.b67_fitting.proofs.SurroundedSites.{each_number}
 use Rattle.b67_compile.proofs.Entries.{entries_in_text, entries_numbered, entries_among, IsOwn, AreOwn, AreNumbered, Stands, have_block, stands_plain, stands_within, body_has}
 use Rattle.b67_compile.proofs.LabelPlaces.{IsEntry, numbered_entry, InText, in_text}
-use Rattle.b67_compile.proofs.Places.{block_there, text_block}
-
--- what holds of each by its number
-pub each_own : {X : Type 0} (P : X → Type 0) (xs : List X) → ((i : ℕ) (x : X) → slice_get xs i ≡ Some x → P x) → AllByRecursion P xs
-each_own P [] f = tt
-each_own P (x ∷ xs) f = (f 0 x refl, each_own P xs (λ i y h. f (suc i) y h))
+use Rattle.b67_compile.proofs.Places.{text_block}
+use Rattle.b67_fitting.proofs.Fits.{got_numbered}
+use Rattle.b67_fitting.proofs.ActualsCelled.{each_by}
 
 each_numbered : (blocks : List Block) (first : ℕ) (ts : List Text) → ((i : ℕ) (t : Text) → slice_get ts i ≡ Some t → segment_of blocks (number_at blocks t.spot) ≡ first + i) → AreNumbered blocks first ts
 each_numbered blocks first [] f = tt
@@ -48,7 +44,7 @@ module _ (spot : Spot) (ds : PDecls) (ss : PStmts) (order : IsInOrder (tree.prog
   all_own : AreOwn (blocks_of_program p) (blocks_of_program p)
   all_own =
       let bs = blocks_of_program p in
-      each_own (IsOwn bs) bs (λ i b h. ap (block_numbered bs) (each_number p order i b h) ∙ block_is bs i b h)
+      each_by (IsOwn bs) bs (λ i b h. ap (block_numbered bs) (each_number p order i b h) ∙ block_is bs i b h)
 
   all_numbered : AreNumbered (blocks_of_program p) 1 (texts_in_body (tree.body spot ds ss) OUTER_LEVEL)
   all_numbered =
@@ -78,8 +74,8 @@ module _ (spot : Spot) (ds : PDecls) (ss : PStmts) (order : IsInOrder (tree.prog
       let bs = blocks_of_program p in
       let sc = scopes_of p in
       let b = block_numbered bs j in
-      let own : (i : ℕ) → i < length bs → number_at bs (block_numbered bs i).spot ≡ i = (λ i less. each_number p order i (block_numbered bs i) (block_there bs i less)) in
-      let r : IsEntry sc (block_there bs) own j number name = numbered_entry sc (block_there bs) own j number name known h in
+      let own : (i : ℕ) → i < length bs → number_at bs (block_numbered bs i).spot ≡ i = (λ i less. each_number p order i (block_numbered bs i) (got_numbered bs i less)) in
+      let r : IsEntry sc (got_numbered bs) own j number name = numbered_entry sc (got_numbered bs) own j number name known h in
       let k = segment_of bs j in
       let e : Entry = record { level = level_of b; name = r.label; stmts = b.stmts } in
       let same : 0 + k ≡ k = omega arith in

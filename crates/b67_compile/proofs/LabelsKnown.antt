@@ -13,7 +13,7 @@ use Rattle.algol_tree.specs.Classes as class
 use Rattle.algol_tree.specs.Couples.{Known, known_there}
 use Rattle.algol_tree.specs.Names.{is_one_of, repeated, result_names_of, names_here, if_so}
 use Rattle.algol_tree.specs.Plain as tree
-use Rattle.algol_tree.specs.Plain.{PStmt, PStmts, PDecl, PDecls}
+use Rattle.algol_tree.specs.Plain.{PStmt, PStmts, PDecls}
 use Rattle.algol_tree.specs.Sites.{Site, sites, has_decls, here_stmt, inside_stmt, sites_in_stmts, inside_decl, sites_in_decls}
 use Rattle.algol_tree.specs.Sorts as sort
 use Rattle.algol_tree.specs.Sorts.{Declared, same_name, specified_by, class_by, class_in, sort_in, is_named_in, declare}
@@ -21,9 +21,10 @@ use Rattle.algol_tree.specs.Surroundings.{Surroundings, made_known, knowing, kno
 use Rattle.algol_paths.specs.Arrays.{Lows, Shape, shape_by, shape_in, stands_among, lows_of, lows_in, or_lows, lows_among, lows_declared}
 use Rattle.algol_told.proofs.Held as held
 use Rattle.algol_told.proofs.Held.{IsHeld, AllHeld, Passes}
+use Rattle.algol_meaning.proofs.Naming.{same_name-itself}
 use Rattle.b67_templates.specs.Labels.{labels_in, label_from}
 use Rattle.b67_fitting.proofs.Apart.{same_place}
-use Rattle.b67_fitting.proofs.Declaring.{IsOther, same_name_self, names_of, names_both, one_of_back, all_other}
+use Rattle.b67_fitting.proofs.Declaring.{IsOther, names_of, names_both, one_of_back, all_other}
 use Rattle.b67_fitting.proofs.Lists.{each_front, each_back, each_both, nil_front, nil_back, not_so}
 use Rattle.b67_compile.proofs.LabelsDeclared.{begun_sites}
 
@@ -59,7 +60,7 @@ pub first_of : (k : ℕ) (seen ns : List Named) (i : ℕ) (n : Named) → Fresh 
 first_of k seen [] i n f h = absurd (let clash : None ≡ Some n = h in cc)
 first_of k seen (m ∷ ns) zero n f h =
     let same : m ≡ n = cc in
-    let on : same_name m.name n.name ≡ true = ap (λ (z : Named). same_name z.name n.name) same ∙ same_name_self n.name in
+    let on : same_name m.name n.name ≡ true = ap (λ (z : Named). same_name z.name n.name) same ∙ same_name-itself n.name in
     let here : k ≡ k + 0 = omega arith in
     ap (λ (b : Bool). if b then Some k else label_from (k + 1) ns n.name) on ∙ ap (λ (j : ℕ). Some j) here
 first_of k seen (m ∷ ns) (suc i) n f h =

@@ -15,7 +15,7 @@ use Rattle.algol_tree.specs.Classes.{Formal}
 use Rattle.algol_tree.specs.Counts.{heading_tokens, stmt_tokens}
 use Rattle.algol_tree.specs.Names.{Segment, segments_of_part}
 use Rattle.algol_tree.specs.Plain as tree
-use Rattle.algol_tree.specs.Plain.{PExpr, PExprs, PPair, PStmt, PStmts, PDecls, name_alone}
+use Rattle.algol_tree.specs.Plain.{PExpr, PExprs, PStmt, PStmts, PDecls, name_alone}
 use Rattle.algol_tree.specs.Sites.{Site, name_part, wants_value, actual_part_by, first_formal, other_formals, inside_expr, inside_list, inside_actuals, sites, here_stmt, has_decls, inside_stmt, sites_in_pairs, sites_in_stmts, sites_in_decls}
 use Rattle.algol_tree.specs.Sorts.{Declared, parameters_of}
 use Rattle.algol_tree.specs.Surroundings.{Surroundings, outermost, formals_at, knowing, knowing_all, inside, inside_procedure}
@@ -23,6 +23,7 @@ use Rattle.algol_paths.specs.Segments.{is_procedure}
 use Rattle.b67_ops.specs.declared.TheConstants.{OUTER_LEVEL}
 use Rattle.b67_emit_text.specs.Texts.{Text, procedure_text, texts_of, texts_in_stmts, texts_in_decls, texts_in_body}
 use Rattle.b67_templates.specs.Names.{DeclsNamed, StmtNamed, StmtsNamed, HasNames}
+use Rattle.b67_frames.proofs.Segmenting.{pairs_none, both_none}
 
 -- the segments that begin at these places of the text
 abbrev pub segs : List Site → List Segment
@@ -71,9 +72,6 @@ match_both bs cs xs ys ts vs h k =
     (subst (λ (ss : List Segment). Triples (filter is_procedure bs ++ filter is_procedure cs) ss (ts ++ vs)) (sym (flat_map-append (λ (x : Site). segments_of_part x.part) xs ys))
     (triples_both (filter is_procedure bs) (filter is_procedure cs) (segs xs) (segs ys) ts vs h k))
 
-both_none : (xs ys : List Site) → segs xs ≡ [] → segs ys ≡ [] → segs (xs ++ ys) ≡ []
-both_none xs ys e f = flat_map-append (λ (x : Site). segments_of_part x.part) xs ys ∙ ap (λ (ss : List Segment). ss ++ segs ys) e ∙ f
-
 none_match : (xs : List Site) → segs xs ≡ [] → Match [] xs []
 none_match xs e = subst (λ (ss : List Segment). Triples [] ss []) (sym e) tt
 
@@ -121,10 +119,6 @@ mutual
   actuals_none (tree.more e es) fs a =
       ap (λ (ss : List Segment). ss ++ segs (inside_expr e a ++ inside_actuals es (other_formals fs) a)) (actual_none (name_alone e) e (first_formal fs))
       ∙ both_none (inside_expr e a) (inside_actuals es (other_formals fs) a) (expr_none e a) (actuals_none es (other_formals fs) a)
-
-pairs_none : (ps : List PPair) (a : Surroundings) → segs (sites_in_pairs ps a) ≡ []
-pairs_none [] a = refl
-pairs_none (p ∷ ps) a = both_none (sites p.high a) (sites_in_pairs ps a) (expr_none p.high a) (pairs_none ps a)
 
 -- ---- statements and declarations
 

@@ -1,5 +1,5 @@
 -- What the names of a tree tell of what they are is what their declarations say.
-use Rattle.std.proofs.Common.{◌≡◌, ◌&&◌, not, Bool, true, false, List, [], ◌∷◌, ◌++◌, map, Option, Some, None, refl, ap, ◌∙◌, subst, if◌then◌else◌}
+use Rattle.std.proofs.Common.{◌≡◌, Bool, true, false, List, [], ◌∷◌, ◌++◌, map, Option, Some, None, refl, ap, ◌∙◌, subst, if◌then◌else◌}
 use Rattle.std.specs.List.{AllByRecursion}
 use Rattle.std.specs.Option.{option_or}
 use Rattle.algol_tree.specs.declared.token.Spot.{Spot}
@@ -24,16 +24,16 @@ use Rattle.algol_tree.specs.Sorts.{Declared, Sort, formals_of}
 use Rattle.algol_tree.specs.Surroundings.{Surroundings, declared_as, inside_procedure, knowing}
 use Rattle.algol_sorts.specs.declared.sort.Sort as laid
 use Rattle.algol_sorts.specs.declared.sort.Sort.TheVariants as sorts
-use Rattle.algol_sorts.specs.Sorts.{is_by_name, parameter_by, parameter_of, sort_by, sort_of}
+use Rattle.algol_sorts.specs.Sorts.{is_by_name, parameter_of, sort_by, sort_of}
+use Rattle.algol_sorts.proofs.Sorts.{parameter-by-name}
 use Rattle.algol_frames.specs.declared.scopes.Declared as found
 use Rattle.algol_scope.specs.Noting.{parameters_by, parameters_here}
-use Rattle.algol_scope.specs.Resolved as resolved
-use Rattle.algol_scope.specs.Resolved.{AreOf, Meaning, couple, declaration_of, located, meaning, meaning_at, parameters_among, parameters_at, parameters_of}
+use Rattle.algol_scope.specs.Resolved.{AreOf, Meaning, couple, declaration_of, located, meaning, parameters_among, parameters_at, parameters_of}
 use Rattle.algol_told.proofs.Held as held
 use Rattle.algol_told.proofs.Held.{AllHeld, IsHeld}
 use Rattle.algol_told.proofs.Lists.{all-append, all-weaker, of-each}
 use Rattle.algol_told.proofs.Places.{declared-there, names_known}
-use Rattle.algol_told.proofs.Told.{all-found, all-pass}
+use Rattle.algol_told.proofs.Told.{all-found, all-pass, meaning-there}
 use Rattle.algol_told.proofs.Walk.{Behind, HoldsAt, all-hold}
 use Rattle.b67_templates.specs.Fitting.{a_procedure}
 use Rattle.b67_emitter.specs.declared.names.Names.{Names}
@@ -43,21 +43,10 @@ use Rattle.b67_compile.proofs.Fits.{fits, fit_known}
 
 -- ---- by what a name is declared as
 
-mode : (c : Class) (by_value : Bool) → is_by_name (parameter_by c by_value) ≡ (class.is_simple c && not by_value)
-mode (class.simple kind) true = refl
-mode (class.simple kind) false = refl
-mode (class.array kind subscripts) by_value = refl
-mode class.event by_value = refl
-mode class.task by_value = refl
-mode class.label by_value = refl
-mode class.file by_value = refl
-mode (class.procedure h) by_value = refl
-mode class.unknown by_value = refl
-
 modes : (fs : List Formal) → map is_by_name (map parameter_of fs) ≡ map (λ (f : Formal). cells.is_by_name (Some f)) fs
 modes [] = refl
 modes (f ∷ fs) =
-    ap (λ (b : Bool). b ∷ map is_by_name (map parameter_of fs)) (mode f.class f.by_value) ∙ ap (λ (l : List Bool). cells.is_by_name (Some f) ∷ l) (modes fs)
+    ap (λ (b : Bool). b ∷ map is_by_name (map parameter_of fs)) (parameter-by-name f.class f.by_value) ∙ ap (λ (l : List Bool). cells.is_by_name (Some f) ∷ l) (modes fs)
 
 sorted : (ps : Option (List laid.Sort)) (c : Class) (s : Sort) → ((h : Heading) → c ≡ class.procedure h → ps ≡ Some (map parameter_of (formals_of h))) → fits c s ≡ true →
     meant_sorted ps (sort_by c s) ≡ meant_as c s
@@ -149,10 +138,6 @@ pub known_from : (p : PProgram) (spot : Spot) (d : Declared) → declared_at p s
 unfolding declared_at
 known_from p spot d h = h
 
-meaning_from : (p : PProgram) (spot : Spot) (d : Declared) → known_there (names_known p) spot ≡ Some d → meaning_at p spot ≡ Some (record { block = d.block; sort = sort_of d })
-unfolding meaning_at
-meaning_from p spot d h = ap resolved.meant h
-
 parameters_from : (p : PProgram) (d : Declared) (h : Heading) → known_there (names_known p) d.spot ≡ Some d → d.class ≡ class.procedure h →
     parameters_at p d.spot ≡ Some (map parameter_of (formals_of h))
 unfolding parameters_at
@@ -175,7 +160,7 @@ module _ (p : PProgram) (names : Names) (order : IsInOrder p) (are : AreOf p nam
       (sites_of p) holds)
 
   pub meant_known : AreMeant p (meant names)
-  meant_known spot d h = by (declaration_of names.scopes.now spot) (are.declarations spot ∙ declared-there p spot d known) (are.meanings spot ∙ meaning_from p spot d known)
+  meant_known spot d h = by (declaration_of names.scopes.now spot) (are.declarations spot ∙ declared-there p spot d known) (are.meanings spot ∙ meaning-there p spot d known)
     where
       known : known_there all spot ≡ Some d
       known = known_from p spot d h

@@ -1,5 +1,5 @@
 -- Each cell of an accepted program that is built lies among the first of its frame, as many as its block may have.
-use Rattle.std.proofs.Common.{arith, ◌≡◌, ℕ, zero, suc, ◌+◌, ◌<◌, ◌≤◌, ◌==◌, nat_lt, Bool, true, false, cond, List, [], ◌∷◌, ◌++◌, filter, map, length, Option, Some, None, refl, ap, subst, ◌∙◌, length-append, slice_get, if◌then◌else◌}
+use Rattle.std.proofs.Common.{arith, ◌≡◌, ℕ, ◌+◌, ◌<◌, ◌==◌, nat_lt, Bool, true, false, cond, List, [], ◌∷◌, ◌++◌, filter, map, length, Option, Some, None, refl, ap, subst, ◌∙◌, length-append, slice_get, if◌then◌else◌}
 use Rattle.std.specs.List.{flat_map}
 use Rattle.std.proofs.lemmas.Bool.{ne_eqb}
 use Rattle.std.proofs.lemmas.Bool.Decides.{nat_tests}
@@ -10,11 +10,13 @@ use Rattle.algol_tree.specs.Blocks.{Block, block_numbered, number_at, same_spot}
 use Rattle.algol_tree.specs.Cells as cells
 use Rattle.algol_tree.specs.Cells.{Cell, Content, cells_at, cells_of, content_number, holding, index_from, layout, level_of, couple_at, couple_in}
 use Rattle.algol_tree.specs.Couples.{Located, located, declaration_in, known_at, known_there, couple_of_cells}
-use Rattle.algol_tree.specs.Names.{cells_beyond, found_place, place_beyond}
+use Rattle.algol_tree.specs.Names.{cells_beyond, place_beyond}
 use Rattle.algol_tree.specs.Sites.{Site}
 use Rattle.algol_tree.specs.Sorts.{Declared}
+use Rattle.algol_scope.proofs.Founded.{no-longer}
 use Rattle.b67_fitting.proofs.Lists.{each_of, filter_none, nil_each}
 use Rattle.b67_compile.proofs.Cells.{AreOfFew, HasFew, HaveFew}
+use Rattle.b67_fitting.proofs.Limits.{not_found}
 
 -- ---- the layout of a frame has each cell once
 
@@ -85,15 +87,6 @@ index_within i (c ∷ cs) spot found h = by (same_spot c.spot spot) (index_withi
 
 -- ---- limits that are kept
 
-no_longer : {X : Type 0} (xs : List X) (k : ℕ) → slice_get xs k ≡ None → length xs ≤ k
-no_longer [] k h = omega arith
-no_longer (x ∷ xs) zero h = absurd (let clash : Some x ≡ None = h in cc)
-no_longer (x ∷ xs) (suc k) h = omega (arith, no_longer xs k h)
-
-not_found : (o : Option Spot) → found_place o ≡ [] → o ≡ None
-not_found None h = refl
-not_found (Some s) h = absurd (let clash : s ∷ [] ≡ [] = h in cc)
-
 module _ (blocks : List Block) (all : List Site) where
   -- each block has few (rule TooManyCells)
   pub blocks_few : cells_beyond blocks all ≡ [] → HaveFew blocks all blocks
@@ -101,7 +94,7 @@ module _ (blocks : List Block) (all : List Site) where
       let spots : Block → List Spot = λ b. map (λ (c : Cell). c.spot) (cells_of blocks all (number_at blocks b.spot)) in
       each_of (λ (b : Block). place_beyond MOST_BLOCK_CELLS (spots b) ≡ []) (λ (b : Block). HasFew blocks all (number_at blocks b.spot)) blocks
       (λ b e.
-      omega (arith, no_longer (spots b) MOST_BLOCK_CELLS (not_found (slice_get (spots b) MOST_BLOCK_CELLS) e), length-map (cells_of blocks all (number_at blocks b.spot)) (λ (c : Cell). c.spot)))
+      omega (arith, no-longer (spots b) MOST_BLOCK_CELLS (not_found (slice_get (spots b) MOST_BLOCK_CELLS) e), length-map (cells_of blocks all (number_at blocks b.spot)) (λ (c : Cell). c.spot)))
       (nil_each (λ (b : Block). place_beyond MOST_BLOCK_CELLS (spots b)) blocks h)
 
   module _ (few : AreOfFew blocks all all) where

@@ -16,6 +16,8 @@ use Rattle.b67_templates.specs.Names.{HasNames}
 use Rattle.b67_fitting.proofs.Numbering.{block_is}
 use Rattle.b67_fitting.proofs.SurroundedSites.{each_number}
 use Rattle.b67_compile.proofs.Matching.{IsTextOf, Triples, all_match, segs, text_of}
+use Rattle.b67_fitting.proofs.Fits.{got_numbered}
+use Rattle.b67_frames.proofs.Segmenting.{numbered_procedure}
 
 -- ---- among three lists
 
@@ -98,19 +100,6 @@ procedure_numbered (c ∷ bs) k b e = by (is_procedure c) refl k (λ m f. proced
         let r = later m f in
         record { number = suc r.number; there = r.there; own = r.own; before = counted false r.number g ∙ r.before }
 
--- a procedure's block is the one after as many as stand before it
-numbered_procedure : (bs : List Block) (j : ℕ) (b : Block) → slice_get bs j ≡ Some b → is_procedure b ≡ true → slice_get (filter is_procedure bs) (procedures_before bs j) ≡ Some b
-numbered_procedure [] j b e own = cc
-numbered_procedure (c ∷ bs) zero b e own =
-    let same : b ≡ c = cc in
-    ap (λ (t : Bool). slice_get (if t then c ∷ filter is_procedure bs else filter is_procedure bs) 0) (ap is_procedure (sym same) ∙ own) ∙ e
-numbered_procedure (c ∷ bs) (suc j) b e own = by (is_procedure c) (numbered_procedure bs j b e own)
-  where
-    by : (t : Bool) → slice_get (filter is_procedure bs) (procedures_before bs j) ≡ Some b →
-        slice_get (if t then c ∷ filter is_procedure bs else filter is_procedure bs) (length (if t then c ∷ filter is_procedure (take j bs) else filter is_procedure (take j bs))) ≡ Some b
-    by true h = h
-    by false h = h
-
 -- the number of its segment
 procedure_segment : (bs : List Block) (j : ℕ) → is_procedure (block_numbered bs j) ≡ true → segment_of bs j ≡ suc (procedures_before bs j)
 procedure_segment bs j own = ap (λ (t : Bool). if t then procedures_before bs j + 1 else segment_among bs (around bs j)) own ∙ add-one (procedures_before bs j)
@@ -137,11 +126,6 @@ pub record HasText (p : PProgram) (ts : List Text) (j : ℕ) : Type 0 where
   pub tokens : ℕ
   pub number_is : number_at (blocks_of_program p) (block_numbered (blocks_of_program p) j).spot ≡ j
   pub text : slice_get ts (segment_of (blocks_of_program p) j) ≡ Some (text_of (block_numbered (blocks_of_program p) j) tokens)
-
-pub block_there : (bs : List Block) (k : ℕ) → k < length bs → slice_get bs k ≡ Some (block_numbered bs k)
-block_there [] k h = absurd (omega (arith, h))
-block_there (c ∷ bs) zero h = refl
-block_there (c ∷ bs) (suc k) h = block_there bs k (omega (arith, h))
 
 module _ (spot : Spot) (ds : PDecls) (ss : PStmts) (order : IsInOrder (tree.program (tree.body spot ds ss)))
     (named : HasNames (tree.program (tree.body spot ds ss))) where
@@ -196,7 +180,7 @@ module _ (spot : Spot) (ds : PDecls) (ss : PStmts) (order : IsInOrder (tree.prog
       let bs = blocks_of_program p in
       let b = block_numbered bs j in
       let k = procedures_before bs j in
-      let there : slice_get bs j ≡ Some b = block_there bs j known in
+      let there : slice_get bs j ≡ Some b = got_numbered bs j known in
       let r = of_block (filter is_procedure bs) (segs (sites_of p)) inner k b (all_match spot ds ss named) (numbered_procedure bs j b there own) in
       record {
         tokens = r.segment.tokens;

@@ -1,5 +1,5 @@
 -- An accepted program of one process, with its names, has all that its code wants.
-use Rattle.std.proofs.Common.{arith, ◌≡◌, ℕ, ◌+◌, ◌<◌, ◌≤◌, suc, Bool, true, false, List, [], ◌∷◌, ◌++◌, length, filter, take, Some, refl, sym, ap, ◌∙◌, subst, length-append, slice_get, if◌then◌else◌}
+use Rattle.std.proofs.Common.{arith, ◌≡◌, ℕ, ◌+◌, ◌<◌, ◌≤◌, Bool, true, false, List, [], ◌∷◌, ◌++◌, length, filter, sym, ap, ◌∙◌, subst, length-append, if◌then◌else◌}
 use Rattle.std.specs.BTreeMap.{BTreeMap}
 use Rattle.std.specs.List.{flat_map, AllByRecursion}
 use Rattle.std.proofs.lemmas.Option.{slice_get_within}
@@ -17,14 +17,13 @@ use Rattle.algol_tree.specs.Plain as tree
 use Rattle.algol_tree.specs.Plain.{PDecls, PStmts, PBody, PProgram}
 use Rattle.algol_tree.specs.Scopes.{Scopes, scopes_of}
 use Rattle.algol_tree.specs.Sites.{Site}
-use Rattle.algol_tree.specs.Sorts.{Parameter}
 use Rattle.algol_paths.specs.Arrays.{lows_at}
 use Rattle.algol_paths.specs.Segments.{is_procedure, segment_of}
 use Rattle.algol_frames.specs.declared.scopes.Scopes as table
 use Rattle.algol_scope.specs.Resolved.{AreOf}
 use Rattle.algol_scope.proofs.Bodies.{body_is}
 use Rattle.b67_ops.specs.declared.TheConstants.{MOST_LEVEL, OUTER_LEVEL}
-use Rattle.b67_templates.specs.Cells.{Simple, parameter_cells, procedures, actuals_of, made_of, result_of, simple_cells, variables, zero_cells}
+use Rattle.b67_templates.specs.Cells.{parameter_cells, procedures, actuals_of, made_of, result_of, simple_cells, variables, zero_cells}
 use Rattle.b67_templates.specs.Fitting.{DeclsFit, StmtsFit}
 use Rattle.algol_lows.specs.declared.bounds.Lows.{Lows}
 use Rattle.b67_emitter.specs.declared.names.Names.{Names}
@@ -36,10 +35,10 @@ use Rattle.b67_emit_text.specs.Targets.{AreTargets}
 use Rattle.b67_emit_text.specs.Texts.{Text, texts, texts_in_body}
 use Rattle.b67_fitting.specs.Fitted.{BlockFits, IsToldOf}
 use Rattle.b67_templates.specs.Names.{HasNames}
-use Rattle.b67_templates.specs.Nested.{AreParameters, AreTold, IsText, LiesNested}
+use Rattle.b67_templates.specs.Nested.{AreParameters, IsText, LiesNested}
 use Rattle.b67_fitting.specs.Texts.{HasPlainTexts}
 use Rattle.b67_fitting.specs.Wholes.{HasWholeNumbers}
-use Rattle.b67_fitting.proofs.Fits.{accepted_fit}
+use Rattle.b67_fitting.proofs.Fits.{accepted_fit, got_numbered}
 use Rattle.b67_fitting.proofs.Lists.{each_of, nil_back, nil_front, nil_map}
 use Rattle.b67_fitting.proofs.Nesting.{programs_lie_nested}
 use Rattle.b67_fitting.proofs.Numbering.{block_is, each_at}
@@ -52,7 +51,10 @@ use Rattle.b67_compile.proofs.LabelTargets.{no_event_rows, targets_known}
 use Rattle.b67_compile.proofs.Matching.{all_match, text_of}
 use Rattle.b67_compile.proofs.Meanings.{meant_known}
 use Rattle.b67_compile.proofs.Near.{actual_near, blocks_few, located_near, result_near}
-use Rattle.b67_compile.proofs.Places.{IsOf, block_there, text_block, texts_many}
+use Rattle.b67_compile.proofs.Places.{IsOf, text_block, texts_many}
+use Rattle.b67_compile.proofs.Shape.{all_taken}
+use Rattle.b67_fitting.proofs.CellsFew.{parameters_many}
+use Rattle.b67_fitting.proofs.ActualsCelled.{each_by}
 
 -- the texts of a program
 abbrev texts_in_program : PProgram → List Text
@@ -91,11 +93,6 @@ cells_kept : (p : PProgram) → Accepted p → cells_beyond (blocks_of_program p
 unfolding scope_faults
 cells_kept p accepted = nil_map _ _ (nil_back _ _ (nil_front _ _ (nil_front _ _ accepted.scoped)))
 
--- what holds of each by its number
-each_by : {X : Type 0} (P : X → Type 0) (xs : List X) → ((i : ℕ) (x : X) → slice_get xs i ≡ Some x → P x) → AllByRecursion P xs
-each_by P [] f = tt
-each_by P (x ∷ xs) f = (f 0 x refl, each_by P xs (λ i y h. f (suc i) y h))
-
 each_kept_by : {X : Type 0} (P : X → Type 0) (test : X → Bool) (xs : List X) → AllByRecursion P xs → AllByRecursion P (filter test xs)
 each_kept_by P test [] h = tt
 each_kept_by P test (x ∷ xs) h = by (test x) (each_kept_by P test xs h.1)
@@ -104,26 +101,12 @@ each_kept_by P test (x ∷ xs) h = by (test x) (each_kept_by P test xs h.1)
     by true later = (h.0, later)
     by false later = later
 
-all_taken : {X : Type 0} (xs : List X) → take (length xs) xs ≡ xs
-all_taken [] = refl
-all_taken (x ∷ xs) = ap (λ (ys : List _). x ∷ ys) (all_taken xs)
-
 length_three : {X : Type 0} (xs ys zs : List X) → length (xs ++ ys ++ zs) ≡ length xs + length (ys ++ zs)
 length_three xs ys zs = omega (arith, length-append (xs ++ ys) zs, length-append xs ys, length-append ys zs)
 
 -- the cells of 0 stand after those of the parameters
 zeros_behind : (sc : Scopes) (b : Block) → length (simple_cells sc b) ≡ length (parameter_cells sc b) + length (zero_cells b)
 zeros_behind sc b = length_three (parameter_cells sc b) (result_of b.result b.name) (variables b.decls)
-
--- each parameter has a cell
-parameters_many : (sc : Scopes) (b : Block) → AreParameters sc b → length (parameter_cells sc b) ≡ length b.parameters
-parameters_many sc b is = as_many b.parameters (parameter_cells sc b) is.told
-  where
-    as_many : (ps : List Parameter) (cells : List Simple) → AreTold ps cells → length cells ≡ length ps
-    as_many [] [] h = refl
-    as_many [] (c ∷ cells) h = absurd h
-    as_many (p ∷ ps) [] h = absurd h
-    as_many (p ∷ ps) (c ∷ cells) h = omega (arith, as_many ps cells h.2)
 
 module _ (spot : Spot) (ds : PDecls) (ss : PStmts) (names : Names) where
   abbrev p : PProgram
@@ -193,7 +176,7 @@ module _ (spot : Spot) (ds : PDecls) (ss : PStmts) (names : Names) where
     block_few : HaveFew (blocks_of_program p) (sites_of p) (blocks_of_program p) → (k : ℕ) → k < length (blocks_of_program p) → HasFew (blocks_of_program p) (sites_of p) k
     block_few have k known =
         let bs = blocks_of_program p in
-        let there = block_there bs k known in
+        let there = got_numbered bs k known in
         subst (HasFew bs (sites_of p)) (each_number p has.order k (block_numbered bs k) there)
         (each_at (λ (b : Block). HasFew bs (sites_of p) (number_at bs b.spot)) bs k (block_numbered bs k) have there)
 

@@ -22,9 +22,9 @@ use Rattle.b67_templates.specs.Names.{HasNames}
 use Rattle.b67_templates.specs.Nested.{LiesNested}
 use Rattle.b67_fitting.proofs.Nesting.{programs_lie_nested}
 use Rattle.b67_fitting.proofs.Numbering.{block_is, each_at}
-use Rattle.b67_compile.proofs.Labelled.{each_own}
 use Rattle.b67_compile.proofs.Places.{text_block, texts_many}
 use Rattle.b67_compile.proofs.SmallTexts.{IsLow, IsSlight, program_levels, texts_slight}
+use Rattle.b67_fitting.proofs.ActualsCelled.{each_by}
 
 -- what holds of a program by its tree only
 pub record IsPlain (p : PProgram) : Type 0 where
@@ -38,7 +38,7 @@ pub parts_of : (b : Body) → Accepted (tree.program (plain.body b)) → IsInOrd
 parts_of b accepted order named =
     subst (λ (z : PBody). IsPlain (tree.program z)) (body_is b) (record { accepted = accepted; order = order; named = named })
 
-all_taken : {X : Type 0} (xs : List X) → take (length xs) xs ≡ xs
+pub all_taken : {X : Type 0} (xs : List X) → take (length xs) xs ≡ xs
 all_taken [] = refl
 all_taken (x ∷ xs) = ap (λ (ys : List _). x ∷ ys) (all_taken xs)
 
@@ -59,7 +59,7 @@ module _ (spot : Spot) (ds : PDecls) (ss : PStmts) (is : IsPlain (tree.program (
   unfolding scopes_of
   all_low =
       let bs = blocks_of_program p in
-      each_own IsLow bs (λ i b h. subst (λ (z : Block). level_of z ≤ MOST_LEVEL) (block_is bs i b h) (lies.nested.each i (slice_get_within bs i b h)).low)
+      each_by IsLow bs (λ i b h. subst (λ (z : Block). level_of z ≤ MOST_LEVEL) (block_is bs i b h) (lies.nested.each i (slice_get_within bs i b h)).low)
 
   pub texts_leveled : HaveLevelsBody (tree.body spot ds ss) OUTER_LEVEL
   unfolding blocks_of_program

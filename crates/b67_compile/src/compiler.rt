@@ -11,6 +11,7 @@ ghost use Rattle.b67_templates.specs.Names.{HasNames};
 ghost use Rattle.b67_fitting.specs.Texts.{HasPlainTexts};
 ghost use Rattle.b67_fitting.specs.Wholes.{HasWholeNumbers};
 ghost use Rattle.b67_faithful.specs.Faithful.{Faithful, HasFormats, IsShort};
+ghost use Rattle.b67_settling.specs.Local.{StacksStayOwn};
 
 use algol_front::Checked;
 use algol_lows::lows_of_program;
@@ -52,9 +53,11 @@ fn code_of<E: ExprEmitter>(
     })
 }
 
-/// The code of an accepted source. For every list of choices it does what the source does, and its listing tells it.
+/// The code of an accepted source. For every list of choices it does what the source does, and its listing tells it; and no process of it touches the
+/// stack of another on which nobody depends.
 pub fn compile(alloc: Global, checked: &Checked) -> Result<Code, AllocError>
-    ensures { IfOk result (Faithful (plain.program checked.now.program)) }
+    ensures faithful { IfOk result (Faithful (plain.program checked.now.program)) }
+    ensures stacks { IfOk result StacksStayOwn }
 {
     code_of(alloc, &Exprs { alloc }, &checked.program, &checked.scopes)
 }

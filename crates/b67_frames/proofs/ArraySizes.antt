@@ -1,24 +1,9 @@
 -- The sizes of arrays: when the machine finds them wrong, or has no room for them.
 use Rattle.std.proofs.Common.{◌≡◌, refl, sym, ap, ◌∙◌, ℕ, ◌+◌, ◌*◌, ◌≤◌, List, [], ◌∷◌, length, Bool, true, false, ℤ, arith}
-use Rattle.std.specs.Prelude.{if◌then◌else◌, ◌||◌, nat_le, nat_lt, int_le, int_lt, nat_abs, pos, negsuc, ◌-ℤ◌, map}
-use Rattle.std.proofs.lemmas.Bool.Decides.{nat_tests}
-use Rattle.std.proofs.lemmas.Int.{ints}
-use Rattle.algol_tree.specs.declared.tree.Named.{Named}
-use Rattle.algol_tree.specs.Plain.{PPair}
-use Rattle.algol_meaning.specs.declared.TheConstants.{MOST_ELEMENTS}
-use Rattle.algol_meaning.specs.Value.{Value, Bounds}
-use Rattle.algol_meaning.specs.Arrays.{size_of, elements_of, live_elements, bounds_of, has_wrong_size, has_no_room}
-use Rattle.algol_meaning.specs.World.{World}
-use Rattle.algol_paths.specs.Arrays.{lows_of}
-use Rattle.b67_num.specs.declared.FaultKind.TheVariants.{ArraySize, CoreFull}
-use Rattle.b67_store.specs.Store.{counted_words, count_limit}
-use Rattle.b67_table.specs.Effect.{faults}
-use Rattle.b67_table.specs.Image.{Image}
-use Rattle.b67_table.specs.Program.{Test, answer, fault, asked, ◌>>=◌}
-use Rattle.b67_table.specs.Arrays.{Extents, one, two, elements, extent_in, extent, if_small, if_held}
-use Rattle.b67_table.specs.Intrinsics.{extents}
-use Rattle.b67_templates.specs.Code.{AreDimensions}
-use Rattle.b67_frames.specs.Arrays.{AreSized, rows_of_bounds}
+use Rattle.b67_frames.proofs.Prelude.{if◌then◌else◌, nat_le, nat_lt, int_le, int_lt, nat_abs, pos, negsuc, ◌-ℤ◌, map, nat_tests, ints, Named, PPair, MOST_ELEMENTS, Value, Bounds, size_of, elements_of, live_elements, bounds_of, has_wrong_size, has_no_room, World, lows_of, ArraySize, CoreFull, counted_words, faults, Image, Test, answer, fault, asked, ◌>>=◌, Extents, one, two, if_held, extents, AreDimensions, AreSized, rows_of_bounds}
+use Rattle.std.specs.Prelude.{◌||◌}
+use Rattle.b67_store.specs.Store.{count_limit}
+use Rattle.b67_table.specs.Arrays.{elements, extent_in, extent, if_small}
 
 -- ---- bounds and extents
 
@@ -168,13 +153,6 @@ extents_right bs has h = by_test (test_of bs has)
     by_test : Tested bs → extents (bound_numbers bs) ≡ answer (extents_of bs)
     by_test (wrong says goes) = absurd (let clash : true ≡ false = sym says ∙ h in cc)
     by_test (right says goes sized) = goes
-
--- so the machine keeps a fault, or goes on with the extents
-pub asked_wrong : {A : Type 0} (img : Image) (bs : List Bounds) (next : Extents → Test A) → HasDimensions bs → has_wrong_size bs ≡ true → asked img (extents (bound_numbers bs) >>= next) ≡ faults ArraySize
-asked_wrong img bs next has h = ap (λ (t : Test Extents). asked img (t >>= next)) (extents_wrong bs has h)
-
-pub asked_right : {A : Type 0} (img : Image) (bs : List Bounds) (next : Extents → Test A) → HasDimensions bs → has_wrong_size bs ≡ false → asked img (extents (bound_numbers bs) >>= next) ≡ asked img (next (extents_of bs))
-asked_right img bs next has h = ap (λ (t : Test Extents). asked img (t >>= next)) (extents_right bs has h)
 
 pub are_sized : (bs : List Bounds) → HasDimensions bs → has_wrong_size bs ≡ false → AreSized bs
 are_sized bs has h = by_test (test_of bs has)

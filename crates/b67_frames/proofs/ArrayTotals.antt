@@ -1,17 +1,6 @@
 -- How many elements and rows the arrays of the instances have that stand, before and after some are made.
 use Rattle.std.proofs.Common.{◌≡◌, refl, ap, ℕ, zero, suc, ◌+◌, ◌*◌, ◌≤◌, List, [], ◌∷◌, ◌++◌, length, set, Some, Bool, true, false, arith}
-use Rattle.std.specs.Prelude.{slice_get}
-use Rattle.std.proofs.lemmas.Bool.Decides.{nat_tests}
-use Rattle.b67_list.specs.Numbered.{numbered, set_numbered}
-use Rattle.algol_tree.specs.declared.tree.Kind.{Kind}
-use Rattle.algol_tree.specs.declared.tree.Named.{Named}
-use Rattle.algol_meaning.specs.declared.TheConstants.{MOST_ELEMENTS}
-use Rattle.algol_meaning.specs.Value.{Bounds}
-use Rattle.algol_meaning.specs.Arrays.{elements_of, size_of_cells, size_unless, live_elements, new_arrays, has_no_room}
-use Rattle.algol_meaning.specs.World.{NamedCell, Instance, World}
-use Rattle.b67_store.specs.Store.{row_limit}
-use Rattle.b67_faithful.proofs.Contradictions.{some_same, none_some}
-use Rattle.b67_frames.specs.Arrays.{rows_of_bounds, rows_of_cells, live_rows}
+use Rattle.b67_frames.proofs.Prelude.{slice_get, nat_tests, numbered, set_numbered, Kind, Named, MOST_ELEMENTS, Bounds, elements_of, size_of_cells, size_unless, live_elements, new_arrays, has_no_room, NamedCell, Instance, World, row_limit, some_same, none_some, rows_of_bounds, rows_of_cells, live_rows}
 
 -- ---- of cells
 

@@ -1,18 +1,6 @@
 -- Arrays are made one after another, each among the rows that the one before leaves.
 use Rattle.std.proofs.Common.{◌≡◌, refl, sym, ap, ◌∙◌, ℕ, zero, suc, ◌+◌, ◌*◌, ◌≤◌, List, [], ◌∷◌, ◌++◌, length, Option, Some, None, arith}
-use Rattle.std.specs.Prelude.{map, slice_get}
-use Rattle.std.proofs.lemmas.List.{length-replicate}
-use Rattle.algol_tree.specs.declared.tree.Kind.{Kind}
-use Rattle.algol_tree.specs.declared.tree.Named.{Named}
-use Rattle.algol_tree.specs.Plain.{PPair}
-use Rattle.algol_meaning.specs.Value.{initial_value, Bounds}
-use Rattle.algol_meaning.specs.Arrays.{elements_of, new_arrays}
-use Rattle.algol_meaning.specs.World.{NamedCell}
-use Rattle.algol_paths.specs.Arrays.{Made, lows_of, made_in}
-use Rattle.b67_word.specs.Word.{Word}
-use Rattle.b67_store.specs.Store.{Row, Rows, row_at, row_limit, counted_words}
-use Rattle.b67_faithful.proofs.Contradictions.{some_same, none_some}
-use Rattle.b67_frames.specs.Arrays.{Allotted, numbers_of, AreSized, AreMade, HoldElements, open_rows, rows_of_bounds}
+use Rattle.b67_frames.proofs.Prelude.{map, slice_get, length-replicate, Kind, Named, PPair, initial_value, Bounds, elements_of, new_arrays, NamedCell, Made, lows_of, made_in, Word, Row, Rows, row_at, row_limit, counted_words, some_same, none_some, Allotted, numbers_of, AreSized, AreMade, HoldElements, open_rows, rows_of_bounds}
 use Rattle.b67_frames.proofs.ArraySizes.{HasDimensions, extents_of}
 use Rattle.b67_frames.proofs.ArrayRows.{array_rows, arrays_rows, arrays_allotted, arrays_descriptors}
 use Rattle.b67_frames.proofs.MotherRows.{open_apart}

@@ -1,24 +1,8 @@
 -- The rows of an image hold the arrays of a later world as well, where what changes has no array.
 use Rattle.std.proofs.Common.{◌≡◌, ◌≢◌, ◌⊎◌, inl, inr, refl, sym, ap, ◌∙◌, subst, ℕ, zero, suc, ◌+◌, ◌*◌, ◌≤◌, List, [], ◌∷◌, ◌++◌, length, Some, Bool, true, false, arith}
-use Rattle.std.specs.Prelude.{if◌then◌else◌, ◌==◌, slice_get, slice_set}
-use Rattle.std.proofs.lemmas.Bool.Decides.{nat_tests}
-use Rattle.b67_list.specs.Numbered.{numbered, set_numbered}
-use Rattle.algol_tree.specs.Blocks.{block_numbered}
-use Rattle.algol_tree.specs.Scopes.{Scopes}
-use Rattle.algol_tree.specs.Sorts.{same_name}
-use Rattle.algol_meaning.specs.Value.{Value, ArrayCell, Cell, simple, event, array, named, reference}
-use Rattle.algol_meaning.specs.Arrays.{size_of_cell, size_of_cells, size_unless, live_elements}
-use Rattle.algol_meaning.specs.World.{NamedCell, Instance, World, cell_in, cells_with}
-use Rattle.algol_paths.specs.Arrays.{DeclaredArray}
-use Rattle.b67_word.specs.Word.{Word}
-use Rattle.b67_store.specs.Store.{Rows}
+use Rattle.b67_frames.proofs.Prelude.{if◌then◌else◌, ◌==◌, slice_get, slice_set, nat_tests, numbered, set_numbered, block_numbered, Scopes, same_name, Value, ArrayCell, Cell, simple, event, array, named, reference, size_of_cell, size_of_cells, size_unless, live_elements, NamedCell, Instance, World, cell_in, cells_with, DeclaredArray, Word, Rows, Simple, simple_cells, Wanted, made_of, some_same, none_some, numbered_last, same_or_not, numbered_set, numbered_other, Allotted, Layout, rows_of_cell, rows_of_cells, live_rows, HasArray, HasRow, ArraysAre, CellIs, CellsAre}
 use Rattle.b67_templates.specs.Cells as wants
-use Rattle.b67_templates.specs.Cells.{Simple, simple_cells, Wanted, made_of}
-use Rattle.b67_faithful.proofs.Contradictions.{some_same, none_some}
-use Rattle.b67_rows.proofs.Growing.{numbered_last}
-use Rattle.b67_rows.proofs.Numbers.{same_or_not, numbered_set, numbered_other}
-use Rattle.b67_frames.specs.Arrays.{Allotted, Layout, rows_of_cell, rows_of_cells, live_rows, HasArray, HasRow, ArraysAre}
-use Rattle.b67_frames.specs.Frames.{CellIs, CellsAre}
+use Rattle.b67_rows.proofs.Displays.{same_is}
 
 -- ---- the rows of instances
 
@@ -26,14 +10,11 @@ use Rattle.b67_frames.specs.Frames.{CellIs, CellsAre}
 abbrev pub rows_but : (ℕ → List Allotted) → ℕ → List Allotted → ℕ → List Allotted
 rows_but rows n as' i = if i == n then as' else rows i
 
-is_same : (m n : ℕ) → m ≡ n → (m == n) ≡ true
-is_same m n h = grind (arith, nat_tests)
-
-is_other : (m n : ℕ) → m ≢ n → (m == n) ≡ false
+pub is_other : (m n : ℕ) → m ≢ n → (m == n) ≡ false
 is_other m n h = grind (arith, nat_tests)
 
 pub rows_there : (rows : ℕ → List Allotted) (n : ℕ) (as' : List Allotted) (i : ℕ) → i ≡ n → rows_but rows n as' i ≡ as'
-rows_there rows n as' i same = ap (λ (b : Bool). if b then as' else rows i) (is_same i n same)
+rows_there rows n as' i same = ap (λ (b : Bool). if b then as' else rows i) (same_is i n same)
 
 pub rows_other : (rows : ℕ → List Allotted) (n : ℕ) (as' : List Allotted) (i : ℕ) → i ≢ n → rows_but rows n as' i ≡ rows i
 rows_other rows n as' i other = ap (λ (b : Bool). if b then as' else rows i) (is_other i n other)

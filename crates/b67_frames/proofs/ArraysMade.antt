@@ -1,37 +1,18 @@
 -- The rows of an image hold the arrays of a world in which an instance has made more of them.
-use Rattle.std.proofs.Common.{◌≡◌, ◌≢◌, ◌⊎◌, inl, inr, refl, sym, ap, ◌∙◌, ℕ, zero, suc, ◌+◌, ◌-◌, ◌*◌, ◌<◌, ◌≤◌, List, [], ◌∷◌, ◌++◌, length, Option, Some, Bool, false, arith, length-append}
-use Rattle.std.specs.Prelude.{map, slice_get}
+use Rattle.std.proofs.Common.{◌≡◌, ◌≢◌, ◌⊎◌, inl, inr, refl, sym, ap, ◌∙◌, ℕ, zero, suc, ◌+◌, ◌-◌, ◌*◌, ◌<◌, ◌≤◌, List, [], ◌∷◌, ◌++◌, length, Some, Bool, false, arith, length-append}
+use Rattle.b67_frames.proofs.Prelude.{map, slice_get, numbered, set_numbered, Kind, Named, PPair, block_numbered, Scopes, Bounds, ArrayCell, array, elements_of, size_of_cells, size_unless, live_elements, new_arrays, has_wrong_size, has_no_room, NamedCell, Instance, World, DeclaredArray, Made, lows_of, made_in, an_array, an_event, Word, Rows, row_limit, get_within, simple_cells, made_of, AreDimensions, some_same, none_some, same_or_not, most_or_more, numbered_set, numbered_other, Allotted, Layout, numbers_of, AreSized, AreMade, HoldElements, open_rows, rows_of_bounds, rows_of_cells, live_rows, HasArray, ArraysAre}
 use Rattle.std.proofs.lemmas.List.{length-map}
-use Rattle.b67_list.specs.Numbered.{numbered, set_numbered}
-use Rattle.algol_tree.specs.declared.tree.Kind.{Kind}
-use Rattle.algol_tree.specs.declared.tree.Named.{Named}
-use Rattle.algol_tree.specs.Plain.{PPair}
-use Rattle.algol_tree.specs.Blocks.{block_numbered}
-use Rattle.algol_tree.specs.Scopes.{Scopes}
-use Rattle.algol_meaning.specs.Value.{Bounds, ArrayCell, array}
-use Rattle.algol_meaning.specs.Arrays.{elements_of, size_of_cells, size_unless, live_elements, new_array, new_arrays, has_wrong_size, has_no_room}
-use Rattle.algol_meaning.specs.World.{NamedCell, Instance, World, or_no_instance, add_cells}
-use Rattle.algol_paths.specs.Arrays.{DeclaredArray, Made, lows_of, made_in, an_array, an_event, arrays_in}
-use Rattle.b67_word.specs.Word.{Word}
-use Rattle.b67_store.specs.Store.{Rows, row_limit}
-use Rattle.b67_templates.specs.Cells.{simple_cells, made_of}
-use Rattle.b67_templates.specs.Code.{AreDimensions}
-use Rattle.b67_faithful.proofs.Contradictions.{some_same, none_some}
-use Rattle.b67_rows.proofs.Numbers.{same_or_not, most_or_more, numbered_set, numbered_other, get_below}
-use Rattle.b67_frames.specs.Arrays.{Allotted, Layout, numbers_of, AreSized, AreMade, HoldElements, open_rows, rows_of_bounds, rows_of_cells, live_rows, HasArray, ArraysAre}
+use Rattle.algol_meaning.specs.Arrays.{new_array}
+use Rattle.algol_paths.specs.Arrays.{arrays_in}
 use Rattle.b67_frames.proofs.ArraySizes.{HasDimensions, extents_of, has_dimensions, are_sized, rows_few}
 use Rattle.b67_frames.proofs.ArrayRows.{arrays_rows, arrays_allotted, arrays_descriptors}
 use Rattle.b67_frames.proofs.MotherRows.{open_apart}
 use Rattle.b67_frames.proofs.OneArray.{new_cell, hold_still, holds_open}
 use Rattle.b67_frames.proofs.ArraysInTurn.{made_long, AreAdded, arrays_added, allotted_many, arrays_are_made}
 use Rattle.b67_frames.proofs.ArrayTotals.{elements_behind, rows_behind, elements_new, rows_new, elements_grow, rows_grow, numbers_left, still_few}
+use Rattle.b67_frames.proofs.EventCells.{get_first}
 
 -- ---- lists by number
-
-get_before : {A : Type 0} (xs ys : List A) (k : ℕ) → k < length xs → slice_get (xs ++ ys) k ≡ slice_get xs k
-get_before [] ys k h = absurd (omega (arith, h))
-get_before (x ∷ xs) ys zero h = refl
-get_before (x ∷ xs) ys (suc k) h = get_before xs ys k (omega (arith, h))
 
 get_behind : {A : Type 0} (xs ys : List A) (k l : ℕ) → k ≡ length xs + l → slice_get (xs ++ ys) k ≡ slice_get ys l
 get_behind [] ys k l e = ap (slice_get ys) (let same : k ≡ l = omega (arith, e) in same)
@@ -57,11 +38,6 @@ got_kind kind pairs (n ∷ ns) zero d e = ap (kind_made kind) (sym (some_same e)
 got_kind kind pairs (n ∷ ns) (suc l) d e = got_kind kind pairs ns l d e
 
 -- ---- the world after
-
--- the instance has the cells more
-pub cells_added : (w : World) (i : ℕ) (x : Instance) (cells : List NamedCell) → numbered w.instances i ≡ Some x →
-    (add_cells w i cells).instances ≡ set_numbered w.instances i (record x { cells = x.cells ++ cells })
-cells_added w i x cells is = ap (λ (o : Option Instance). set_numbered w.instances i (record (or_no_instance o) { cells = (or_no_instance o).cells ++ cells })) is
 
 -- An instance makes arrays of these names, which its block declares after those that the instance has made: their sizes are right, and
 -- there is room for their elements.
@@ -169,10 +145,10 @@ module _ (sc : Scopes) (w : World) (lay : Layout) (rows : Rows) (are : ArraysAre
               is = ap (λ (k : ℕ). numbered w.instances k) (sym same) ∙ m.is;
               stands = m.stands;
               declares = ap (λ (ds : List Made). slice_get ds number) m.order ∙ declares_it;
-              has = sym (get_before m.instance.cells (new_arrays kind bs ns) (front + number) (omega (arith, low, long))) ∙ has_it;
+              has = sym (get_first m.instance.cells (new_arrays kind bs ns) (front + number) (omega (arith, low, long))) ∙ has_it;
               allotted =
                   ap (λ (k : ℕ). slice_get (lay.rows k) number) (sym same)
-                  ∙ sym (get_before (lay.rows i) (allotted_new ns bs rows) number (omega (arith, low, long_rows)))
+                  ∙ sym (get_first (lay.rows i) (allotted_new ns bs rows) number (omega (arith, low, long_rows)))
                   ∙ allotted_it;
             }
 
@@ -183,12 +159,12 @@ module _ (sc : Scopes) (w : World) (lay : Layout) (rows : Rows) (are : ArraysAre
             given = sym (get_behind (lay.rows i) (allotted_new ns bs rows) number l (omega (arith, place, long_rows))) ∙ allotted_it
 
             within : l < length (made_in kind ns pairs)
-            within = omega (arith, get_below (allotted_new ns bs rows) l a given, many_new, length-map (arrays_in kind ns pairs) an_array, length-map {B = DeclaredArray} ns (λ (n : Named). record { name = n.name; kind = kind; pairs = pairs }))
+            within = omega (arith, get_within (allotted_new ns bs rows) l a given, many_new, length-map (arrays_in kind ns pairs) an_array, length-map {B = DeclaredArray} ns (λ (n : Named). record { name = n.name; kind = kind; pairs = pairs }))
 
             kind_is : d.kind ≡ kind
             kind_is =
                 got_kind kind pairs ns l d
-                (sym (get_before (made_in kind ns pairs) m.later l within)
+                (sym (get_first (made_in kind ns pairs) m.later l within)
                 ∙ sym (get_behind m.declared (made_in kind ns pairs ++ m.later) number l place)
                 ∙ declares_it)
 

@@ -1,29 +1,8 @@
 -- GO TO to a frame of another process's stack: a fault.
 use Rattle.std.proofs.Common.{◌≡◌, ◌≢◌, ap, ◌∙◌, ℕ, ◌+◌, ◌-◌, ◌≤◌, List, [], ◌∷◌, Option, Some, Bool, false, Ok, arith}
-use Rattle.std.specs.Prelude.{if◌then◌else◌, nat_eq, reverse, pos}
-use Rattle.std.proofs.lemmas.Bool.Decides.{nat_tests}
-use Rattle.b67_num.specs.declared.FaultKind.TheVariants.{BadGoTo}
-use Rattle.b67_word.specs.declared.Place.{Place}
-use Rattle.b67_word.specs.Word.{Word}
-use Rattle.b67_control.specs.declared.Registers.{Registers}
+use Rattle.b67_frames.proofs.Prelude.{if◌then◌else◌, nat_eq, reverse, pos, nat_tests, BadGoTo, Place, Word, Registers, GoTo, Code, wholes_in, rebuilt, Effect, faults, Passing, Target, passing, passed_by, passed_frames, Image, segment_numbers, end_of_code, if_not_critical, found, seen, display_at, frame, Program, Change, effect_of, asked, fault, raw, operator_at, Core, HasCore, see_found, CallsIntrinsic}
 use Rattle.b67_ops.specs.declared.Operator.TheVariants as ops
 use Rattle.b67_ops.specs.declared.PlainKind.TheVariants as kinds
-use Rattle.b67_ops.specs.declared.intrinsic.Intrinsic.TheVariants.{GoTo}
-use Rattle.b67_segment.specs.declared.code.Code.{Code}
-use Rattle.b67_table.specs.Arguments.{wholes_in}
-use Rattle.b67_table.specs.Chains.{rebuilt}
-use Rattle.b67_table.specs.Effect.{Effect, faults}
-use Rattle.b67_table.specs.GoingTo.{Passing, Target, passing, passed_by, passed_frames}
-use Rattle.b67_table.specs.Image.{Image}
-use Rattle.b67_table.specs.Limits.{segment_numbers, end_of_code}
-use Rattle.b67_table.specs.Linkage.{if_not_critical}
-use Rattle.b67_table.specs.Look.{found, seen}
-use Rattle.b67_table.specs.Private.{display_at, frame}
-use Rattle.b67_table.specs.Program.{Program, Change, effect_of, asked, fault}
-use Rattle.b67_table.specs.Table.{raw, operator_at}
-use Rattle.b67_cores.specs.Cores.{Core, HasCore}
-use Rattle.b67_letters.proofs.Looks.{see_found}
-use Rattle.b67_rows.proofs.IntrinsicRows.{CallsIntrinsic}
 use Rattle.b67_frames.proofs.JumpSteps.{gone, with_display, with_passing, target_named}
 
 not_same : (m n : ℕ) → m ≢ n → nat_eq m n ≡ false

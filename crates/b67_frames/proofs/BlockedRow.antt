@@ -1,23 +1,9 @@
 -- EXIT of a base frame on which a process depends: a fault.
 use Rattle.std.proofs.Common.{◌≡◌, ap, ◌∙◌, ℕ, ◌+◌, List, [], ◌∷◌, take, drop, Bool, true, Ok}
-use Rattle.std.specs.Prelude.{if◌then◌else◌, nat_eq}
-use Rattle.b67_num.specs.declared.FaultKind.TheVariants.{CriticalBlockExit}
-use Rattle.b67_word.specs.Word.{Word}
-use Rattle.b67_control.specs.declared.Registers.{Registers}
+use Rattle.b67_frames.proofs.Prelude.{if◌then◌else◌, nat_eq, CriticalBlockExit, Word, Registers, Code, words_of, Effect, faults, Image, caused_by, frame_left, is_critical, leave_base, leave_other, frame, Program, Change, done, does, effect_of, asked, answer, fault, registers, end_process, live_criticals, exit, raw, operator_at, Core, HasCore, raw_is}
 use Rattle.b67_ops.specs.declared.Operator.TheVariants as ops
 use Rattle.b67_ops.specs.declared.PlainKind.TheVariants as kinds
-use Rattle.b67_segment.specs.declared.code.Code.{Code}
-use Rattle.b67_store.specs.Store.{words_of}
-use Rattle.b67_table.specs.Effect.{Effect, faults}
-use Rattle.b67_table.specs.Image.{Image}
-use Rattle.b67_table.specs.Linkage.{caused_by, frame_left, is_critical, leave_base, leave_other}
-use Rattle.b67_table.specs.Private.{frame}
-use Rattle.b67_table.specs.Program.{Program, Change, done, does, effect_of, asked, answer, fault, registers, end_process}
-use Rattle.b67_table.specs.Questions.{live_criticals}
-use Rattle.b67_table.specs.Rows.{row, exit}
-use Rattle.b67_table.specs.Table.{raw, operator_at}
-use Rattle.b67_cores.specs.Cores.{Core, HasCore}
-use Rattle.b67_rows.proofs.Rows.{raw_is}
+use Rattle.b67_table.specs.Rows.{row}
 
 module _ (code : Code) (img : Image) (p : ℕ) (core : Core) (has : HasCore img p core) (next : ℕ) where
   abbrev r : Registers

@@ -1,33 +1,25 @@
 -- Each action keeps the stacks of all processes but for the newest instances of the one that acts, and so the paths from the instances that stand on.
 use Rattle.std.proofs.Common.{◌≡◌, ◌⊎◌, inl, inr, refl, sym, ap, ◌∙◌, subst, ℕ, zero, suc, pos, List, [], ◌∷◌, ◌++◌, length, Option, Some, None, Bool, true, false}
-use Rattle.std.specs.Prelude.{if◌then◌else◌, ◌==◌, nat_lt}
-use Rattle.b67_list.specs.Numbered.{numbered, set_numbered}
+use Rattle.b67_frames.proofs.Prelude.{if◌then◌else◌, ◌==◌, nat_lt, numbered, set_numbered, EventDeed, Named, Block, block_numbered, Scopes, Value, Reference, ArrayCell, Cell, simple, event, array, named, reference, EventState, Instance, Part, Process, World, instance_at, or_no_instance, cells_with, followed, is_evaluation, own_instances, has_wrong_size, has_no_room, bounds_of, leave, Answer, Ask, ask, resume, IsIn, IsStanding, IsOnPath, AllPairs, numbered_forth}
 use Rattle.b67_num.specs.declared.FaultKind.TheVariants as fault
 use Rattle.b67_num.specs.Whole.{fault_of}
 use Rattle.b67_deeds.specs.Deeds as deeds
-use Rattle.b67_deeds.specs.Deeds.{EventDeed, Deed, Next, deed}
-use Rattle.algol_laws.proofs.Releasing.{changed_processes, forgotten_processes, joined_processes}
-use Rattle.algol_tree.specs.declared.tree.Named.{Named}
-use Rattle.algol_tree.specs.Blocks.{Block, block_numbered}
-use Rattle.algol_tree.specs.Scopes.{Scopes}
+use Rattle.b67_deeds.specs.Deeds.{Deed, Next, deed}
+use Rattle.algol_laws.proofs.Releasing.{changed_processes, forgotten_processes, joined_processes, able_instances}
 use Rattle.algol_meaning.specs.declared.TheConstants.{MOST_STARTED}
-use Rattle.algol_meaning.specs.Value.{Value, number, whole_of, Reference, ArrayCell, Cell, simple, event, array, named, reference}
-use Rattle.b67_deeds.specs.Events.{EventState, left_by}
-use Rattle.algol_meaning.specs.World.{Instance, Part, Process, State, able, waits_for, waits_any, procures, ended, World, instance_at, or_no_instance, cell_at, cells_with, followed, process_at, or_no_process, with_process, set_able, set_all_able}
-use Rattle.algol_meaning.specs.Critical.{is_evaluation, own_instances, some_depends, some_depends_on_any}
-use Rattle.algol_meaning.specs.Arrays.{has_wrong_size, has_no_room, bounds_of}
+use Rattle.algol_meaning.specs.Value.{number, whole_of}
+use Rattle.b67_deeds.specs.Events.{left_by}
+use Rattle.algol_meaning.specs.World.{State, able, waits_for, waits_any, procures, ended, cell_at, process_at, or_no_process, with_process, set_able, set_all_able}
+use Rattle.algol_meaning.specs.Critical.{some_depends, some_depends_on_any}
 use Rattle.algol_meaning.specs.Events.{event_at, set_event, change_event, first_happened, joined_all, list_in, forgotten, woken_by, withdrawn, all_withdrawn, released, caused_by_end}
-use Rattle.algol_meaning.specs.Instances.{leave, Cut, cut_at}
+use Rattle.algol_meaning.specs.Instances.{Cut, cut_at}
 use Rattle.algol_meaning.specs.Rest as rests
-use Rattle.algol_meaning.specs.Rest.{Answer, done, value, entered}
+use Rattle.algol_meaning.specs.Rest.{done, value, entered}
 use Rattle.algol_meaning.specs.Statements.{items_from, settle_items}
 use Rattle.algol_meaning.specs.Asks as asks
-use Rattle.algol_meaning.specs.Asks.{Ask, ask, resume}
 use Rattle.algol_meaning.specs.Choice.{Choice, choice, choice_in, choice_of, is_subscripted, nth_exists, home, here, fails, read_of, resolved_of, indexed_at, element_read_at, stored, left, left_with, left_or_ended, gone, gone_to, goes_to, told, did, does_with_first, all_followed, waits_for_any, wakes_or_waits, does_with}
-use Rattle.algol_standing.specs.Skeleton.{IsIn}
-use Rattle.algol_standing.specs.Worlds.{IsStanding, IsOnPath}
 use Rattle.algol_standing.proofs.Jumping.{cut_all}
-use Rattle.algol_standing.proofs.Pairs.{AllPairs, numbered_forth, pairs_self, pairs_then_set}
+use Rattle.algol_standing.proofs.Pairs.{pairs_self, pairs_then_set}
 use Rattle.algol_standing.proofs.Stacks.{leave_processes, leave_back, numbered_cases}
 use Rattle.b67_frames.proofs.Facts.{HasFacts}
 use Rattle.b67_frames.proofs.Paths.{KeepsStack, keeps_all, keeps_more, keeps_fewer, AreAlike, HaveAlike, alike_pairs, alike_self, alike_front, each_alike, each_but, paths_stay}
@@ -64,10 +56,6 @@ released_alike w v r gone ps same =
     alike_pairs w.processes (set_all_able (all_withdrawn v r gone) ps).processes
     (alike_able w.processes (all_withdrawn v r gone) ps
     (alike_withdrawn w.processes v r gone (subst (λ (xs : List Process). AllPairs AreAlike w.processes xs) (sym same) (pairs_self AreAlike (λ x. (refl, refl)) w.processes))))
-
-able_instances : (v : World) (ps : List ℕ) → (set_all_able v ps).instances ≡ v.instances
-able_instances v [] = refl
-able_instances v (p ∷ ps) = able_instances (set_able v p) ps
 
 -- ---- instances that are left
 
@@ -111,7 +99,7 @@ left_gone v facts is are i inside st =
     let x = facts.there i st in
     let clash : true ≡ false = sym (are i x.0 inside x.1) ∙ x.2 in cc
 
-own_both : (xs ys : List Part) → own_instances (xs ++ ys) ≡ own_instances xs ++ own_instances ys
+pub own_both : (xs ys : List Part) → own_instances (xs ++ ys) ≡ own_instances xs ++ own_instances ys
 own_both [] ys = refl
 own_both (x ∷ xs) ys = by (is_evaluation x.purpose) (own_both xs ys)
   where

@@ -1,48 +1,19 @@
 -- The arrays of an instance are closed when its frame is left.
 use Rattle.std.proofs.Common.{◌≡◌, ◌≢◌, ◌⊎◌, inl, inr, refl, sym, ap, ◌∙◌, subst, ℕ, zero, suc, ◌+◌, ◌*◌, ◌<◌, ◌≤◌, List, [], ◌∷◌, ◌++◌, length, Option, Some, Bool, true, false, arith}
-use Rattle.std.specs.Prelude.{slice_get, slice_set}
-use Rattle.b67_list.specs.Numbered.{numbered, set_numbered}
-use Rattle.algol_tree.specs.Blocks.{block_numbered}
-use Rattle.algol_tree.specs.Scopes.{Scopes}
-use Rattle.algol_meaning.specs.Value.{ArrayCell, Cell, array}
-use Rattle.algol_meaning.specs.Arrays.{size_of_cell, size_of_cells, size_unless, live_elements}
-use Rattle.algol_meaning.specs.Instances.{leave}
-use Rattle.algol_meaning.specs.World.{NamedCell, Instance, World, instance_at}
-use Rattle.algol_paths.specs.Arrays.{DeclaredArray, Made, an_array, an_event}
-use Rattle.b67_word.specs.Word.{Word}
-use Rattle.b67_control.specs.declared.Descriptor.{Descriptor}
-use Rattle.b67_control.specs.Control.{as_descriptor}
-use Rattle.b67_store.specs.Store.{Rows, row_at}
-use Rattle.b67_table.specs.Image.{Image, with_rows}
-use Rattle.b67_table.specs.Linkage.{closed_by, array_closed, arrays_closed}
-use Rattle.b67_table.specs.Program.{Change, changed}
-use Rattle.b67_control.specs.declared.Pcw.{Pcw}
-use Rattle.b67_templates.specs.Cells.{simple_cells, made_of}
-use Rattle.b67_cores.specs.Stretches.{control_words}
-use Rattle.b67_faithful.proofs.Contradictions.{some_same, none_some}
-use Rattle.b67_rows.proofs.Numbers.{same_or_not, numbered_set, numbered_other}
-use Rattle.b67_rows.proofs.StackWords.{get-front}
+use Rattle.b67_frames.proofs.Prelude.{slice_get, slice_set, numbered, set_numbered, block_numbered, Scopes, ArrayCell, Cell, array, size_of_cell, size_of_cells, size_unless, live_elements, leave, NamedCell, Instance, World, instance_at, DeclaredArray, Made, an_array, an_event, Word, Descriptor, as_descriptor, Rows, row_at, Image, with_rows, closed_by, array_closed, arrays_closed, Change, changed, Pcw, simple_cells, made_of, control_words, some_same, none_some, same_or_not, numbered_set, numbered_other, get-front, get-behind, Allotted, numbers_of, Layout, IsMade, AreMade, HoldElements, rows_of_cell, rows_of_cells, live_rows, HasArray, HasRow, ArraysAre, block_controls}
 use Rattle.b67_rows.proofs.Words.{event_describes_nothing}
-use Rattle.b67_frames.specs.Arrays.{Allotted, numbers_of, Layout, IsMade, IsEventMade, AreMade, HoldElements, rows_of_cell, rows_of_cells, live_rows, HasArray, HasRow, ArraysAre}
-use Rattle.b67_frames.specs.Frames.{block_controls}
+use Rattle.b67_frames.specs.Arrays.{IsEventMade}
 use Rattle.b67_frames.proofs.ArraysKept.{no_elements, no_rows}
 use Rattle.b67_frames.proofs.ClosedRows.{Fewer, fewer_again}
 use Rattle.b67_frames.proofs.Closing.{IsClosed, FramesClose}
 use Rattle.b67_frames.proofs.ExitRow.{DescribeNothing, cells_describe_nothing, controls_describe_nothing}
-use Rattle.b67_frames.proofs.MadeArrays.{get_past, same_cell}
+use Rattle.b67_frames.proofs.MadeArrays.{same_cell}
 use Rattle.b67_frames.proofs.OneClosed.{holds_same, without_array, array_keeps, OneClosed, one_closes}
 use Rattle.b67_frames.proofs.OwnCells.{OwnCells, framed_cells}
 use Rattle.b67_frames.proofs.Zeros.{cells_length}
+use Rattle.b67_frames.proofs.ArrayTotals.{rows_behind, elements_behind}
 
 -- ---- sums
-
-size_both : (cells more : List NamedCell) → size_of_cells (cells ++ more) ≡ size_of_cells cells + size_of_cells more
-size_both [] more = omega arith
-size_both (c ∷ cells) more = omega (arith, size_both cells more)
-
-rows_both : (cells more : List NamedCell) → rows_of_cells (cells ++ more) ≡ rows_of_cells cells + rows_of_cells more
-rows_both [] more = omega arith
-rows_both (c ∷ cells) more = omega (arith, rows_both cells more)
 
 -- an instance has left: the elements of its arrays live no longer
 elements_gone : (xs : List Instance) (k : ℕ) (x y : Instance) → slice_get xs k ≡ Some x → x.left ≡ false → y.left ≡ true → live_elements (slice_set xs k y) + size_of_cells x.cells ≡ live_elements xs
@@ -182,7 +153,7 @@ module _ (sc : Scopes) (w : World) (lay : Layout) (img : Image) (are : ArraysAre
       (λ n m c far there.
       let same : m ≡ n = omega (arith, far) in
       ap (λ (cells : List NamedCell). slice_get cells (length (simple_cells sc (block_numbered sc.blocks x.block)) + m)) own.has
-      ∙ get_past own.simple own.arrays n (length (simple_cells sc (block_numbered sc.blocks x.block)) + m)
+      ∙ get-behind own.simple own.arrays n (length (simple_cells sc (block_numbered sc.blocks x.block)) + m)
       (omega (arith, far, cells_length (simple_cells sc (block_numbered sc.blocks x.block)) own.simple own.values own.simple_are))
       ∙ there)
       (λ n m a far there. let same : m ≡ n = omega (arith, far) in ap (λ (j : ℕ). slice_get (lay.rows i) j) same ∙ there)
@@ -223,13 +194,13 @@ module _ (sc : Scopes) (w : World) (lay : Layout) (img : Image) (are : ArraysAre
   no_size : size_of_cells x.cells ≡ size_of_cells own.arrays
   no_size =
       ap size_of_cells own.has
-      ∙ size_both own.simple own.arrays
+      ∙ elements_behind own.simple own.arrays
       ∙ omega (arith, no_elements (simple_cells sc (block_numbered sc.blocks x.block)) own.simple own.values own.simple_are)
 
   no_rows_more : rows_of_cells x.cells ≡ rows_of_cells own.arrays
   no_rows_more =
       ap rows_of_cells own.has
-      ∙ rows_both own.simple own.arrays
+      ∙ rows_behind own.simple own.arrays
       ∙ omega (arith, no_rows (simple_cells sc (block_numbered sc.blocks x.block)) own.simple own.values own.simple_are)
 
   arrays_left : ArraysAre sc w' lay closed.after

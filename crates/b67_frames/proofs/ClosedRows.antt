@@ -1,15 +1,6 @@
 -- Rows that are closed one after another: what stays, and how much less there is.
 use Rattle.std.proofs.Common.{◌≡◌, ◌≢◌, refl, sym, ap, ◌∙◌, ℕ, zero, suc, ◌+◌, ◌*◌, ◌<◌, ◌≤◌, List, [], ◌∷◌, length, Option, Some, None, true, false, arith}
-use Rattle.std.specs.Prelude.{slice_get, map}
-use Rattle.b67_word.specs.Word.{Word}
-use Rattle.b67_control.specs.declared.Descriptor.{Descriptor}
-use Rattle.b67_store.specs.Store.{closed_at, Row, Rows, row_at, row_limit, live_words, counted_words}
-use Rattle.b67_store.proofs.StoreLaws.{changed_others, counts}
-use Rattle.b67_table.specs.Arrays.{array_word}
-use Rattle.b67_table.specs.Image.{Image, with_rows}
-use Rattle.b67_table.specs.Linkage.{closed_by, rows_closed}
-use Rattle.b67_table.specs.Program.{Change, changed, close_row}
-use Rattle.b67_frames.specs.Arrays.{open_rows}
+use Rattle.b67_frames.proofs.Prelude.{slice_get, map, Word, Descriptor, closed_at, Row, Rows, row_at, row_limit, live_words, counted_words, changed_others, counts, array_word, Image, with_rows, closed_by, rows_closed, Change, changed, close_row, open_rows}
 use Rattle.b67_frames.proofs.ElementRows.{array_read}
 
 -- the rows after those of these numbers are closed

@@ -1,15 +1,6 @@
 -- What is asked of the closing of a frame's arrays: the rows that its cells describe are closed, and those of all other arrays stay.
 use Rattle.std.proofs.Common.{◌≡◌, ℕ, List, [], ◌∷◌}
-use Rattle.algol_tree.specs.Scopes.{Scopes}
-use Rattle.algol_meaning.specs.Instances.{leave}
-use Rattle.algol_meaning.specs.World.{Part, World}
-use Rattle.b67_word.specs.Word.{Word}
-use Rattle.b67_store.specs.Store.{Rows}
-use Rattle.b67_table.specs.Image.{Image, with_rows}
-use Rattle.b67_table.specs.Linkage.{arrays_closed}
-use Rattle.b67_table.specs.Program.{Change, changed}
-use Rattle.b67_frames.specs.Arrays.{Layout, ArraysAre}
-use Rattle.b67_frames.specs.Frames.{Framed}
+use Rattle.b67_frames.proofs.Prelude.{Scopes, leave, Part, World, Word, Rows, Image, with_rows, arrays_closed, Change, changed, Layout, ArraysAre, Framed}
 
 -- what the closing of the rows that these cells describe leaves, in an image of a world
 pub record IsClosed (sc : Scopes) (w : World) (lay : Layout) (img : Image) (i : ℕ) (cells : List Word) : Type 0 where

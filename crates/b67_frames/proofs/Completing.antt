@@ -1,13 +1,6 @@
 -- How many arrays an instance has made, and when it has made all of them.
 use Rattle.std.proofs.Common.{◌≡◌, refl, sym, ap, ◌∙◌, ℕ, suc, ◌+◌, List, [], ◌∷◌, length, arith, length-append}
-use Rattle.algol_tree.specs.Blocks.{block_numbered}
-use Rattle.algol_tree.specs.Scopes.{Scopes}
-use Rattle.algol_meaning.specs.World.{NamedCell, Instance, Part, World, instance_at, or_no_instance}
-use Rattle.algol_paths.specs.Arrays.{Made}
-use Rattle.b67_word.specs.Word.{Word}
-use Rattle.b67_templates.specs.Cells.{simple_cells, made_of}
-use Rattle.b67_frames.specs.Arrays.{Allotted, Layout, AreMade}
-use Rattle.b67_frames.specs.Frames.{IsComplete, Framed}
+use Rattle.b67_frames.proofs.Prelude.{block_numbered, Scopes, NamedCell, Instance, Part, World, instance_at, or_no_instance, Made, Word, simple_cells, made_of, Allotted, Layout, AreMade, IsComplete, Framed}
 use Rattle.b67_frames.proofs.Zeros.{cells_length}
 
 -- there are as many cells, rows and descriptors as arrays

@@ -1,25 +1,14 @@
 -- The control words among the cells of a frame: of the procedures that its block declares, and of its actuals.
 use Rattle.std.proofs.Common.{◌≡◌, refl, ap, ◌∙◌, subst, ℕ, zero, suc, ◌+◌, ◌<◌, ◌≤◌, List, [], ◌∷◌, length, Some, arith, length-append}
-use Rattle.std.specs.Prelude.{slice_get}
-use Rattle.algol_tree.specs.declared.TheConstants.{MOST_BLOCK_CELLS}
-use Rattle.algol_tree.specs.declared.tree.Named.{Named}
-use Rattle.algol_tree.specs.Blocks.{Block, block_numbered, number_at}
-use Rattle.algol_tree.specs.Cells.{level_of}
-use Rattle.algol_tree.specs.Scopes.{Scopes}
-use Rattle.algol_paths.specs.Segments.{segment_of}
-use Rattle.b67_control.specs.declared.Pcw.{Pcw}
-use Rattle.b67_control.specs.Control.{Fits_pcw, pcw_word}
+use Rattle.b67_frames.proofs.Prelude.{slice_get, MOST_BLOCK_CELLS, Named, Block, block_numbered, level_of, Scopes, segment_of, Pcw, pcw_word, simple_cells, procedures, Actual, actuals_of, made_of, Context, control_words, some_same, none_some, AreNested, get-front, get-behind, block_controls}
+use Rattle.algol_tree.specs.Blocks.{number_at}
+use Rattle.b67_control.specs.Control.{Fits_pcw}
 use Rattle.b67_segment.specs.Operators.{Placed}
 use Rattle.b67_templates.specs.Fragments.{ControlsAt, code_at, routine_at, procedure_controls}
-use Rattle.b67_templates.specs.Cells.{simple_cells, procedures, control_segments, Actual, has_place, actuals_of, made_of}
-use Rattle.b67_templates.specs.Contexts.{Context}
+use Rattle.b67_templates.specs.Cells.{control_segments, has_place}
 use Rattle.b67_templates.specs.Code.{RoutineAt, RoutinesAt, routine_controls}
-use Rattle.b67_cores.specs.Stretches.{control_words}
-use Rattle.b67_faithful.proofs.Contradictions.{some_same, none_some}
-use Rattle.b67_templates.specs.Nested.{AreNested}
 use Rattle.b67_rows.proofs.Segmented.{get_mapped, length_mapped}
-use Rattle.b67_rows.proofs.StackWords.{get-front, get-behind}
-use Rattle.b67_frames.specs.Frames.{AllFit, block_controls, controls_count}
+use Rattle.b67_frames.specs.Frames.{AllFit, controls_count}
 
 -- the cells of a block are few: simple cells, control words, and what actions make
 pub block_few : (sc : Scopes) → AreNested sc → (j : ℕ) → j < length sc.blocks →

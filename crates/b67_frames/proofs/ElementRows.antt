@@ -1,27 +1,12 @@
 -- The rows of an array: the descriptors in the row of its mother, and the words of its elements.
-use Rattle.std.proofs.Common.{◌≡◌, sym, ap, ◌∙◌, subst, ℕ, zero, suc, ◌+◌, ◌*◌, ◌^◌, ◌<◌, ◌≤◌, List, [], ◌∷◌, length, Option, Some, Bool, true, false, arith}
-use Rattle.std.specs.Prelude.{slice_get, map}
-use Rattle.algol_tree.specs.declared.tree.Kind.{Kind}
-use Rattle.algol_tree.specs.Scopes.{Scopes}
-use Rattle.algol_meaning.specs.Value.{Value, Bounds, ArrayCell}
-use Rattle.algol_meaning.specs.Arrays.{size_of, flat, or_number, element_at}
-use Rattle.algol_meaning.specs.World.{World}
-use Rattle.b67_word.specs.Word.{Word}
-use Rattle.b67_control.specs.Control.{as_descriptor}
+use Rattle.std.proofs.Common.{◌≡◌, sym, ap, ◌∙◌, subst, ℕ, ◌+◌, ◌*◌, ◌^◌, ◌<◌, ◌≤◌, List, [], ◌∷◌, length, Option, Some, Bool, true, false, arith}
+use Rattle.b67_frames.proofs.Prelude.{slice_get, map, Kind, Scopes, Value, Bounds, ArrayCell, size_of, flat, World, Word, as_descriptor, Row, Rows, row_at, row_limit, array_word, HasKind, ValueIs, Allotted, Layout, row_length, DescriptorIs, HoldElements}
+use Rattle.algol_meaning.specs.Arrays.{or_number, element_at}
+use Rattle.algol_standing.proofs.Pairs.{map_forth}
 use Rattle.b67_control.proofs.ControlLaws.{as_descriptor-descriptor_word}
-use Rattle.b67_store.specs.Store.{Row, Rows, row_at, row_limit}
-use Rattle.b67_table.specs.Arrays.{array_word, word_in, indexed_in, as_indexed}
-use Rattle.b67_templates.specs.Fragments.{HasKind}
-use Rattle.b67_cores.specs.Slots.{ValueIs}
-use Rattle.b67_faithful.proofs.Contradictions.{some_same, none_some}
+use Rattle.b67_table.specs.Arrays.{word_in, indexed_in, as_indexed}
 use Rattle.b67_rows.proofs.Numbers.{get_within}
-use Rattle.b67_frames.specs.Arrays.{Allotted, Layout, row_length, DescriptorIs, HoldElements, IsIn, row_copy, element_copy}
-
--- what stands in a list of images
-pub get_map : {A B : Type 0} (f : A → B) (xs : List A) (k : ℕ) (x : A) → slice_get xs k ≡ Some x → slice_get (map f xs) k ≡ Some (f x)
-get_map f [] k x e = none_some e
-get_map f (y ∷ xs) zero x e = let same : y ≡ x = some_same e in ap (λ z. Some (f z)) same
-get_map f (y ∷ xs) (suc k) x e = get_map f xs k x e
+use Rattle.b67_frames.specs.Arrays.{IsIn, row_copy, element_copy}
 
 -- ---- words
 
@@ -156,6 +141,6 @@ module _ (sc : Scopes) (w : World) (lay : Layout) where
           low = (holds.opened index number found.1).0;
           lies =
               ap (λ (o : Option Row). word_in o index) there
-              ∙ get_map (λ (n : ℕ). array_word false (row_length cell.bounds) n) a.parts index number found.1
+              ∙ map_forth (λ (n : ℕ). array_word false (row_length cell.bounds) n) a.parts index number found.1
               ∙ ap (λ (bs : List Bounds). Some (array_word false (row_length bs) number)) is;
         }

@@ -1,21 +1,6 @@
 -- The arrays of a world in which an instance has made an event, or in which an event has changed, are those that they were.
 use Rattle.std.proofs.Common.{◌≡◌, ◌≢◌, ◌⊎◌, inl, inr, refl, sym, ap, ◌∙◌, subst, ℕ, zero, suc, ◌+◌, ◌*◌, ◌<◌, ◌≤◌, List, [], ◌∷◌, ◌++◌, length, Some, Bool, true, false, arith}
-use Rattle.std.specs.Prelude.{if◌then◌else◌, slice_get, slice_set}
-use Rattle.b67_list.specs.Numbered.{numbered, set_numbered}
-use Rattle.algol_tree.specs.Blocks.{block_numbered}
-use Rattle.algol_tree.specs.Scopes.{Scopes}
-use Rattle.algol_tree.specs.Sorts.{same_name}
-use Rattle.algol_meaning.specs.Arrays.{size_of_cell, size_of_cells, size_unless, live_elements}
-use Rattle.algol_meaning.specs.Value.{ArrayCell, Cell, event, array}
-use Rattle.b67_deeds.specs.Events.{EventState}
-use Rattle.algol_meaning.specs.World.{NamedCell, Instance, World, instance_at, cell_in, cells_with, by_cell}
-use Rattle.algol_paths.specs.Arrays.{DeclaredArray, Made, an_array, an_event}
-use Rattle.b67_word.specs.Word.{Word}
-use Rattle.b67_store.specs.Store.{Rows}
-use Rattle.b67_templates.specs.Cells.{simple_cells, made_of}
-use Rattle.b67_faithful.proofs.Contradictions.{some_same, none_some}
-use Rattle.b67_rows.proofs.Numbers.{same_or_not, numbered_set, numbered_other}
-use Rattle.b67_frames.specs.Arrays.{Allotted, Layout, IsMadeSo, AreMade, rows_of_cell, rows_of_cells, live_rows, HasArray, ArraysAre}
+use Rattle.b67_frames.proofs.Prelude.{if◌then◌else◌, slice_get, slice_set, numbered, set_numbered, block_numbered, Scopes, same_name, size_of_cell, size_of_cells, size_unless, live_elements, ArrayCell, Cell, event, array, EventState, NamedCell, Instance, World, instance_at, cell_in, cells_with, by_cell, DeclaredArray, Made, an_array, an_event, Word, Rows, simple_cells, made_of, some_same, none_some, same_or_not, numbered_set, numbered_other, Allotted, Layout, IsMadeSo, AreMade, rows_of_cell, rows_of_cells, live_rows, HasArray, ArraysAre}
 use Rattle.b67_frames.proofs.ArraysKept.{arrays_by, elements_numbered, rows_numbered}
 use Rattle.b67_frames.proofs.Knowing.{KeepsArrays, IsNoReference, changed_or_not, other_stays, names_stay}
 use Rattle.b67_frames.proofs.StoredRows.{get_other}

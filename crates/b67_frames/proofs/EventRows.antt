@@ -1,47 +1,25 @@
 -- ENTR on the intrinsics of events: an event is made, told, or acted on.
 use Rattle.std.proofs.Common.{◌≡◌, sym, ap, ◌∙◌, ℕ, ◌+◌, ◌-◌, List, [], ◌∷◌, ◌++◌, Option, Some, Bool, true, Ok, append-nil}
-use Rattle.std.specs.Prelude.{reverse}
-use Rattle.std.proofs.lemmas.List.{reverse-reverse}
-use Rattle.b67_list.specs.Numbered.{numbered}
-use Rattle.b67_word.specs.declared.Place.{Place}
-use Rattle.b67_word.specs.Word.{Word}
+use Rattle.b67_frames.proofs.Prelude.{reverse, reverse-reverse, numbered, Place, Word, Irw, Registers, Sirw, as_irw, as_sirw, event_word, is_open, opened, Intrinsic, Code, word_at, with_stack, event_of, if_chained, finished_at, place, Effect, gives, Image, with_stacks, with_registers, with_events, Look, ◌>->◌, valid, pushed, display_at, Change, Program, answer, asked, changed, effect_of, see, ◌>>=◌, done, registers, event_deed, cell_place, irw_or_sirw, enter, raw, operator_at, EventDeed, Core, HasCore, stack_of, with_core, CallsIntrinsic, entered_asked, entered, chained_asked, chained_is, cut_words, raw_is, stack-over, pushed_do}
 use Rattle.b67_word.specs.Word as words
 use Rattle.b67_control.specs.declared.EventWord.{EventWord}
-use Rattle.b67_control.specs.declared.Irw.{Irw}
-use Rattle.b67_control.specs.declared.Registers.{Registers}
-use Rattle.b67_control.specs.declared.Sirw.{Sirw}
-use Rattle.b67_control.specs.Control.{as_irw, as_sirw, event_word}
-use Rattle.b67_events.specs.Events.{is_open, state_at, opened, deed_at}
+use Rattle.b67_events.specs.Events.{state_at, deed_at}
 use Rattle.b67_ops.specs.declared.Operator.TheVariants as ops
 use Rattle.b67_ops.specs.declared.PlainKind.TheVariants as kinds
-use Rattle.b67_ops.specs.declared.intrinsic.Intrinsic.{Intrinsic}
 use Rattle.b67_ops.specs.declared.intrinsic.Intrinsic.TheVariants.{Event}
-use Rattle.b67_segment.specs.declared.code.Code.{Code}
-use Rattle.b67_store.specs.Store.{word_at, with_stack}
 use Rattle.b67_table.specs.declared.Cell.{Cell}
 use Rattle.b67_table.specs.declared.Reached.{Reached}
-use Rattle.b67_table.specs.Arguments.{IntrinsicRow, if_open, event_in, event_of, if_chained, finished_at}
-use Rattle.b67_table.specs.Chains.{place}
-use Rattle.b67_table.specs.Effect.{Effect, gives}
-use Rattle.b67_table.specs.Image.{Image, with_stacks, with_registers, with_events}
+use Rattle.b67_table.specs.Arguments.{IntrinsicRow, if_open, event_in}
 use Rattle.b67_table.specs.Intrinsics.{on_event, tell_event, row_of_intrinsic}
-use Rattle.b67_table.specs.Look.{Look, ◌>->◌, valid}
-use Rattle.b67_table.specs.Moves.{pushed}
-use Rattle.b67_table.specs.Private.{display_at}
-use Rattle.b67_table.specs.Program.{Change, Program, answer, asked, changed, effect_of, see, ◌>>=◌, write, done, registers, event_answer, event_deed, is_event}
-use Rattle.b67_table.specs.References.{cell_place, cell_in, irw_or_sirw, reached, reached_in, one_sirw, no_second}
-use Rattle.b67_table.specs.Rows.{row, enter}
-use Rattle.b67_table.specs.Table.{raw, operator_at}
+use Rattle.b67_table.specs.Program.{write, event_answer, is_event}
+use Rattle.b67_table.specs.References.{cell_in, reached, reached_in, one_sirw, no_second}
+use Rattle.b67_table.specs.Rows.{row}
 use Rattle.b67_letters.specs.Releases.{effect_releases, fetched_releases, registers_releases}
 use Rattle.b67_table.specs.Writes as writes
 use Rattle.b67_table.specs.Writes.{with_deed}
 use Rattle.b67_deeds.specs.declared.EventTest.{EventTest}
-use Rattle.b67_deeds.specs.Deeds.{EventDeed, tests, answers}
-use Rattle.b67_cores.specs.Cores.{Core, HasCore, stack_of, with_core}
-use Rattle.b67_rows.proofs.IntrinsicRows.{CallsIntrinsic, without_call, entered_asked, entered, chained_asked, chained_is, cut_words}
-use Rattle.b67_rows.proofs.Rows.{raw_is}
-use Rattle.b67_rows.proofs.StackWords.{stack-over}
-use Rattle.b67_rows.proofs.TopRow.{pushed_do}
+use Rattle.b67_deeds.specs.Deeds.{tests, answers}
+use Rattle.b67_rows.proofs.IntrinsicRows.{without_call}
 use Rattle.b67_rows.proofs.Words.{event_read, event_refers_nothing}
 use Rattle.b67_frames.proofs.MakingRow.{with_descriptors}
 

@@ -1,25 +1,11 @@
 -- The events of an image are those of a later world, in which an instance has made one more, or in which one has changed.
 use Rattle.std.proofs.Common.{◌≡◌, ◌≢◌, ◌⊎◌, inl, inr, sym, ap, ◌∙◌, subst, ℕ, zero, suc, ◌+◌, ◌<◌, ◌≤◌, List, [], ◌∷◌, ◌++◌, length, Some, arith}
-use Rattle.std.specs.Prelude.{slice_get}
+use Rattle.b67_frames.proofs.Prelude.{slice_get, numbered, set_numbered, block_numbered, Scopes, event, EventState, NamedCell, Instance, World, Place, Event, event_at, opened, one_event, place, get_within, simple_cells, made_of, made_base, some_same, same_or_not, most_or_more, numbered_set, numbered_other, get-seam, Layout, HasEvent, EventsAre}
 use Rattle.std.specs.Option.{option_map}
-use Rattle.b67_list.specs.Numbered.{numbered, set_numbered}
-use Rattle.algol_tree.specs.Blocks.{block_numbered}
-use Rattle.algol_tree.specs.Scopes.{Scopes}
 use Rattle.b67_deeds.specs.Events.{fresh_state}
-use Rattle.algol_meaning.specs.Value.{event}
-use Rattle.b67_deeds.specs.Events.{EventState}
-use Rattle.algol_meaning.specs.World.{NamedCell, Instance, World}
-use Rattle.b67_word.specs.declared.Place.{Place}
-use Rattle.b67_events.specs.Events.{Event, event_at, changed, opened}
+use Rattle.b67_events.specs.Events.{changed}
 use Rattle.b67_events.specs.Laws.{StaysInPlace}
-use Rattle.b67_events.proofs.EventLaws.{one_event}
-use Rattle.b67_table.specs.Chains.{place}
-use Rattle.b67_templates.specs.Cells.{simple_cells, made_of, made_base}
-use Rattle.b67_faithful.proofs.Contradictions.{some_same}
-use Rattle.b67_rows.proofs.Numbers.{same_or_not, most_or_more, numbered_set, numbered_other, get_below}
-use Rattle.b67_rows.proofs.StackWords.{get-seam}
-use Rattle.b67_frames.specs.Arrays.{Layout}
-use Rattle.b67_frames.specs.Events.{event_there, HasEvent, EventsAre}
+use Rattle.b67_frames.specs.Events.{event_there}
 
 -- One instance changes: this event of it is one of the later world, and each other event was one before.
 module _ (sc : Scopes) (w w' : World) (lay lay' : Layout) (i number : ℕ) (later : EventState) (there : Place) where
@@ -123,7 +109,7 @@ module _ (sc : Scopes) (w w' : World) (lay lay' : Layout) (i : ℕ) (x : Instanc
               most =
                   omega (
                     arith,
-                    get_below (x.cells ++ record { name = name; cell = event fresh_state } ∷ []) (front + other) (record { name = h.name; cell = event e }) has_it,
+                    get_within (x.cells ++ record { name = name; cell = event fresh_state } ∷ []) (front + other) (record { name = h.name; cell = event e }) has_it,
                     long x.cells (record { name = name; cell = event fresh_state }),
                   )
 

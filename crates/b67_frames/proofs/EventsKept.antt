@@ -1,23 +1,8 @@
 -- The events of an image are those of a later world as well, where no event's cell changes: those that are left are closed.
 use Rattle.std.proofs.Common.{◌≡◌, ◌≢◌, ◌⊎◌, inl, inr, refl, sym, ap, ◌∙◌, subst, ℕ, zero, suc, ◌+◌, List, [], ◌∷◌, ◌++◌, length, Some, None, Bool, true, false, arith}
-use Rattle.std.specs.Prelude.{if◌then◌else◌, slice_get}
-use Rattle.b67_list.specs.Numbered.{numbered, set_numbered}
-use Rattle.algol_tree.specs.Blocks.{block_numbered}
-use Rattle.algol_tree.specs.Scopes.{Scopes}
-use Rattle.algol_tree.specs.Sorts.{same_name}
-use Rattle.algol_meaning.specs.Value.{Cell, event}
-use Rattle.b67_deeds.specs.Events.{EventState}
-use Rattle.algol_meaning.specs.World.{NamedCell, Instance, World, cells_with}
-use Rattle.b67_word.specs.declared.Place.{Place}
-use Rattle.b67_events.specs.Events.{Event, event_at, is_from, closed_from}
-use Rattle.b67_events.proofs.EventLaws.{one_event}
-use Rattle.b67_table.specs.Chains.{place}
-use Rattle.b67_templates.specs.Cells.{simple_cells, made_of, made_base}
-use Rattle.b67_faithful.proofs.Contradictions.{some_same, none_some, true_false}
-use Rattle.b67_rows.proofs.Growing.{numbered_last, numbered_earlier}
-use Rattle.b67_rows.proofs.Numbers.{same_or_not, numbered_set, numbered_other, get_below}
-use Rattle.b67_frames.specs.Arrays.{Layout}
-use Rattle.b67_frames.specs.Events.{HasEvent, EventsAre}
+use Rattle.b67_frames.proofs.Prelude.{if◌then◌else◌, slice_get, numbered, set_numbered, block_numbered, Scopes, same_name, Cell, event, EventState, NamedCell, Instance, World, cells_with, Place, Event, event_at, is_from, closed_from, one_event, place, get_within, simple_cells, made_of, made_base, some_same, none_some, numbered_last, same_or_not, numbered_set, numbered_other, Layout, HasEvent, EventsAre}
+use Rattle.b67_faithful.proofs.Contradictions.{true_false}
+use Rattle.b67_rows.proofs.Growing.{numbered_earlier}
 
 -- ---- events that are the same
 
@@ -145,7 +130,7 @@ module _ (sc : Scopes) (w w' : World) (lay lay' : Layout) (x : Instance) (one_mo
       -- it has simple cells only
       none_there : x ≡ h.instance → ⊥
       none_there here =
-          let low = get_below h.instance.cells (length (simple_cells sc (block_numbered sc.blocks h.instance.block)) + number) (record { name = h.name; cell = event e }) h.has in
+          let low = get_within h.instance.cells (length (simple_cells sc (block_numbered sc.blocks h.instance.block)) + number) (record { name = h.name; cell = event e }) h.has in
           let many : length h.instance.cells ≡ length (simple_cells sc (block_numbered sc.blocks h.instance.block)) =
           subst (λ (z : Instance). length z.cells ≡ length (simple_cells sc (block_numbered sc.blocks z.block))) here fresh in
           omega (arith, low, many)

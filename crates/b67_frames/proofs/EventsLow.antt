@@ -1,34 +1,13 @@
 -- The events of an instance that stands lie in its frame: below all that is above that, or in another stack.
-use Rattle.std.proofs.Common.{◌≡◌, ◌≢◌, ◌⊎◌, inl, inr, refl, sym, ap, ◌∙◌, ℕ, ◌+◌, ◌<◌, List, ◌++◌, length, Some, Bool, true, false, arith, length-append}
-use Rattle.std.specs.Prelude.{◌==◌, ◌&&◌, nat_le}
-use Rattle.std.proofs.lemmas.Bool.Decides.{nat_tests}
-use Rattle.b67_list.specs.Numbered.{numbered}
-use Rattle.algol_tree.specs.Blocks.{block_numbered}
-use Rattle.algol_tree.specs.Plain.{PProgram}
-use Rattle.algol_tree.specs.Scopes.{Scopes, scopes_of}
-use Rattle.algol_meaning.specs.Value.{event}
-use Rattle.b67_deeds.specs.Events.{EventState}
-use Rattle.algol_meaning.specs.World.{Instance, Part, World}
-use Rattle.algol_standing.specs.Worlds.{IsOwn}
-use Rattle.b67_word.specs.declared.Place.{Place}
-use Rattle.b67_word.specs.Word.{Word}
-use Rattle.b67_events.specs.Events.{is_from}
-use Rattle.b67_segment.specs.declared.code.Code.{Code}
-use Rattle.b67_table.specs.Chains.{place}
-use Rattle.b67_templates.specs.Cells.{simple_cells, made_base}
-use Rattle.b67_templates.specs.Contexts.{Yields}
-use Rattle.b67_templates.specs.Programs.{Texts}
-use Rattle.b67_cores.specs.Stretches.{control_words}
-use Rattle.b67_faithful.proofs.Contradictions.{some_same}
-use Rattle.b67_rows.proofs.Numbers.{get_below}
-use Rattle.b67_frames.specs.Arrays.{Layout}
-use Rattle.b67_frames.specs.Events.{HasEvent}
-use Rattle.b67_frames.specs.Frames.{block_controls, Around}
+use Rattle.std.proofs.Common.{◌≡◌, ◌≢◌, ◌⊎◌, inl, inr, sym, ap, ◌∙◌, ℕ, ◌+◌, ◌<◌, List, ◌++◌, length, Some, Bool, false, arith, length-append}
+use Rattle.b67_frames.proofs.Prelude.{◌==◌, ◌&&◌, nat_le, nat_tests, numbered, block_numbered, PProgram, Scopes, event, EventState, Instance, Part, World, IsOwn, Place, Word, is_from, Code, place, get_within, simple_cells, made_base, Yields, Texts, control_words, some_same, Layout, HasEvent, block_controls, Around}
+use Rattle.algol_tree.specs.Scopes.{scopes_of}
 use Rattle.b67_frames.proofs.Completing.{made_many}
 use Rattle.b67_frames.proofs.ControlWords.{as_many_controls, controls_many}
 use Rattle.b67_frames.proofs.Lying.{Lies, lies_low, lies_around}
 use Rattle.b67_frames.proofs.MadeArrays.{as_many_values}
 use Rattle.b67_frames.proofs.Zeros.{cells_length}
+use Rattle.b67_frames.proofs.Subscripts.{and_false}
 
 -- the frame of an instance lies in another stack than this one
 abbrev pub IsElsewhere : Layout → ℕ → ℕ → Type 0
@@ -40,12 +19,8 @@ other_stack m n b other = ap (λ (t : Bool). t && b) (is_other m n other)
     is_other : (m n : ℕ) → m ≢ n → (m == n) ≡ false
     is_other m n h = grind (arith, nat_tests)
 
-and_not : (b : Bool) → (b && false) ≡ false
-and_not true = refl
-and_not false = refl
-
 below : (b : Bool) (m n : ℕ) → n < m → (b && nat_le m n) ≡ false
-below b m n low = ap (λ (t : Bool). b && t) (not_most m n low) ∙ and_not b
+below b m n low = ap (λ (t : Bool). b && t) (not_most m n low) ∙ and_false b
   where
     not_most : (m n : ℕ) → n < m → nat_le m n ≡ false
     not_most m n h = grind (arith, nat_tests)
@@ -67,7 +42,7 @@ module _ (tree : PProgram) (code : Code) (texts : Texts) (w : World) (lay : Layo
       ap (λ (x : Instance). made_base sc (block_numbered sc.blocks x.block)) here,
       ap (λ (x : Instance). length (simple_cells sc (block_numbered sc.blocks x.block))) here,
       ap (λ (x : Instance). length x.cells) here,
-      get_below h.instance.cells (length (simple_cells sc (block_numbered sc.blocks h.instance.block)) + number) (record { name = h.name; cell = event e }) h.has,
+      get_within h.instance.cells (length (simple_cells sc (block_numbered sc.blocks h.instance.block)) + number) (record { name = h.name; cell = event e }) h.has,
       cells_are,
     ),
   )

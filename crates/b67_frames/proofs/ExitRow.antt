@@ -2,43 +2,19 @@
 use Rattle.b67_deeds.specs.declared.EventAct.TheVariants as event_act
 use Rattle.b67_deeds.specs.Deeds.{acts}
 use Rattle.std.proofs.Common.{◌≡◌, refl, ap, ◌∙◌, ℕ, ◌+◌, List, [], ◌∷◌, ◌++◌, length, take, drop, Option, Some, None, Bool, false, Ok}
-use Rattle.std.specs.Prelude.{if◌then◌else◌, nat_eq, reverse}
-use Rattle.b67_list.specs.Numbered.{set_numbered}
-use Rattle.algol_meaning.specs.Value.{Cell, simple, event, array, named, reference}
-use Rattle.algol_meaning.specs.World.{NamedCell}
+use Rattle.b67_frames.proofs.Prelude.{if◌then◌else◌, nat_eq, reverse, set_numbered, Cell, simple, event, array, named, reference, NamedCell, Place, Word, Pcw, Registers, as_descriptor, Code, Rows, words_of, closed_at, closed_from, Effect, gives, Image, with_rows, arrays_closed, caused_by, frame_left, is_critical, leave_base, leave_other, frame, Program, Change, done, event_deed, changed, does, effect_of, asked, answer, fault, registers, end_process, close_events, live_criticals, CriticalBlockExit, exit, raw, operator_at, Simple, Wanted, control_words, Core, HasCore, raw_is, words_are, take-seam, value_tag, CellIs, CellsAre}
 use Rattle.b67_deeds.specs.declared.Letter.TheVariants as act
-use Rattle.b67_word.specs.declared.Place.{Place}
-use Rattle.b67_word.specs.Word.{Word}
-use Rattle.b67_control.specs.declared.Pcw.{Pcw}
-use Rattle.b67_control.specs.declared.Registers.{Registers}
-use Rattle.b67_control.specs.declared.Descriptor.{Descriptor}
-use Rattle.b67_control.specs.Control.{as_descriptor}
 use Rattle.b67_ops.specs.declared.Operator.TheVariants as ops
 use Rattle.b67_ops.specs.declared.PlainKind.TheVariants as kinds
-use Rattle.b67_segment.specs.declared.code.Code.{Code}
-use Rattle.b67_store.specs.Store.{Rows, words_of, closed_at}
-use Rattle.b67_events.specs.Events.{closed_from}
 use Rattle.b67_table.specs.declared.Class.TheVariants as classes
 use Rattle.b67_table.specs.declared.ProcessState.TheVariants.{Ended}
-use Rattle.b67_table.specs.Effect.{Effect, gives}
 use Rattle.b67_table.specs.Outcome as outcomes
-use Rattle.b67_table.specs.Image.{Image, with_rows}
-use Rattle.b67_table.specs.Linkage.{closed_by, array_closed, arrays_closed, caused_by, frame_left, is_critical, leave_base, leave_other}
-use Rattle.b67_table.specs.Private.{frame}
-use Rattle.b67_table.specs.Program.{Program, Change, done, event_deed, changed, does, effect_of, asked, answer, fault, registers, end_process, close_events}
-use Rattle.b67_table.specs.Questions.{live_criticals}
-use Rattle.b67_num.specs.declared.FaultKind.TheVariants.{CriticalBlockExit}
-use Rattle.b67_table.specs.Rows.{row, exit}
-use Rattle.b67_table.specs.Table.{raw, table, operator_at, class_at}
+use Rattle.b67_table.specs.Rows.{row}
+use Rattle.b67_table.specs.Table.{table, class_at}
 use Rattle.b67_templates.specs.Cells as wants
-use Rattle.b67_templates.specs.Cells.{Simple, Wanted}
-use Rattle.b67_cores.specs.Stretches.{control_words}
-use Rattle.b67_cores.specs.Cores.{Core, HasCore}
 use Rattle.b67_letters.specs.Letters.{left_letter, letter}
-use Rattle.b67_rows.proofs.Rows.{raw_is, words_are, action_is}
-use Rattle.b67_rows.proofs.StackWords.{take-seam}
-use Rattle.b67_rows.proofs.Words.{value_tag, no_descriptor, pcw_describes_nothing}
-use Rattle.b67_frames.specs.Frames.{CellIs, CellsAre}
+use Rattle.b67_rows.proofs.Rows.{action_is}
+use Rattle.b67_rows.proofs.Words.{no_descriptor, pcw_describes_nothing}
 
 -- ---- the cells of a frame describe no rows
 
@@ -77,17 +53,6 @@ cells_describe_nothing (s ∷ ss) (c ∷ cells) (w ∷ words) are = (cell_descri
 pub controls_describe_nothing : (pcws : List Pcw) → DescribeNothing (control_words pcws)
 controls_describe_nothing [] = tt
 controls_describe_nothing (c ∷ pcws) = (pcw_describes_nothing c, controls_describe_nothing pcws)
-
-describe_both : (words more : List Word) → DescribeNothing words → DescribeNothing more → DescribeNothing (words ++ more)
-describe_both [] more none others = others
-describe_both (w ∷ words) more none others = (none.0, describe_both words more none.1 others)
-
--- so no row is closed
-pub none_closed : (words : List Word) (next : Change) → DescribeNothing words → arrays_closed words next ≡ next
-none_closed [] next none = refl
-none_closed (w ∷ words) next none =
-    ap (λ (d : Option Descriptor). closed_by d array_closed (arrays_closed words next)) none.0
-    ∙ none_closed words next none.1
 
 -- ---- the row
 

@@ -1,12 +1,9 @@
 -- What the rest of an expression asks for, and that it stays one over each answer.
+use Rattle.b67_frames.proofs.Prelude.{Scopes, Hole, argument, Actuals, Aim, Rest, evaluating, locating, Answer, Ask, goes_to, ask_hole, ask_actuals, ask_aim, ask, resume, IsOfExpression}
 use Rattle.b67_deeds.specs.Deeds as deeds
-use Rattle.std.proofs.Common.{◌≡◌, refl, []}
-use Rattle.algol_tree.specs.Scopes.{Scopes}
-use Rattle.algol_meaning.specs.Rest.{Hole, read, element, index, tests, broken, enter, inside, subscript, argument, left, right, negated, inverted, condition, Half, val, busy, Actuals, pass, in_value, Aim, resolve, place_index, inside_place, place_subscript, HalfPlace, at, aims, Rest, giving, giving_place, evaluating, locating, Answer, done, cell, entered}
+use Rattle.algol_meaning.specs.Rest.{read, element, index, tests, broken, enter, inside, subscript, left, right, negated, inverted, condition, Half, val, busy, pass, in_value, resolve, place_index, inside_place, place_subscript, HalfPlace, at, aims, giving, giving_place, done, cell, entered}
 use Rattle.algol_meaning.specs.Settle.{put, put_place}
-use Rattle.algol_meaning.specs.Asks.{Ask, reads_result, leaves, stores, selects, turns, goes_to, enters_block, starts, event_deed, writes, makes_arrays, makes_event, ask_hole, ask_actuals, ask_aim, ask, evaluated_of, located_of, resume}
-use Rattle.algol_paths.specs.Arrays.{all_to_make}
-use Rattle.b67_frames.specs.Lent.{IsOfExpression}
+use Rattle.algol_meaning.specs.Asks.{reads_result, leaves, stores, selects, turns, enters_block, starts, event_deed, writes, makes_arrays, makes_event, evaluated_of, located_of}
 
 -- an expression asks for no part of a statement, for no result of a procedure, and for no entry of a block; it leaves with a value or a place
 abbrev pub IsExpressionAsk : Ask → Type 0
@@ -76,11 +73,3 @@ expression_resumed sc (locating x) a is = located_is (put_place sc x a)
 expression_resumed sc (giving v) a is = tt
 expression_resumed sc (giving_place p) a is = tt
 expression_resumed sc _ a is = absurd is
-
--- it makes nothing
-pub expression_makes : (r : Rest) → IsOfExpression r → all_to_make r ≡ []
-expression_makes (evaluating h) is = refl
-expression_makes (locating x) is = refl
-expression_makes (giving v) is = refl
-expression_makes (giving_place p) is = refl
-expression_makes _ is = absurd is

@@ -1,14 +1,9 @@
 -- What is taken of a world that is as worlds are: what stands, and that what is referred to stands.
 use Rattle.std.proofs.Common.{◌≡◌, ◌⊎◌, inl, inr, refl, sym, ap, subst, ℕ, zero, suc, List, [], ◌∷◌, Some, false, arith}
-use Rattle.std.specs.Prelude.{slice_get}
-use Rattle.b67_list.specs.Numbered.{numbered}
-use Rattle.algol_tree.specs.Scopes.{Scopes}
-use Rattle.algol_meaning.specs.World.{NamedCell, Instance, World, instance_at, or_no_instance}
-use Rattle.algol_meaning.specs.Critical.{referred_in}
-use Rattle.algol_standing.specs.Skeleton.{Skeleton, IsIn, Stands, OnPath, here, down}
-use Rattle.algol_standing.specs.Worlds.{IsStanding, IsOnPath, IsWhole, referred_in_cells, parent_in, home_of, skeleton}
+use Rattle.b67_frames.proofs.Prelude.{slice_get, numbered, Scopes, NamedCell, Instance, World, instance_at, or_no_instance, referred_in, IsIn, here, down, IsStanding, IsOnPath, skeleton, below_in}
+use Rattle.algol_standing.specs.Skeleton.{Skeleton, Stands, OnPath}
+use Rattle.algol_standing.specs.Worlds.{IsWhole, referred_in_cells, parent_in, home_of}
 use Rattle.algol_standing.specs.Fitting.{IsOk}
-use Rattle.algol_standing.proofs.Firsts.{below_in}
 use Rattle.algol_standing.proofs.Pairs.{home_forth}
 use Rattle.algol_standing.proofs.Seen.{in_front, in_back, there as there_is, parent_path}
 use Rattle.algol_standing.proofs.Standing.{stands_path}

@@ -1,8 +1,6 @@
 -- Each dimension of an array has an element, and no more than there may be.
 use Rattle.std.proofs.Common.{ℕ, ◌*◌, ◌≤◌, [], ◌∷◌, arith}
-use Rattle.algol_meaning.specs.Value.{Bounds}
-use Rattle.algol_meaning.specs.Arrays.{size_of}
-use Rattle.b67_frames.specs.Arrays.{AreSized}
+use Rattle.b67_frames.proofs.Prelude.{Bounds, size_of, AreSized}
 
 product : (k m n : ℕ) → m ≤ n → k * m ≤ k * n
 product k m n h = grind arith

@@ -1,32 +1,13 @@
 -- The cells of the parameters of a procedure that is entered: values, and references that stand for something else.
 use Rattle.std.proofs.Common.{◌≡◌, refl, sym, ap, ◌∙◌, subst, ℕ, zero, suc, List, [], ◌∷◌, ◌++◌, Some}
-use Rattle.std.specs.Prelude.{slice_get, map}
-use Rattle.algol_tree.specs.declared.tree.Kind.{Kind}
-use Rattle.algol_tree.specs.declared.tree.Named.{Named}
-use Rattle.algol_tree.specs.Scopes.{Scopes}
-use Rattle.algol_tree.specs.Sorts.{Parameter}
+use Rattle.b67_frames.proofs.Prelude.{slice_get, map, Kind, Named, Scopes, Parameter, Reference, NameCell, Cell, reference, simple, Given, valued, refers, names, NamedCell, Part, Process, World, DeclaredArray, Shape, shape_of, Word, as_descriptor, Couple, Context, Simple, Wanted, Agrees, IsVariable, IsDeclaredArray, IsDeclaredEvent, cell_named, actual as actual_held, passed as passed_held, Known, AreTold, some_same, none_some, InReferred, Layout, named_from, LeadsTo, LeadsToEvent, LeadsToVariable, Denotes, IsNamed, IsActual, AreKnown, CellIs, Refers, CellsAre}
 use Rattle.algol_meaning.specs.Value as cells
-use Rattle.algol_meaning.specs.Value.{Reference, NameCell, Cell, reference, simple}
 use Rattle.algol_meaning.specs.Choice.{given_cell, given_cells}
 use Rattle.algol_meaning.specs.Instances.{parameter_cells}
-use Rattle.algol_meaning.specs.Rest.{Given, valued, passed, refers, names}
-use Rattle.algol_meaning.specs.World.{NamedCell, Part, Process, World}
-use Rattle.algol_paths.specs.Arrays.{DeclaredArray, Shape, shape_of}
-use Rattle.b67_word.specs.Word.{Word}
-use Rattle.b67_control.specs.Control.{as_descriptor}
-use Rattle.b67_ops.specs.declared.Couple.{Couple}
-use Rattle.b67_templates.specs.Contexts.{Context}
+use Rattle.algol_meaning.specs.Rest.{passed}
 use Rattle.b67_templates.specs.Cells as wants
-use Rattle.b67_templates.specs.Cells.{Simple, Wanted, Agrees, IsVariable, IsDeclaredArray, IsDeclaredEvent}
-use Rattle.b67_standing.specs.Stepping.{cell_named, actual as actual_held, passed as passed_held}
-use Rattle.b67_cores.specs.Slots.{Known}
-use Rattle.b67_templates.specs.Nested.{AreTold}
-use Rattle.b67_faithful.proofs.Contradictions.{some_same, none_some}
-use Rattle.b67_rows.proofs.AskedEntries.{InReferred}
 use Rattle.b67_rows.proofs.GivenWords.{AreFit, none_wanted, a_value, a_name, a_cell, an_event_name, an_event_cell, a_variable, an_actual, a_name_cell, ActualsAre}
 use Rattle.b67_rows.proofs.Words.{cell_describes_nothing}
-use Rattle.b67_frames.specs.Arrays.{Layout, named_from, LeadsTo, LeadsToEvent, LeadsToVariable, Denotes, IsNamed, IsActual, AreKnown}
-use Rattle.b67_frames.specs.Frames.{CellIs, Refers, CellsAre}
 use Rattle.b67_frames.proofs.Knowing.{known_is}
 use Rattle.b67_frames.proofs.Zeros.{HaveKinds}
 

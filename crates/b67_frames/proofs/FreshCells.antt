@@ -1,19 +1,10 @@
 -- The words of the cells of a block that is entered.
-use Rattle.std.proofs.Common.{◌≡◌, refl, sym, ap, ◌∙◌, subst, ℕ, suc, ◌+◌, List, [], ◌∷◌, ◌++◌, length, append_assoc, length-append}
-use Rattle.std.specs.Prelude.{replicate}
-use Rattle.algol_tree.specs.Blocks.{Block}
-use Rattle.algol_tree.specs.Scopes.{Scopes}
-use Rattle.algol_tree.specs.Sorts.{Parameter}
-use Rattle.algol_meaning.specs.Value.{Cell}
-use Rattle.algol_meaning.specs.World.{NamedCell, World}
+use Rattle.std.proofs.Common.{◌≡◌, refl, sym, ap, ◌∙◌, subst, ℕ, ◌+◌, List, [], ◌∷◌, ◌++◌, length, append_assoc, length-append}
+use Rattle.b67_frames.proofs.Prelude.{replicate, Block, Scopes, Parameter, Cell, NamedCell, World, Word, Simple, zero_cells, simple_cells, AreTold, Layout, CellsAre}
 use Rattle.algol_meaning.specs.Instances as instances
 use Rattle.algol_meaning.specs.Instances.{fresh_cells}
-use Rattle.b67_word.specs.Word.{Word}
 use Rattle.b67_templates.specs.Cells as cells
-use Rattle.b67_templates.specs.Cells.{Simple, zero_cells, simple_cells}
-use Rattle.b67_templates.specs.Nested.{AreTold, AreParameters}
-use Rattle.b67_frames.specs.Arrays.{Layout}
-use Rattle.b67_frames.specs.Frames.{CellsAre}
+use Rattle.b67_templates.specs.Nested.{AreParameters}
 use Rattle.b67_frames.proofs.Formals.{LeadAll, lead_both, kinds_lead}
 use Rattle.b67_frames.proofs.Zeros.{zero_word, block_zeros, block_kinds}
 
@@ -76,12 +67,3 @@ none_lead sc w lay Stand b no_cells none =
 -- their number
 pub simple_many : (sc : Scopes) (b : Block) → length (simple_cells sc b) ≡ length (cells.parameter_cells sc b) + length (zero_cells b)
 simple_many sc b = ap length (cells_joined sc b) ∙ length-append (cells.parameter_cells sc b) (zero_cells b)
-
--- there are as many words as the block has cells
-pub words_long : (ss : List Simple) (cells : List NamedCell) (ws : List Word) → CellsAre ss cells ws → length ws ≡ length ss
-words_long [] [] [] are = refl
-words_long [] [] (w ∷ ws) are = absurd are
-words_long [] (c ∷ cells) ws are = absurd are
-words_long (s ∷ ss) [] ws are = absurd are
-words_long (s ∷ ss) (c ∷ cells) [] are = absurd are
-words_long (s ∷ ss) (c ∷ cells) (w ∷ ws) are = ap suc (words_long ss cells ws are.2)

@@ -1,23 +1,8 @@
 -- The display of a part's frame: below its own place those of the frames down its links.
 use Rattle.std.proofs.Common.{◌≡◌, sym, ap, ◌∙◌, subst, ℕ, ◌+◌, ◌-◌, List, ◌∷◌, length, Option, Bool, arith}
-use Rattle.algol_tree.specs.Blocks.{block_numbered}
-use Rattle.algol_tree.specs.Cells.{level_of}
-use Rattle.algol_tree.specs.Plain.{PProgram}
-use Rattle.algol_tree.specs.Scopes.{Scopes, scopes_of}
-use Rattle.algol_meaning.specs.World.{Instance, Part, World, or_no_instance}
-use Rattle.b67_word.specs.declared.Place.{Place}
-use Rattle.b67_word.specs.Word.{Word}
-use Rattle.b67_control.specs.Control.{as_mscw, as_rcw}
-use Rattle.b67_segment.specs.declared.code.Code.{Code}
-use Rattle.b67_store.specs.Store.{Stacks}
-use Rattle.b67_table.specs.Chains.{place}
-use Rattle.b67_table.specs.Look.{read_as}
-use Rattle.b67_templates.specs.Programs.{Texts}
-use Rattle.b67_faithful.proofs.Contradictions.{some_same}
-use Rattle.b67_rows.proofs.Displays.{IsEntered, Links, shown, shown_below}
-use Rattle.b67_frames.specs.Arrays.{Layout}
-use Rattle.b67_frames.specs.Frames.{IsChained, IsInReach, Frame, Owned, Shape, of_own, of_lent, run_level, names_at, level_at}
-use Rattle.b67_frames.specs.Lent.{Lent}
+use Rattle.b67_frames.proofs.Prelude.{block_numbered, level_of, PProgram, Scopes, Instance, Part, World, or_no_instance, Place, Word, as_mscw, as_rcw, Code, Stacks, place, read_as, Texts, some_same, IsEntered, Links, shown, shown_below, Layout, IsChained, IsInReach, Frame, Owned, of_own, of_lent, run_level, level_at, Lent}
+use Rattle.algol_tree.specs.Scopes.{scopes_of}
+use Rattle.b67_frames.specs.Frames.{Shape, names_at}
 use Rattle.b67_frames.proofs.Linked.{Linked, Begins_with, mark_there, control_there, all_linked, all_each, shown_chained}
 use Rattle.b67_frames.proofs.Lying.{runs_at}
 

@@ -1,17 +1,7 @@
 -- The frames that GO TO leaves are closed one after another: the rows that their cells describe, and their events.
 use Rattle.std.proofs.Common.{◌≡◌, refl, sym, ap, ◌∙◌, ℕ, ◌+◌, List, [], ◌∷◌, ◌++◌, length, take, drop, append_assoc, length-append}
-use Rattle.algol_tree.specs.Scopes.{Scopes}
-use Rattle.algol_meaning.specs.Instances.{leave}
-use Rattle.algol_meaning.specs.World.{World}
-use Rattle.b67_word.specs.Word.{Word}
-use Rattle.b67_events.specs.Events.{Event, closed_from}
-use Rattle.b67_store.specs.Store.{Rows}
-use Rattle.b67_table.specs.GoingTo.{Passed, frames_left}
-use Rattle.b67_table.specs.Image.{Image, with_rows, with_events}
-use Rattle.b67_table.specs.Linkage.{frame_left}
-use Rattle.b67_table.specs.Program.{Change, changed, close_events}
-use Rattle.b67_rows.proofs.StackWords.{take-seam, drop-seam}
-use Rattle.b67_frames.specs.Arrays.{Layout, ArraysAre}
+use Rattle.b67_frames.proofs.Prelude.{Scopes, leave, World, Word, Event, closed_from, Rows, Passed, frames_left, Image, with_rows, with_events, frame_left, Change, changed, close_events, take-seam, Layout, ArraysAre}
+use Rattle.b67_rows.proofs.StackWords.{drop-seam}
 use Rattle.b67_frames.proofs.Closing.{IsClosed}
 
 -- the events after these frames of a stack are left, the newest first

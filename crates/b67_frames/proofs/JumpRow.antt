@@ -1,33 +1,10 @@
 -- GO TO: the entry of its intrinsic, which leaves all frames above that of a level and goes on in that one.
 use Rattle.std.proofs.Common.{◌≡◌, sym, ap, ◌∙◌, ℕ, ◌+◌, ◌-◌, ◌≤◌, List, [], ◌∷◌, ◌++◌, length, take, drop, Option, Some, Bool, true, false, Ok, arith, append_assoc, append-nil}
-use Rattle.std.specs.Prelude.{if◌then◌else◌, nat_eq, reverse, pos}
-use Rattle.std.proofs.lemmas.Bool.Decides.{nat_tests}
-use Rattle.b67_num.specs.declared.FaultKind.TheVariants.{BadGoTo, CriticalBlockExit}
-use Rattle.b67_word.specs.declared.Place.{Place}
-use Rattle.b67_word.specs.Word.{Word}
-use Rattle.b67_control.specs.declared.Registers.{Registers}
+use Rattle.b67_frames.proofs.Prelude.{if◌then◌else◌, nat_eq, reverse, pos, nat_tests, BadGoTo, CriticalBlockExit, Place, Word, Registers, GoTo, Code, Rows, words_of, with_stack, wholes_in, place, rebuilt, Effect, gives, faults, Passed, Passing, Target, passing, passed_by, frames_left, passed_frames, gone_to, Image, with_stacks, with_registers, segment_numbers, end_of_code, is_critical, if_not_critical, found, seen, display_at, frame, Program, Change, done, changed, effect_of, asked, answer, fault, registers, live_criticals, raw, operator_at, Core, HasCore, with_core, stack_of, see_found, CallsIntrinsic, words_are, take-seam}
 use Rattle.b67_ops.specs.declared.Operator.TheVariants as ops
 use Rattle.b67_ops.specs.declared.PlainKind.TheVariants as kinds
-use Rattle.b67_ops.specs.declared.intrinsic.Intrinsic.TheVariants.{GoTo}
-use Rattle.b67_segment.specs.declared.code.Code.{Code}
-use Rattle.b67_store.specs.Store.{Rows, words_of, with_stack}
-use Rattle.b67_table.specs.Arguments.{wholes_in}
-use Rattle.b67_table.specs.Chains.{place, rebuilt}
-use Rattle.b67_table.specs.Effect.{Effect, gives, faults}
-use Rattle.b67_table.specs.GoingTo.{Passed, Passing, Target, passing, passed_by, frames_left, passed_frames, gone_to}
-use Rattle.b67_table.specs.Image.{Image, with_stacks, with_registers}
-use Rattle.b67_table.specs.Limits.{segment_numbers, end_of_code}
-use Rattle.b67_table.specs.Linkage.{is_critical, if_not_critical}
-use Rattle.b67_table.specs.Look.{found, seen}
-use Rattle.b67_table.specs.Private.{display_at, frame}
-use Rattle.b67_table.specs.Program.{Program, Change, done, changed, effect_of, asked, answer, fault, cut, registers}
-use Rattle.b67_table.specs.Questions.{live_criticals}
-use Rattle.b67_table.specs.Table.{raw, operator_at}
-use Rattle.b67_cores.specs.Cores.{Core, HasCore, with_core, stack_of}
-use Rattle.b67_letters.proofs.Looks.{see_found}
-use Rattle.b67_rows.proofs.IntrinsicRows.{CallsIntrinsic}
-use Rattle.b67_rows.proofs.Rows.{words_are}
-use Rattle.b67_rows.proofs.StackWords.{take-seam, take-all, length-stack}
+use Rattle.b67_table.specs.Program.{cut}
+use Rattle.b67_rows.proofs.StackWords.{take-all, length-stack}
 use Rattle.b67_frames.proofs.JumpClosing.{image_left}
 use Rattle.b67_frames.proofs.JumpSteps.{gone, with_display, with_passing, target_named}
 

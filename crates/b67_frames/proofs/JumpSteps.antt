@@ -1,25 +1,9 @@
 -- GO TO step by step: its three numbers, the frames that it passes, and the display at the target.
 use Rattle.std.proofs.Common.{◌≡◌, ap, ◌∙◌, ℕ, ◌-◌, ◌≤◌, List, [], ◌∷◌, Option, Some, None, Bool, Ok, ℤ}
-use Rattle.std.specs.Prelude.{if◌then◌else◌, ◌&&◌, nat_le, reverse, pos}
-use Rattle.b67_word.specs.declared.Place.{Place}
-use Rattle.b67_word.specs.Word.{Word}
-use Rattle.b67_control.specs.declared.Registers.{Registers}
-use Rattle.b67_ops.specs.declared.intrinsic.Intrinsic.TheVariants.{GoTo}
-use Rattle.b67_segment.specs.declared.code.Code.{Code}
-use Rattle.b67_table.specs.Arguments.{Three, three_in, wholes_in, number_in}
-use Rattle.b67_table.specs.Chains.{place, rebuilt}
-use Rattle.b67_table.specs.Effect.{Effect}
-use Rattle.b67_table.specs.GoingTo.{Passing, Target, passed_by, level_in, target_of, passed_frames, gone_to, if_same_stack}
-use Rattle.b67_table.specs.Image.{Image}
-use Rattle.b67_table.specs.Limits.{segment_numbers, end_of_code}
-use Rattle.b67_table.specs.Linkage.{if_not_critical}
-use Rattle.b67_table.specs.Look.{Look, found, ◌>->◌, valid}
-use Rattle.b67_table.specs.Private.{display_at}
-use Rattle.b67_table.specs.Program.{Program, effect_of, asked, see, ◌>>=◌, answer, loads}
-use Rattle.b67_table.specs.Table.{raw, operator_at}
-use Rattle.b67_cores.specs.Cores.{Core, HasCore}
-use Rattle.b67_rows.proofs.IntrinsicRows.{CallsIntrinsic, entered}
-use Rattle.b67_rows.proofs.StoreRow.{most_is}
+use Rattle.b67_frames.proofs.Prelude.{if◌then◌else◌, ◌&&◌, nat_le, reverse, pos, Place, Word, Registers, GoTo, Code, wholes_in, place, rebuilt, Effect, Passing, Target, passed_by, passed_frames, gone_to, Image, segment_numbers, end_of_code, if_not_critical, Look, found, ◌>->◌, valid, display_at, Program, effect_of, asked, see, ◌>>=◌, answer, raw, operator_at, Core, HasCore, CallsIntrinsic, entered, most_is}
+use Rattle.b67_table.specs.Arguments.{Three, three_in, number_in}
+use Rattle.b67_table.specs.GoingTo.{level_in, target_of, if_same_stack}
+use Rattle.b67_table.specs.Program.{loads}
 use Rattle.b67_ops.specs.declared.Operator.TheVariants as ops
 use Rattle.b67_ops.specs.declared.PlainKind.TheVariants as kinds
 

@@ -1,28 +1,10 @@
 -- What is known of descriptors and references on a stack holds of a later world as well, in which each instance that it is of keeps its arrays.
 use Rattle.std.proofs.Common.{◌≡◌, ◌⊎◌, inl, inr, refl, sym, ap, ◌∙◌, subst, ℕ, zero, suc, ◌+◌, List, [], ◌∷◌, Some, Bool, true, false}
-use Rattle.std.specs.Prelude.{if◌then◌else◌, slice_get}
-use Rattle.b67_list.specs.Numbered.{numbered}
-use Rattle.algol_tree.specs.declared.tree.Kind.{Kind}
-use Rattle.algol_tree.specs.declared.tree.Named.{Named}
-use Rattle.algol_tree.specs.Plain.{PExpr}
-use Rattle.algol_tree.specs.Blocks.{block_numbered}
-use Rattle.algol_tree.specs.Scopes.{Scopes, use_of}
-use Rattle.algol_tree.specs.Sorts.{same_name}
-use Rattle.algol_meaning.specs.Value.{Value, Reference, Bounds, ArrayCell, NameCell, Cell, simple, event, array, named, reference}
-use Rattle.b67_deeds.specs.Events.{EventState}
-use Rattle.algol_meaning.specs.World.{NamedCell, Instance, World, instance_at, or_no_instance, ancestor, cell_in, cells_with, by_cell, followed}
-use Rattle.algol_meaning.specs.Critical.{referred_in}
-use Rattle.algol_paths.specs.Arrays.{DeclaredArray, Shape}
-use Rattle.algol_standing.specs.Skeleton.{IsIn as IsAmongThese}
-use Rattle.b67_word.specs.declared.Place.{Place}
-use Rattle.b67_word.specs.Word.{Word}
-use Rattle.b67_table.specs.References.{cell_word}
+use Rattle.b67_frames.proofs.Prelude.{if◌then◌else◌, slice_get, numbered, Kind, Named, PExpr, block_numbered, Scopes, use_of, same_name, Value, Reference, Bounds, ArrayCell, NameCell, Cell, simple, event, array, named, reference, EventState, NamedCell, Instance, World, instance_at, or_no_instance, ancestor, cell_in, cells_with, by_cell, followed, referred_in, DeclaredArray, Shape, IsIn as IsAmongThese, Place, Word, cell_word, Couple, Wanted, simple_cells, found_from, made_base, made_of, made_from, Held, element, variable, cell_named, actual, passed, Known, IsKnown, Allotted, Layout, IsArrayOf, LeadsTo, LeadsToEvent, LeadsToVariable, Denotes, named_from, Names, an_array_named, an_event_named, a_variable_named, IsNamed, IsActual, HeldIs, AreKnown}
 use Rattle.b67_templates.specs.Cells as wants
-use Rattle.b67_ops.specs.declared.Couple.{Couple}
-use Rattle.b67_templates.specs.Cells.{Wanted, simple_cells, found_from, made_base, made_of, made_from, IsOwnActual}
-use Rattle.b67_standing.specs.Stepping.{Held, row, element, variable, cell_named, actual, passed}
-use Rattle.b67_cores.specs.Slots.{Known, IsKnown}
-use Rattle.b67_frames.specs.Arrays.{Allotted, Layout, IsArrayOf, IsIn, LeadsTo, LeadsToEvent, LeadsToVariable, Denotes, named_from, Names, an_array_named, an_event_named, a_variable_named, IsNamed, IsActual, IsRow, IsElement, HeldIs, AreKnown}
+use Rattle.b67_templates.specs.Cells.{IsOwnActual}
+use Rattle.b67_standing.specs.Stepping.{row}
+use Rattle.b67_frames.specs.Arrays.{IsIn, IsRow, IsElement}
 
 -- what is known of a word is so
 pub known_is : (sc : Scopes) (w : World) (lay : Layout) (Stand : ℕ → Type 0) (i : ℕ) (known : List Known) → AreKnown sc w lay Stand i known → (held : Held) (word : Word) → IsKnown known held word →
@@ -376,7 +358,7 @@ IsNoReference (reference r) = ⊥
 IsNoReference c = Unit {0}
 
 -- it leads to itself
-leads_home : (c : Cell) (r : Reference) → IsNoReference c → by_cell c r ≡ r
+pub leads_home : (c : Cell) (r : Reference) → IsNoReference c → by_cell c r ≡ r
 leads_home (simple v) r is = refl
 leads_home (event e) r is = refl
 leads_home (array a) r is = refl

@@ -1,21 +1,13 @@
 -- The statements of a block in which a label stands have room above the cells of its frame, with one word more.
 use Rattle.std.proofs.Common.{◌≡◌, ℕ, ◌+◌, ◌*◌, ◌<◌, ◌≤◌, List, length, Some, Bool, true, false, arith}
-use Rattle.std.specs.Prelude.{if◌then◌else◌}
-use Rattle.algol_tree.specs.declared.tree.Named.{Named}
-use Rattle.algol_tree.specs.Blocks.{Block, block_numbered}
-use Rattle.algol_tree.specs.Counts.{stmt_tokens, stmts_tokens}
+use Rattle.b67_frames.proofs.Prelude.{if◌then◌else◌, Named, Block, block_numbered, stmt_tokens, PStmt, PStmts, PProgram, arguments_in_stmts, stmts_depth, actuals_are_few, HasNames, AreNested, decls_small, stmt_small, stmts_small, most_around}
+use Rattle.algol_tree.specs.Counts.{stmts_tokens}
 use Rattle.algol_tree.specs.Plain as tree
-use Rattle.algol_tree.specs.Plain.{PStmt, PStmts, PProgram}
 use Rattle.algol_tree.specs.Scopes.{scopes_of}
 use Rattle.algol_meaning.specs.Statements.{is_labelled}
-use Rattle.b67_templates.specs.Arguments.{arguments_in_stmt, arguments_in_stmts}
-use Rattle.b67_templates.specs.Depths.{stmt_depth, stmts_depth}
+use Rattle.b67_templates.specs.Arguments.{arguments_in_stmt}
+use Rattle.b67_templates.specs.Depths.{stmt_depth}
 use Rattle.b67_templates.specs.Labels.{label_before, label_in}
-use Rattle.b67_templates.proofs.Few.{actuals_are_few}
-use Rattle.b67_templates.specs.Names.{HasNames}
-use Rattle.b67_templates.specs.Nested.{AreNested}
-use Rattle.b67_rows.proofs.Weighing.{decls_small, stmt_small, stmts_small}
-use Rattle.b67_frames.specs.Frames.{most_around}
 use Rattle.b67_frames.proofs.Segmenting.{own_fits}
 
 -- a label has tokens, and needs no words

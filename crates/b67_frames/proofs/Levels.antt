@@ -1,13 +1,6 @@
 -- The block of a static parent lies as many levels further out as the parent is up.
 use Rattle.std.proofs.Common.{◌≡◌, ap, ℕ, zero, suc, ◌+◌, ◌≤◌, length, arith}
-use Rattle.algol_tree.specs.Blocks.{block_numbered}
-use Rattle.algol_tree.specs.Cells.{level_of}
-use Rattle.algol_tree.specs.Scopes.{Scopes}
-use Rattle.algol_meaning.specs.World.{World, instance_at, ancestor}
-use Rattle.algol_standing.specs.Worlds.{IsStanding}
-use Rattle.b67_ops.specs.declared.TheConstants.{OUTER_LEVEL}
-use Rattle.b67_frames.specs.Arrays.{Layout}
-use Rattle.b67_frames.specs.Frames.{IsPlaced, outermost, inside, ArePlaced}
+use Rattle.b67_frames.proofs.Prelude.{block_numbered, level_of, Scopes, World, instance_at, ancestor, IsStanding, OUTER_LEVEL, Layout, IsPlaced, outermost, inside, ArePlaced}
 use Rattle.b67_frames.proofs.Linked.{level_around}
 
 module _ (sc : Scopes) (w : World) (lay : Layout) (placed : ArePlaced sc w lay) where

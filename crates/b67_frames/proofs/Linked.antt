@@ -1,31 +1,8 @@
 -- The frames of instances in the stacks, and the links between them.
 use Rattle.std.proofs.Common.{◌≡◌, refl, sym, ap, ◌∙◌, subst, ℕ, zero, suc, ◌+◌, ◌-◌, ◌<◌, ◌≤◌, List, [], ◌∷◌, ◌++◌, length, Some, arith, append_assoc, length-append}
-use Rattle.std.specs.Prelude.{slice_get, reverse}
-use Rattle.b67_list.specs.Numbered.{numbered}
-use Rattle.algol_tree.specs.Blocks.{Block, block_numbered, around}
-use Rattle.algol_tree.specs.Cells.{level_of}
-use Rattle.algol_tree.specs.Plain.{PProgram}
-use Rattle.algol_tree.specs.Scopes.{Scopes, scopes_of}
-use Rattle.algol_meaning.specs.World.{Instance, Part, World, instance_at, or_no_instance, ancestor}
-use Rattle.algol_standing.specs.Worlds.{IsStanding}
-use Rattle.b67_word.specs.declared.Place.{Place}
-use Rattle.b67_word.specs.Word.{Word}
-use Rattle.b67_control.specs.Control.{as_mscw, as_rcw}
-use Rattle.b67_control.specs.Display.{place_at}
-use Rattle.b67_segment.specs.declared.code.Code.{Code}
-use Rattle.b67_templates.specs.Programs.{Texts}
-use Rattle.b67_store.specs.Store.{Stacks, words_of, word_at}
-use Rattle.b67_table.specs.Chains.{place}
-use Rattle.b67_table.specs.Image.{Image}
-use Rattle.b67_table.specs.Look.{read_as}
-use Rattle.b67_cores.specs.Cores.{Core, HasCore}
-use Rattle.b67_faithful.proofs.Contradictions.{some_same, none_some}
-use Rattle.b67_rows.proofs.Displays.{IsEntered, Links, root, onward, shown, shown_top, shown_below}
-use Rattle.b67_rows.proofs.Rows.{words_are}
-use Rattle.b67_rows.proofs.Parents.{length_around}
-use Rattle.b67_rows.proofs.StackWords.{get-seam, get-front}
-use Rattle.b67_frames.specs.Arrays.{Layout}
-use Rattle.b67_frames.specs.Frames.{IsChained, home_of, IsPlaced, outermost, inside, ArePlaced, Frame, Owned}
+use Rattle.b67_frames.proofs.Prelude.{slice_get, reverse, numbered, Block, block_numbered, around, level_of, PProgram, Scopes, Instance, Part, World, instance_at, or_no_instance, ancestor, IsStanding, Place, Word, as_mscw, as_rcw, place_at, Code, Texts, Stacks, words_of, word_at, place, Image, read_as, Core, HasCore, some_same, none_some, IsEntered, Links, shown, shown_below, words_are, length_around, get-seam, get-front, Layout, IsChained, home_of, IsPlaced, outermost, inside, ArePlaced, Frame, Owned}
+use Rattle.algol_tree.specs.Scopes.{scopes_of}
+use Rattle.b67_rows.proofs.Displays.{root, onward, shown_top}
 use Rattle.b67_frames.proofs.Lying.{Lies}
 
 -- the level of a block, by the blocks around it
@@ -195,9 +172,6 @@ module _ (tree : PProgram) (code : Code) (texts : Texts) (w : World) (lay : Layo
 
       pub control_there : word_at stacks (place p (length f.lower + 1)) ≡ Some f.control
       control_there = b (length f.lower + 1) f.control (control_lies part outer words f)
-
-      pub entered_at : Owned tree code texts w lay p part outer (length f.lower) f.mark f.control f.cells → Entered (scopes_of tree) w lay stacks part.instance
-      entered_at o = owned_entered part outer (length f.lower) f.mark f.control f.cells o mark_there control_there
 
 -- ---- the display of a frame, and of those down its links
 

@@ -1,40 +1,18 @@
 -- Where the frames of a process's parts lie in its stack.
 use Rattle.std.proofs.Common.{◌≡◌, ◌⊎◌, inl, inr, refl, sym, ap, ◌∙◌, subst, ℕ, suc, ◌+◌, ◌<◌, ◌≤◌, List, [], ◌∷◌, ◌++◌, length, Some, true, false, arith, append_assoc, append-nil, length-append, Bool, Option}
-use Rattle.std.specs.Prelude.{◌*◌, if◌then◌else◌, slice_get, reverse}
-use Rattle.b67_list.specs.Numbered.{numbered}
-use Rattle.algol_tree.specs.Blocks.{block_numbered}
-use Rattle.algol_tree.specs.Cells.{level_of}
-use Rattle.algol_tree.specs.Plain.{PProgram}
-use Rattle.algol_tree.specs.Scopes.{Scopes, scopes_of}
-use Rattle.algol_meaning.specs.World.{NamedCell, Instance, Part, World, instance_at, or_no_instance}
-use Rattle.algol_meaning.specs.Rest.{Rest, Answer}
-use Rattle.algol_meaning.specs.Asks.{Ask, ask, resume}
-use Rattle.algol_meaning.specs.Critical.{is_evaluation}
+use Rattle.b67_frames.proofs.Prelude.{if◌then◌else◌, slice_get, reverse, numbered, block_numbered, level_of, PProgram, Scopes, NamedCell, Instance, Part, World, instance_at, or_no_instance, Rest, Answer, Ask, ask, resume, is_evaluation, segment_of, IsStanding, IsOnPath, IsOwn, newest_own, skeleton, Place, Word, Code, place, Yields, Simple, simple_cells, Texts, Core, Known, SlotsAre, tokens_around, none_some, get-front, Allotted, Layout, AreMade, Denotes, AreKnown, Refers, most_around, IsInReach, Framed, Frame, Stands, Waits, Around, Owned, of_own, of_lent, run_level, level_at, all_to_make, Fits-as_rcw, IsOfExpression, Lent}
+use Rattle.std.specs.Prelude.{◌*◌}
+use Rattle.algol_tree.specs.Scopes.{scopes_of}
 use Rattle.algol_paths.specs.Laws.{KeepsToText}
-use Rattle.algol_paths.specs.Segments.{segment_of}
-use Rattle.algol_standing.specs.Worlds.{IsStanding, IsOnPath, IsOwn, newest_own, skeleton}
-use Rattle.b67_word.specs.declared.Place.{Place}
-use Rattle.b67_word.specs.Word.{Word}
-use Rattle.b67_segment.specs.declared.code.Code.{Code}
-use Rattle.b67_table.specs.Chains.{place}
-use Rattle.b67_templates.specs.Contexts.{Yields, yields_of}
-use Rattle.b67_templates.specs.Cells.{Simple, simple_cells}
+use Rattle.b67_templates.specs.Contexts.{yields_of}
 use Rattle.b67_templates.specs.Code.{in_routine}
-use Rattle.b67_templates.specs.Programs.{Texts, context_of}
+use Rattle.b67_templates.specs.Programs.{context_of}
 use Rattle.b67_standing.specs.Standing.{Gives, pushed, ComesTo}
-use Rattle.b67_cores.specs.Cores.{Core}
-use Rattle.b67_cores.specs.Slots.{Known, SlotsAre}
-use Rattle.b67_faithful.specs.Weight.{part_weight, parts_weight, tokens_around}
-use Rattle.b67_faithful.proofs.Contradictions.{none_some}
-use Rattle.b67_rows.proofs.StackWords.{get-front}
-use Rattle.b67_frames.specs.Arrays.{Allotted, Layout, AreMade, Denotes, AreKnown}
-use Rattle.b67_frames.specs.Frames.{Refers, most_around, IsInReach, Framed, Frame, Stands, Waits, Around, Owned, Shape, of_own, of_lent, run_level, level_at}
+use Rattle.b67_faithful.specs.Weight.{part_weight, parts_weight}
+use Rattle.b67_frames.specs.Frames.{Shape}
 use Rattle.b67_frames.proofs.Facts.{HasFacts, cell_refers, leads_nowhere}
 use Rattle.b67_frames.proofs.Knowing.{Remain, known_lasts}
 use Rattle.b67_frames.proofs.Onward.{StandOn, still_keeps, climbs_still, path_still, reach_remains, denotes_on, home_on}
-use Rattle.algol_paths.specs.Arrays.{all_to_make}
-use Rattle.b67_control.proofs.ControlLaws.{Fits-as_rcw}
-use Rattle.b67_frames.specs.Lent.{IsOfExpression, Lent}
 use Rattle.b67_frames.proofs.Expressions.{IsExpressionAsk, expression_asks}
 
 -- the words below a frame end before those of the frame
@@ -279,11 +257,6 @@ module _ (tree : PProgram) (code : Code) (texts : Texts) (w : World) (lay : Layo
       pub part_stands : IsStanding w part.instance
       part_stands = part_in (λ i. IsStanding w i) limit facts.nobody own_stands path_stands part outer words f a (omega arith)
 
-      -- and those of all parts
-      pub parts_stand : (i : ℕ) → IsOfPart (part ∷ outer) i → IsStanding w i
-      parts_stand i (inl same) = subst (λ (n : ℕ). IsStanding w n) same part_stands
-      parts_stand i (inr later) = around_in (λ j. IsStanding w j) limit facts.nobody own_stands path_stands outer f.lower f.mark f.control f.gives a (omega arith) i later
-
 -- ---- what a change of the world leaves
 
 -- The instances of process p whose frames lie so low are as they were, with the rows of their arrays. What stands before and after the change stands on.
@@ -324,11 +297,6 @@ module _ (tree : PProgram) (code : Code) (texts : Texts) (w w' : World) (lay lay
   still_path : (a b : ℕ) → Still a → IsOnPath w a b → Still b
   still_path = path_still sc w w' lay lay' on
 
-  -- so do all instances of the parts whose frames lie lower, and that of a frame
-  pub outer_still : (parts : List Part) (lower : List Word) (mark control : Word) (wanted : Yields) → Around tree code texts w lay p parts lower mark control wanted → length lower ≤ limit → (i : ℕ) → IsOfPart parts i →
-      IsStanding w i × IsStanding w' i
-  outer_still = around_in tree code texts w lay p Still limit on.before.nobody own_still still_path
-
   module _ (part : Part) (outer : List Part) (words : List Word) (f : OldFrame part outer words) (a : Around tree code texts w lay p outer f.lower f.mark f.control f.gives) (low : length f.lower < limit) where
     pub here_still : IsStanding w part.instance × IsStanding w' part.instance
     here_still = part_in tree code texts w lay p Still limit on.before.nobody own_still still_path part outer words f a low
@@ -352,12 +320,6 @@ module _ (tree : PProgram) (code : Code) (texts : Texts) (w w' : World) (lay lay
     known_after =
         known_lasts sc w w' lay lay' (IsInReach w (part ∷ outer)) (IsInReach w' (part ∷ outer)) frame_remains part.instance
         (climbs_still sc w w' lay lay' on part.instance here_still)
-
-  -- what the parts around can come to
-  pub outer_remain : (part : Part) (outer : List Part) (lower : List Word) (mark control : Word) (wanted : Yields) → Around tree code texts w lay p (part ∷ outer) lower mark control wanted → length lower ≤ limit →
-      Remain (scopes_of tree) w w' lay lay' (IsInReach w (part ∷ outer)) (IsInReach w' (part ∷ outer))
-  outer_remain part outer lower mark control wanted a low =
-      frame_remains part outer a.0.below a.0.frame a.1 (frame_low tree code texts w lay p part outer lower mark control wanted limit low a.0)
 
   -- what a parameter stands for that refers only to what stands
   own_formals : (part : Part) (outer : List Part) (at : ℕ) (mark control : Word) (cells : List Word) (o : OldOwned part outer at mark control cells) (low : at < limit) (k : ℕ) (s : Simple) →

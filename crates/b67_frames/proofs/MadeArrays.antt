@@ -1,26 +1,10 @@
 -- The cells of simple variables, and the arrays and events that are made after them: which of them a name means.
-use Rattle.std.proofs.Common.{◌≡◌, refl, sym, ap, ◌∙◌, subst, ℕ, zero, suc, ◌+◌, ◌<◌, ◌≤◌, List, [], ◌∷◌, ◌++◌, length, Some, None, Bool, true, false, arith}
-use Rattle.std.specs.Prelude.{if◌then◌else◌, slice_get, slice_set, map}
-use Rattle.algol_tree.specs.Sorts.{same_name}
-use Rattle.algol_meaning.specs.Value.{Bounds, ArrayCell, Cell, simple, event, array, named, reference}
-use Rattle.b67_deeds.specs.Events.{EventState}
-use Rattle.algol_meaning.specs.Arrays.{elements_of}
-use Rattle.algol_meaning.specs.World.{NamedCell, cell_in, cells_with}
-use Rattle.algol_paths.specs.Arrays.{DeclaredArray, Made, an_array, lows_of, an_event}
-use Rattle.b67_word.specs.Word.{Word}
+use Rattle.std.proofs.Common.{◌≡◌, refl, sym, ap, ◌∙◌, subst, ℕ, suc, ◌+◌, ◌<◌, ◌≤◌, List, [], ◌∷◌, ◌++◌, length, Some, None, Bool, true, false, arith}
+use Rattle.b67_frames.proofs.Prelude.{if◌then◌else◌, slice_get, slice_set, map, same_name, Bounds, ArrayCell, Cell, simple, event, array, named, reference, EventState, elements_of, NamedCell, cell_in, cells_with, DeclaredArray, Made, an_array, lows_of, an_event, Word, Simple, found_from, made_from, FoundMade, Wanted, some_same, none_some, Allotted, DescriptorIs, AreSized, IsMadeSo, AreMade, CellIs, CellsAre}
 use Rattle.b67_templates.specs.Cells as wants
-use Rattle.b67_templates.specs.Cells.{Simple, found_from, made_from, made_name, FoundMade, Wanted}
-use Rattle.b67_faithful.proofs.Contradictions.{some_same, none_some}
-use Rattle.b67_frames.specs.Arrays.{Allotted, DescriptorIs, AreSized, IsMadeSo, AreMade}
-use Rattle.b67_frames.specs.Frames.{CellIs, CellsAre}
+use Rattle.b67_templates.specs.Cells.{made_name}
 
 -- ---- lists
-
--- so far after a front
-pub get_past : {A : Type 0} (front back : List A) (k n : ℕ) → n ≡ length front + k → slice_get (front ++ back) n ≡ slice_get back k
-get_past [] back k n e = let same : n ≡ k = omega (arith, e) in ap (slice_get back) same
-get_past (x ∷ front) back k zero e = absurd (omega (arith, e))
-get_past (x ∷ front) back k (suc n) e = get_past front back k n (omega (arith, e))
 
 pub none_left : {A : Type 0} (xs : List A) → length xs ≡ 0 → xs ≡ []
 none_left [] e = refl

@@ -1,34 +1,12 @@
 -- ENTR on ARRAYS: rows for so many arrays, and their descriptors in place of the mark and what lies above it; or a fault, where their size
 -- is wrong, or there is no room for them.
 use Rattle.std.proofs.Common.{◌≡◌, refl, sym, ap, ◌∙◌, ℕ, ◌+◌, ◌-◌, ◌≤◌, List, [], ◌∷◌, ◌++◌, length, Option, Some, None, Bool, true, false, Ok, append-nil, ℤ}
-use Rattle.std.specs.Prelude.{if◌then◌else◌, ◌&&◌, nat_le, reverse, pos}
-use Rattle.std.proofs.lemmas.List.{reverse-reverse}
-use Rattle.b67_num.specs.declared.FaultKind.TheVariants.{ArraySize, CoreFull}
-use Rattle.algol_tree.specs.declared.tree.Named.{Named}
-use Rattle.algol_meaning.specs.Value.{Bounds}
-use Rattle.algol_meaning.specs.Arrays.{live_elements, has_wrong_size, has_no_room}
-use Rattle.algol_meaning.specs.World.{World}
-use Rattle.b67_word.specs.Word.{Word}
-use Rattle.b67_control.specs.declared.Registers.{Registers}
+use Rattle.b67_frames.proofs.Prelude.{if◌then◌else◌, ◌&&◌, nat_le, reverse, pos, reverse-reverse, ArraySize, CoreFull, Named, Bounds, live_elements, has_wrong_size, has_no_room, World, Word, Registers, Code, with_stack, counted_words, wholes_in, if_chained, finished_at, Extents, if_held, arrays_made, Effect, gives, faults, Image, with_stacks, with_registers, with_rows, extents, ◌>->◌, valid, found, pushed, Test, Change, Program, answer, asked, changed, effect_of, see, ◌>>=◌, done, registers, raw, operator_at, Core, HasCore, stack_of, with_core, CallsIntrinsic, entered, chained_is, cut_words, most_is, pushed_do}
 use Rattle.b67_ops.specs.declared.Operator.TheVariants as ops
 use Rattle.b67_ops.specs.declared.PlainKind.TheVariants as kinds
 use Rattle.b67_ops.specs.declared.intrinsic.Intrinsic.TheVariants.{Arrays}
-use Rattle.b67_segment.specs.declared.code.Code.{Code}
-use Rattle.b67_store.specs.Store.{with_stack, counted_words}
-use Rattle.b67_table.specs.Arguments.{wholes_in, if_chained, finished_at}
-use Rattle.b67_table.specs.Arrays.{Extents, if_held, arrays_made}
-use Rattle.b67_table.specs.Effect.{Effect, gives, faults}
-use Rattle.b67_table.specs.Image.{Image, with_stacks, with_registers, with_rows}
-use Rattle.b67_table.specs.Intrinsics.{Wanted, count_in, wanted_with, wanted, extents}
+use Rattle.b67_table.specs.Intrinsics.{Wanted, count_in, wanted_with, wanted}
 use Rattle.b67_table.specs.Limits.{most_arrays}
-use Rattle.b67_table.specs.Look.{◌>->◌, valid, found}
-use Rattle.b67_table.specs.Moves.{pushed}
-use Rattle.b67_table.specs.Program.{Test, Change, Program, answer, asked, changed, effect_of, see, ◌>>=◌, done, registers}
-use Rattle.b67_table.specs.Table.{raw, operator_at}
-use Rattle.b67_cores.specs.Cores.{Core, HasCore, stack_of, with_core}
-use Rattle.b67_rows.proofs.IntrinsicRows.{CallsIntrinsic, entered, chained_is, cut_words}
-use Rattle.b67_rows.proofs.StoreRow.{most_is}
-use Rattle.b67_rows.proofs.TopRow.{pushed_do}
 use Rattle.b67_frames.proofs.ArrayRows.{arrays_rows, arrays_descriptors, arrays_made_do}
 use Rattle.b67_frames.proofs.ArraySizes.{HasDimensions, bound_numbers, extents_of, extents_wrong, extents_right, held_full, held_fits}
 

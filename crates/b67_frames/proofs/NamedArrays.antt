@@ -1,23 +1,9 @@
 -- The name of a declared array that is given to a procedure leads to the cell of an array, which its instance has made.
 use Rattle.std.proofs.Common.{◌≡◌, ◌⊎◌, inl, inr, sym, ap, ◌∙◌, ℕ, zero, suc, ◌+◌, ◌≤◌, List, [], ◌∷◌, Some, true, false, arith}
-use Rattle.algol_tree.specs.declared.tree.Named.{Named}
-use Rattle.algol_tree.specs.Blocks.{block_numbered}
-use Rattle.algol_tree.specs.Plain.{PProgram}
-use Rattle.algol_tree.specs.Scopes.{Scopes, scopes_of, use_of}
-use Rattle.algol_tree.specs.Sorts.{is_variable, is_formal}
-use Rattle.algol_meaning.specs.Rest.{Given, valued, passed, refers, names}
-use Rattle.algol_meaning.specs.World.{Instance, Part, World, instance_at, or_no_instance, ancestor}
-use Rattle.algol_paths.specs.Arrays.{DeclaredArray, an_array, Shape, shape_of, Made}
-use Rattle.algol_paths.specs.Blocks.{IsSeen, IsSeenAround}
-use Rattle.algol_standing.specs.Worlds.{IsStanding}
-use Rattle.b67_word.specs.Word.{Word}
-use Rattle.b67_ops.specs.declared.Couple.{Couple}
-use Rattle.b67_table.specs.References.{cell_word}
-use Rattle.b67_templates.specs.Cells.{Agrees, simple_cells, made_base, found_from, IsDeclaredArray, made_of, made_from, FoundMade, IsMadeThere}
-use Rattle.b67_faithful.proofs.Contradictions.{some_same}
-use Rattle.b67_rows.proofs.AskedEntries.{InReferred}
-use Rattle.b67_frames.specs.Arrays.{Layout, named_from, LeadsTo, Names, an_array_named, an_event_named, a_variable_named, IsNamed}
-use Rattle.b67_frames.specs.Frames.{IsComplete, ArePlaced}
+use Rattle.b67_frames.proofs.Prelude.{Named, block_numbered, PProgram, Scopes, use_of, is_variable, is_formal, Given, valued, refers, names, Instance, Part, World, instance_at, or_no_instance, ancestor, DeclaredArray, an_array, Shape, shape_of, Made, IsSeen, IsSeenAround, IsStanding, Word, Couple, cell_word, Agrees, simple_cells, made_base, found_from, IsDeclaredArray, made_of, made_from, FoundMade, some_same, InReferred, Layout, named_from, LeadsTo, Names, an_array_named, an_event_named, a_variable_named, IsNamed, IsComplete, ArePlaced}
+use Rattle.algol_tree.specs.Scopes.{scopes_of}
+use Rattle.algol_meaning.specs.Rest.{passed}
+use Rattle.b67_templates.specs.Cells.{IsMadeThere}
 use Rattle.b67_frames.proofs.OwnCells.{OwnCells, HasCells, OwnArray, none_later, all_made, own_array}
 use Rattle.b67_frames.proofs.StaticParents.{IsParent, parents}
 

@@ -1,20 +1,7 @@
 -- The name of a declared event that is given to a procedure leads to the cell of an event, which its instance has made.
 use Rattle.std.proofs.Common.{◌≡◌, ◌⊎◌, inl, inr, sym, ap, ◌∙◌, ℕ, ◌+◌, ◌≤◌, Some, true, false}
-use Rattle.algol_tree.specs.declared.tree.Named.{Named}
-use Rattle.algol_tree.specs.Blocks.{block_numbered}
-use Rattle.algol_tree.specs.Plain.{PProgram}
-use Rattle.algol_tree.specs.Scopes.{Scopes, scopes_of, use_of}
-use Rattle.algol_tree.specs.Sorts.{is_variable, is_formal}
-use Rattle.algol_meaning.specs.World.{Instance, Part, World, instance_at, or_no_instance, ancestor, cell_in}
-use Rattle.algol_paths.specs.Arrays.{an_event}
-use Rattle.algol_paths.specs.Blocks.{IsSeenAround}
-use Rattle.algol_standing.specs.Worlds.{IsStanding}
-use Rattle.b67_word.specs.Word.{Word}
-use Rattle.b67_ops.specs.declared.Couple.{Couple}
-use Rattle.b67_table.specs.References.{cell_word}
-use Rattle.b67_templates.specs.Cells.{simple_cells, made_base, found_from, IsDeclaredEvent, made_of, made_from}
-use Rattle.b67_frames.specs.Arrays.{Layout, named_from, LeadsToEvent, IsNamed}
-use Rattle.b67_frames.specs.Frames.{IsComplete, ArePlaced}
+use Rattle.b67_frames.proofs.Prelude.{Named, block_numbered, PProgram, Scopes, use_of, is_variable, is_formal, Instance, Part, World, instance_at, or_no_instance, ancestor, cell_in, an_event, IsSeenAround, IsStanding, Word, Couple, cell_word, simple_cells, made_base, found_from, IsDeclaredEvent, made_of, made_from, Layout, named_from, LeadsToEvent, IsNamed, IsComplete, ArePlaced}
+use Rattle.algol_tree.specs.Scopes.{scopes_of}
 use Rattle.b67_frames.proofs.NamedArrays.{IsSeenMade, up_complete, made_index}
 use Rattle.b67_frames.proofs.OwnCells.{OwnCells, HasCells, none_later}
 use Rattle.b67_frames.proofs.OwnEvents.{OwnEvent, own_event}

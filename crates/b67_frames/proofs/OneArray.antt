@@ -1,24 +1,14 @@
 -- One array is made: its rows, which were free, hold its elements, and its descriptor names them.
 use Rattle.std.proofs.Common.{◌≡◌, ◌≢◌, refl, sym, ap, ◌∙◌, ℕ, zero, suc, ◌+◌, ◌*◌, ◌<◌, ◌≤◌, List, [], ◌∷◌, length, Option, Some, None, true, false, arith}
-use Rattle.std.specs.Prelude.{pos, slice_get, replicate}
-use Rattle.std.proofs.lemmas.List.{length-replicate}
+use Rattle.b67_frames.proofs.Prelude.{pos, slice_get, replicate, length-replicate, Kind, Value, initial_value, Bounds, ArrayCell, size_of, elements_of, Word, least_free, Row, Rows, row_at, row_limit, zero_row, counted_words, get_within, HasKind, ValueIs, some_same, none_some, Allotted, numbers_of, DescriptorIs, HoldElements, open_rows, rows_of_bounds}
 use Rattle.std.proofs.lemmas.Nat.{mul-add-lt}
-use Rattle.algol_tree.specs.declared.tree.Kind.{Kind}
-use Rattle.algol_tree.specs.declared.tree.Kind.TheVariants as types
-use Rattle.algol_meaning.specs.Value.{Value, initial_value, Bounds, ArrayCell}
-use Rattle.algol_meaning.specs.Arrays.{size_of, elements_of}
-use Rattle.b67_word.specs.Word.{Word}
 use Rattle.b67_word.specs.Word as words
-use Rattle.b67_store.specs.Store.{least_free, Row, Rows, row_at, row_limit, zero_row, counted_words}
-use Rattle.b67_templates.specs.Fragments.{HasKind}
-use Rattle.b67_cores.specs.Slots.{ValueIs}
-use Rattle.b67_faithful.proofs.Contradictions.{some_same, none_some}
-use Rattle.b67_rows.proofs.Numbers.{get_below}
-use Rattle.b67_frames.specs.Arrays.{Allotted, numbers_after, numbers_of, DescriptorIs, HoldElements, open_rows, rows_of_bounds}
+use Rattle.b67_frames.specs.Arrays.{numbers_after}
 use Rattle.b67_frames.proofs.ArraySizes.{HasDimensions, extents_of}
 use Rattle.b67_frames.proofs.OpenRows.{least_low, row_opened, opened_is, opened_keeps, least_is_free, opened_counts, opened_many}
 use Rattle.b67_frames.proofs.ArrayRows.{parts_rows, parts_of, array_rows, array_allotted, array_descriptor}
 use Rattle.b67_frames.proofs.MotherRows.{open_apart, zeros_count, ArePartsOf, parts_are, parts_many, mother_filled}
+use Rattle.b67_frames.proofs.Zeros.{zero_is}
 
 -- ---- rows that hold elements
 
@@ -70,11 +60,6 @@ get_replicate (suc n) (suc k) x h = get_replicate n k x (omega (arith, h))
 
 abbrev zero_word : Word
 zero_word = words.operand (pos 0)
-
-zero_is : (kind : Kind) → HasKind kind (initial_value kind) × ValueIs (initial_value kind) zero_word
-unfolding words.operand
-zero_is types.Number = (omega arith, record { is = refl; whole = omega arith })
-zero_is types.Truth = (tt, record { tag = refl; bits = omega arith; lowest = refl })
 
 -- an element in a row of zeros
 zero_there : (kind : Kind) (many place size k : ℕ) (row : Option Row) (ws : List Word) → place < many → k < size → row ≡ Some (zero_row size true) → row ≡ Some (record { words = ws; counted = true }) →
@@ -189,7 +174,7 @@ module _ (kind : Kind) (b c : Bounds) (rows : Rows) (few : open_rows rows + (1 +
         opened = λ j n e.
             (omega (arith, are_parts.low j n e, two_opened, few), (replicate (size_of c) zero_word, are_parts.there j n e, length-replicate (size_of c) zero_word));
         elements = λ j k n ws e within row_is.
-            zero_there kind (elements_of (b ∷ c ∷ [])) (j * size_of c + k) (size_of c) k (row_at after_two n) ws (place_below j k (omega (arith, get_below parts j n e, many_parts)) within) within
+            zero_there kind (elements_of (b ∷ c ∷ [])) (j * size_of c + k) (size_of c) k (row_at after_two n) ws (place_below j k (omega (arith, get_within parts j n e, many_parts)) within) within
             (are_parts.there j n e) row_is;
         mother = λ m e.
             ap (row_at after_two) (sym (some_same e))

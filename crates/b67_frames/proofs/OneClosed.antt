@@ -1,18 +1,7 @@
 -- One array is closed: its rows.
 use Rattle.std.proofs.Common.{◌≡◌, refl, sym, ap, ◌∙◌, subst, ℕ, zero, suc, ◌+◌, ◌*◌, ◌<◌, ◌≤◌, List, [], ◌∷◌, length, Option, Some, None, true, false, arith}
-use Rattle.std.specs.Prelude.{slice_get, map}
-use Rattle.algol_tree.specs.declared.tree.Kind.{Kind}
-use Rattle.algol_meaning.specs.Value.{Bounds, ArrayCell, Cell, array}
-use Rattle.algol_meaning.specs.Arrays.{size_of, elements_of, size_of_cell}
-use Rattle.b67_word.specs.Word.{Word}
-use Rattle.b67_control.specs.declared.Descriptor.{Descriptor}
-use Rattle.b67_control.specs.Control.{as_descriptor}
-use Rattle.b67_store.specs.Store.{closed_at, Row, Rows, row_at, row_words_or, row_limit}
-use Rattle.b67_table.specs.Arrays.{array_word}
-use Rattle.b67_table.specs.Image.{Image, with_rows}
-use Rattle.b67_table.specs.Linkage.{closed_by, rows_closed, array_closed}
-use Rattle.b67_table.specs.Program.{Change, changed, close_row}
-use Rattle.b67_frames.specs.Arrays.{Allotted, numbers_of, row_length, DescriptorIs, AreSized, HoldElements, rows_of_bounds, rows_of_cell}
+use Rattle.b67_frames.proofs.Prelude.{slice_get, map, Kind, Bounds, ArrayCell, Cell, array, size_of, elements_of, size_of_cell, Word, Descriptor, as_descriptor, closed_at, Row, Rows, row_at, row_limit, array_word, Image, with_rows, closed_by, rows_closed, array_closed, Change, changed, close_row, Allotted, numbers_of, row_length, DescriptorIs, AreSized, HoldElements, rows_of_bounds, rows_of_cell}
+use Rattle.b67_store.specs.Store.{row_words_or}
 use Rattle.b67_frames.proofs.ClosedRows.{rows_without, without_keeps, Fewer, one_fewer, AreApart, rows_fewer, rows_close}
 use Rattle.b67_frames.proofs.ElementRows.{array_read}
 use Rattle.b67_frames.proofs.FewElements.{OneSized, one_sized, TwoSized, two_sized}

@@ -1,17 +1,6 @@
 -- What a change of a world leaves of the instances that stand before and after it.
 use Rattle.std.proofs.Common.{◌≡◌, inl, inr, ◌∙◌, subst, sym, ℕ, zero, suc, List, Some}
-use Rattle.b67_list.specs.Numbered.{numbered}
-use Rattle.algol_tree.specs.Scopes.{Scopes}
-use Rattle.algol_meaning.specs.Value.{Cell}
-use Rattle.algol_meaning.specs.World.{Part, World, instance_at}
-use Rattle.algol_meaning.specs.Critical.{referred_in}
-use Rattle.algol_standing.specs.Skeleton.{IsIn}
-use Rattle.algol_standing.specs.Worlds.{IsStanding, IsOnPath, newest_own}
-use Rattle.b67_word.specs.declared.Place.{Place}
-use Rattle.b67_word.specs.Word.{Word}
-use Rattle.b67_templates.specs.Cells.{Wanted}
-use Rattle.b67_frames.specs.Arrays.{Layout, Denotes}
-use Rattle.b67_frames.specs.Frames.{IsInReach, home_of}
+use Rattle.b67_frames.proofs.Prelude.{numbered, Scopes, Cell, Part, World, instance_at, referred_in, IsIn, IsStanding, IsOnPath, newest_own, Place, Word, Wanted, Layout, Denotes, IsInReach, home_of}
 use Rattle.b67_frames.proofs.Facts.{HasFacts, IsStandingOrNone}
 use Rattle.b67_frames.proofs.Knowing.{KeepsArrays, Remain, Climbs, IsInOrNone, climbs_in, denotes_lasts, denotes_so}
 

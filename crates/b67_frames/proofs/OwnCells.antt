@@ -1,24 +1,9 @@
 -- The cells of an instance that stands: its simple cells first, and then the arrays that it has made, with the words of all of them.
 use Rattle.std.proofs.Common.{◌≡◌, sym, ap, ◌∙◌, subst, ℕ, ◌+◌, ◌<◌, List, [], ◌++◌, length, Some, None, false, arith, append-nil, length-append}
-use Rattle.std.specs.Prelude.{slice_get, slice_set, map}
-use Rattle.b67_list.specs.Numbered.{numbered}
-use Rattle.algol_tree.specs.Blocks.{block_numbered}
-use Rattle.algol_tree.specs.Scopes.{Scopes}
-use Rattle.algol_meaning.specs.Value.{Bounds, ArrayCell, Cell, array}
-use Rattle.algol_meaning.specs.Arrays.{elements_of}
-use Rattle.algol_meaning.specs.World.{NamedCell, Instance, Part, World, instance_at, or_no_instance, cell_in, cells_with}
-use Rattle.algol_paths.specs.Arrays.{DeclaredArray, Made, an_array, lows_of}
-use Rattle.b67_word.specs.Word.{Word}
-use Rattle.b67_control.specs.declared.Pcw.{Pcw}
-use Rattle.b67_templates.specs.Cells.{simple_cells, found_from, made_of, made_from}
-use Rattle.b67_cores.specs.Stretches.{control_words}
-use Rattle.b67_faithful.proofs.Contradictions.{some_same}
-use Rattle.b67_rows.proofs.StackWords.{get-front}
-use Rattle.b67_frames.specs.Arrays.{Allotted, Layout, DescriptorIs, AreSized, AreMade, HasArray, IsArrayOf}
-use Rattle.b67_frames.specs.Frames.{CellsAre, IsComplete, Framed}
+use Rattle.b67_frames.proofs.Prelude.{slice_get, slice_set, map, numbered, block_numbered, Scopes, Bounds, ArrayCell, Cell, array, elements_of, NamedCell, Instance, Part, World, instance_at, or_no_instance, cell_in, cells_with, DeclaredArray, Made, an_array, lows_of, Word, Pcw, simple_cells, found_from, made_of, made_from, control_words, some_same, get-front, get-behind, Allotted, Layout, DescriptorIs, AreSized, AreMade, HasArray, IsArrayOf, CellsAre, IsComplete, Framed}
 use Rattle.b67_frames.proofs.Completing.{made_many}
 use Rattle.b67_frames.proofs.ControlWords.{as_many_controls}
-use Rattle.b67_frames.proofs.MadeArrays.{get_past, none_left, as_many_values, IsPast, past_unfound, past_values, low_number, MadeThere, made_array, made_low}
+use Rattle.b67_frames.proofs.MadeArrays.{none_left, as_many_values, IsPast, past_unfound, past_values, low_number, MadeThere, made_array, made_low}
 use Rattle.b67_frames.proofs.Zeros.{cells_length}
 
 module _ (sc : Scopes) (w : World) (lay : Layout) where
@@ -112,7 +97,7 @@ module _ (sc : Scopes) (w : World) (lay : Layout) where
               ∙ get-front own.declared own.later number (an_array declared) (at_number own.declared (an_array declared) m.declared_lies);
           has =
               ap (λ (cells : List NamedCell). slice_get cells (length (simple_cells sc (block_numbered sc.blocks x.block)) + number)) own.has
-              ∙ get_past own.simple own.arrays number (length (simple_cells sc (block_numbered sc.blocks x.block)) + number) (ap (λ (n : ℕ). n + number) (sym (cells_length (simple_cells sc (block_numbered sc.blocks x.block)) own.simple own.values own.simple_are)))
+              ∙ get-behind own.simple own.arrays number (length (simple_cells sc (block_numbered sc.blocks x.block)) + number) (ap (λ (n : ℕ). n + number) (sym (cells_length (simple_cells sc (block_numbered sc.blocks x.block)) own.simple own.values own.simple_are)))
               ∙ at_number own.arrays (record { name = declared.name; cell = array m.cell }) m.lies;
           allotted = at_number (lay.rows i) m.allotted m.row_lies;
         };
@@ -207,10 +192,10 @@ module _ (sc : Scopes) (w : World) (lay : Layout) where
     pub descriptor_lies : (name : List ℕ) (number : ℕ) (declared : DeclaredArray) (found : OwnArray i x own name number declared) (pcws : List Pcw) →
         slice_get (own.values ++ (control_words pcws ++ own.descriptors)) (length (simple_cells sc (block_numbered sc.blocks x.block)) + length pcws + number) ≡ Some found.word
     descriptor_lies name number declared found pcws =
-        get_past own.values (control_words pcws ++ own.descriptors) (length pcws + number) (length (simple_cells sc (block_numbered sc.blocks x.block)) + length pcws + number)
+        get-behind own.values (control_words pcws ++ own.descriptors) (length pcws + number) (length (simple_cells sc (block_numbered sc.blocks x.block)) + length pcws + number)
         (omega (
           arith,
           as_many_values (simple_cells sc (block_numbered sc.blocks x.block)) own.simple own.values own.simple_are,
         ))
-        ∙ get_past (control_words pcws) own.descriptors number (length pcws + number) (ap (λ (n : ℕ). n + number) (sym (as_many_controls pcws)))
+        ∙ get-behind (control_words pcws) own.descriptors number (length pcws + number) (ap (λ (n : ℕ). n + number) (sym (as_many_controls pcws)))
         ∙ found.lies

@@ -1,21 +1,9 @@
 -- The events that an instance has made: their cells, and their words among those of its frame.
 use Rattle.std.proofs.Common.{◌≡◌, sym, ap, ◌∙◌, ℕ, ◌+◌, ◌<◌, List, [], ◌++◌, length, Some, None, arith, append-nil}
-use Rattle.std.specs.Prelude.{slice_get, slice_set}
-use Rattle.algol_tree.specs.Blocks.{block_numbered}
-use Rattle.algol_tree.specs.Scopes.{Scopes}
-use Rattle.algol_meaning.specs.Value.{Cell, event}
-use Rattle.b67_deeds.specs.Events.{EventState}
-use Rattle.algol_meaning.specs.World.{NamedCell, Instance, World, instance_at, or_no_instance, cell_in, cells_with}
-use Rattle.algol_paths.specs.Arrays.{Made, an_event}
-use Rattle.b67_word.specs.Word.{Word}
-use Rattle.b67_control.specs.declared.Pcw.{Pcw}
-use Rattle.b67_control.specs.Control.{event_word}
-use Rattle.b67_templates.specs.Cells.{simple_cells, found_from, made_of, made_from}
-use Rattle.b67_cores.specs.Stretches.{control_words}
-use Rattle.b67_rows.proofs.StackWords.{get-front}
-use Rattle.b67_frames.specs.Arrays.{Layout, IsEventOf}
+use Rattle.b67_frames.proofs.Prelude.{slice_get, slice_set, block_numbered, Scopes, Cell, event, EventState, NamedCell, Instance, World, instance_at, or_no_instance, cell_in, cells_with, Made, an_event, Word, Pcw, event_word, simple_cells, found_from, made_of, made_from, control_words, get-front, get-behind, Layout}
+use Rattle.b67_frames.specs.Arrays.{IsEventOf}
 use Rattle.b67_frames.proofs.ControlWords.{as_many_controls}
-use Rattle.b67_frames.proofs.MadeArrays.{get_past, as_many_values, IsPast, past_unfound, past_events, low_made, same_cell, FoundThere, found_there, made_low}
+use Rattle.b67_frames.proofs.MadeArrays.{as_many_values, IsPast, past_unfound, past_events, low_made, same_cell, FoundThere, found_there, made_low}
 use Rattle.b67_frames.proofs.OwnCells.{OwnCells}
 use Rattle.b67_frames.proofs.Zeros.{cells_length}
 
@@ -51,7 +39,7 @@ module _ (sc : Scopes) (w : World) (lay : Layout) where
             ∙ get-front own.declared own.later number (an_event name) (at_number own.declared (an_event name) m.declared_lies);
         has =
             ap (λ (cells : List NamedCell). slice_get cells (length (simple_cells sc (block_numbered sc.blocks x.block)) + number)) own.has
-            ∙ get_past own.simple own.arrays number (length (simple_cells sc (block_numbered sc.blocks x.block)) + number)
+            ∙ get-behind own.simple own.arrays number (length (simple_cells sc (block_numbered sc.blocks x.block)) + number)
             (ap (λ (n : ℕ). n + number) (sym (cells_length (simple_cells sc (block_numbered sc.blocks x.block)) own.simple own.values own.simple_are)))
             ∙ at_number own.arrays m.c m.lies
             ∙ ap (λ (c : NamedCell). Some c) is_cell;
@@ -114,7 +102,7 @@ module _ (sc : Scopes) (w : World) (lay : Layout) where
     pub event_lies : (number : ℕ) (found : OwnEvent i x own name number) (pcws : List Pcw) →
         slice_get (own.values ++ (control_words pcws ++ own.descriptors)) (length (simple_cells sc (block_numbered sc.blocks x.block)) + length pcws + number) ≡ Some (event_word (record {}))
     event_lies number found pcws =
-        get_past own.values (control_words pcws ++ own.descriptors) (length pcws + number) (length (simple_cells sc (block_numbered sc.blocks x.block)) + length pcws + number)
+        get-behind own.values (control_words pcws ++ own.descriptors) (length pcws + number) (length (simple_cells sc (block_numbered sc.blocks x.block)) + length pcws + number)
         (omega (arith, as_many_values (simple_cells sc (block_numbered sc.blocks x.block)) own.simple own.values own.simple_are))
-        ∙ get_past (control_words pcws) own.descriptors number (length pcws + number) (ap (λ (n : ℕ). n + number) (sym (as_many_controls pcws)))
+        ∙ get-behind (control_words pcws) own.descriptors number (length pcws + number) (ap (λ (n : ℕ). n + number) (sym (as_many_controls pcws)))
         ∙ found.lies

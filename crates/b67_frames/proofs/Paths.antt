@@ -1,15 +1,9 @@
 -- Paths stay where each process keeps its stack but for its newest instances, and depends on the instance on which it depended.
 use Rattle.std.proofs.Common.{◌≡◌, ◌≢◌, ◌⊎◌, inl, inr, refl, sym, ap, ◌∙◌, subst, ℕ, zero, suc, List, [], ◌∷◌, ◌++◌, Option, Some, false}
-use Rattle.b67_list.specs.Numbered.{numbered, set_numbered}
-use Rattle.algol_meaning.specs.World.{Process, World}
-use Rattle.algol_meaning.specs.Critical.{own_instances}
-use Rattle.algol_standing.specs.Skeleton.{Stack, IsIn, NextIn, Next, here, down}
-use Rattle.algol_standing.specs.Worlds.{IsStanding, IsOnPath, skeleton, stack_of}
-use Rattle.algol_standing.proofs.Firsts.{below_in}
-use Rattle.algol_standing.proofs.Pairs.{AllPairs, numbered_forth, stack_forth, stack_back}
-use Rattle.b67_faithful.proofs.Contradictions.{some_same, none_some}
-use Rattle.b67_rows.proofs.Numbers.{same_or_not, numbered_set, numbered_other}
-use Rattle.b67_rows.proofs.StackWords.{get-front}
+use Rattle.b67_frames.proofs.Prelude.{numbered, set_numbered, Process, World, own_instances, IsIn, here, down, IsStanding, IsOnPath, skeleton, below_in, AllPairs, numbered_forth, some_same, none_some, same_or_not, numbered_set, numbered_other, get-front}
+use Rattle.algol_standing.specs.Skeleton.{Stack, NextIn, Next}
+use Rattle.algol_standing.specs.Worlds.{stack_of}
+use Rattle.algol_standing.proofs.Pairs.{stack_forth, stack_back}
 use Rattle.b67_frames.proofs.Facts.{HasFacts}
 
 -- the process with this number has the instances of the other but for some newer ones, which stand no more, and others in their place
@@ -43,10 +37,6 @@ keeps_fewer w' k q q' newer is critical own gone =
 -- they depend on the same, and have the same instances
 abbrev pub AreAlike : Process → Process → Type 0
 AreAlike q q' = (q'.critical ≡ q.critical) × (own_instances q'.todo ≡ own_instances q.todo)
-
-numbered_front : {A : Type 0} (xs more : List A) (k : ℕ) (x : A) → numbered xs k ≡ Some x → numbered (xs ++ more) k ≡ Some x
-numbered_front xs more zero x e = none_some e
-numbered_front xs more (suc k) x e = get-front xs more k x e
 
 -- each of the former has one alike among the latter
 abbrev pub HaveAlike : List Process → List Process → Type 0

@@ -1,19 +1,10 @@
 -- The frame of a part that goes on with an answer.
 use Rattle.std.proofs.Common.{◌≡◌, sym, ◌∙◌, ℕ, List, length}
-use Rattle.algol_tree.specs.Plain.{PProgram}
+use Rattle.b67_frames.proofs.Prelude.{PProgram, Answer, Part, World, instance_at, resume, all_to_make, IsSeen, Word, Code, Texts, Layout, Frame}
 use Rattle.algol_tree.specs.Scopes.{scopes_of}
-use Rattle.algol_meaning.specs.Rest.{Answer}
-use Rattle.algol_meaning.specs.World.{Part, World, instance_at}
-use Rattle.algol_meaning.specs.Asks.{resume}
-use Rattle.algol_paths.specs.Arrays.{all_to_make, all_left_to_make}
-use Rattle.algol_paths.specs.Blocks.{IsSeen}
+use Rattle.algol_paths.specs.Arrays.{all_left_to_make}
 use Rattle.algol_paths.specs.Laws.{RestsKeepToTheirText, AllIsMadeInOrder}
 use Rattle.algol_paths.specs.Texts.{InAnswer}
-use Rattle.b67_word.specs.Word.{Word}
-use Rattle.b67_segment.specs.declared.code.Code.{Code}
-use Rattle.b67_templates.specs.Programs.{Texts}
-use Rattle.b67_frames.specs.Arrays.{Layout}
-use Rattle.b67_frames.specs.Frames.{Frame}
 use Rattle.b67_frames.proofs.Expressions.{expression_resumed}
 use Rattle.b67_frames.proofs.Lying.{shape_on}
 

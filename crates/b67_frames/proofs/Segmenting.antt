@@ -1,36 +1,30 @@
 -- The arrays and the statements of the program's outer block, and those of each procedure, need no more words than four for each token of
 -- their segment. So the code of each actual has room, also where it stands in an inner block.
 use Rattle.std.proofs.Common.{None, ◌≡◌, ◌⊎◌, inl, inr, refl, sym, ap, ◌∙◌, subst, ℕ, zero, suc, ◌+◌, ◌*◌, ◌<◌, ◌≤◌, Bool, true, false, List, [], ◌∷◌, ◌++◌, length, take, filter, Option, Some, arith, add-one, append-nil}
-use Rattle.std.specs.Prelude.{if◌then◌else◌, not, slice_get}
+use Rattle.b67_frames.proofs.Prelude.{if◌then◌else◌, slice_get, Named, Block, block_numbered, around, stmt_tokens, PExpr, PPair, PStmt, PStmts, PDecls, PProgram, arguments_in_stmts, procedures, Actual, actuals_of, stmts_depth, tokens_around, HasNames, AreNested, actuals_are_few, decls_small, stmt_small, stmts_small, most_around}
+use Rattle.std.specs.Prelude.{not}
 use Rattle.std.specs.List.{flat_map}
 use Rattle.std.proofs.lemmas.Grind.{flat_map-append}
 use Rattle.std.proofs.lemmas.List.Elements.{filter-append}
 use Rattle.algol_tree.specs.declared.token.Spot.{Spot}
 use Rattle.algol_tree.specs.declared.tree.Heading.{Heading}
-use Rattle.algol_tree.specs.declared.tree.Named.{Named}
 use Rattle.algol_tree.specs.Accepted.{sites_of}
-use Rattle.algol_tree.specs.Blocks.{Block, Begin, of_statement, of_procedure, procedure_block, blocks_of, blocks_in_stmts, blocks_in_decls, blocks_of_program, block_numbered, around}
+use Rattle.algol_tree.specs.Blocks.{Begin, of_statement, of_procedure, procedure_block, blocks_of, blocks_in_stmts, blocks_in_decls, blocks_of_program}
 use Rattle.algol_tree.specs.Classes.{Formal}
-use Rattle.algol_tree.specs.Counts.{heading_tokens, stmt_tokens}
+use Rattle.algol_tree.specs.Counts.{heading_tokens}
 use Rattle.algol_tree.specs.Names.{Segment, segments_of_part}
 use Rattle.algol_tree.specs.Plain as tree
-use Rattle.algol_tree.specs.Plain.{name_alone, PExpr, PExprs, PPair, PStmt, PStmts, PDecls, PProgram}
+use Rattle.algol_tree.specs.Plain.{name_alone, PExprs}
 use Rattle.algol_tree.specs.Scopes.{scopes_of}
 use Rattle.algol_tree.specs.Sites.{Site, name_part, wants_value, actual_part, actual_part_by, first_formal, other_formals, inside_expr, inside_list, inside_actuals, sites, sites_in_pairs, here_stmt, has_decls, inside_stmt, sites_in_stmts, sites_in_decls}
 use Rattle.algol_tree.specs.Sorts.{Declared}
 use Rattle.algol_tree.specs.Surroundings.{Surroundings, outermost, formals_at, knowing, knowing_all, inside, inside_procedure}
 use Rattle.algol_paths.specs.Segments.{is_procedure, procedures_before, segment_among, tokens_or_none, segment_tokens}
-use Rattle.b67_templates.specs.Arguments.{arguments_in_decls, arguments_in_stmts}
-use Rattle.b67_templates.specs.Cells.{procedures, Actual, actuals_of}
-use Rattle.b67_templates.specs.Depths.{decls_depth, stmts_depth, depth}
-use Rattle.b67_faithful.specs.Weight.{tokens_around}
-use Rattle.b67_templates.specs.Names.{DeclsNamed, StmtNamed, StmtsNamed, HasNames}
-use Rattle.b67_templates.specs.Nested.{AreNested}
-use Rattle.b67_templates.proofs.Few.{actuals_are_few}
+use Rattle.b67_templates.specs.Arguments.{arguments_in_decls}
+use Rattle.b67_templates.specs.Depths.{decls_depth, depth}
+use Rattle.b67_templates.specs.Names.{DeclsNamed, StmtNamed, StmtsNamed}
 use Rattle.b67_rows.proofs.ActualsWeighing.{actual_small}
 use Rattle.b67_rows.proofs.InnerBlocks.{own_tokens, block_there, Inside, blocks_inside}
-use Rattle.b67_rows.proofs.Weighing.{decls_small, stmt_small, stmts_small}
-use Rattle.b67_frames.specs.Frames.{most_around}
 
 -- the segments that begin at these places of the text
 abbrev segs : List Site → List Segment
@@ -62,7 +56,7 @@ match_both bs cs xs ys h k =
     (subst (λ (ss : List Segment). Pairs (filter is_procedure bs ++ filter is_procedure cs) ss) (sym (flat_map-append (λ (x : Site). segments_of_part x.part) xs ys))
     (pairs_both (filter is_procedure bs) (filter is_procedure cs) (segs xs) (segs ys) h k))
 
-both_none : (xs ys : List Site) → segs xs ≡ [] → segs ys ≡ [] → segs (xs ++ ys) ≡ []
+pub both_none : (xs ys : List Site) → segs xs ≡ [] → segs ys ≡ [] → segs (xs ++ ys) ≡ []
 both_none xs ys e f = flat_map-append (λ (x : Site). segments_of_part x.part) xs ys ∙ ap (λ (ss : List Segment). ss ++ segs ys) e ∙ f
 
 none_match : (xs : List Site) → segs xs ≡ [] → Match [] xs
@@ -116,7 +110,7 @@ mutual
       ap (λ (ss : List Segment). ss ++ segs (inside_expr e a ++ inside_actuals es (other_formals fs) a)) (actual_none e (first_formal fs))
       ∙ both_none (inside_expr e a) (inside_actuals es (other_formals fs) a) (expr_none e a) (actuals_none es (other_formals fs) a)
 
-pairs_none : (pairs : List PPair) (a : Surroundings) → segs (sites_in_pairs pairs a) ≡ []
+pub pairs_none : (pairs : List PPair) (a : Surroundings) → segs (sites_in_pairs pairs a) ≡ []
 pairs_none [] a = refl
 pairs_none (p ∷ pairs) a = both_none (sites p.high a) (sites_in_pairs pairs a) (expr_none p.high a) (pairs_none pairs a)
 
@@ -251,7 +245,7 @@ picked (c ∷ bs) (s ∷ ss) zero b h e = let same : c ≡ b = cc in subst (λ (
 picked (c ∷ bs) (s ∷ ss) (suc k) b h e = picked bs ss k b h.1 e
 
 -- a procedure's block is the one after as many as stand before it
-numbered_procedure : (bs : List Block) (j : ℕ) (b : Block) → slice_get bs j ≡ Some b → is_procedure b ≡ true → slice_get (filter is_procedure bs) (procedures_before bs j) ≡ Some b
+pub numbered_procedure : (bs : List Block) (j : ℕ) (b : Block) → slice_get bs j ≡ Some b → is_procedure b ≡ true → slice_get (filter is_procedure bs) (procedures_before bs j) ≡ Some b
 numbered_procedure [] j b e own = cc
 numbered_procedure (c ∷ bs) zero b e own =
     let same : b ≡ c = cc in

@@ -1,43 +1,22 @@
 -- ENTR on the intrinsic that waits for several events: the process goes on with a number, or it waits.
-use Rattle.std.proofs.Common.{◌≡◌, refl, sym, ap, ◌∙◌, ℕ, zero, suc, ◌+◌, ◌-◌, ◌≤◌, pos, List, [], ◌∷◌, ◌++◌, length, map, Option, Some, None, Ok}
-use Rattle.std.specs.Prelude.{reverse, nat_le, ◌&&◌, if◌then◌else◌, Bool, true, false}
-use Rattle.std.proofs.lemmas.List.{reverse-reverse}
-use Rattle.b67_list.specs.Numbered.{numbered, set_numbered}
-use Rattle.b67_word.specs.declared.Place.{Place}
-use Rattle.b67_word.specs.Word.{Word, operand}
-use Rattle.b67_control.specs.declared.Registers.{Registers}
-use Rattle.b67_events.specs.Events.{is_open, first_happened, joined_all, with_list}
+use Rattle.std.proofs.Common.{◌≡◌, refl, sym, ap, ◌∙◌, ℕ, suc, ◌+◌, ◌-◌, ◌≤◌, pos, List, [], ◌∷◌, ◌++◌, length, map, Option, Some, None, Ok}
+use Rattle.b67_frames.proofs.Prelude.{reverse, nat_le, if◌then◌else◌, reverse-reverse, set_numbered, Place, Word, operand, Registers, is_open, Code, with_stack, event_of, if_chained, gives, Image, with_stacks, with_registers, pushed, Test, Program, answer, fault, asked, changed, effect_of, ◌>>=◌, done, registers, cell_place, enter, raw, operator_at, Core, HasCore, stack_of, with_core, CallsIntrinsic, entered_asked, chained_asked, cut_words, raw_is, stack-over, most_is, pushed_do}
+use Rattle.std.specs.Prelude.{Bool, true}
+use Rattle.algol_standing.proofs.PathOrder.{and_true}
+use Rattle.b67_events.specs.Events.{first_happened, joined_all, with_list}
 use Rattle.b67_ops.specs.declared.Operator.TheVariants as ops
 use Rattle.b67_ops.specs.declared.PlainKind.TheVariants as kinds
 use Rattle.b67_ops.specs.declared.intrinsic.Intrinsic.TheVariants.{WaitAny}
-use Rattle.b67_segment.specs.declared.code.Code.{Code}
-use Rattle.b67_store.specs.Store.{with_stack}
 use Rattle.b67_table.specs.declared.Cell.{Cell}
 use Rattle.b67_table.specs.declared.ProcessState.TheVariants.{WaitsAny}
-use Rattle.b67_table.specs.Arguments.{event_of, events_of, if_chained, no_such}
-use Rattle.b67_table.specs.Effect.{gives}
-use Rattle.b67_table.specs.Image.{Image, woken_number, with_stacks, with_registers}
+use Rattle.b67_table.specs.Arguments.{events_of, no_such}
+use Rattle.b67_table.specs.Image.{woken_number}
 use Rattle.b67_table.specs.Intrinsics.{gone_on, gone_or_waiting, woken_or_not, wait_for_any}
 use Rattle.b67_table.specs.Limits.{most_events}
-use Rattle.b67_table.specs.Moves.{pushed}
-use Rattle.b67_table.specs.Program.{Test, Program, answer, interrupt, fault, ask, asked, changed, effect_of, ◌>>=◌, done, registers, woken}
+use Rattle.b67_table.specs.Program.{interrupt, ask, woken}
 use Rattle.b67_table.specs.Questions.{told}
-use Rattle.b67_table.specs.References.{cell_place}
-use Rattle.b67_table.specs.Rows.{row, enter}
-use Rattle.b67_table.specs.Table.{raw, operator_at}
-use Rattle.b67_letters.specs.Releases.{effect_releases, fetched_releases, registers_releases}
-use Rattle.b67_cores.specs.Cores.{Core, HasCore, stack_of, with_core}
-use Rattle.b67_rows.proofs.IntrinsicRows.{CallsIntrinsic, entered_asked, chained_asked, cut_words}
-use Rattle.b67_rows.proofs.Rows.{raw_is}
-use Rattle.b67_rows.proofs.StackWords.{stack-over}
-use Rattle.b67_rows.proofs.StoreRow.{most_is}
-use Rattle.b67_rows.proofs.TopRow.{pushed_do}
+use Rattle.b67_table.specs.Rows.{row}
 use Rattle.b67_frames.proofs.EventRows.{FindsEvent, event_reached}
-
-both_are : (a b : Bool) → a ≡ true → b ≡ true → (a && b) ≡ true
-both_are true true f g = refl
-both_are true false f g = g
-both_are false b f g = f
 
 -- each word reaches an open event, at the cell beside it
 abbrev pub AreFound : Image → ℕ → Registers → List Word → List Cell → Type 0
@@ -80,7 +59,7 @@ module _ (code : Code) (img : Image) (p : ℕ) (core : Core) (has : HasCore img 
       entered_asked code img p core has next there WaitAny (reverse words) reference marked below c
       ∙ ap (λ (ws : List Word). asked img (wait_for_any code r next c.m ws)) (reverse-reverse words)
       ∙ ap (λ (b : Bool). asked img (if b then events_of r words >>= (λ (ps : List Place). if_chained r c.m (woken r.stack (woken_or_not r next c.m ps))) else no_such))
-      (both_are (nat_le 1 (length words)) (nat_le (length words) most_events) (most_is 1 (length words) some) (most_is (length words) most_events few))
+      (and_true (nat_le 1 (length words)) (nat_le (length words) most_events) (most_is 1 (length words) some) (most_is (length words) most_events few))
       ∙ events_found code img p r words cells reach (λ (ps : List Place). if_chained r c.m (woken r.stack (woken_or_not r next c.m ps)))
       ∙ chained_asked code img p core has next there WaitAny (reverse words) reference marked below c (woken r.stack (woken_or_not r next c.m places))
 
@@ -126,17 +105,3 @@ module _ (code : Code) (img : Image) (p : ℕ) (core : Core) (has : HasCore img 
   pub waiting_raw : woken_number img.numbers core.registers.stack ≡ 0 → first_happened places img.events ≡ None →
       raw code img p ≡ gives (record img { events = joined_all places p img.events; lists = with_list img.lists p places; states = set_numbered img.states p WaitsAny })
   waiting_raw is found = waits_or_goes is None found
-
-  -- nobody is released
-  frees_nobody : (k : ℕ) (o : Option ℕ) → first_happened places img.events ≡ o → effect_releases p img (asked img (woken_or_not core.registers next c.m places k)) ≡ []
-  frees_nobody (suc k) o found = refl
-  frees_nobody zero None found = ap (λ (x : Option ℕ). effect_releases p img (asked img (gone_or_waiting r next c.m places x))) found
-  frees_nobody zero (Some n) found = ap (λ (x : Option ℕ). effect_releases p img (asked img (gone_or_waiting r next c.m places x))) found
-
-  pub several_releases : registers_releases code img p (numbered img.regs p) ≡ []
-  unfolding row
-  several_releases =
-      ap (registers_releases code img p) has.registers
-      ∙ ap (fetched_releases code img p core.registers) there
-      ∙ ap (effect_releases p img) several_asked
-      ∙ frees_nobody (woken_number img.numbers core.registers.stack) (first_happened places img.events) refl

@@ -1,17 +1,7 @@
 -- The static parents of an instance that stands: they stand, and their blocks are those around its own.
 use Rattle.std.proofs.Common.{◌≡◌, sym, ap, ◌∙◌, ℕ, zero, suc, ◌+◌, ◌≤◌, List, ◌∷◌, Some, arith}
-use Rattle.std.specs.Prelude.{slice_get}
-use Rattle.algol_tree.specs.Blocks.{around, block_numbered}
-use Rattle.algol_tree.specs.Cells.{level_of}
-use Rattle.algol_tree.specs.Scopes.{Scopes}
-use Rattle.algol_meaning.specs.World.{World, instance_at, ancestor}
-use Rattle.algol_standing.specs.Worlds.{IsStanding}
-use Rattle.b67_ops.specs.declared.TheConstants.{OUTER_LEVEL}
-use Rattle.b67_faithful.proofs.Contradictions.{some_same, none_some}
+use Rattle.b67_frames.proofs.Prelude.{slice_get, around, block_numbered, level_of, Scopes, World, instance_at, ancestor, IsStanding, OUTER_LEVEL, some_same, none_some, length_around, Layout, IsComplete, IsPlaced, outermost, inside, ArePlaced}
 use Rattle.b67_rows.proofs.Numbers.{get_within}
-use Rattle.b67_rows.proofs.Parents.{length_around}
-use Rattle.b67_frames.specs.Arrays.{Layout}
-use Rattle.b67_frames.specs.Frames.{IsComplete, IsPlaced, outermost, inside, ArePlaced}
 
 module _ (sc : Scopes) (w : World) (lay : Layout) where
   -- So many up, where there is a block b around that of the instance, a static parent stands, and is an instance of b. It has made all that its

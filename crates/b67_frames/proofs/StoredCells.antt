@@ -1,13 +1,6 @@
 -- Cells among which an array has another element: it keeps its bounds, and all others are as they were.
 use Rattle.std.proofs.Common.{◌≡◌, refl, sym, ap, ◌∙◌, subst, ℕ, ◌+◌, List, [], ◌∷◌, length, Bool, true, false}
-use Rattle.std.specs.Prelude.{if◌then◌else◌, map}
-use Rattle.algol_tree.specs.Sorts.{same_name}
-use Rattle.algol_meaning.specs.Value.{Bounds, ArrayCell, Cell, event, array}
-use Rattle.algol_meaning.specs.Arrays.{elements_of, size_of_cell, size_of_cells}
-use Rattle.algol_meaning.specs.World.{NamedCell, cell_in, cells_with}
-use Rattle.algol_paths.specs.Arrays.{DeclaredArray, Made, lows_of, an_array, an_event}
-use Rattle.b67_word.specs.Word.{Word}
-use Rattle.b67_frames.specs.Arrays.{Allotted, DescriptorIs, AreSized, IsMade, AreMade, rows_of_bounds, rows_of_cell, rows_of_cells, IsMadeSo}
+use Rattle.b67_frames.proofs.Prelude.{if◌then◌else◌, map, same_name, Bounds, ArrayCell, Cell, event, array, elements_of, size_of_cell, size_of_cells, NamedCell, cell_in, cells_with, DeclaredArray, Made, lows_of, an_array, an_event, Word, Allotted, DescriptorIs, AreSized, IsMade, AreMade, rows_of_bounds, rows_of_cell, rows_of_cells, IsMadeSo}
 
 -- the same array with other elements
 pub record IsAlike (cell later : ArrayCell) : Type 0 where

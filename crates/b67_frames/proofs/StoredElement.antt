@@ -1,31 +1,15 @@
 -- An element is stored, in the world and in its row.
 use Rattle.std.proofs.Common.{◌≡◌, ◌≢◌, ◌⊎◌, inl, inr, refl, sym, ap, ◌∙◌, subst, ℕ, ◌+◌, ◌*◌, ◌≤◌, List, ◌++◌, length, Option, Some, false, arith}
-use Rattle.std.specs.Prelude.{slice_get, slice_set}
-use Rattle.b67_list.specs.Numbered.{numbered, set_numbered}
-use Rattle.algol_tree.specs.Blocks.{block_numbered}
-use Rattle.algol_tree.specs.Scopes.{Scopes}
-use Rattle.algol_meaning.specs.Value.{Value, ArrayCell, Cell, event, array}
-use Rattle.algol_meaning.specs.Arrays.{size_of_cells, size_unless, live_elements, flat, with_element}
-use Rattle.algol_meaning.specs.World.{NamedCell, Instance, World, instance_at, or_no_instance, cell_in, cells_with, by_cell, set_cell}
-use Rattle.algol_paths.specs.Arrays.{DeclaredArray, an_array}
-use Rattle.b67_word.specs.Word.{Word}
-use Rattle.b67_store.specs.Store.{Rows, with_row_word}
-use Rattle.b67_store.proofs.StoreLaws.{counts}
-use Rattle.b67_templates.specs.Fragments.{HasKind}
-use Rattle.b67_templates.specs.Cells.{simple_cells, made_of}
-use Rattle.b67_cores.specs.Slots.{ValueIs}
-use Rattle.b67_faithful.proofs.Contradictions.{some_same}
-use Rattle.b67_rows.proofs.Numbers.{same_or_not, numbered_set, numbered_other}
-use Rattle.b67_rows.proofs.StackWords.{length-set}
-use Rattle.b67_frames.specs.Arrays.{Allotted, numbers_of, Layout, HoldElements, rows_of_cells, live_rows, IsIn, AreMade, HasArray, HasRow, ArraysAre, IsArrayOf}
+use Rattle.b67_frames.proofs.Prelude.{slice_get, slice_set, numbered, set_numbered, block_numbered, Scopes, Value, ArrayCell, Cell, event, array, size_of_cells, size_unless, live_elements, flat, with_element, NamedCell, Instance, World, instance_at, or_no_instance, cell_in, cells_with, by_cell, DeclaredArray, an_array, Word, Rows, with_row_word, counts, HasKind, simple_cells, made_of, ValueIs, some_same, same_or_not, numbered_set, numbered_other, get_set, length-set, get-behind, Allotted, numbers_of, Layout, HoldElements, rows_of_cells, live_rows, AreMade, HasArray, HasRow, ArraysAre, IsArrayOf}
+use Rattle.algol_meaning.specs.World.{set_cell}
+use Rattle.b67_frames.specs.Arrays.{IsIn}
 use Rattle.b67_frames.proofs.ArraysKept.{elements_numbered, rows_numbered}
 use Rattle.b67_frames.proofs.ClosedRows.{AreApart}
 use Rattle.b67_frames.proofs.Knowing.{KeepsArrays, IsNoReference, keeps_same, other_stays, names_stay}
-use Rattle.b67_frames.proofs.MadeArrays.{get_past}
 use Rattle.b67_frames.proofs.OneClosed.{part_number, holds_same}
 use Rattle.b67_frames.proofs.OwnCells.{OwnCells, OwnArray, known_array, known_has}
 use Rattle.b67_frames.proofs.StoredCells.{IsAlike, size_stays, rows_stay, made_stays, StillArray, array_still}
-use Rattle.b67_frames.proofs.StoredRows.{written_open, written_other, get_set, get_other, holds_stored}
+use Rattle.b67_frames.proofs.StoredRows.{written_open, written_other, get_other, holds_stored}
 use Rattle.b67_frames.proofs.Zeros.{cells_length}
 
 -- an array by its number is the same in a later world, or it is the one with the element
@@ -147,7 +131,7 @@ module _ (sc : Scopes) (w : World) (lay : Layout) (rows : Rows) (are : ArraysAre
 
           lies : slice_get (slice_set own.arrays of.number (record { name = declared.name; cell = array later })) other ≡ Some (record { name = d.name; cell = array c })
           lies =
-              sym (get_past own.simple (slice_set own.arrays of.number (record { name = declared.name; cell = array later })) other (first + other)
+              sym (get-behind own.simple (slice_set own.arrays of.number (record { name = declared.name; cell = array later })) other (first + other)
               (ap (λ (n : ℕ). n + other) (sym simple_many)))
               ∙ ap (λ (cells : List NamedCell). slice_get cells (first + other)) (sym (cells_still ∙ ap (λ (cells : List NamedCell). own.simple ++ cells) (found.changed (array later))))
               ∙ ap (λ (y : Instance). slice_get y.cells (length (simple_cells sc (block_numbered sc.blocks y.block)) + other)) instance_is
@@ -172,7 +156,7 @@ module _ (sc : Scopes) (w : World) (lay : Layout) (rows : Rows) (are : ArraysAre
                 declares = declares;
                 has =
                     ap (λ (cells : List NamedCell). slice_get cells (first + other)) own.has
-                    ∙ get_past own.simple own.arrays other (first + other) (ap (λ (n : ℕ). n + other) (sym simple_many))
+                    ∙ get-behind own.simple own.arrays other (first + other) (ap (λ (n : ℕ). n + other) (sym simple_many))
                     ∙ sym (get_other own.arrays of.number other (record { name = declared.name; cell = array later }) (λ e. apart_is (sym e)))
                     ∙ lies;
                 allotted = h.allotted;

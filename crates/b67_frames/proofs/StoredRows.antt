@@ -1,20 +1,7 @@
 -- A word is written into a row of an array: the rows hold the array with that element.
 use Rattle.std.proofs.Common.{◌≡◌, ◌≢◌, ◌⊎◌, inl, inr, refl, sym, ap, ◌∙◌, ℕ, zero, suc, ◌+◌, ◌*◌, ◌<◌, ◌≤◌, List, [], ◌∷◌, length, Option, Some, None, true, arith}
-use Rattle.std.specs.Prelude.{slice_get, slice_set}
-use Rattle.algol_tree.specs.declared.tree.Kind.{Kind}
-use Rattle.algol_tree.specs.Scopes.{Scopes}
-use Rattle.algol_meaning.specs.Value.{Value, ArrayCell}
-use Rattle.algol_meaning.specs.Arrays.{flat, with_element}
-use Rattle.algol_meaning.specs.World.{World}
-use Rattle.b67_word.specs.Word.{Word}
-use Rattle.b67_store.specs.Store.{Row, Rows, row_at, row_limit, row_with, with_row_word}
-use Rattle.b67_store.proofs.StoreLaws.{changed_others}
-use Rattle.b67_templates.specs.Fragments.{HasKind}
-use Rattle.b67_cores.specs.Slots.{ValueIs}
-use Rattle.b67_faithful.proofs.Contradictions.{some_same, none_some}
-use Rattle.b67_rows.proofs.Numbers.{same_or_not, numbered_set, numbered_other, most_or_more}
-use Rattle.b67_rows.proofs.StackWords.{length-set}
-use Rattle.b67_frames.specs.Arrays.{Allotted, numbers_of, Layout, row_length, HoldElements, open_rows, IsIn}
+use Rattle.b67_frames.proofs.Prelude.{slice_get, slice_set, Kind, Scopes, Value, ArrayCell, flat, with_element, World, Word, Row, Rows, row_at, row_limit, row_with, with_row_word, changed_others, HasKind, ValueIs, some_same, none_some, same_or_not, numbered_other, most_or_more, get_set, length-set, Allotted, numbers_of, Layout, row_length, HoldElements, open_rows}
+use Rattle.b67_frames.specs.Arrays.{IsIn}
 use Rattle.b67_frames.proofs.ClosedRows.{AreApart}
 use Rattle.b67_frames.proofs.ElementRows.{flat_is, at_below}
 
@@ -59,9 +46,6 @@ pub written_other : (rows : Rows) (n at : ℕ) (word : Word) (m : ℕ) → m ≢
 written_other rows n at word m other = changed_others rows n m (row_with (row_at rows n) at word) other
 
 -- ---- items of lists
-
-pub get_set : {A : Type 0} (xs : List A) (k : ℕ) (x y : A) → slice_get xs k ≡ Some x → slice_get (slice_set xs k y) k ≡ Some y
-get_set xs k x y there = numbered_set xs (suc k) x y there
 
 pub get_other : {A : Type 0} (xs : List A) (k j : ℕ) (y : A) → j ≢ k → slice_get (slice_set xs k y) j ≡ slice_get xs j
 get_other xs k j y other = numbered_other xs (suc k) (suc j) y (λ same. other (omega (arith, same)))

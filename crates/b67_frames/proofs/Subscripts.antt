@@ -1,15 +1,11 @@
 -- A subscript that is moved by the lower bound is the index of the place that the meaning gives it.
 use Rattle.std.proofs.Common.{◌≡◌, refl, sym, ap, ◌∙◌, subst, ℕ, ◌+◌, ◌<◌, ◌≤◌, List, [], ◌∷◌, length, Option, Some, None, Bool, true, false, ℤ, arith}
-use Rattle.std.specs.Prelude.{map, slice_get, pos, negsuc, neg_ℤ, ◌+ℤ◌, ◌-ℤ◌, ◌<ℤ◌, ◌≤ℤ◌, int_lt, int_le, nat_abs, nat_lt, ◌&&◌, if◌then◌else◌}
-use Rattle.std.proofs.lemmas.Int.{ints}
-use Rattle.std.proofs.lemmas.Bool.Decides.{nat_tests}
+use Rattle.b67_frames.proofs.Prelude.{map, slice_get, pos, negsuc, ◌-ℤ◌, int_lt, int_le, nat_abs, nat_lt, ◌&&◌, if◌then◌else◌, ints, nat_tests, Bounds, ArrayCell, size_of, some_same, none_some, AreSized}
+use Rattle.std.specs.Prelude.{neg_ℤ, ◌+ℤ◌, ◌<ℤ◌, ◌≤ℤ◌}
 use Rattle.algol_tree.specs.Sorts.{Sort, array, formal_array}
-use Rattle.algol_meaning.specs.Value.{Bounds, ArrayCell}
-use Rattle.algol_meaning.specs.Arrays.{size_of, placed, placed_in, moved_to, moved as moved_by_sort, subscript_place}
+use Rattle.algol_meaning.specs.Arrays.{placed, placed_in, moved_to, moved as moved_by_sort, subscript_place}
 use Rattle.b67_table.specs.Arrays.{index_in}
 use Rattle.b67_templates.specs.Fragments.{Low, zero, above, near, far, moved, moved_by}
-use Rattle.b67_faithful.proofs.Contradictions.{some_same, none_some}
-use Rattle.b67_frames.specs.Arrays.{AreSized}
 use Rattle.b67_frames.proofs.FewElements.{OneSized, one_sized, TwoSized, two_sized}
 
 -- ---- tests of whole numbers
@@ -76,9 +72,9 @@ span b some = by_test (int_le b.low b.high) refl
         by_difference (negsuc n) same = absurd (omega (arith, ints))
     by_test false e = absurd (let none : size_of b ≡ 0 = ap (λ (t : Bool). if t then nat_abs (b.high -ℤ b.low) + 1 else 0) e in omega (arith, none))
 
-not_both : (t : Bool) → (t && false) ≡ false
-not_both true = refl
-not_both false = refl
+pub and_false : (t : Bool) → (t && false) ≡ false
+and_false true = refl
+and_false false = refl
 
 -- a subscript outside the bounds has no place
 lower_none : (b : Bounds) (z : ℤ) → z <ℤ b.low → placed b z ≡ None
@@ -87,7 +83,7 @@ lower_none b z h = ap (λ (t : Bool). if t && int_le z b.high then Some (nat_abs
 higher_none : (b : Bounds) (z : ℤ) → b.high <ℤ z → placed b z ≡ None
 higher_none b z h =
     ap (λ (t : Bool). if int_le b.low z && t then Some (nat_abs (z -ℤ b.low)) else None) (not_most z b.high h)
-    ∙ ap (λ (t : Bool). if t then Some (nat_abs (z -ℤ b.low)) else None) (not_both (int_le b.low z))
+    ∙ ap (λ (t : Bool). if t then Some (nat_abs (z -ℤ b.low)) else None) (and_false (int_le b.low z))
 
 inside_some : (b : Bounds) (z : ℤ) → b.low ≤ℤ z → z ≤ℤ b.high → placed b z ≡ Some (nat_abs (z -ℤ b.low))
 inside_some b z h k =
@@ -183,27 +179,6 @@ index_below (pos n) m k is = by_test (nat_lt n m) refl is
         omega (arith, short, here)
     by_test false e same = none_some same
 index_below (negsuc n) m k is = none_some is
-
--- and so is what has a place
-pub placed_below : (b : Bounds) (z : ℤ) (k : ℕ) → placed b z ≡ Some k → k < size_of b
-placed_below b z k is = by_test (int_le b.low b.high) refl
-  where
-    by_test : (t : Bool) → int_le b.low b.high ≡ t → k < size_of b
-    by_test true e =
-        let size : size_of b ≡ nat_abs (b.high -ℤ b.low) + 1 = ap (λ (t : Bool). if t then nat_abs (b.high -ℤ b.low) + 1 else 0) e in
-        let some : 1 ≤ size_of b = omega (arith, size) in
-        index_below (z -ℤ b.low) (size_of b) k (difference_placed b (span b some) z ∙ is)
-    by_test false e = none_some (sym (outside (int_le b.low z) refl) ∙ is)
-      where
-        empty : b.high <ℤ b.low
-        empty = is_more b.low b.high e
-
-        outside : (t : Bool) → int_le b.low z ≡ t → placed b z ≡ None
-        outside true f =
-            let low : b.low ≤ℤ z = is_most b.low z f in
-            let high : b.high <ℤ z = omega (arith, ints) in
-            higher_none b z high
-        outside false f = lower_none b z (is_more b.low z f)
 
 -- ---- other lower bounds
 

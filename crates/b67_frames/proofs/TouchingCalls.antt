@@ -1,42 +1,24 @@
 -- The entry of an intrinsic: it names the cell of its control word in the system's stack, and no other, since its arguments are operands.
 use Rattle.std.proofs.Common.{◌≡◌, refl, sym, ap, ◌∙◌, subst, ℕ, ◌+◌, ◌-◌, ◌≤◌, List, ◌∷◌, ◌++◌, Option, Some, None, true, false, arith, length, lit<, length-append}
-use Rattle.std.specs.Prelude.{slice_get, reverse}
-use Rattle.std.proofs.lemmas.List.{length-reverse}
-use Rattle.algol_tree.specs.Scopes.{Scopes}
-use Rattle.algol_meaning.specs.Value.{Value}
-use Rattle.b67_word.specs.Word.{Word}
-use Rattle.b67_control.specs.declared.Irw.{Irw}
-use Rattle.b67_control.specs.declared.Pcw.{Pcw}
-use Rattle.b67_control.specs.declared.Sirw.{Sirw}
-use Rattle.b67_control.specs.Control.{as_irw, as_sirw}
-use Rattle.b67_control.specs.Display.{place_at}
+use Rattle.b67_frames.proofs.Prelude.{slice_get, reverse, length-reverse, Scopes, Value, Word, Irw, Pcw, Sirw, as_irw, as_sirw, place_at, Intrinsic, number_of, couple_of_intrinsic, word_at, system_stack, place, Image, irw_or_sirw, Slot, intrinsic, mark, Core, HasCore, Known, SlotsAre, slots_length, none_some, words_are, stack-over, get-behind, pcw_kind, tag_zero}
 use Rattle.b67_control.proofs.ControlLaws.{as_sirw-other, irw_laws}
 use Rattle.b67_ops.specs.declared.Operator.TheVariants as ops
 use Rattle.b67_ops.specs.declared.PlainKind.TheVariants as kinds
-use Rattle.b67_ops.specs.declared.intrinsic.Intrinsic.{Intrinsic}
 use Rattle.b67_ops.specs.declared.intrinsic.Intrinsic.TheVariants as names
-use Rattle.b67_ops.specs.Intrinsics.{number_of, couple_of_intrinsic}
-use Rattle.b67_store.specs.Store.{stack_at, words_or, word_at}
+use Rattle.b67_store.specs.Store.{stack_at, words_or}
 use Rattle.b67_table.specs.declared.Cell.{Cell}
-use Rattle.b67_table.specs.Beginning.{intrinsic_pcw, system_stack}
-use Rattle.b67_table.specs.Chains.{place}
-use Rattle.b67_table.specs.Image.{Image}
-use Rattle.b67_table.specs.References.{irw_or_sirw, cell_of}
-use Rattle.b67_standing.specs.Stepping.{Slot, intrinsic, mark}
+use Rattle.b67_table.specs.Beginning.{intrinsic_pcw}
+use Rattle.b67_table.specs.References.{cell_of}
 use Rattle.b67_standing.specs.Standing.{operands}
-use Rattle.b67_cores.specs.Cores.{Core, HasCore}
-use Rattle.b67_cores.specs.Slots.{Known, newest, SlotsAre}
-use Rattle.b67_cores.proofs.Moving.{slots_length}
-use Rattle.b67_faithful.proofs.Contradictions.{none_some}
+use Rattle.b67_cores.specs.Slots.{newest}
 use Rattle.b67_footprints.proofs.Lists.{Each, each_turned, each_at}
 use Rattle.b67_rows.proofs.Actuals.{Given_words, given_words}
-use Rattle.b67_rows.proofs.Rows.{words_are}
 use Rattle.b67_rows.proofs.Slotted.{Top, top_slot}
-use Rattle.b67_rows.proofs.StackWords.{word-over, word-under, stack-over, get-behind}
+use Rattle.b67_rows.proofs.StackWords.{word-over, word-under}
 use Rattle.b67_rows.proofs.Touching.{system_cell, NamesNear}
 use Rattle.b67_rows.proofs.TouchingNames.{entry_names}
 use Rattle.b67_rows.proofs.Words.{no_sirw, reference_read}
-use Rattle.b67_frames.proofs.TouchingWords.{numbers_small, pcw_kind, tag_operand}
+use Rattle.b67_frames.proofs.TouchingWords.{numbers_small}
 
 -- ---- what lies above the floor
 
@@ -78,14 +60,14 @@ lies_there names.CauseAndReset = refl
 lies_there names.Available = refl
 lies_there names.Fix = refl
 
-pub no_further : (name : Intrinsic) → as_sirw (intrinsic_pcw (number_of name)) ≡ None
-no_further name = as_sirw-other (intrinsic_pcw (number_of name)) (λ k. let is = sym (pcw_kind (control_of name)) ∙ k in cc)
+pub pcw_no_sirw : (name : Intrinsic) → as_sirw (intrinsic_pcw (number_of name)) ≡ None
+pcw_no_sirw name = as_sirw-other (intrinsic_pcw (number_of name)) (λ k. let is = sym (pcw_kind (control_of name)) ∙ k in cc)
 
 -- ---- operands
 
 -- an operand names no cell
 operand_names : (w : Word) → w.tag ≡ 0 → as_irw w ≡ None
-operand_names w e = irw_laws.other w (λ k. let is = sym (tag_operand w e) ∙ k in cc)
+operand_names w e = irw_laws.other w (λ k. let is = sym (tag_zero w e) ∙ k in cc)
 
 -- what holds of all these words holds of what is in a stack above the others
 pub above_others : (P : Word → Type 0) (below args words : List Word) → Each P args → (n : ℕ) (u : Word) → length below + length words ≤ n → slice_get (below ++ reverse (args ++ words)) n ≡ Some u → P u
@@ -116,7 +98,7 @@ module _ (img : Image) (p : ℕ) (core : Core) (has : HasCore img p core) (syste
       entry_names p img core.registers i.word
       (under_top img p core has g.arguments i.word i.words_below whole (core.registers.f + 1) (omega (arith, f, many)))
       (record { level = 0; index = number_of name }) (ap as_irw i.slot_is ∙ reference_read (couple_of_intrinsic name) (lit< tt) (numbers_small name))
-      (place 0 0) sees (system_cell p img (record { frame = place 0 0; index = number_of name }) refl) (intrinsic_pcw (number_of name)) entry_lies (no_further name)
+      (place 0 0) sees (system_cell p img (record { frame = place 0 0; index = number_of name }) refl) (intrinsic_pcw (number_of name)) entry_lies (pcw_no_sirw name)
       (λ kind n u c after there names.
       operand_none u
       (above_others (λ (w : Word). w.tag ≡ 0) core.below g.arguments (i.word ∷ i.words_below) g.are_operands n u (omega (arith, f, many, after))

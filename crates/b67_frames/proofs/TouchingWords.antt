@@ -1,63 +1,30 @@
 -- The marks in a process's stack lead to the frames below them that lie there, and to the system's stack.
 use Rattle.std.proofs.Common.{◌≡◌, ◌≢◌, ◌⊎◌, inl, inr, refl, sym, ap, ◌∙◌, subst, ℕ, zero, suc, ◌+◌, ◌<◌, ◌≤◌, ◌^◌, List, [], ◌∷◌, ◌++◌, length, Option, Some, Bool, true, false, arith, lit<, length-append}
-use Rattle.std.specs.Prelude.{if◌then◌else◌, ◌==◌, slice_get, reverse}
-use Rattle.std.proofs.lemmas.List.{length-reverse}
-use Rattle.b67_list.specs.Numbered.{numbered}
-use Rattle.algol_tree.specs.declared.TheConstants.{MOST_BLOCK_CELLS}
-use Rattle.algol_tree.specs.declared.tree.Kind.{Kind}
-use Rattle.algol_tree.specs.declared.tree.Named.{Named}
-use Rattle.algol_tree.specs.Blocks.{Block, block_numbered}
-use Rattle.algol_tree.specs.Cells.{level_of}
-use Rattle.algol_tree.specs.Plain.{PProgram}
-use Rattle.algol_tree.specs.Scopes.{Scopes, scopes_of, use_of}
-use Rattle.algol_tree.specs.Sorts.{same_name}
-use Rattle.algol_meaning.specs.Value.{Value, Bounds, Cell, simple, event, array, named, reference as refers}
-use Rattle.algol_meaning.specs.World.{NamedCell, Instance, Part, World, or_no_instance}
-use Rattle.algol_paths.specs.Arrays.{Made, an_array, an_event}
-use Rattle.algol_standing.specs.Worlds.{IsStanding}
-use Rattle.b67_word.specs.declared.Place.{Place}
-use Rattle.b67_word.specs.Word.{Word, field}
+use Rattle.b67_frames.proofs.Prelude.{if◌then◌else◌, ◌==◌, slice_get, reverse, length-reverse, numbered, MOST_BLOCK_CELLS, Kind, Named, Block, block_numbered, level_of, PProgram, Scopes, use_of, same_name, Value, Bounds, Cell, simple, event, array, named, reference as refers, NamedCell, Instance, Part, World, or_no_instance, Made, an_array, an_event, IsStanding, Place, Word, Descriptor, Irw, Pcw, Sirw, as_mscw, as_rcw, event_word, pcw_word, Fits-as_rcw, Couple, Intrinsic, number_of, couple_of_intrinsic, Code, system_stack, place, cell_word, Yields, Simple, Found, simple_cells, found_from, procedures, IsVariable, Wanted, made_of, Texts, Held, element, variable, cell_named, actual, passed, Slot, intrinsic, mark, Core, stack_of, ValueIs, Known, IsKnown, SlotsAre, control_words, slots_length, some_same, AreNested, value_tag, pcw_kind, tag_zero, Allotted, Layout, DescriptorIs, AreMade, Denotes, HeldIs, AreKnown, CellIs, Refers, CellsAre, block_controls, IsInReach, IsPlaced, outermost, inside, ArePlaced, home_of, IsOnPath, Frame, Stands, Waits, Around, level_at, Owned, of_own, of_lent, run_level, is_evaluation, get_within}
+use Rattle.algol_tree.specs.Scopes.{scopes_of}
+use Rattle.b67_word.specs.Word.{field}
 use Rattle.b67_control.specs.Kind as kind
 use Rattle.b67_control.specs.Kind.{kind_of}
-use Rattle.b67_control.specs.declared.Descriptor.{Descriptor}
-use Rattle.b67_control.specs.declared.Irw.{Irw}
 use Rattle.b67_control.specs.declared.Mscw.{Mscw}
-use Rattle.b67_control.specs.declared.Pcw.{Pcw}
 use Rattle.b67_control.specs.declared.Rcw.{Rcw}
-use Rattle.b67_control.specs.declared.Sirw.{Sirw}
-use Rattle.b67_control.specs.Control.{as_mscw, as_rcw, event_word, descriptor_word, irw_word, sirw_word, pcw_word}
-use Rattle.b67_control.proofs.ControlLaws.{as_rcw-rcw_word, Fits-as_rcw, mscw_laws, rcw_laws, as_mscw-mscw_word}
-use Rattle.b67_ops.specs.declared.Couple.{Couple}
-use Rattle.b67_ops.specs.declared.intrinsic.Intrinsic.{Intrinsic}
+use Rattle.b67_control.specs.Control.{descriptor_word, irw_word, sirw_word}
+use Rattle.b67_control.proofs.ControlLaws.{as_rcw-rcw_word, mscw_laws, rcw_laws, as_mscw-mscw_word}
 use Rattle.b67_ops.specs.declared.intrinsic.Intrinsic.TheVariants as names
-use Rattle.b67_ops.specs.Intrinsics.{number_of, couple_of_intrinsic, intrinsics}
-use Rattle.b67_segment.specs.declared.code.Code.{Code}
+use Rattle.b67_ops.specs.Intrinsics.{intrinsics}
 use Rattle.b67_store.specs.Store.{stack_limit}
-use Rattle.b67_table.specs.Beginning.{system_stack, intrinsic_words}
-use Rattle.b67_table.specs.Chains.{place}
+use Rattle.b67_table.specs.Beginning.{intrinsic_words}
 use Rattle.b67_table.specs.PrivateRows.{open_mark}
 use Rattle.b67_table.specs.PrivateRows as rows
-use Rattle.b67_table.specs.References.{cell_word}
 use Rattle.b67_table.specs.declared.Cell as frame_cells
-use Rattle.b67_templates.specs.Contexts.{Yields}
 use Rattle.b67_templates.specs.Cells as wants
-use Rattle.b67_templates.specs.Cells.{Simple, Found, simple_cells, found_from, procedures, IsVariable, IsProcedure, Wanted, made_of}
-use Rattle.b67_templates.specs.Programs.{Texts}
-use Rattle.b67_standing.specs.Stepping.{Held, row, element, variable, cell_named, actual, passed, Slot, operand, reference, intrinsic, control, descriptor, mark}
-use Rattle.b67_cores.specs.Cores.{Core, size, stack_of}
-use Rattle.b67_cores.specs.Slots.{ValueIs, Known, IsKnown, SlotsAre}
-use Rattle.b67_cores.specs.Stretches.{control_words}
-use Rattle.b67_cores.proofs.Moving.{slots_length}
-use Rattle.b67_faithful.proofs.Contradictions.{some_same}
-use Rattle.b67_templates.specs.Nested.{AreNested}
-use Rattle.b67_rows.proofs.Numbers.{get_below}
-use Rattle.b67_rows.proofs.StackWords.{reverse-cons}
-use Rattle.b67_rows.proofs.Words.{value_tag, event_kind, mark_read}
-use Rattle.b67_frames.specs.Arrays.{Allotted, Layout, DescriptorIs, AreMade, Denotes, HeldIs, AreKnown}
-use Rattle.b67_frames.specs.Frames.{CellIs, Refers, CellsAre, block_controls, IsInReach, IsPlaced, outermost, inside, ArePlaced, home_of, Frame, Stands, Waits, Around, level_at, Owned, Shape, of_own, of_lent, run_level}
+use Rattle.b67_templates.specs.Cells.{IsProcedure}
+use Rattle.b67_standing.specs.Stepping.{row, operand, reference, control, descriptor}
+use Rattle.b67_cores.specs.Cores.{size}
+use Rattle.b67_rows.proofs.Words.{event_kind, mark_read}
+use Rattle.b67_frames.specs.Frames.{Shape}
 use Rattle.b67_frames.proofs.Facts.{HasFacts}
-use Rattle.b67_frames.proofs.Lying.{owned_stands, part_stands}
-use Rattle.algol_meaning.specs.Critical.{is_evaluation}
+use Rattle.b67_frames.proofs.Lying.{owned_stands, part_in}
+use Rattle.b67_faithful.proofs.Sources.{reverse-cons}
 
 -- the number of an intrinsic fits a reference
 pub numbers_small : (name : Intrinsic) → number_of name < 2 ^ 14
@@ -80,21 +47,6 @@ numbers_small names.Fix = lit< tt
 
 -- ---- kinds of words
 
-pub tag_operand : (w : Word) → w.tag ≡ 0 → kind_of w ≡ kind.operand
-unfolding kind_of
-tag_operand w e = rw e refl
-
-tag_control : (w : Word) → w.tag ≡ 7 → kind_of w ≡ kind.pcw
-unfolding kind_of
-tag_control w e = rw e refl
-
-control_tag : (c : Pcw) → (pcw_word c).tag ≡ 7
-unfolding pcw_word
-control_tag c = refl
-
-pub pcw_kind : (c : Pcw) → kind_of (pcw_word c) ≡ kind.pcw
-pcw_kind c = tag_control (pcw_word c) (control_tag c)
-
 tag_reference : (w : Word) → w.tag ≡ 1 → kind_of w ≡ (if field 47 1 w.bits == 0 then kind.irw else kind.sirw)
 unfolding kind_of
 tag_reference w e = rw e refl
@@ -106,11 +58,11 @@ no_mark w e k = by_top (field 47 1 w.bits == 0) (sym (tag_reference w e) ∙ k)
     by_top true same = cc
     by_top false same = cc
 
-tag_descriptor : (w : Word) → w.tag ≡ 5 → kind_of w ≡ kind.descriptor
+pub tag_descriptor : (w : Word) → w.tag ≡ 5 → kind_of w ≡ kind.descriptor
 unfolding kind_of
 tag_descriptor w e = rw e refl
 
-descriptor_tag : (d : Descriptor) → (descriptor_word d).tag ≡ 5
+pub descriptor_tag : (d : Descriptor) → (descriptor_word d).tag ≡ 5
 unfolding descriptor_word
 descriptor_tag d = refl
 
@@ -136,7 +88,7 @@ module _ (Home : ℕ → ℕ → Type 0) (root : (n : ℕ) → Home 0 n) where
   leads_kind w k is other = leads_else w (λ e. other (sym is ∙ e))
 
   value_leads : (v : Value) (w : Word) → ValueIs v w → LinksTo Home w
-  value_leads v w is = leads_kind w kind.operand (tag_operand w (value_tag v w is)) (λ e. cc)
+  value_leads v w is = leads_kind w kind.operand (tag_zero w (value_tag v w is)) (λ e. cc)
 
   control_leads : (c : Pcw) → LinksTo Home (pcw_word c)
   control_leads c = leads_kind (pcw_word c) kind.pcw (pcw_kind c) (λ e. cc)
@@ -273,7 +225,7 @@ module _ (sc : Scopes) (w : World) (lay : Layout) (Home : ℕ → ℕ → Type 0
 
 -- ---- references to variables
 
-found_low : (k : ℕ) (cells : List Simple) (name : List ℕ) (f : Found) → found_from k cells name ≡ Some f → f.number < k + length cells
+pub found_low : (k : ℕ) (cells : List Simple) (name : List ℕ) (f : Found) → found_from k cells name ≡ Some f → f.number < k + length cells
 found_low k [] name f e = cc
 found_low k (c ∷ cells) name f e = by_name (same_name c.name name) e (λ h. found_low (k + 1) cells name f h)
   where
@@ -313,7 +265,7 @@ module _ (sc : Scopes) (nested : AreNested sc) where
   pub procedure_fits : (level : ℕ) (n : Named) (callee : ℕ) (c : Couple) → IsProcedure sc level n callee c → level < 32 → (c.level < 32) × (c.index < 2 ^ 14)
   procedure_fits level n callee c is known =
       let b : Block = block_numbered sc.blocks ((use_of sc n).block) in
-      let low : is.number < length (procedures b.decls) = get_below (procedures b.decls) is.number is.declared is.there in
+      let low : is.number < length (procedures b.decls) = get_within (procedures b.decls) is.number is.declared is.there in
       let few : length (simple_cells sc b) + length (procedures b.decls) + length (made_of b.decls) ≤ 400 = few_cells ((use_of sc n).block) in
       (omega (arith, is.level_is, known), omega (arith, is.index_is, low, few))
 
@@ -347,22 +299,24 @@ module _ (tree : PProgram) (code : Code) (texts : Texts) (nested : AreNested (sc
         ap (λ (o : Option Instance). run_level (is_evaluation part.purpose) (level_of (block_numbered sc.blocks ((or_no_instance o).block)))) s.frame.is in
         omega (arith, same, s.frame.level_is, (Fits-as_rcw s.frame.control s.frame.control_is).1.1.1.1.1.0)
 
-  -- Where the frames of the instances that stand are such places, and those of the system's stack.
-  module _ (facts : HasFacts w) (placed : ArePlaced (scopes_of tree) w lay) (Home : ℕ → ℕ → Type 0) (root : (n : ℕ) → Home 0 n)
-      (frames : (i : ℕ) (f : Place) → IsStanding w i → numbered lay.places i ≡ Some f → Home f.stack f.at) where
+  -- Where the frames of the instances that a process has, and of those on the paths from them, are such places, and those of the system's stack.
+  module _ (facts : HasFacts w) (placed : ArePlaced (scopes_of tree) w lay) (Home : ℕ → ℕ → Type 0) (root : (n : ℕ) → Home 0 n) (Has : ℕ → Type 0)
+      (own_has : (j : ℕ) (x : Instance) → numbered w.instances j ≡ Some x → x.process ≡ p → x.left ≡ false → Has j) (path_has : (a b : ℕ) → Has a → IsOnPath w a b → Has b)
+      (up_path : (j : ℕ) (x : Instance) → numbered w.instances j ≡ Some x → x.left ≡ false → 1 ≤ x.parent → IsOnPath w j x.parent)
+      (frames : (i : ℕ) (f : Place) → Has i → numbered lay.places i ≡ Some f → Home f.stack f.at) where
     abbrev IsHome : Place → Type 0
     IsHome f = Home f.stack f.at
 
     root_near : (home : Place) → Some (place 0 0) ≡ Some home → IsHome home
     root_near home e = subst (λ (f : Place). Home f.stack f.at) (some_same e) (root 0)
 
-    home_near : (x : Instance) → IsPlaced sc w lay x → (home : Place) → home_of sc w lay x.parent ≡ Some home → IsHome home
-    home_near x (outermost none_up alone) home e = root_near home (sym (ap (home_of sc w lay) none_up) ∙ e)
-    home_near x (inside up next made) home e = by_parent x.parent e up
+    home_near : (j : ℕ) (x : Instance) → numbered w.instances j ≡ Some x → x.process ≡ p → x.left ≡ false → IsPlaced sc w lay x → (home : Place) → home_of sc w lay x.parent ≡ Some home → IsHome home
+    home_near j x is own stands (outermost none_up alone) home e = root_near home (sym (ap (home_of sc w lay) none_up) ∙ e)
+    home_near j x is own stands (inside up next made) home e = by_parent x.parent e (λ some. up_path j x is stands some)
       where
-        by_parent : (i : ℕ) → home_of sc w lay i ≡ Some home → IsStanding w i → IsHome home
-        by_parent zero f st = root_near home f
-        by_parent (suc i) f st = frames (suc i) home st f
+        by_parent : (i : ℕ) → home_of sc w lay i ≡ Some home → (1 ≤ i → IsOnPath w j i) → IsHome home
+        by_parent zero f path = root_near home f
+        by_parent (suc i) f path = frames (suc i) home (path_has j (suc i) (own_has j x is own stands) (path (omega arith))) f
 
     -- the cells of parameters that stand for something else
     formals_lead : (part : Part) (outer : List Part) (at : ℕ) (m c : Word) (cells : List Word) (o : Owned tree code texts w lay p part outer at m c cells) (k : ℕ) (s : Simple) (x : Word) →
@@ -373,7 +327,7 @@ module _ (tree : PProgram) (code : Code) (texts : Texts) (nested : AreNested (sc
 
     owned_leads : (part : Part) (outer : List Part) (at : ℕ) (m c : Word) (cells : List Word) (o : Owned tree code texts w lay p part outer at m c cells) → AllLead Home root (m ∷ c ∷ cells)
     owned_leads part outer at m c cells o = (
-      mark_leads Home root m _ o.framed.mark_is (home_near o.framed.instance own_placed o.framed.home o.framed.linked),
+      mark_leads Home root m _ o.framed.mark_is (home_near part.instance o.framed.instance o.framed.is o.framed.own o.framed.stands own_placed o.framed.home o.framed.linked),
       (
         back_leads Home root c o.framed.back o.framed.control_is,
         subst (AllLead Home root) (sym o.framed.cells_is)
@@ -388,6 +342,12 @@ module _ (tree : PProgram) (code : Code) (texts : Texts) (nested : AreNested (sc
         own_placed : IsPlaced sc w lay o.framed.instance
         own_placed = subst (λ (x : Instance). IsPlaced sc w lay x) (ap or_no_instance o.framed.is) (placed part.instance (owned_stands tree code texts w lay p facts part outer at m c cells o))
 
+    -- the instance of a frame's part
+    part_has : (part : Part) (outer : List Part) (words : List Word) (f : Frame tree code texts w lay p part outer words) → Outer outer f.lower f.mark f.control f.gives → Has part.instance
+    part_has part outer words f a =
+        part_in tree code texts w lay p Has (suc (length f.lower)) facts.nobody (λ x more at m c cells o low. own_has x.instance o.framed.instance o.framed.is o.framed.own o.framed.stands)
+        path_has part outer words f a (omega arith)
+
     frame_leads : (part : Part) (outer : List Part) (words : List Word) (f : Frame tree code texts w lay p part outer words) → Outer outer f.lower f.mark f.control f.gives → AllLead Home root f.lower → AllLead Home root words
     frame_leads part outer words f a low =
         subst (AllLead Home root) (sym f.words_are) (lead_both Home root f.lower (f.mark ∷ f.control ∷ f.cells) low (by_shape f.shape))
@@ -396,7 +356,7 @@ module _ (tree : PProgram) (code : Code) (texts : Texts) (nested : AreNested (sc
         by_shape : Shape tree code texts w lay p part outer (length f.lower) f.mark f.control f.cells f.home f.gives → AllLead Home root (f.mark ∷ f.control ∷ f.cells)
         by_shape (of_own o is) = owned_leads part outer (length f.lower) f.mark f.control f.cells o
         by_shape (of_lent l) = (
-          mark_leads Home root f.mark _ f.mark_is (frames part.instance f.home (part_stands tree code texts w lay p facts part outer words f a) l.linked),
+          mark_leads Home root f.mark _ f.mark_is (frames part.instance f.home (part_has part outer words f a) l.linked),
           (back_leads Home root f.control f.back f.control_is, subst (AllLead Home root) (sym l.none) tt),
         )
 

@@ -1,17 +1,7 @@
 -- The cell and the word of a variable.
 use Rattle.std.proofs.Common.{◌≡◌, refl, sym, ap, ◌∙◌, subst, ℕ, zero, suc, ◌+◌, List, [], ◌∷◌, ◌++◌, Some, Bool, true, false, arith}
-use Rattle.std.specs.Prelude.{slice_get, slice_set, if◌then◌else◌}
-use Rattle.algol_tree.specs.declared.tree.Kind.{Kind}
-use Rattle.algol_tree.specs.Sorts.{same_name}
-use Rattle.algol_meaning.specs.Value.{Value, Cell, simple, event, array, named, reference}
-use Rattle.algol_meaning.specs.World.{NamedCell, cell_in, cells_with}
-use Rattle.b67_word.specs.Word.{Word}
-use Rattle.b67_templates.specs.Fragments.{HasKind}
+use Rattle.b67_frames.proofs.Prelude.{slice_get, slice_set, if◌then◌else◌, Kind, same_name, Value, Cell, simple, event, array, named, reference, NamedCell, cell_in, cells_with, Word, HasKind, Simple, Found, found_from, Wanted, ValueIs, some_same, CellIs, CellsAre}
 use Rattle.b67_templates.specs.Cells as wants
-use Rattle.b67_templates.specs.Cells.{Simple, Found, found_from, Wanted}
-use Rattle.b67_cores.specs.Slots.{ValueIs}
-use Rattle.b67_faithful.proofs.Contradictions.{some_same}
-use Rattle.b67_frames.specs.Frames.{CellIs, CellsAre}
 
 -- the word of the first cell of a name
 pub record Cell_of (f : Found) (from : ℕ) (name : List ℕ) (cells : List NamedCell) (words : List Word) : Type 0 where

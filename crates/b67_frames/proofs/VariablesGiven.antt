@@ -1,21 +1,7 @@
 -- The name of a variable that is given to a parameter by name leads to the cell of that variable.
 use Rattle.std.proofs.Common.{◌≡◌, sym, ap, ◌∙◌, ℕ, ◌+◌, true, false, arith}
-use Rattle.algol_tree.specs.declared.tree.Kind.{Kind}
-use Rattle.algol_tree.specs.declared.tree.Named.{Named}
-use Rattle.algol_tree.specs.Blocks.{block_numbered}
-use Rattle.algol_tree.specs.Plain.{PProgram}
-use Rattle.algol_tree.specs.Scopes.{Scopes, scopes_of, use_of}
-use Rattle.algol_tree.specs.Sorts.{is_variable}
-use Rattle.algol_meaning.specs.World.{Part, World, instance_at}
-use Rattle.algol_paths.specs.Blocks.{IsSeen}
-use Rattle.algol_standing.specs.Worlds.{IsStanding}
-use Rattle.b67_word.specs.Word.{Word}
-use Rattle.b67_ops.specs.declared.Couple.{Couple}
-use Rattle.b67_table.specs.References.{cell_word}
-use Rattle.b67_templates.specs.Cells.{Found, found_from, simple_cells, IsVariable}
-use Rattle.b67_faithful.proofs.Contradictions.{some_same}
-use Rattle.b67_frames.specs.Arrays.{Layout, named_from, LeadsToVariable, Names, an_array_named, an_event_named, a_variable_named, IsNamed}
-use Rattle.b67_frames.specs.Frames.{ArePlaced}
+use Rattle.b67_frames.proofs.Prelude.{Kind, Named, block_numbered, PProgram, Scopes, use_of, is_variable, Part, World, instance_at, IsSeen, IsStanding, Word, Couple, cell_word, Found, found_from, simple_cells, IsVariable, some_same, Layout, named_from, LeadsToVariable, Names, an_array_named, an_event_named, a_variable_named, IsNamed, ArePlaced}
+use Rattle.algol_tree.specs.Scopes.{scopes_of}
 use Rattle.b67_frames.proofs.StaticParents.{IsParent, parents}
 
 module _ (tree : PProgram) (w : World) (lay : Layout) (placed : ArePlaced (scopes_of tree) w lay) (part : Part) (st : IsStanding w part.instance) (Stand : ℕ → Type 0)

@@ -1,26 +1,16 @@
 -- The cells of a new instance are zeros.
 use Rattle.std.proofs.Common.{◌≡◌, refl, ap, ℕ, suc, List, [], ◌∷◌, ◌++◌, length, Option, Some, None, arith}
-use Rattle.std.specs.Prelude.{pos, replicate}
-use Rattle.algol_tree.specs.declared.tree.Kind.{Kind}
+use Rattle.b67_frames.proofs.Prelude.{pos, replicate, Kind, Named, PDecls, Block, initial_value, NamedCell, Word, HasKind, Simple, zero_cells, ValueIs, CellsAre}
 use Rattle.algol_tree.specs.declared.tree.Kind.TheVariants as types
-use Rattle.algol_tree.specs.declared.tree.Named.{Named}
 use Rattle.algol_tree.specs.Plain as tree
-use Rattle.algol_tree.specs.Plain.{PDecls}
-use Rattle.algol_tree.specs.Blocks.{Block}
-use Rattle.algol_meaning.specs.Value.{initial_value}
-use Rattle.algol_meaning.specs.World.{NamedCell}
 use Rattle.algol_meaning.specs.Instances.{result_cells, initial_cells, variable_cells}
-use Rattle.b67_word.specs.Word.{Word}
 use Rattle.b67_word.specs.Word as words
-use Rattle.b67_templates.specs.Fragments.{HasKind}
-use Rattle.b67_templates.specs.Cells.{Simple, of_kind, result_of, variables, zero_cells, value}
-use Rattle.b67_cores.specs.Slots.{ValueIs}
-use Rattle.b67_frames.specs.Frames.{CellsAre}
+use Rattle.b67_templates.specs.Cells.{of_kind, result_of, variables, value}
 
 abbrev pub zero_word : Word
 zero_word = words.operand (pos 0)
 
-zero_is : (kind : Kind) → HasKind kind (initial_value kind) × ValueIs (initial_value kind) zero_word
+pub zero_is : (kind : Kind) → HasKind kind (initial_value kind) × ValueIs (initial_value kind) zero_word
 unfolding words.operand
 zero_is types.Number = (omega arith, record { is = refl; whole = omega arith })
 zero_is types.Truth = (tt, record { tag = refl; bits = omega arith; lowest = refl })

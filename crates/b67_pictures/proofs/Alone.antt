@@ -1,24 +1,8 @@
 -- An action of a process leaves the other processes alone.
 use Rattle.std.proofs.Common.{◌≡◌, ◌≢◌, refl, sym, ap, ◌∙◌, subst, ℕ, zero, suc, List, [], ◌∷◌, Some, Bool, true, false}
-use Rattle.std.specs.Prelude.{◌&&◌, ◌||◌, slice_get, slice_set}
-use Rattle.b67_list.specs.Numbered.{numbered, set_numbered}
-use Rattle.algol_tree.specs.Scopes.{Scopes}
-use Rattle.algol_meaning.specs.World.{Instance, Process, lives, World, instance_at, or_no_instance}
-use Rattle.algol_meaning.specs.Critical.{is_this, some_depends}
-use Rattle.algol_meaning.specs.Choice.{choice}
-use Rattle.algol_standing.specs.Worlds.{IsStanding, IsOnPath}
-use Rattle.algol_standing.specs.Lows.{IsLow}
-use Rattle.b67_word.specs.declared.Place.{Place}
-use Rattle.b67_faithful.proofs.Contradictions.{none_some}
-use Rattle.b67_frames.specs.Arrays.{Layout}
+use Rattle.b67_pictures.proofs.Prelude.{◌&&◌, ◌||◌, slice_get, slice_set, numbered, set_numbered, Scopes, choice, is_this, some_depends, Instance, Process, lives, World, instance_at, or_no_instance, IsLow, IsStanding, IsOnPath, Place, none_some, HasFacts, KeepsArrays, StandOn, Layout, AreLaid, LeavesAlone, CanClimb, MayAct}
 use Rattle.b67_frames.proofs.ChoicePaths.{choice_paths}
-use Rattle.b67_frames.proofs.Facts.{HasFacts}
-use Rattle.b67_frames.proofs.Knowing.{KeepsArrays}
-use Rattle.b67_frames.proofs.Onward.{StandOn}
-use Rattle.b67_scenes.proofs.Ancestors.{AreLaid}
-use Rattle.b67_scenes.proofs.Kept.{LeavesAlone}
-use Rattle.b67_scenes.proofs.Paths.{CanClimb, can_climb}
-use Rattle.b67_pictures.specs.Acting.{MayAct}
+use Rattle.b67_scenes.proofs.Paths.{can_climb}
 
 -- ---- who depends on an instance
 

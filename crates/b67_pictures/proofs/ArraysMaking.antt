@@ -1,68 +1,25 @@
 -- The making of arrays: ENTR on ARRAYS, after which PUSH makes cells of the descriptors; or a fault.
 use Rattle.std.proofs.Common.{◌≡◌, refl, sym, ap, ◌∙◌, subst, ℕ, ◌≤◌, List, [], ◌∷◌, ◌++◌, length, Option, Some, None, Ok, Bool, true, false, arith}
-use Rattle.std.specs.Prelude.{if◌then◌else◌}
-use Rattle.b67_list.specs.Numbered.{numbered}
-use Rattle.b67_num.specs.declared.FaultKind.{FaultKind}
+use Rattle.b67_pictures.proofs.Prelude.{if◌then◌else◌, FaultKind, block_numbered, PProgram, PPair, Scopes, scopes_of, Kind, Named, Ask, makes_arrays, ask, resume, Choice, choice, choice_of, goes, fails, is_evaluation, Answer, done, Value, Bounds, Instance, World, or_no_instance, with_instance, with_process, NamedCell, Made, an_array, all_to_make, all_left_to_make, RestsKeepToTheirText, AllIsMadeInOrder, Word, Arrays, Placed, Code, failed, frame, plain, operator_at, simple_cells, AreNested, Texts, ActionAt, Acted, ComesTo, operands, Slot, intrinsic, mark, FragmentsArePerformed, CellsAreMade, enter_class, action_not_plain, action_is, fault_not_plain, length_mapped, events_replaced, asks_as_own, cells_length, Layout, Allotted, AreMade, ArraysAre, EventsAre, Framed, arrays_given, given_lie, IsCall, call, IsEntered, operator_there, AbleActor, actor_of, faults_so, choice_is, faulted, text_in, level_in, context_in, most_in, Pictures, Does, failed_by}
 use Rattle.b67_num.specs.declared.FaultKind.TheVariants.{ArraySize, CoreFull}
-use Rattle.algol_tree.specs.declared.tree.Kind.{Kind}
-use Rattle.algol_tree.specs.declared.tree.Named.{Named}
-use Rattle.algol_tree.specs.Blocks.{block_numbered}
-use Rattle.algol_tree.specs.Plain.{PProgram, PPair}
-use Rattle.algol_tree.specs.Scopes.{Scopes, scopes_of}
-use Rattle.algol_meaning.specs.Value.{Value, Bounds}
 use Rattle.algol_meaning.specs.Arrays.{new_arrays, has_wrong_size, has_no_room, bounds_of}
-use Rattle.algol_meaning.specs.Rest.{Answer, done}
-use Rattle.algol_meaning.specs.World.{Instance, Process, Part, lives, World, or_no_instance, with_instance, with_process, add_cells, NamedCell}
+use Rattle.algol_meaning.specs.World.{add_cells}
 use Rattle.b67_deeds.specs.declared.Letter.TheVariants.{MakeArrays}
-use Rattle.algol_meaning.specs.Asks.{Ask, makes_arrays, ask, resume}
-use Rattle.algol_meaning.specs.Choice.{Choice, choice, choice_of, goes, fails}
-use Rattle.algol_paths.specs.Laws.{RestsKeepToTheirText, AllIsMadeInOrder}
-use Rattle.b67_word.specs.Word.{Word}
 use Rattle.b67_ops.specs.declared.Operator.TheVariants as ops
 use Rattle.b67_ops.specs.declared.PlainKind.TheVariants as kinds
-use Rattle.b67_ops.specs.declared.intrinsic.Intrinsic.TheVariants.{Arrays}
-use Rattle.b67_segment.specs.Operators.{Placed}
-use Rattle.b67_segment.specs.declared.code.Code.{Code}
-use Rattle.b67_scenes.specs.States.{StateIs}
 use Rattle.b67_table.specs.Effect as effects
-use Rattle.b67_table.specs.Ending.{failed}
-use Rattle.b67_table.specs.Image.{Image}
 use Rattle.b67_table.specs.Limits.{most_arrays}
 use Rattle.b67_table.specs.Outcome as outcomes
-use Rattle.b67_table.specs.Private.{frame}
-use Rattle.b67_table.specs.Table.{table, raw, plain, operator_at}
-use Rattle.b67_templates.specs.Cells.{simple_cells}
-use Rattle.b67_templates.specs.Programs.{Texts}
-use Rattle.b67_standing.specs.Stepping.{Slot, intrinsic, mark}
-use Rattle.b67_standing.specs.Standing.{ActionAt, Acted, ComesTo, operands}
-use Rattle.b67_cores.specs.Cores.{Core}
-use Rattle.b67_cores.specs.Stretches.{FragmentsArePerformed, CellsAreMade}
-use Rattle.b67_templates.specs.Nested.{AreNested}
-use Rattle.b67_rows.proofs.IntrinsicRows.{enter_class}
-use Rattle.b67_rows.proofs.Rows.{action_not_plain, action_is, fault_not_plain}
-use Rattle.b67_frames.specs.Arrays.{Layout, Allotted, AreMade, ArraysAre}
-use Rattle.b67_frames.specs.Frames.{Framed}
+use Rattle.b67_table.specs.Table.{table, raw}
 use Rattle.b67_frames.proofs.ArraySizes.{HasDimensions, has_dimensions, bounds_lows}
 use Rattle.b67_frames.proofs.ArraysMade.{rows_after, Makes, allotted_new, descriptors_new, new_made, arrays_after}
 use Rattle.b67_frames.proofs.MakingRow.{size_faults, room_faults, arrays_raw}
-use Rattle.b67_scenes.specs.Pictures.{Pictures}
-use Rattle.b67_scenes.proofs.ArraysGiven.{arrays_given, given_lie, given_fit, given_whole}
-use Rattle.b67_scenes.proofs.Calling.{IsCall, call, IsEntered}
-use Rattle.b67_scenes.proofs.Homes.{operator_there}
+use Rattle.b67_scenes.proofs.ArraysGiven.{given_fit, given_whole}
 use Rattle.b67_scenes.proofs.MakingFrame as frames
-use Rattle.b67_scenes.proofs.Scene.{Scene}
-use Rattle.b67_scenes.proofs.Stage.{faults_so, choice_is, faulted}
-use Rattle.b67_scenes.proofs.Staying.{text_in, level_in, context_in, most_in}
-use Rattle.b67_pictures.specs.Acting.{Does, failed_by}
 use Rattle.b67_pictures.proofs.Dispatching.{IsDone}
-use Rattle.algol_meaning.specs.Critical.{is_evaluation}
-use Rattle.algol_paths.specs.Arrays.{Made, made_in, an_array, arrays_in, all_to_make, all_left_to_make}
+use Rattle.algol_paths.specs.Arrays.{made_in, arrays_in}
 use Rattle.b67_rows.proofs.MakingAsked.{makes_first}
-use Rattle.b67_rows.proofs.Segmented.{length_mapped}
-use Rattle.b67_frames.specs.Events.{EventsAre}
-use Rattle.b67_frames.proofs.EventsKept.{HaveNoEvent, event_in_front, events_replaced}
-use Rattle.b67_frames.proofs.Lying.{asks_as_own}
-use Rattle.b67_frames.proofs.Zeros.{cells_length}
+use Rattle.b67_frames.proofs.EventsKept.{HaveNoEvent, event_in_front}
 use Rattle.b67_pictures.proofs.MakingCells.{none_left, cells_are_made}
 
 -- there are as many arrays as names
@@ -75,182 +32,184 @@ arrays_are_no_events kind bs [] = tt
 arrays_are_no_events kind bs (n ∷ ns) = (tt, arrays_are_no_events kind bs ns)
 
 module _ (tree : PProgram) (code : Code) (texts : Texts) (nested : AreNested (scopes_of tree)) (fragments : FragmentsArePerformed) (cells_made : CellsAreMade) (keeps : RestsKeepToTheirText) (order : AllIsMadeInOrder)
-    (w : World) (lay : Layout) (img : Image) (p : ℕ) (q : Process) (part : Part) (outer : List Part) (bound : ℕ) (core : Core) (s : Scene tree code texts w lay img p q part outer bound core) (able_is : lives q.state ≡ true) (able_p : StateIs (scopes_of tree) w lay q.state (numbered img.states p))
-    (kind : Kind) (ns : List Named) (pairs : List PPair) (vs : List Value) (asks : ask part.rest ≡ makes_arrays kind ns pairs vs)
-    (a : ActionAt (scopes_of tree) (context_in tree code texts w part s.stands.frame.gives) (text_in tree texts w part) (level_in tree w part) (most_in tree w part) (makes_arrays kind ns pairs vs) s.stands.pc s.stands.slots)
-    (answered : (r : Answer) (at : ℕ) (left : List Slot) → Acted (scopes_of tree) (context_in tree code texts w part s.stands.frame.gives) (text_in tree texts w part) (level_in tree w part) (most_in tree w part) (makes_arrays kind ns pairs vs) s.stands.pc s.stands.slots a r at left →
-    ComesTo (scopes_of tree) (context_in tree code texts w part s.stands.frame.gives) (text_in tree texts w part) (level_in tree w part) (most_in tree w part) (resume (scopes_of tree) part.rest r) at left) where
-  abbrev sc : Scopes
-  sc = scopes_of tree
+    (actor : AbleActor tree code texts) where
+  open actor use {w, lay, img, p, q, part, outer, core, s}
 
-  abbrev ps : List Placed
-  ps = text_in tree texts w part
+  module _ (kind : Kind) (ns : List Named) (pairs : List PPair) (vs : List Value) (asks : ask part.rest ≡ makes_arrays kind ns pairs vs)
+      (a : ActionAt (scopes_of tree) (context_in tree code texts w part s.stands.frame.gives) (text_in tree texts w part) (level_in tree w part) (most_in tree w part) (makes_arrays kind ns pairs vs) s.stands.pc s.stands.slots)
+      (answered : (r : Answer) (at : ℕ) (left : List Slot) → Acted (scopes_of tree) (context_in tree code texts w part s.stands.frame.gives) (text_in tree texts w part) (level_in tree w part) (most_in tree w part) (makes_arrays kind ns pairs vs) s.stands.pc s.stands.slots a r at left →
+      ComesTo (scopes_of tree) (context_in tree code texts w part s.stands.frame.gives) (text_in tree texts w part) (level_in tree w part) (most_in tree w part) (resume (scopes_of tree) part.rest r) at left) where
+    abbrev sc : Scopes
+    sc = scopes_of tree
 
-  abbrev level : ℕ
-  level = level_in tree w part
+    abbrev ps : List Placed
+    ps = text_in tree texts w part
 
-  abbrev n : ℕ
-  n = length ns
+    abbrev level : ℕ
+    level = level_in tree w part
 
-  abbrev bs : List Bounds
-  bs = bounds_of pairs vs
+    abbrev n : ℕ
+    n = length ns
 
-  abbrev made : ℕ
-  made = a.1.made
+    abbrev bs : List Bounds
+    bs = bounds_of pairs vs
 
-  there : operator_at code core.registers ≡ Ok (ops.Plain kinds.Entr, made)
-  there = operator_there sc s.stands.held code ps level s.stands.pc s.stands.slots core (ops.Plain kinds.Entr) made s.stands.there a.1.stands
+    abbrev made : ℕ
+    made = a.1.made
 
-  dimensional : HasDimensions bs
-  dimensional = has_dimensions pairs bs a.1.dimensions (bounds_lows pairs vs a.1.each)
+    there : operator_at code core.registers ≡ Ok (ops.Plain kinds.Entr, made)
+    there = operator_there sc s.stands.held code ps level s.stands.pc s.stands.slots core (ops.Plain kinds.Entr) made s.stands.there a.1.stands
 
-  -- the part has the frame's instance for its own
-  owns : is_evaluation part.purpose ≡ false
-  owns = asks_as_own tree code texts w lay p part outer core.below s.stands.frame (makes_arrays kind ns pairs vs) asks (λ e. e)
+    dimensional : HasDimensions bs
+    dimensional = has_dimensions pairs bs a.1.dimensions (bounds_lows pairs vs a.1.each)
 
-  abbrev ms : List Made
-  ms = made_in kind ns pairs
+    -- the part has the frame's instance for its own
+    owns : is_evaluation part.purpose ≡ false
+    owns = asks_as_own tree code texts w lay p part outer core.below s.stands.frame (makes_arrays kind ns pairs vs) asks (λ e. e)
 
-  made_first : all_to_make part.rest ≡ ms ++ all_left_to_make part.rest
-  made_first = makes_first part.rest kind ns pairs vs asks
+    abbrev ms : List Made
+    ms = made_in kind ns pairs
 
-  few_arrays : n ≤ most_arrays
-  few_arrays = omega (arith, frames.few_made tree code texts nested keeps order w lay img p q part outer bound core s owns ms made_first, made_arrays_many kind ns pairs)
+    made_first : all_to_make part.rest ≡ ms ++ all_left_to_make part.rest
+    made_first = makes_first part.rest kind ns pairs vs asks
 
-  abbrev Called : Type 0
-  Called = IsCall tree code texts w lay img p q part outer bound core s Arrays (arrays_given n pairs vs) [] (given_fit n pairs vs a.1.many a.1.lows a.1.highs) (a.1.lies ∙ given_lie n pairs vs)
+    few_arrays : n ≤ most_arrays
+    few_arrays = omega (arith, frames.few_made tree code texts nested keeps order (actor_of s) owns ms made_first, made_arrays_many kind ns pairs)
 
-  -- by the sizes and the room
-  abbrev sized : Bool → Bool → Choice
-  sized wrong full =
-      if wrong then fails sc w p q part outer ArraySize else if full then fails sc w p q part outer CoreFull
-      else (goes sc w p q part outer MakeArrays (add_cells w part.instance (new_arrays kind bs ns)) done)
+    abbrev Called : Type 0
+    Called = IsCall tree code texts (actor_of s) Arrays (arrays_given n pairs vs) [] (given_fit n pairs vs a.1.many a.1.lows a.1.highs) (a.1.lies ∙ given_lie n pairs vs)
 
-  chosen_by : choice sc w p ≡ sized (has_wrong_size bs) (has_no_room w bs ns)
-  chosen_by = choice_is sc w p q part outer s.at s.todo ∙ ap (λ (k : Ask). choice_of sc w p q part outer k) asks
+    -- by the sizes and the room
+    abbrev sized : Bool → Bool → Choice
+    sized wrong full =
+        if wrong then fails sc w p q part outer ArraySize else if full then fails sc w p q part outer CoreFull
+        else (goes sc w p q part outer MakeArrays (add_cells w part.instance (new_arrays kind bs ns)) done)
 
-  module _ (c : Called) where
-    not_plain : plain code img p ≡ false
-    not_plain = action_not_plain code img p core s.has (ops.Plain kinds.Entr) made there (enter_class code img p core s.has made there Arrays c.arguments c.reference c.marked c.others c.calls)
+    chosen_by : choice sc w p ≡ sized (has_wrong_size bs) (has_no_room w bs ns)
+    chosen_by = choice_is sc w p q part outer s.at s.todo ∙ ap (λ (k : Ask). choice_of sc w p q part outer k) asks
 
-    none : c.others ≡ []
-    none = none_left sc s.stands.held level (frame core.registers) (length core.below) c.others (c.after_at made).words_are
+    module _ (c : Called) where
+      not_plain : plain code img p ≡ false
+      not_plain = action_not_plain code img p core s.has (ops.Plain kinds.Entr) made there (enter_class code img p core s.has made there Arrays c.arguments c.reference c.marked c.others c.calls)
 
-    -- ---- a fault
+      none : c.others ≡ []
+      none = none_left sc s.stands.held level (frame core.registers) (length core.below) c.others (c.after_at made).words_are
 
-    fails_so : (fault : FaultKind) → raw code img p ≡ effects.faults fault → choice sc w p ≡ fails sc w p q part outer fault → Does tree code texts w img p
-    fails_so fault row_is chosen =
-        let table_is : table code img p ≡ outcomes.faults fault = faults_so code img p fault row_is in
-        failed_by fault (fault_not_plain code img p core s.has (ops.Plain kinds.Entr) made there fault table_is) table_is
-        (action_is code img p core s.has (ops.Plain kinds.Entr) made there (outcomes.faults fault) table_is ∙ ap (λ (o : Choice). Some o.action) (sym chosen))
-        (subst (λ (o : Choice). Pictures tree code texts o.world (failed img p fault)) (sym chosen) (lay, faulted tree code texts w lay img s.by p q s.at s.ok fault))
+      -- ---- a fault
 
-    wrong_size : has_wrong_size bs ≡ true → Does tree code texts w img p
-    wrong_size wrong =
-        fails_so ArraySize
-        (size_faults code img p core s.has made there c.arguments c.reference c.marked c.others none c.calls w ns a.1.some few_arrays bs dimensional (c.wholes ∙ ap (λ zs. Some zs) (given_whole n pairs vs)) s.by.arrays.counted wrong)
-        (chosen_by ∙ ap (λ (b : Bool). sized b (has_no_room w bs ns)) wrong)
+      fails_so : (fault : FaultKind) → raw code img p ≡ effects.faults fault → choice sc w p ≡ fails sc w p q part outer fault → Does tree code texts w img p
+      fails_so fault row_is chosen =
+          let table_is : table code img p ≡ outcomes.faults fault = faults_so code img p fault row_is in
+          failed_by fault (fault_not_plain code img p core s.has (ops.Plain kinds.Entr) made there fault table_is) table_is
+          (action_is code img p core s.has (ops.Plain kinds.Entr) made there (outcomes.faults fault) table_is ∙ ap (λ (o : Choice). Some o.action) (sym chosen))
+          (subst (λ (o : Choice). Pictures tree code texts o.world (failed img p fault)) (sym chosen) (lay, faulted tree code texts w lay img s.by p q s.at s.ok fault))
 
-    no_room : has_wrong_size bs ≡ false → has_no_room w bs ns ≡ true → Does tree code texts w img p
-    no_room right full =
-        fails_so CoreFull
-        (room_faults code img p core s.has made there c.arguments c.reference c.marked c.others none c.calls w ns a.1.some few_arrays bs dimensional (c.wholes ∙ ap (λ zs. Some zs) (given_whole n pairs vs)) s.by.arrays.counted right full)
-        (chosen_by ∙ ap (λ (b : Bool). sized b (has_no_room w bs ns)) right ∙ ap (sized false) full)
+      wrong_size : has_wrong_size bs ≡ true → Does tree code texts w img p
+      wrong_size wrong =
+          fails_so ArraySize
+          (size_faults code img p core s.has made there c.arguments c.reference c.marked c.others none c.calls w ns a.1.some few_arrays bs dimensional (c.wholes ∙ ap (λ zs. Some zs) (given_whole n pairs vs)) s.by.arrays.counted wrong)
+          (chosen_by ∙ ap (λ (b : Bool). sized b (has_no_room w bs ns)) wrong)
 
-    -- ---- arrays
+      no_room : has_wrong_size bs ≡ false → has_no_room w bs ns ≡ true → Does tree code texts w img p
+      no_room right full =
+          fails_so CoreFull
+          (room_faults code img p core s.has made there c.arguments c.reference c.marked c.others none c.calls w ns a.1.some few_arrays bs dimensional (c.wholes ∙ ap (λ zs. Some zs) (given_whole n pairs vs)) s.by.arrays.counted right full)
+          (chosen_by ∙ ap (λ (b : Bool). sized b (has_no_room w bs ns)) right ∙ ap (sized false) full)
 
-    module _ (right : has_wrong_size bs ≡ false) (room : has_no_room w bs ns ≡ false) where
-      abbrev framed : Framed sc w lay p part.instance outer (length s.stands.frame.lower) s.stands.frame.mark s.stands.frame.control s.stands.frame.cells
-      framed = (frames.own_frame tree code texts nested keeps order w lay img p q part outer bound core s owns ms made_first).framed
+      -- ---- arrays
 
-      abbrev making_so : Makes sc w lay part.instance kind ns pairs bs
-      making_so =
-          record {
-            instance = framed.instance;
-            is = framed.is;
-            stands = framed.stands;
-            simple = framed.simple;
-            arrays = framed.arrays;
-            has = framed.has;
-            many = cells_length (simple_cells sc (block_numbered sc.blocks framed.instance.block)) framed.simple framed.values framed.simple_are;
-            declared = framed.declared;
-            later = all_left_to_make part.rest;
-            order = frames.ordered tree code texts nested keeps order w lay img p q part outer bound core s owns ms made_first;
-            descriptors = framed.descriptors;
-            made = framed.made;
-            dimensions = a.1.dimensions;
-            lows = bounds_lows pairs vs a.1.each;
-            right = right;
-            room = room;
-          }
+      module _ (right : has_wrong_size bs ≡ false) (room : has_no_room w bs ns ≡ false) where
+        abbrev framed : Framed sc w lay p part.instance outer (length s.stands.frame.lower) s.stands.frame.mark s.stands.frame.control s.stands.frame.cells
+        framed = (frames.own_frame tree code texts nested keeps order (actor_of s) owns ms made_first).framed
 
-      abbrev new_cells : List NamedCell
-      new_cells = new_arrays kind bs ns
+        abbrev making_so : Makes sc w lay part.instance kind ns pairs bs
+        making_so =
+            record {
+              instance = framed.instance;
+              is = framed.is;
+              stands = framed.stands;
+              simple = framed.simple;
+              arrays = framed.arrays;
+              has = framed.has;
+              many = cells_length (simple_cells sc (block_numbered sc.blocks framed.instance.block)) framed.simple framed.values framed.simple_are;
+              declared = framed.declared;
+              later = all_left_to_make part.rest;
+              order = frames.ordered tree code texts nested keeps order (actor_of s) owns ms made_first;
+              descriptors = framed.descriptors;
+              made = framed.made;
+              dimensions = a.1.dimensions;
+              lows = bounds_lows pairs vs a.1.each;
+              right = right;
+              room = room;
+            }
 
-      abbrev allotted : List Allotted
-      allotted = allotted_new ns bs img.rows
+        abbrev new_cells : List NamedCell
+        new_cells = new_arrays kind bs ns
 
-      abbrev descriptors : List Word
-      descriptors = descriptors_new ns bs img.rows
+        abbrev allotted : List Allotted
+        allotted = allotted_new ns bs img.rows
 
-      added : AreMade ms new_cells allotted descriptors
-      added = new_made sc w lay img.rows s.by.arrays part.instance kind ns pairs bs making_so
+        abbrev descriptors : List Word
+        descriptors = descriptors_new ns bs img.rows
 
-      entered : IsEntered tree code texts w lay img p q part outer bound core s Arrays (operands (arrays_given n pairs vs) (intrinsic Arrays ∷ mark ∷ [])) [] (a.1.lies ∙ given_lie n pairs vs) c.arguments
-      entered = record { reference = c.reference; marked = c.marked; others = c.others; calls = c.calls; action = c.action; after_at = c.after_at; few = c.few }
+        added : AreMade ms new_cells allotted descriptors
+        added = new_made sc w lay img.rows s.by.arrays part.instance kind ns pairs bs making_so
 
-      abbrev w' : World
-      w' = frames.w' tree code texts nested keeps order w lay img p q part outer bound core s owns ms made_first new_cells allotted descriptors added
+        entered : IsEntered tree code texts (actor_of s) Arrays (operands (arrays_given n pairs vs) (intrinsic Arrays ∷ mark ∷ [])) [] (a.1.lies ∙ given_lie n pairs vs) c.arguments
+        entered = record { reference = c.reference; marked = c.marked; others = c.others; calls = c.calls; action = c.action; after_at = c.after_at; few = c.few }
 
-      abbrev lay' : Layout
-      lay' = frames.lay' tree code texts nested keeps order w lay img p q part outer bound core s owns ms made_first new_cells allotted descriptors added
+        abbrev w' : World
+        w' = frames.w' tree code texts nested keeps order (actor_of s) owns ms made_first new_cells allotted descriptors added
 
-      chosen : choice sc w p ≡ record { action = MakeArrays; world = w'; released = []; started = None }
-      chosen =
-          chosen_by
-          ∙ ap (λ (b : Bool). sized b (has_no_room w bs ns)) right
-          ∙ ap (sized false) room
-          ∙ ap (λ (o : Option Instance). record {
-            action = MakeArrays;
-            world = with_process (with_instance w part.instance (record (or_no_instance o) { cells = (or_no_instance o).cells ++ new_arrays kind bs ns })) p
-                (record q { todo = record part { rest = resume sc part.rest done } ∷ outer });
-            released = [];
-            started = None;
-          }) framed.is
+        abbrev lay' : Layout
+        lay' = frames.lay' tree code texts nested keeps order (actor_of s) owns ms made_first new_cells allotted descriptors added
 
-      arrays_now : ArraysAre sc w' lay' (rows_after ns bs img.rows)
-      arrays_now =
-          arrays_after sc w lay img.rows s.by.arrays part.instance kind ns pairs bs making_so w' lay' refl
-          (frames.rows_here tree code texts nested keeps order w lay img p q part outer bound core s owns ms made_first new_cells allotted descriptors added)
-          (λ j other. frames.rows_elsewhere tree code texts nested keeps order w lay img p q part outer bound core s owns ms made_first new_cells allotted descriptors added j (λ same. other (sym same)))
+        chosen : choice sc w p ≡ record { action = MakeArrays; world = w'; released = []; started = None }
+        chosen =
+            chosen_by
+            ∙ ap (λ (b : Bool). sized b (has_no_room w bs ns)) right
+            ∙ ap (sized false) room
+            ∙ ap (λ (o : Option Instance). record {
+              action = MakeArrays;
+              world = with_process (with_instance w part.instance (record (or_no_instance o) { cells = (or_no_instance o).cells ++ new_arrays kind bs ns })) p
+                  (record q { todo = record part { rest = resume sc part.rest done } ∷ outer });
+              released = [];
+              started = None;
+            }) framed.is
 
-      events_now : EventsAre sc w' lay' img.events
-      events_now =
-          events_replaced sc w w' lay lay' part.instance framed.instance (record framed.instance { cells = framed.instance.cells ++ new_arrays kind bs ns }) framed.is refl refl refl
-          (event_in_front framed.instance.cells (new_arrays kind bs ns) (arrays_are_no_events kind bs ns)) (λ j f laid. laid) img.events s.by.events
+        arrays_now : ArraysAre sc w' lay' (rows_after ns bs img.rows)
+        arrays_now =
+            arrays_after sc w lay img.rows s.by.arrays part.instance kind ns pairs bs making_so w' lay' refl
+            (frames.rows_here tree code texts nested keeps order (actor_of s) owns ms made_first new_cells allotted descriptors added)
+            (λ j other. frames.rows_elsewhere tree code texts nested keeps order (actor_of s) owns ms made_first new_cells allotted descriptors added j (λ same. other (sym same)))
 
-      are_made : Does tree code texts w img p
-      unfolding entered
-      are_made =
-          cells_are_made tree code texts nested fragments cells_made keeps order w lay img p q part outer bound core s able_is able_p owns ms made_first new_cells allotted descriptors added Arrays
-          (operands (arrays_given n pairs vs) (intrinsic Arrays ∷ mark ∷ [])) (a.1.lies ∙ given_lie n pairs vs) c.arguments entered made a.0 a.1.stands a.1.push (answered done a.0 [] (refl, refl))
-          (omega (arith, a.1.some, made_arrays_many kind ns pairs)) (omega (arith, a.1.room, made_arrays_many kind ns pairs)) (rows_after ns bs img.rows) img.events arrays_now events_now (λ m there listed. listed) MakeArrays refl
-          (arrays_raw code img p core s.has made there c.arguments c.reference c.marked c.others none c.calls w ns a.1.some few_arrays bs dimensional (c.wholes ∙ ap (λ zs. Some zs) (given_whole n pairs vs)) s.by.arrays.counted right room)
-          chosen
+        events_now : EventsAre sc w' lay' img.events
+        events_now =
+            events_replaced sc w w' lay lay' part.instance framed.instance (record framed.instance { cells = framed.instance.cells ++ new_arrays kind bs ns }) framed.is refl refl refl
+            (event_in_front framed.instance.cells (new_arrays kind bs ns) (arrays_are_no_events kind bs ns)) (λ j f laid. laid) img.events s.by.events
 
-    by_sizes : (wrong full : Bool) → has_wrong_size bs ≡ wrong → has_no_room w bs ns ≡ full → Does tree code texts w img p
-    by_sizes true full wrong fits = wrong_size wrong
-    by_sizes false true right full = no_room right full
-    by_sizes false false right fits = are_made right fits
+        are_made : Does tree code texts w img p
+        unfolding entered
+        are_made =
+            cells_are_made tree code texts nested fragments cells_made keeps order actor owns ms made_first new_cells allotted descriptors added Arrays
+            (operands (arrays_given n pairs vs) (intrinsic Arrays ∷ mark ∷ [])) (a.1.lies ∙ given_lie n pairs vs) c.arguments entered made a.0 a.1.stands a.1.push (answered done a.0 [] (refl, refl))
+            (omega (arith, a.1.some, made_arrays_many kind ns pairs)) (omega (arith, a.1.room, made_arrays_many kind ns pairs)) (rows_after ns bs img.rows) img.events arrays_now events_now (λ m there listed. listed) MakeArrays refl
+            (arrays_raw code img p core s.has made there c.arguments c.reference c.marked c.others none c.calls w ns a.1.some few_arrays bs dimensional (c.wholes ∙ ap (λ zs. Some zs) (given_whole n pairs vs)) s.by.arrays.counted right room)
+            chosen
 
-  -- the source's fault, or arrays
-  pub making : Does tree code texts w img p
-  making =
-      by_sizes (call tree code texts w lay img p q part outer bound core s Arrays (arrays_given n pairs vs) [] (given_fit n pairs vs a.1.many a.1.lows a.1.highs) (a.1.lies ∙ given_lie n pairs vs))
-      (has_wrong_size bs) (has_no_room w bs ns) refl refl
+      by_sizes : (wrong full : Bool) → has_wrong_size bs ≡ wrong → has_no_room w bs ns ≡ full → Does tree code texts w img p
+      by_sizes true full wrong fits = wrong_size wrong
+      by_sizes false true right full = no_room right full
+      by_sizes false false right fits = are_made right fits
+
+    -- the source's fault, or arrays
+    pub making : Does tree code texts w img p
+    making =
+        by_sizes (call tree code texts (actor_of s) Arrays (arrays_given n pairs vs) [] (given_fit n pairs vs a.1.many a.1.lows a.1.highs) (a.1.lies ∙ given_lie n pairs vs))
+        (has_wrong_size bs) (has_no_room w bs ns) refl refl
 
 -- in each scene whose head asks for arrays
 pub making_done : (tree : PProgram) (code : Code) (texts : Texts) → AreNested (scopes_of tree) → FragmentsArePerformed → CellsAreMade → RestsKeepToTheirText → AllIsMadeInOrder →
     (kind : Kind) (ns : List Named) (pairs : List PPair) (vs : List Value) → IsDone tree code texts (makes_arrays kind ns pairs vs)
-making_done tree code texts nested fragments cells_made keeps order kind ns pairs vs w lay img p q part outer bound core s able_is able_p asks a answered waits returns =
-    making tree code texts nested fragments cells_made keeps order w lay img p q part outer bound core s able_is able_p kind ns pairs vs asks a answered
+making_done tree code texts nested fragments cells_made keeps order kind ns pairs vs actor h =
+    making tree code texts nested fragments cells_made keeps order actor kind ns pairs vs h.asks h.action h.answered

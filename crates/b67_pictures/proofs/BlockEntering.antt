@@ -1,323 +1,268 @@
 -- A block of a statement is entered.
-use Rattle.algol_meaning.specs.Critical.{is_evaluation}
-use Rattle.std.proofs.Common.{◌≡◌, refl, sym, ap, ◌∙◌, subst, ℕ, ◌+◌, ◌-◌, ◌*◌, ◌≤◌, List, [], ◌∷◌, ◌++◌, length, Option, Some, None, Bool, false, not, arith, Ok, true}
-use Rattle.std.specs.Prelude.{if◌then◌else◌, slice_get}
-use Rattle.b67_list.specs.Numbered.{numbered}
-use Rattle.algol_tree.specs.declared.token.Spot.{Spot}
-use Rattle.algol_tree.specs.declared.tree.Kind.{Kind}
-use Rattle.algol_tree.specs.Plain.{PProgram, PDecls, PStmts, body}
-use Rattle.algol_tree.specs.Sorts.{same_name}
-use Rattle.algol_tree.specs.Blocks.{Block, block_numbered, number_at, around}
-use Rattle.algol_tree.specs.Cells.{level_of}
-use Rattle.algol_tree.specs.Scopes.{Scopes, scopes_of}
-use Rattle.algol_meaning.specs.Rest.{Item, Answer, entered}
-use Rattle.algol_meaning.specs.Value.{Cell}
-use Rattle.algol_meaning.specs.World.{Process, Part, block, lives, World, instance_at}
-use Rattle.algol_meaning.specs.Statements.{settle_items, decls_items, items, items_of}
-use Rattle.algol_meaning.specs.Asks.{Ask, nothing, enters_block, ask, resume}
-use Rattle.algol_meaning.specs.Choice.{choice_of}
-use Rattle.algol_paths.specs.Blocks.{IsSeen, IsSeenAround, IsInner}
-use Rattle.algol_paths.specs.Laws.{RestsKeepToTheirText, AllIsMadeInOrder}
-use Rattle.algol_paths.specs.Segments.{segment_among, segment_of, segment_tokens}
-use Rattle.b67_word.specs.Word.{Word}
-use Rattle.b67_control.specs.declared.Pcw.{Pcw}
+use Rattle.std.proofs.Common.{◌≡◌, refl, sym, ap, ◌∙◌, subst, ℕ, ◌+◌, ◌-◌, ◌*◌, ◌≤◌, List, [], ◌∷◌, ◌++◌, length, Option, Some, None, Bool, false, not, arith, Ok}
+use Rattle.b67_pictures.proofs.Prelude.{if◌then◌else◌, slice_get, Block, block_numbered, number_at, around, level_of, PProgram, PDecls, PStmts, Scopes, scopes_of, same_name, Spot, Kind, Ask, nothing, enters_block, ask, resume, choice_of, is_evaluation, Answer, settle_items, items_of, Cell, instance_at, IsSeen, IsSeenAround, IsInner, RestsKeepToTheirText, AllIsMadeInOrder, segment_of, IsStanding, Word, Place, irw_laws, as_sirw-other, as_pcw-pcw_word, kind_of-pcw_word, as_irw, as_sirw, as_pcw, Pcw, Placed, Spells, Code, place, seen, frame, display_at, cell_of, level_below, actuals_are_few, parameter_cells, result_of, variables, zero_cells, procedures, actuals_of, CellsAt, Yields, yields_of, Context, decls_depth, stmts_depth, Has, code_at, LiesNested, Texts, context_of, ActionAt, Entered, Gives, pushed, ComesTo, Slot, control, mark, SlotIs, BlocksBegin, FragmentsArePerformed, some_same, IsShort, tokens_around, none_wanted, ActualsAre, most_is, makes, unmade, complete_of, controls_fit, Linked, level_around, owned_frame, asks_as_own, runs_at, IsInReach, block_controls, controls_count, most_around, IsComplete, Owned, run_level, Calls, part_there, shown_frame, AbleActor, actor_of, choice_is, text_in, level_in, context_in, most_in, names_in, Does}
+use Rattle.algol_tree.specs.Plain.{body}
+use Rattle.algol_meaning.specs.Rest.{Item, entered}
+use Rattle.algol_meaning.specs.World.{block}
+use Rattle.algol_meaning.specs.Statements.{decls_items, items}
+use Rattle.algol_paths.specs.Segments.{segment_among, segment_tokens}
 use Rattle.b67_control.specs.Kind as kind
-use Rattle.b67_control.specs.Control.{as_irw, as_sirw, as_pcw}
-use Rattle.b67_control.proofs.ControlLaws.{irw_laws, as_sirw-other, as_pcw-pcw_word, kind_of-pcw_word}
 use Rattle.b67_ops.specs.declared.Operator.TheVariants as ops
 use Rattle.b67_ops.specs.declared.PlainKind.TheVariants as kinds
-use Rattle.b67_segment.specs.Operators.{Placed}
-use Rattle.b67_segment.specs.Syllables.{Spells}
-use Rattle.b67_segment.specs.declared.code.Code.{Code}
-use Rattle.b67_scenes.specs.States.{StateIs}
-use Rattle.b67_word.specs.declared.Place.{Place}
-use Rattle.b67_table.specs.Chains.{place}
-use Rattle.b67_table.specs.Image.{Image}
-use Rattle.b67_table.specs.Private.{frame, display_at}
-use Rattle.b67_table.specs.Rows.{level_below}
 use Rattle.b67_templates.specs.Arguments.{arguments_in_decls, arguments_in_stmts}
-use Rattle.b67_templates.specs.Cells.{parameter_cells, result_of, variables, zero_cells, procedures, Actual, actuals_in_block, actuals_of}
-use Rattle.b67_templates.specs.Code.{CellsAt, RoutinesAt, DeclsAt, StmtsAt, KAt, in_block, control_pcws}
-use Rattle.b67_templates.proofs.Few.{actuals_are_few}
+use Rattle.b67_templates.specs.Cells.{Actual, actuals_in_block}
+use Rattle.b67_templates.specs.Code.{RoutinesAt, DeclsAt, StmtsAt, KAt, in_block, control_pcws}
 use Rattle.b67_templates.specs.Contexts as yielding
-use Rattle.b67_templates.specs.Contexts.{Yields, yields_of, Context}
-use Rattle.b67_templates.specs.Depths.{decls_depth, stmts_depth}
-use Rattle.b67_templates.specs.Fragments.{Has, code_at, stop}
-use Rattle.b67_templates.specs.Programs.{Texts, context_of}
+use Rattle.b67_templates.specs.Fragments.{stop}
 use Rattle.b67_standing.specs.Laws.{InnerBlocksStart, InnerBlocksFollow}
-use Rattle.b67_standing.specs.Stepping.{Slot, control, mark}
-use Rattle.b67_standing.specs.Standing.{ActionAt, Entered, Gives, pushed, ComesTo, EntersAt}
-use Rattle.b67_cores.specs.Cores.{Core}
-use Rattle.b67_cores.specs.Slots.{SlotIs}
-use Rattle.b67_cores.specs.Stretches.{BlocksBegin, FragmentsArePerformed}
-use Rattle.b67_faithful.specs.Faithful.{IsShort}
-use Rattle.b67_faithful.specs.Weight.{tokens_around}
-use Rattle.b67_templates.specs.Nested.{LiesNested}
+use Rattle.b67_standing.specs.Standing.{EntersAt}
 use Rattle.b67_rows.proofs.AskedEntries.{blocks_seen, block_unmade}
-use Rattle.b67_frames.specs.Arrays.{Layout}
-use Rattle.b67_frames.specs.Frames.{IsInReach, block_controls, controls_count, most_around, IsComplete, Owned, run_level}
-use Rattle.b67_frames.proofs.ControlWords.{controls_fit}
-use Rattle.b67_frames.proofs.Completing.{complete_of}
-use Rattle.b67_pictures.specs.Acting.{Does}
 use Rattle.b67_letters.specs.Letters.{called_by}
 use Rattle.b67_rows.proofs.EnterBlockRow.{block_leads, block_calls}
 use Rattle.b67_rows.proofs.EntryRow.{Leads}
-use Rattle.b67_rows.proofs.GivenWords.{none_wanted, ActualsAre}
 use Rattle.b67_rows.proofs.Growing.{plain_items}
 use Rattle.b67_rows.proofs.Segmented.{inner_segment}
-use Rattle.b67_rows.proofs.StoreRow.{most_is}
-use Rattle.b67_rows.proofs.Unmade.{makes, unmade}
 use Rattle.b67_frames.proofs.FreshCells.{none_given, none_are, none_lead}
-use Rattle.b67_frames.proofs.Linked.{Linked, level_around}
-use Rattle.b67_scenes.proofs.Entries.{Calls}
-use Rattle.b67_scenes.proofs.Scene.{Scene, shown_frame}
-use Rattle.b67_scenes.proofs.Stage.{choice_is}
-use Rattle.b67_scenes.proofs.Staying.{text_in, level_in, context_in, most_in, names_in}
 use Rattle.b67_pictures.proofs.FrameEntering.{AreCells, Body, GoesOnBehind, entering}
-use Rattle.b67_table.specs.Look.{seen}
-use Rattle.b67_table.specs.References.{cell_of}
-use Rattle.b67_frames.proofs.Lying.{owned_frame, asks_as_own, runs_at}
-use Rattle.b67_scenes.proofs.Led.{part_there}
 use Rattle.b67_scenes.proofs.Paths.{part_in_reach}
 use Rattle.b67_pictures.proofs.ParentPlaces.{standing_linked, linked_few, linked_low}
-use Rattle.b67_faithful.proofs.Contradictions.{some_same}
-use Rattle.algol_standing.specs.Worlds.{IsStanding}
 
 module _ (tree : PProgram) (code : Code) (texts : Texts) (nested : LiesNested tree) (short : IsShort tree code)
     (fragments : FragmentsArePerformed) (begins_so : BlocksBegin) (starts : InnerBlocksStart) (follow : InnerBlocksFollow) (keeps : RestsKeepToTheirText) (order : AllIsMadeInOrder)
-    (w : World) (lay : Layout) (img : Image) (p : ℕ) (q : Process) (part : Part) (outer : List Part) (bound : ℕ) (core : Core)
-    (s : Scene tree code texts w lay img p q part outer bound core) (able_is : lives q.state ≡ true) (able_p : StateIs (scopes_of tree) w lay q.state (numbered img.states p))
-    (spot : Spot) (ds : PDecls) (ss : PStmts) (asks : ask part.rest ≡ enters_block (body spot ds ss))
-    (a : ActionAt (scopes_of tree) (context_in tree code texts w part s.stands.frame.gives) (text_in tree texts w part) (level_in tree w part) (most_in tree w part) (enters_block (body spot ds ss)) s.stands.pc s.stands.slots)
-    (waits : (to : ℕ) (after : List Slot) (wanted : Yields) →
-    Entered (scopes_of tree) (context_in tree code texts w part s.stands.frame.gives) (text_in tree texts w part) (level_in tree w part) (most_in tree w part) (enters_block (body spot ds ss)) s.stands.pc s.stands.slots a to after wanted →
-    ask (resume (scopes_of tree) part.rest entered) ≡ nothing)
-    (returns : (to : ℕ) (after : List Slot) (wanted : Yields) →
-    Entered (scopes_of tree) (context_in tree code texts w part s.stands.frame.gives) (text_in tree texts w part) (level_in tree w part) (most_in tree w part) (enters_block (body spot ds ss)) s.stands.pc s.stands.slots a to after wanted →
-    (r : Answer) → Gives wanted r →
-    ComesTo (scopes_of tree) (context_in tree code texts w part s.stands.frame.gives) (text_in tree texts w part) (level_in tree w part) (most_in tree w part) (resume (scopes_of tree) (resume (scopes_of tree) part.rest entered) r) to (pushed wanted r after)) where
-  abbrev sc : Scopes
-  sc = scopes_of tree
+    (actor : AbleActor tree code texts) where
+  open actor use {w, lay, img, p, q, part, outer, core, s}
 
-  abbrev level : ℕ
-  level = level_in tree w part
+  module _ (spot : Spot) (ds : PDecls) (ss : PStmts) (asks : ask part.rest ≡ enters_block (body spot ds ss))
+      (a : ActionAt (scopes_of tree) (context_in tree code texts w part s.stands.frame.gives) (text_in tree texts w part) (level_in tree w part) (most_in tree w part) (enters_block (body spot ds ss)) s.stands.pc s.stands.slots)
+      (waits : (to : ℕ) (after : List Slot) (wanted : Yields) →
+      Entered (scopes_of tree) (context_in tree code texts w part s.stands.frame.gives) (text_in tree texts w part) (level_in tree w part) (most_in tree w part) (enters_block (body spot ds ss)) s.stands.pc s.stands.slots a to after wanted →
+      ask (resume (scopes_of tree) part.rest entered) ≡ nothing)
+      (returns : (to : ℕ) (after : List Slot) (wanted : Yields) →
+      Entered (scopes_of tree) (context_in tree code texts w part s.stands.frame.gives) (text_in tree texts w part) (level_in tree w part) (most_in tree w part) (enters_block (body spot ds ss)) s.stands.pc s.stands.slots a to after wanted →
+      (r : Answer) → Gives wanted r →
+      ComesTo (scopes_of tree) (context_in tree code texts w part s.stands.frame.gives) (text_in tree texts w part) (level_in tree w part) (most_in tree w part) (resume (scopes_of tree) (resume (scopes_of tree) part.rest entered) r) to (pushed wanted r after)) where
+    abbrev sc : Scopes
+    sc = scopes_of tree
 
-  abbrev around_block : ℕ
-  around_block = (instance_at w part.instance).block
+    abbrev level : ℕ
+    level = level_in tree w part
 
-  abbrev j : ℕ
-  j = number_at sc.blocks spot
+    abbrev around_block : ℕ
+    around_block = (instance_at w part.instance).block
 
-  abbrev b : Block
-  b = block_numbered sc.blocks j
+    abbrev j : ℕ
+    j = number_at sc.blocks spot
 
-  abbrev at : EntersAt sc (context_in tree code texts w part s.stands.frame.gives) (text_in tree texts w part) level (most_in tree w part) spot ds ss s.stands.pc a.0 s.stands.slots a.1
-  at = a.2
+    abbrev b : Block
+    b = block_numbered sc.blocks j
 
-  is_inner : IsInner sc around_block (body spot ds ss)
-  is_inner = blocks_seen (IsSeen sc around_block) (IsInner sc around_block) (IsSeenAround sc around_block) (body spot ds ss) part.rest asks s.stands.frame.text
+    abbrev at : EntersAt sc (context_in tree code texts w part s.stands.frame.gives) (text_in tree texts w part) level (most_in tree w part) spot ds ss s.stands.pc a.0 s.stands.slots a.1
+    at = a.2
 
-  -- the part has its frame's instance for its own
-  owns : is_evaluation part.purpose ≡ false
-  owns = asks_as_own tree code texts w lay p part outer core.below s.stands.frame (enters_block (body spot ds ss)) asks (λ e. e)
+    is_inner : IsInner sc around_block (body spot ds ss)
+    is_inner = blocks_seen (IsSeen sc around_block) (IsInner sc around_block) (IsSeenAround sc around_block) (body spot ds ss) part.rest asks s.stands.frame.text
 
-  abbrev own_frame : Owned tree code texts w lay p part outer (length s.stands.frame.lower) s.stands.frame.mark s.stands.frame.control s.stands.frame.cells
-  own_frame = owned_frame tree code texts w lay p part outer core.below s.stands.frame owns
+    -- the part has its frame's instance for its own
+    owns : is_evaluation part.purpose ≡ false
+    owns = asks_as_own tree code texts w lay p part outer core.below s.stands.frame (enters_block (body spot ds ss)) asks (λ e. e)
 
-  own_level : run_level (is_evaluation part.purpose) (names_in tree w part) ≡ names_in tree w part
-  own_level = sym (runs_at part (names_in tree w part) owns)
+    abbrev own_frame : Owned tree code texts w lay p part outer (length s.stands.frame.lower) s.stands.frame.mark s.stands.frame.control s.stands.frame.cells
+    own_frame = owned_frame tree code texts w lay p part outer core.below s.stands.frame owns
 
-  level_new : level_of b ≡ level + 1
-  level_new = omega (arith, own_level, level_around sc.blocks j, ap length is_inner.around_is, level_around sc.blocks around_block)
+    own_level : run_level (is_evaluation part.purpose) (names_in tree w part) ≡ names_in tree w part
+    own_level = sym (runs_at part (names_in tree w part) owns)
 
-  same_segment : segment_of sc.blocks j ≡ segment_of sc.blocks around_block
-  same_segment =
-      inner_segment sc.blocks j (around sc.blocks j) (ap (λ (name : List ℕ). not (same_name name [])) is_inner.nameless)
-      ∙ ap (segment_among sc.blocks) is_inner.around_is
+    level_new : level_of b ≡ level + 1
+    level_new = omega (arith, own_level, level_around sc.blocks j, ap length is_inner.around_is, level_around sc.blocks around_block)
 
-  -- what stands in the text around stands in that of the block
-  in_text : (X : Context → List Placed → ℕ → Type 0) → X (in_block j (context_in tree code texts w part s.stands.frame.gives)) (text_in tree texts w part) (level + 1) → X (context_of code texts sc j) (texts.placed (segment_of sc.blocks j)) (level_of b)
-  in_text X x =
-      let own : ℕ → ℕ → Yields → Context = λ k l y. record { formats = code.formats; segment = k; block = j; level = l; yields = y; labels = texts.labels } in
-      let names : ℕ = names_in tree w part in
-      let here : X (in_block j (context_in tree code texts w part s.stands.frame.gives)) (text_in tree texts w part) (names + 1) =
-      subst (λ (l : ℕ). X (in_block j (context_in tree code texts w part s.stands.frame.gives)) (text_in tree texts w part) (l + 1)) (own_level) x in
-      let further : level_of b ≡ names + 1 = omega (arith, level_new, own_level) in
-      subst (λ (k : ℕ). X (own k (level_of b) (yields_of b.result)) (texts.placed k) (level_of b)) (sym same_segment)
-      (subst (λ (y : Yields). X (own (segment_of sc.blocks around_block) (level_of b) y) (text_in tree texts w part) (level_of b)) (ap yields_of (sym is_inner.result))
-      (subst (λ (l : ℕ). X (own (segment_of sc.blocks around_block) l yielding.nothing) (text_in tree texts w part) l) (sym further) here))
+    same_segment : segment_of sc.blocks j ≡ segment_of sc.blocks around_block
+    same_segment =
+        inner_segment sc.blocks j (around sc.blocks j) (ap (λ (name : List ℕ). not (same_name name [])) is_inner.nameless)
+        ∙ ap (segment_among sc.blocks) is_inner.around_is
 
-  -- ---- the entry
+    -- what stands in the text around stands in that of the block
+    in_text : (X : Context → List Placed → ℕ → Type 0) → X (in_block j (context_in tree code texts w part s.stands.frame.gives)) (text_in tree texts w part) (level + 1) → X (context_of code texts sc j) (texts.placed (segment_of sc.blocks j)) (level_of b)
+    in_text X x =
+        let own : ℕ → ℕ → Yields → Context = λ k l y. record { formats = code.formats; segment = k; block = j; level = l; yields = y; labels = texts.labels } in
+        let names : ℕ = names_in tree w part in
+        let here : X (in_block j (context_in tree code texts w part s.stands.frame.gives)) (text_in tree texts w part) (names + 1) =
+        subst (λ (l : ℕ). X (in_block j (context_in tree code texts w part s.stands.frame.gives)) (text_in tree texts w part) (l + 1)) (own_level) x in
+        let further : level_of b ≡ names + 1 = omega (arith, level_new, own_level) in
+        subst (λ (k : ℕ). X (own k (level_of b) (yields_of b.result)) (texts.placed k) (level_of b)) (sym same_segment)
+        (subst (λ (y : Yields). X (own (segment_of sc.blocks around_block) (level_of b) y) (text_in tree texts w part) (level_of b)) (ap yields_of (sym is_inner.result))
+        (subst (λ (l : ℕ). X (own (segment_of sc.blocks around_block) l yielding.nothing) (text_in tree texts w part) l) (sym further) here))
 
-  abbrev c : Pcw
-  c = code_at (segment_of sc.blocks around_block) at.begin (level + 1)
+    -- ---- the entry
 
-  c_is : c ≡ code_at (segment_of sc.blocks j) at.begin (level_of b)
-  c_is = ap (λ (k : ℕ). code_at k at.begin (level + 1)) (sym same_segment) ∙ ap (code_at (segment_of sc.blocks j) at.begin) (sym level_new)
+    abbrev c : Pcw
+    c = code_at (segment_of sc.blocks around_block) at.begin (level + 1)
 
-  here_stands : IsStanding w part.instance
-  here_stands = part_there tree code texts w lay img p q part outer bound core s
+    c_is : c ≡ code_at (segment_of sc.blocks j) at.begin (level_of b)
+    c_is = ap (λ (k : ℕ). code_at k at.begin (level + 1)) (sym same_segment) ∙ ap (code_at (segment_of sc.blocks j) at.begin) (sym level_new)
 
-  linked : Linked sc w lay img.stacks part.instance
-  linked = standing_linked tree code texts w lay img s.by s.ok part.instance here_stands
+    here_stands : IsStanding w part.instance
+    here_stands = part_there tree code texts (actor_of s)
 
-  home_is : linked.at ≡ place p (length s.stands.frame.lower)
-  home_is = some_same (sym linked.laid ∙ own_frame.framed.laid)
+    linked : Linked sc w lay img.stacks part.instance
+    linked = standing_linked tree code texts w lay img s.by s.ok part.instance here_stands
 
-  home_there : level_below core.registers (level + 1) ≡ Some linked.at
-  home_there =
-      let less : level + 1 - 1 ≡ core.registers.ll = omega (arith, s.stands.there.level_is) in
-      ap (λ (t : Bool). if t then display_at core.registers (level + 1 - 1) else None) (most_is 1 (level + 1) (omega arith))
-      ∙ ap (λ (n : ℕ). display_at core.registers n) less
-      ∙ shown_frame tree code texts w lay img p q part outer bound core s
-      ∙ ap (λ (g : Place). Some g) (sym home_is)
+    home_is : linked.at ≡ place p (length s.stands.frame.lower)
+    home_is = some_same (sym linked.laid ∙ own_frame.framed.laid)
 
-  abbrev HasControl : Word → Type 0
-  HasControl x = SlotIs sc s.stands.held level (frame core.registers) (length core.below) (mark ∷ a.1) (control c) x
+    home_there : level_below core.registers (level + 1) ≡ Some linked.at
+    home_there =
+        let less : level + 1 - 1 ≡ core.registers.ll = omega (arith, s.stands.there.level_is) in
+        ap (λ (t : Bool). if t then display_at core.registers (level + 1 - 1) else None) (most_is 1 (level + 1) (omega arith))
+        ∙ ap (λ (n : ℕ). display_at core.registers n) less
+        ∙ shown_frame tree code texts (actor_of s)
+        ∙ ap (λ (g : Place). Some g) (sym home_is)
 
-  no_irw : (x : Word) → HasControl x → as_irw x ≡ None
-  no_irw x is = irw_laws.other x (λ k. let other = sym (ap kind.kind_of is ∙ kind_of-pcw_word c at.fits) ∙ k in cc)
+    abbrev HasControl : Word → Type 0
+    HasControl x = SlotIs sc s.stands.held level (frame core.registers) (length core.below) (mark ∷ a.1) (control c) x
 
-  no_sirw : (x : Word) → HasControl x → as_sirw x ≡ None
-  no_sirw x is = as_sirw-other x (λ k. let other = sym (ap kind.kind_of is ∙ kind_of-pcw_word c at.fits) ∙ k in cc)
+    no_irw : (x : Word) → HasControl x → as_irw x ≡ None
+    no_irw x is = irw_laws.other x (λ k. let other = sym (ap kind.kind_of is ∙ kind_of-pcw_word c at.fits) ∙ k in cc)
 
-  -- no arrays are still to be made
-  complete : IsComplete sc w lay part.instance
-  complete =
-      complete_of sc w lay p part.instance outer (length s.stands.frame.lower) s.stands.frame.mark s.stands.frame.control s.stands.frame.cells own_frame.framed
-      (own_frame.making ∙ block_unmade (body spot ds ss) part.rest asks)
+    no_sirw : (x : Word) → HasControl x → as_sirw x ≡ None
+    no_sirw x is = as_sirw-other x (λ k. let other = sym (ap kind.kind_of is ∙ kind_of-pcw_word c at.fits) ∙ k in cc)
 
-  abbrev calls : Calls tree code texts nested short w lay img p q part outer bound core s [] [] (control c) a.0 a.1 part.instance j at.begin
-  calls =
-      record {
-        lies = at.lies;
-        fit = none_wanted;
-        given_few = omega arith;
-        marks = refl;
-        stands = at.stands;
-        in_reach = part_in_reach tree code texts w lay p part outer core.below s.stands.frame;
-        complete = complete;
-        known = is_inner.known;
-        around_is = is_inner.around_is;
-        linked = linked;
-        few = linked_few tree code texts w lay img s.by s.ok part.instance here_stands linked;
-        low = linked_low tree code texts w lay img s.by s.ok part.instance here_stands linked;
-        segment = s.stands.there.segment;
-        there = ap (λ (k : ℕ). slice_get code.segments k) (same_segment ∙ sym s.stands.segment_is) ∙ s.stands.there.there;
-        spells = subst (λ (k : ℕ). Spells (texts.placed k) s.stands.there.segment) (sym same_segment) s.stands.there.spells;
-        leads = λ m x is. subst (λ (y : Pcw). Leads code img core a.0 x m y linked.at) c_is
-            (block_leads code img core a.0 x m c linked.at (no_irw x is) (no_sirw x is) (ap as_pcw is ∙ as_pcw-pcw_word c at.fits) home_there);
-        calls = λ x is. subst (λ (y : Pcw). seen img.stacks (called_by x (cell_of core.registers x)) ≡ Ok y) c_is
-            (block_calls code img core a.0 x (record { entered = false; stack = 0; displacement = 0; df = 0 }) c linked.at (no_irw x is) (no_sirw x is) (ap as_pcw is ∙ as_pcw-pcw_word c at.fits));
-      }
+    -- no arrays are still to be made
+    complete : IsComplete sc w lay part.instance
+    complete =
+        complete_of sc w lay p part.instance outer (length s.stands.frame.lower) s.stands.frame.mark s.stands.frame.control s.stands.frame.cells own_frame.framed
+        (own_frame.making ∙ block_unmade (body spot ds ss) part.rest asks)
 
-  -- ---- its code
+    abbrev calls : Calls tree code texts nested short (actor_of s) [] [] (control c) a.0 a.1 part.instance j at.begin
+    calls =
+        record {
+          lies = at.lies;
+          fit = none_wanted;
+          given_few = omega arith;
+          marks = refl;
+          stands = at.stands;
+          in_reach = part_in_reach tree code texts w lay p part outer core.below s.stands.frame;
+          complete = complete;
+          known = is_inner.known;
+          around_is = is_inner.around_is;
+          linked = linked;
+          few = linked_few tree code texts w lay img s.by s.ok part.instance here_stands linked;
+          low = linked_low tree code texts w lay img s.by s.ok part.instance here_stands linked;
+          segment = s.stands.there.segment;
+          there = ap (λ (k : ℕ). slice_get code.segments k) (same_segment ∙ sym s.stands.segment_is) ∙ s.stands.there.there;
+          spells = subst (λ (k : ℕ). Spells (texts.placed k) s.stands.there.segment) (sym same_segment) s.stands.there.spells;
+          leads = λ m x is. subst (λ (y : Pcw). Leads code img core a.0 x m y linked.at) c_is
+              (block_leads code img core a.0 x m c linked.at (no_irw x is) (no_sirw x is) (ap as_pcw is ∙ as_pcw-pcw_word c at.fits) home_there);
+          calls = λ x is. subst (λ (y : Pcw). seen img.stacks (called_by x (cell_of core.registers x)) ≡ Ok y) c_is
+              (block_calls code img core a.0 x (record { entered = false; stack = 0; displacement = 0; df = 0 }) c linked.at (no_irw x is) (no_sirw x is) (ap as_pcw is ∙ as_pcw-pcw_word c at.fits));
+        }
 
-  zeros_many : length (variables ds) ≡ length (zero_cells b)
-  zeros_many =
-      ap (λ (x : PDecls). length (variables x)) (sym is_inner.decls_are)
-      ∙ ap (λ (o : Option Kind). length (result_of o b.name ++ variables b.decls)) (sym is_inner.result)
+    -- ---- its code
 
-  -- its actuals are those that stand in these declarations and these statements
-  actuals_are : actuals_in_block sc ds ss ≡ actuals_of sc b
-  actuals_are = ap (λ (x : PDecls). actuals_in_block sc x ss) (sym is_inner.decls_are) ∙ ap (λ (x : PStmts). actuals_in_block sc b.decls x) (sym is_inner.stmts_are)
+    zeros_many : length (variables ds) ≡ length (zero_cells b)
+    zeros_many =
+        ap (λ (x : PDecls). length (variables x)) (sym is_inner.decls_are)
+        ∙ ap (λ (o : Option Kind). length (result_of o b.name ++ variables b.decls)) (sym is_inner.result)
 
-  room : controls_count sc j + decls_depth ds + stmts_depth ss ≤ 4 * tokens_around tree j
-  room =
-      omega (
-        arith,
-        at.shallow,
-        ap (λ (x : PDecls). length (procedures x)) is_inner.decls_are,
-        ap (λ (x : PDecls). arguments_in_decls x) is_inner.decls_are,
-        ap (λ (x : PStmts). arguments_in_stmts x) is_inner.stmts_are,
-        actuals_are_few sc b,
-        ap (λ (k : ℕ). segment_tokens tree k) same_segment,
-      )
+    -- its actuals are those that stand in these declarations and these statements
+    actuals_are : actuals_in_block sc ds ss ≡ actuals_of sc b
+    actuals_are = ap (λ (x : PDecls). actuals_in_block sc x ss) (sym is_inner.decls_are) ∙ ap (λ (x : PStmts). actuals_in_block sc b.decls x) (sym is_inner.stmts_are)
 
-  abbrev begun : ℕ
-  begun = at.code.1
+    room : controls_count sc j + decls_depth ds + stmts_depth ss ≤ 4 * tokens_around tree j
+    room =
+        omega (
+          arith,
+          at.shallow,
+          ap (λ (x : PDecls). length (procedures x)) is_inner.decls_are,
+          ap (λ (x : PDecls). arguments_in_decls x) is_inner.decls_are,
+          ap (λ (x : PStmts). arguments_in_stmts x) is_inner.stmts_are,
+          actuals_are_few sc b,
+          ap (λ (k : ℕ). segment_tokens tree k) same_segment,
+        )
 
-  abbrev declared : ℕ
-  declared = at.code.2
+    abbrev begun : ℕ
+    begun = at.code.1
 
-  abbrev end : ℕ
-  end = at.code.3
+    abbrev declared : ℕ
+    declared = at.code.2
 
-  -- the cells, with the code of the actuals at these places
-  abbrev CellsThere : Context → List Placed → ℕ → ℕ → PDecls → List Actual → Type 0
-  CellsThere x ps l many declarations actuals = CellsAt sc x ps l many (control_pcws sc x.segment l declarations actuals at.code.0) at.begin begun
+    abbrev end : ℕ
+    end = at.code.3
 
-  cells_there : CellsThere (context_of code texts sc j) (texts.placed (segment_of sc.blocks j)) (level_of b) (length (zero_cells b)) b.decls (actuals_of sc b)
-  cells_there =
-      subst (λ (n : ℕ). CellsThere (context_of code texts sc j) (texts.placed (segment_of sc.blocks j)) (level_of b) n b.decls (actuals_of sc b)) zeros_many
-      (subst (λ (x : PDecls). CellsThere (context_of code texts sc j) (texts.placed (segment_of sc.blocks j)) (level_of b) (length (variables ds)) x (actuals_of sc b)) (sym is_inner.decls_are)
-      (subst (λ (as' : List Actual). CellsThere (context_of code texts sc j) (texts.placed (segment_of sc.blocks j)) (level_of b) (length (variables ds)) ds as') actuals_are
-      (in_text (λ x ps l. CellsThere x ps l (length (variables ds)) ds (actuals_in_block sc ds ss)) at.code.6)))
+    -- the cells, with the code of the actuals at these places
+    abbrev CellsThere : Context → List Placed → ℕ → ℕ → PDecls → List Actual → Type 0
+    CellsThere x ps l many declarations actuals = CellsAt sc x ps l many (control_pcws sc x.segment l declarations actuals at.code.0) at.begin begun
 
-  -- its declarations, its statements and its end, and what it has to do
-  declarations_there : DeclsAt sc (context_of code texts sc j) (texts.placed (segment_of sc.blocks j)) (level_of b) ds begun declared
-  declarations_there = in_text (λ x ps l. DeclsAt sc x ps l ds begun declared) at.code.7
+    cells_there : CellsThere (context_of code texts sc j) (texts.placed (segment_of sc.blocks j)) (level_of b) (length (zero_cells b)) b.decls (actuals_of sc b)
+    cells_there =
+        subst (λ (n : ℕ). CellsThere (context_of code texts sc j) (texts.placed (segment_of sc.blocks j)) (level_of b) n b.decls (actuals_of sc b)) zeros_many
+        (subst (λ (x : PDecls). CellsThere (context_of code texts sc j) (texts.placed (segment_of sc.blocks j)) (level_of b) (length (variables ds)) x (actuals_of sc b)) (sym is_inner.decls_are)
+        (subst (λ (as' : List Actual). CellsThere (context_of code texts sc j) (texts.placed (segment_of sc.blocks j)) (level_of b) (length (variables ds)) ds as') actuals_are
+        (in_text (λ x ps l. CellsThere x ps l (length (variables ds)) ds (actuals_in_block sc ds ss)) at.code.6)))
 
-  statements_there : StmtsAt sc (context_of code texts sc j) (texts.placed (segment_of sc.blocks j)) (level_of b) ss declared end end
-  statements_there = in_text (λ x ps l. StmtsAt sc x ps l ss declared end end) at.code.8
+    -- its declarations, its statements and its end, and what it has to do
+    declarations_there : DeclsAt sc (context_of code texts sc j) (texts.placed (segment_of sc.blocks j)) (level_of b) ds begun declared
+    declarations_there = in_text (λ x ps l. DeclsAt sc x ps l ds begun declared) at.code.7
 
-  end_there : Has (texts.placed (segment_of sc.blocks j)) (level_of b) end (ops.Plain kinds.Exit) at.code.4
-  end_there = in_text (λ x ps l. Has ps l end (ops.Plain kinds.Exit) at.code.4) at.code.9
+    statements_there : StmtsAt sc (context_of code texts sc j) (texts.placed (segment_of sc.blocks j)) (level_of b) ss declared end end
+    statements_there = in_text (λ x ps l. StmtsAt sc x ps l ss declared end end) at.code.8
 
-  items_are : items_of b ≡ decls_items ds ++ items ss []
-  items_are =
-      plain_items b is_inner.result
-      ∙ ap (λ (x : PDecls). decls_items x ++ items b.stmts []) is_inner.decls_are
-      ∙ ap (λ (x : PStmts). decls_items ds ++ items x []) is_inner.stmts_are
+    end_there : Has (texts.placed (segment_of sc.blocks j)) (level_of b) end (ops.Plain kinds.Exit) at.code.4
+    end_there = in_text (λ x ps l. Has ps l end (ops.Plain kinds.Exit) at.code.4) at.code.9
 
-  abbrev block_body : Body tree code texts nested short fragments begins_so keeps order w lay img p q part outer bound core s able_is able_p j at.begin
-  block_body =
-      record {
-        ready = at.begin;
-        start = begun;
-        ats = at.code.0;
-        routines = (
-          subst (λ (as' : List Actual). RoutinesAt sc (context_of code texts sc j) (texts.placed (segment_of sc.blocks j)) (level_of b + 1) as' at.code.0) actuals_are
-              (in_text (λ x ps l. RoutinesAt sc x ps (l + 1) (actuals_in_block sc ds ss) at.code.0) at.code.5),
-          controls_fit (texts.placed (segment_of sc.blocks j)) (level_of b) (block_controls sc j at.code.0) cells_there.0 cells_there.1 cells_there.3,
-        );
-        items = (
-          begun,
-          subst (λ (k : List Item). KAt sc (context_of code texts sc j) (texts.placed (segment_of sc.blocks j)) (level_of b) k begun) (sym items_are)
-              (follow sc (context_of code texts sc j) (texts.placed (segment_of sc.blocks j)) (level_of b) ds ss begun declared end at.code.4 declarations_there statements_there
-              (ap yields_of is_inner.result) end_there),
-        );
-        over = stop;
-        cells_at = cells_there;
-        comes = subst (λ (k : List Item). ComesTo sc (context_of code texts sc j) (texts.placed (segment_of sc.blocks j)) (level_of b) (most_around tree j) (settle_items sc k) begun [])
-            (sym items_are)
-            (starts sc (context_of code texts sc j) (texts.placed (segment_of sc.blocks j)) (level_of b) (most_around tree j) ds ss begun declared end at.code.4 declarations_there statements_there
-            (ap yields_of is_inner.result) end_there (omega (arith, room)));
-        small = omega (arith, room);
-      }
+    items_are : items_of b ≡ decls_items ds ++ items ss []
+    items_are =
+        plain_items b is_inner.result
+        ∙ ap (λ (x : PDecls). decls_items x ++ items b.stmts []) is_inner.decls_are
+        ∙ ap (λ (x : PStmts). decls_items ds ++ items x []) is_inner.stmts_are
 
-  abbrev behind : GoesOnBehind tree code texts nested short fragments begins_so keeps order w lay img p q part outer bound core s able_is able_p a.0 a.1 j
-  behind =
-      record {
-        unmade = unmade part.rest (ap makes asks);
-        waits = waits a.0 a.1 yielding.nothing (refl, refl, refl);
-        returns = subst (λ (o : Option Kind). (r : Answer) → Gives (yields_of o) r →
-            ComesTo sc (context_in tree code texts w part s.stands.frame.gives) (text_in tree texts w part) level (most_in tree w part) (resume sc (resume sc part.rest entered) r) a.0 (pushed (yields_of o) r a.1)) (sym is_inner.result)
-            (λ r given. returns a.0 a.1 yielding.nothing (refl, refl, refl) r given);
-      }
+    abbrev block_body : Body tree code texts nested short fragments begins_so keeps order actor j at.begin
+    block_body =
+        record {
+          ready = at.begin;
+          start = begun;
+          ats = at.code.0;
+          routines = (
+            subst (λ (as' : List Actual). RoutinesAt sc (context_of code texts sc j) (texts.placed (segment_of sc.blocks j)) (level_of b + 1) as' at.code.0) actuals_are
+                (in_text (λ x ps l. RoutinesAt sc x ps (l + 1) (actuals_in_block sc ds ss) at.code.0) at.code.5),
+            controls_fit (texts.placed (segment_of sc.blocks j)) (level_of b) (block_controls sc j at.code.0) cells_there.0 cells_there.1 cells_there.3,
+          );
+          items = (
+            begun,
+            subst (λ (k : List Item). KAt sc (context_of code texts sc j) (texts.placed (segment_of sc.blocks j)) (level_of b) k begun) (sym items_are)
+                (follow sc (context_of code texts sc j) (texts.placed (segment_of sc.blocks j)) (level_of b) ds ss begun declared end at.code.4 declarations_there statements_there
+                (ap yields_of is_inner.result) end_there),
+          );
+          over = stop;
+          cells_at = cells_there;
+          comes = subst (λ (k : List Item). ComesTo sc (context_of code texts sc j) (texts.placed (segment_of sc.blocks j)) (level_of b) (most_around tree j) (settle_items sc k) begun [])
+              (sym items_are)
+              (starts sc (context_of code texts sc j) (texts.placed (segment_of sc.blocks j)) (level_of b) (most_around tree j) ds ss begun declared end at.code.4 declarations_there statements_there
+              (ap yields_of is_inner.result) end_there (omega (arith, room)));
+          small = omega (arith, room);
+        }
 
-  -- nothing is given to it
-  no_cells : parameter_cells sc b ≡ []
-  no_cells = none_given sc b (nested.nested.each j is_inner.known).parameters is_inner.parameters
+    abbrev behind : GoesOnBehind tree code texts nested short fragments begins_so keeps order actor a.0 a.1 j
+    behind =
+        record {
+          unmade = unmade part.rest (ap makes asks);
+          waits = waits a.0 a.1 yielding.nothing (refl, refl, refl);
+          returns = subst (λ (o : Option Kind). (r : Answer) → Gives (yields_of o) r →
+              ComesTo sc (context_in tree code texts w part s.stands.frame.gives) (text_in tree texts w part) level (most_in tree w part) (resume sc (resume sc part.rest entered) r) a.0 (pushed (yields_of o) r a.1)) (sym is_inner.result)
+              (λ r given. returns a.0 a.1 yielding.nothing (refl, refl, refl) r given);
+        }
 
-  abbrev AreCellsThere : List Cell → List Word → Type 0
-  AreCellsThere given ws = AreCells tree code texts nested short fragments begins_so keeps order w lay img p q part outer bound core s able_is able_p j given ws
+    -- nothing is given to it
+    no_cells : parameter_cells sc b ≡ []
+    no_cells = none_given sc b (nested.nested.each j is_inner.known).parameters is_inner.parameters
 
-  none_there : (ws : List Word) → ActualsAre sc s.stands.held (level_in tree w part) (frame core.registers) (length core.below) [] [] ws → AreCellsThere [] ws
-  none_there [] are = record { cells = none_are sc b no_cells is_inner.parameters; lead = none_lead sc w lay (IsInReach w (part ∷ outer)) b no_cells is_inner.parameters }
-  none_there (x ∷ ws) are = absurd are
+    abbrev AreCellsThere : List Cell → List Word → Type 0
+    AreCellsThere given ws = AreCells tree code texts nested short fragments begins_so keeps order actor j given ws
 
-  pub entering_block : Does tree code texts w img p
-  entering_block =
-      entering tree code texts nested short fragments begins_so keeps order w lay img p q part outer bound core s able_is able_p [] [] (control c) a.0 a.1 part.instance j at.begin calls block refl block_body behind [] none_there
-      (choice_is sc w p q part outer s.at s.todo ∙ ap (λ (k : Ask). choice_of sc w p q part outer k) asks)
+    none_there : (ws : List Word) → ActualsAre sc s.stands.held (level_in tree w part) (frame core.registers) (length core.below) [] [] ws → AreCellsThere [] ws
+    none_there [] are = record { cells = none_are sc b no_cells is_inner.parameters; lead = none_lead sc w lay (IsInReach w (part ∷ outer)) b no_cells is_inner.parameters }
+    none_there (x ∷ ws) are = absurd are
+
+    pub entering_block : Does tree code texts w img p
+    entering_block =
+        entering tree code texts nested short fragments begins_so keeps order actor [] [] (control c) a.0 a.1 part.instance j at.begin calls block refl block_body behind [] none_there
+        (choice_is sc w p q part outer s.at s.todo ∙ ap (λ (k : Ask). choice_of sc w p q part outer k) asks)

@@ -1,243 +1,212 @@
 -- The procedure that an entry or a START names: the frame that holds it, and its control word there.
 use Rattle.std.proofs.Common.{◌≡◌, sym, ap, ◌∙◌, subst, ℕ, suc, ◌+◌, ◌≤◌, ◌<◌, List, ◌∷◌, ◌++◌, length, Option, Some, true, arith}
-use Rattle.std.specs.Prelude.{slice_get}
-use Rattle.algol_tree.specs.declared.tree.Named.{Named}
-use Rattle.algol_tree.specs.Plain.{PProgram}
-use Rattle.algol_tree.specs.Blocks.{Block, block_numbered, number_at, around}
-use Rattle.algol_tree.specs.Cells.{level_of}
-use Rattle.algol_tree.specs.Scopes.{Scopes, scopes_of, use_of}
-use Rattle.algol_meaning.specs.World.{Instance, Process, Part, World, instance_at, or_no_instance, ancestor}
-use Rattle.algol_paths.specs.Blocks.{IsSeen}
-use Rattle.algol_paths.specs.Segments.{is_procedure, segment_of}
-use Rattle.b67_word.specs.Word.{Word}
-use Rattle.b67_control.specs.declared.Pcw.{Pcw}
-use Rattle.b67_control.specs.Control.{Fits_pcw, pcw_word}
-use Rattle.b67_ops.specs.declared.Couple.{Couple}
-use Rattle.b67_ops.specs.declared.TheConstants.{OUTER_LEVEL}
-use Rattle.b67_segment.specs.declared.code.Code.{Code}
-use Rattle.b67_segment.specs.declared.code.Segment.{Segment}
-use Rattle.b67_store.specs.Store.{word_at}
-use Rattle.b67_word.specs.declared.Place.{Place}
-use Rattle.b67_table.specs.Chains.{place}
-use Rattle.b67_table.specs.Image.{Image}
-use Rattle.b67_table.specs.Private.{display_at}
-use Rattle.b67_templates.specs.Cells.{simple_cells, procedures, made_base, IsProcedure}
-use Rattle.b67_templates.specs.Fragments.{code_at}
-use Rattle.b67_templates.specs.Programs.{Texts, ProgramAt}
-use Rattle.b67_cores.specs.Cores.{Core}
-use Rattle.b67_cores.specs.Stretches.{control_words}
-use Rattle.b67_templates.specs.Nested.{LiesNested, IsDeclared}
-use Rattle.b67_rows.proofs.Numbers.{get_within, get_below}
-use Rattle.b67_rows.proofs.Segmented.{before_whole, segment_low, procedure_segment, get_mapped}
-use Rattle.b67_rows.proofs.StackWords.{get-front, get-behind}
+use Rattle.b67_pictures.proofs.Prelude.{slice_get, Block, block_numbered, number_at, around, level_of, PProgram, Scopes, scopes_of, use_of, Named, Instance, instance_at, or_no_instance, ancestor, IsSeen, is_procedure, segment_of, Word, Place, pcw_word, Pcw, Couple, OUTER_LEVEL, Code, Segment, word_at, get_within as get_below, place, display_at, simple_cells, procedures, made_base, IsProcedure, code_at, LiesNested, Texts, ProgramAt, control_words, segment_low, get-front, get-behind, Linked, level_around, as_many_values, IsParent, IsInReach, block_controls, Found, named_parent, named_seen, named_shown, Actor, Seen, names_in}
+use Rattle.b67_control.specs.Control.{Fits_pcw}
+use Rattle.b67_templates.specs.Nested.{IsDeclared}
+use Rattle.b67_rows.proofs.Numbers.{get_within}
+use Rattle.b67_rows.proofs.Segmented.{before_whole, procedure_segment, get_mapped}
 use Rattle.b67_rows.proofs.Parents.{length_around}
-use Rattle.b67_frames.specs.Arrays.{Layout}
-use Rattle.b67_frames.specs.Frames.{IsInReach, block_controls}
 use Rattle.b67_frames.proofs.ControlWords.{get_control}
-use Rattle.b67_frames.proofs.FreshCells.{words_long}
-use Rattle.b67_frames.proofs.Linked.{Linked, level_around}
 use Rattle.b67_frames.proofs.Lying.{Lies}
-use Rattle.b67_frames.proofs.StaticParents.{IsParent}
-use Rattle.b67_scenes.proofs.Finding.{Found}
-use Rattle.b67_scenes.proofs.Led.{named_parent, named_reached, named_seen, named_shown}
-use Rattle.b67_scenes.proofs.Sights.{Seen, cell_below, cell_lies as seen_word}
+use Rattle.b67_scenes.proofs.Led.{named_reached}
+use Rattle.b67_scenes.proofs.Sights.{cell_below, cell_lies as seen_word}
 use Rattle.b67_pictures.proofs.ParentPlaces.{standing_linked, found_linked}
-use Rattle.b67_scenes.proofs.Scene.{Scene}
-use Rattle.b67_scenes.proofs.Staying.{names_in}
 
 module _ (tree : PProgram) (code : Code) (program : ProgramAt code tree) (nested : LiesNested tree)
-    (w : World) (lay : Layout) (img : Image) (p : ℕ) (q : Process) (part : Part) (outer : List Part) (bound : ℕ) (core : Core)
-    (s : Scene tree code program.texts w lay img p q part outer bound core) (n : Named) (callee : ℕ) (couple : Couple)
-    (named : IsProcedure (scopes_of tree) (names_in tree w part) n callee couple) (seen_there : IsSeen (scopes_of tree) ((instance_at w part.instance).block) n) where
-  -- The instance that holds it is an ancestor, whose frame lies in whatever stack; the procedure's segment is there, and its control word lies in that frame.
-  pub record CalledProcedure : Type 0 where
-    pub parent : IsParent (scopes_of tree) w lay part.instance ((use_of (scopes_of tree) n).up) ((use_of (scopes_of tree) n).block)
-    pub in_reach : IsInReach w (part ∷ outer) (ancestor w (use_of (scopes_of tree) n).up part.instance)
-    pub seen_frame : Seen tree code program.texts w lay img p q part outer bound core s (ancestor w (use_of (scopes_of tree) n).up part.instance)
-    pub linked : Linked (scopes_of tree) w lay img.stacks (ancestor w (use_of (scopes_of tree) n).up part.instance)
-    pub u_known : (use_of (scopes_of tree) n).block < length (scopes_of tree).blocks
-    pub known : callee < length (scopes_of tree).blocks
-    pub around_is : around (scopes_of tree).blocks callee ≡ (instance_at w (ancestor w (use_of (scopes_of tree) n).up part.instance)).block ∷ around (scopes_of tree).blocks ((instance_at w (ancestor w (use_of (scopes_of tree) n).up part.instance)).block)
-    pub is_own : is_procedure (block_numbered (scopes_of tree).blocks callee) ≡ true
-    pub fits : Fits_pcw (code_at (segment_of (scopes_of tree).blocks callee) 0 (level_of (block_numbered (scopes_of tree).blocks callee)))
-    pub segment_there : (x : Segment) × (slice_get code.segments (segment_of (scopes_of tree).blocks callee) ≡ Some x)
-    pub entry_lies : word_at img.stacks (record { stack = (linked.at).stack; at = (linked.at).at + couple.index }) ≡ Some (pcw_word (code_at (segment_of (scopes_of tree).blocks callee) 0 (level_of (block_numbered (scopes_of tree).blocks callee))))
-    pub shown : display_at core.registers couple.level ≡ Some linked.at
-    pub level_low : names_in tree w part ≤ 31
-    pub level_new : level_of (block_numbered (scopes_of tree).blocks callee) ≡ level_of (block_numbered (scopes_of tree).blocks ((use_of (scopes_of tree) n).block)) + 1
+    (actor : Actor tree code program.texts) where
+  open actor use {w, lay, img, part, outer, core, s}
 
-  abbrev sc : Scopes
-  sc = scopes_of tree
+  module _ (n : Named) (callee : ℕ) (couple : Couple)
+      (named : IsProcedure (scopes_of tree) (names_in tree w part) n callee couple) (seen_there : IsSeen (scopes_of tree) ((instance_at w part.instance).block) n) where
+    -- The instance that holds it is an ancestor, whose frame lies in whatever stack; the procedure's segment is there, and its control word lies in that frame.
+    pub record CalledProcedure : Type 0 where
+      pub parent : IsParent (scopes_of tree) w lay part.instance ((use_of (scopes_of tree) n).up) ((use_of (scopes_of tree) n).block)
+      pub in_reach : IsInReach w (part ∷ outer) (ancestor w (use_of (scopes_of tree) n).up part.instance)
+      pub seen_frame : Seen tree code program.texts actor (ancestor w (use_of (scopes_of tree) n).up part.instance)
+      pub linked : Linked (scopes_of tree) w lay img.stacks (ancestor w (use_of (scopes_of tree) n).up part.instance)
+      pub u_known : (use_of (scopes_of tree) n).block < length (scopes_of tree).blocks
+      pub known : callee < length (scopes_of tree).blocks
+      pub around_is : around (scopes_of tree).blocks callee ≡ (instance_at w (ancestor w (use_of (scopes_of tree) n).up part.instance)).block ∷ around (scopes_of tree).blocks ((instance_at w (ancestor w (use_of (scopes_of tree) n).up part.instance)).block)
+      pub is_own : is_procedure (block_numbered (scopes_of tree).blocks callee) ≡ true
+      pub fits : Fits_pcw (code_at (segment_of (scopes_of tree).blocks callee) 0 (level_of (block_numbered (scopes_of tree).blocks callee)))
+      pub segment_there : (x : Segment) × (slice_get code.segments (segment_of (scopes_of tree).blocks callee) ≡ Some x)
+      pub entry_lies : word_at img.stacks (record { stack = (linked.at).stack; at = (linked.at).at + couple.index }) ≡ Some (pcw_word (code_at (segment_of (scopes_of tree).blocks callee) 0 (level_of (block_numbered (scopes_of tree).blocks callee))))
+      pub shown : display_at core.registers couple.level ≡ Some linked.at
+      pub level_low : names_in tree w part ≤ 31
+      pub level_new : level_of (block_numbered (scopes_of tree).blocks callee) ≡ level_of (block_numbered (scopes_of tree).blocks ((use_of (scopes_of tree) n).block)) + 1
 
-  abbrev texts : Texts
-  texts = program.texts
+    abbrev sc : Scopes
+    sc = scopes_of tree
 
-  abbrev names : ℕ
-  names = names_in tree w part
+    abbrev texts : Texts
+    texts = program.texts
 
-  abbrev block : ℕ
-  block = (instance_at w part.instance).block
+    abbrev names : ℕ
+    names = names_in tree w part
 
-  -- ---- the instance that holds the procedure
+    abbrev block : ℕ
+    block = (instance_at w part.instance).block
 
-  abbrev up : ℕ
-  up = (use_of sc n).up
+    -- ---- the instance that holds the procedure
 
-  abbrev u : ℕ
-  u = (use_of sc n).block
+    abbrev up : ℕ
+    up = (use_of sc n).up
 
-  abbrev h : ℕ
-  h = ancestor w up part.instance
+    abbrev u : ℕ
+    u = (use_of sc n).block
 
-  high : up + OUTER_LEVEL ≤ names
-  high = omega (arith, length_around sc.blocks block, get_below (block ∷ around sc.blocks block) up u seen_there)
+    abbrev h : ℕ
+    h = ancestor w up part.instance
 
-  parent : IsParent sc w lay part.instance up u
-  parent = named_parent tree code texts w lay img p q part outer bound core s n seen_there
+    high : up + OUTER_LEVEL ≤ names
+    high = omega (arith, length_around sc.blocks block, get_below (block ∷ around sc.blocks block) up u seen_there)
 
-  in_reach : IsInReach w (part ∷ outer) h
-  in_reach = named_reached tree code texts w lay img p q part outer bound core s n seen_there
+    parent : IsParent sc w lay part.instance up u
+    parent = named_parent tree code texts actor n seen_there
 
-  -- its frame, in whatever stack
-  seen_frame : Seen tree code texts w lay img p q part outer bound core s h
-  seen_frame = named_seen tree code texts w lay img p q part outer bound core s n seen_there
+    in_reach : IsInReach w (part ∷ outer) h
+    in_reach = named_reached tree code texts actor n seen_there
 
-  abbrev found : Found tree code texts w lay img h
-  found = seen_frame.found
+    -- its frame, in whatever stack
+    seen_frame : Seen tree code texts actor h
+    seen_frame = named_seen tree code texts actor n seen_there
 
-  abbrev lies : Lies tree code texts w lay found.number (found.part ∷ found.outer) h found.settled
-  lies = found.lies
+    abbrev found : Found tree code texts w lay img h
+    found = seen_frame.found
 
-  linked : Linked sc w lay img.stacks h
-  linked = standing_linked tree code texts w lay img s.by s.ok h parent.stands
+    abbrev lies : Lies tree code texts w lay found.number (found.part ∷ found.outer) h found.settled
+    lies = found.lies
 
-  abbrev x : Instance
-  x = seen_frame.found.lies.owned.framed.instance
+    linked : Linked sc w lay img.stacks h
+    linked = standing_linked tree code texts w lay img s.by s.ok h parent.stands
 
-  block_is : x.block ≡ u
-  block_is = ap (λ (o : Option Instance). (or_no_instance o).block) (sym lies.owned.framed.is) ∙ ap (λ (k : ℕ). (instance_at w k).block) lies.instance_is ∙ parent.block
+    abbrev x : Instance
+    x = seen_frame.found.lies.owned.framed.instance
 
-  u_known : u < length sc.blocks
-  u_known = subst (λ (k : ℕ). k < length sc.blocks) block_is lies.owned.framed.known
+    block_is : x.block ≡ u
+    block_is = ap (λ (o : Option Instance). (or_no_instance o).block) (sym lies.owned.framed.is) ∙ ap (λ (k : ℕ). (instance_at w k).block) lies.instance_is ∙ parent.block
 
-  -- ---- the procedure
+    u_known : u < length sc.blocks
+    u_known = subst (λ (k : ℕ). k < length sc.blocks) block_is lies.owned.framed.known
 
-  declared : IsDeclared sc u named.declared
-  declared = (nested.nested.each u u_known).procedure named.number named.declared named.there
+    -- ---- the procedure
 
-  known : callee < length sc.blocks
-  known = subst (λ (k : ℕ). k < length sc.blocks) named.callee_is declared.known
+    declared : IsDeclared sc u named.declared
+    declared = (nested.nested.each u u_known).procedure named.number named.declared named.there
 
-  around_u : around sc.blocks callee ≡ u ∷ around sc.blocks u
-  around_u = subst (λ (k : ℕ). around sc.blocks k ≡ u ∷ around sc.blocks u) named.callee_is declared.around_is
+    known : callee < length sc.blocks
+    known = subst (λ (k : ℕ). k < length sc.blocks) named.callee_is declared.known
 
-  around_is : around sc.blocks callee ≡ (instance_at w h).block ∷ around sc.blocks ((instance_at w h).block)
-  around_is = subst (λ (k : ℕ). around sc.blocks callee ≡ k ∷ around sc.blocks k) (sym parent.block) around_u
+    around_u : around sc.blocks callee ≡ u ∷ around sc.blocks u
+    around_u = subst (λ (k : ℕ). around sc.blocks k ≡ u ∷ around sc.blocks u) named.callee_is declared.around_is
 
-  is_own : is_procedure (block_numbered sc.blocks callee) ≡ true
-  is_own = subst (λ (k : ℕ). is_procedure (block_numbered sc.blocks k) ≡ true) named.callee_is declared.procedure
+    around_is : around sc.blocks callee ≡ (instance_at w h).block ∷ around sc.blocks ((instance_at w h).block)
+    around_is = subst (λ (k : ℕ). around sc.blocks callee ≡ k ∷ around sc.blocks k) (sym parent.block) around_u
 
-  abbrev b : Block
-  b = block_numbered sc.blocks callee
+    is_own : is_procedure (block_numbered sc.blocks callee) ≡ true
+    is_own = subst (λ (k : ℕ). is_procedure (block_numbered sc.blocks k) ≡ true) named.callee_is declared.procedure
 
-  level_new : level_of b ≡ level_of (block_numbered sc.blocks u) + 1
-  level_new = omega (arith, level_around sc.blocks callee, ap length around_u, level_around sc.blocks u)
+    abbrev b : Block
+    b = block_numbered sc.blocks callee
 
-  abbrev c : Pcw
-  c = code_at (segment_of sc.blocks callee) 0 (level_of b)
+    level_new : level_of b ≡ level_of (block_numbered sc.blocks u) + 1
+    level_new = omega (arith, level_around sc.blocks callee, ap length around_u, level_around sc.blocks u)
 
-  fits : Fits_pcw c
-  fits = (
-    omega (arith, segment_low sc.blocks (callee ∷ around sc.blocks callee) 1023 nested.nested.procedures_few),
-    (omega arith, (omega arith, (omega (arith, (nested.nested.each callee known).low), (omega arith, tt)))),
-  )
+    abbrev c : Pcw
+    c = code_at (segment_of sc.blocks callee) 0 (level_of b)
 
-  -- its segment
-  segment_there : (x : Segment) × (slice_get code.segments (segment_of sc.blocks callee) ≡ Some x)
-  segment_there =
-      get_within code.segments (segment_of sc.blocks callee)
-      (omega (arith, program.many, procedure_segment sc.blocks callee is_own, before_whole sc.blocks (suc callee)))
+    fits : Fits_pcw c
+    fits = (
+      omega (arith, segment_low sc.blocks (callee ∷ around sc.blocks callee) 1023 nested.nested.procedures_few),
+      (omega arith, (omega arith, (omega (arith, (nested.nested.each callee known).low), (omega arith, tt)))),
+    )
 
-  -- ---- its control word
+    -- its segment
+    segment_there : (x : Segment) × (slice_get code.segments (segment_of sc.blocks callee) ≡ Some x)
+    segment_there =
+        get_within code.segments (segment_of sc.blocks callee)
+        (omega (arith, program.many, procedure_segment sc.blocks callee is_own, before_whole sc.blocks (suc callee)))
 
-  abbrev far : ℕ
-  far = length (simple_cells sc (block_numbered sc.blocks u)) + named.number
+    -- ---- its control word
 
-  abbrev controls_there : List Word
-  controls_there = control_words (block_controls sc x.block lies.owned.framed.ats)
+    abbrev far : ℕ
+    far = length (simple_cells sc (block_numbered sc.blocks u)) + named.number
 
-  control_lies : slice_get controls_there named.number ≡ Some (pcw_word c)
-  control_lies =
-      ap (λ (k : ℕ). slice_get (control_words (block_controls sc k lies.owned.framed.ats)) named.number) block_is
-      ∙ get_control sc u lies.owned.framed.ats named.number
-      (segment_of sc.blocks (number_at sc.blocks named.declared.spot))
-      (get_mapped (λ (m : Named). segment_of sc.blocks (number_at sc.blocks m.spot)) (procedures (block_numbered sc.blocks u).decls) named.number named.declared named.there)
-      ∙ ap (λ (k : ℕ). Some (pcw_word (code_at (segment_of sc.blocks k) 0 (level_of (block_numbered sc.blocks u) + 1)))) named.callee_is
-      ∙ ap (λ (l : ℕ). Some (pcw_word (code_at (segment_of sc.blocks callee) 0 l))) (sym level_new)
+    abbrev controls_there : List Word
+    controls_there = control_words (block_controls sc x.block lies.owned.framed.ats)
 
-  -- it lies after the values, before the descriptors of arrays
-  cells_lie : slice_get lies.frame.cells far ≡ Some (pcw_word c)
-  cells_lie =
-      ap (λ (ws : List Word). slice_get ws far) lies.owned.framed.cells_is
-      ∙ get-behind lies.owned.framed.values (controls_there ++ lies.owned.framed.descriptors) named.number far
-      (omega (
-        arith,
-        words_long (simple_cells sc (block_numbered sc.blocks x.block)) lies.owned.framed.simple lies.owned.framed.values lies.owned.framed.simple_are,
-        ap (λ (k : ℕ). length (simple_cells sc (block_numbered sc.blocks k))) block_is,
-      ))
-      ∙ get-front controls_there lies.owned.framed.descriptors named.number (pcw_word c) control_lies
+    control_lies : slice_get controls_there named.number ≡ Some (pcw_word c)
+    control_lies =
+        ap (λ (k : ℕ). slice_get (control_words (block_controls sc k lies.owned.framed.ats)) named.number) block_is
+        ∙ get_control sc u lies.owned.framed.ats named.number
+        (segment_of sc.blocks (number_at sc.blocks named.declared.spot))
+        (get_mapped (λ (m : Named). segment_of sc.blocks (number_at sc.blocks m.spot)) (procedures (block_numbered sc.blocks u).decls) named.number named.declared named.there)
+        ∙ ap (λ (k : ℕ). Some (pcw_word (code_at (segment_of sc.blocks k) 0 (level_of (block_numbered sc.blocks u) + 1)))) named.callee_is
+        ∙ ap (λ (l : ℕ). Some (pcw_word (code_at (segment_of sc.blocks callee) 0 l))) (sym level_new)
 
-  far_low : 2 + far < made_base sc (block_numbered sc.blocks ((instance_at w h).block))
-  far_low =
-      omega (
-        arith,
-        ap (λ (k : ℕ). made_base sc (block_numbered sc.blocks k)) parent.block,
-        get_below (procedures (block_numbered sc.blocks u).decls) named.number named.declared named.there,
-      )
+    -- it lies after the values, before the descriptors of arrays
+    cells_lie : slice_get lies.frame.cells far ≡ Some (pcw_word c)
+    cells_lie =
+        ap (λ (ws : List Word). slice_get ws far) lies.owned.framed.cells_is
+        ∙ get-behind lies.owned.framed.values (controls_there ++ lies.owned.framed.descriptors) named.number far
+        (omega (
+          arith,
+          as_many_values (simple_cells sc (block_numbered sc.blocks x.block)) lies.owned.framed.simple lies.owned.framed.values lies.owned.framed.simple_are,
+          ap (λ (k : ℕ). length (simple_cells sc (block_numbered sc.blocks k))) block_is,
+        ))
+        ∙ get-front controls_there lies.owned.framed.descriptors named.number (pcw_word c) control_lies
 
-  below : length lies.frame.lower + (2 + far) < length found.core.below
-  below = cell_below tree code texts w lay img p q part outer bound core s h seen_frame far (get_below lies.frame.cells far (pcw_word c) cells_lie) far_low
+    far_low : 2 + far < made_base sc (block_numbered sc.blocks ((instance_at w h).block))
+    far_low =
+        omega (
+          arith,
+          ap (λ (k : ℕ). made_base sc (block_numbered sc.blocks k)) parent.block,
+          get_below (procedures (block_numbered sc.blocks u).decls) named.number named.declared named.there,
+        )
 
-  linked_at : linked.at ≡ place found.number (length lies.frame.lower)
-  linked_at = found_linked tree code texts w lay img s.by s.ok h parent.stands linked found
+    below : length lies.frame.lower + (2 + far) < length found.core.below
+    below = cell_below tree code texts actor h seen_frame far (get_below lies.frame.cells far (pcw_word c) cells_lie) far_low
 
-  entry_lies : word_at img.stacks (record { stack = (linked.at).stack; at = (linked.at).at + couple.index }) ≡ Some (pcw_word c)
-  entry_lies =
-      ap (λ (g : Place). word_at img.stacks (record { stack = g.stack; at = g.at + couple.index })) linked_at
-      ∙ ap (λ (k : ℕ). word_at img.stacks (place found.number (length lies.frame.lower + k))) index_far
-      ∙ seen_word tree code texts w lay img p q part outer bound core s h seen_frame far (pcw_word c) cells_lie below
-    where
-      index_far : couple.index ≡ 2 + far
-      index_far = omega (arith, named.index_is)
+    linked_at : linked.at ≡ place found.number (length lies.frame.lower)
+    linked_at = found_linked tree code texts w lay img s.by s.ok h parent.stands linked found
 
-  shown : display_at core.registers couple.level ≡ Some linked.at
-  shown = named_shown tree code texts w lay img p q part outer bound core s n seen_there couple.level (omega (arith, named.level_is)) seen_frame ∙ ap (λ (g : Place). Some g) (sym linked_at)
+    entry_lies : word_at img.stacks (record { stack = (linked.at).stack; at = (linked.at).at + couple.index }) ≡ Some (pcw_word c)
+    entry_lies =
+        ap (λ (g : Place). word_at img.stacks (record { stack = g.stack; at = g.at + couple.index })) linked_at
+        ∙ ap (λ (k : ℕ). word_at img.stacks (place found.number (length lies.frame.lower + k))) index_far
+        ∙ seen_word tree code texts actor h seen_frame far (pcw_word c) cells_lie below
+      where
+        index_far : couple.index ≡ 2 + far
+        index_far = omega (arith, named.index_is)
 
-  -- ---- its reference
+    shown : display_at core.registers couple.level ≡ Some linked.at
+    shown = named_shown tree code texts actor n seen_there couple.level (omega (arith, named.level_is)) seen_frame ∙ ap (λ (g : Place). Some g) (sym linked_at)
 
-  level_low : names ≤ 31
-  level_low =
-      omega (
-        arith,
-        ap (λ (o : Option Instance). level_of (block_numbered sc.blocks ((or_no_instance o).block))) s.stands.frame.is,
-        (nested.nested.each s.stands.frame.instance.block s.stands.frame.known).low,
-      )
+    -- ---- its reference
 
-  pub called_procedure : CalledProcedure
-  called_procedure =
-      record {
-        parent = parent;
-        in_reach = in_reach;
-        seen_frame = seen_frame;
-        linked = linked;
-        u_known = u_known;
-        known = known;
-        around_is = around_is;
-        is_own = is_own;
-        fits = fits;
-        segment_there = segment_there;
-        entry_lies = entry_lies;
-        shown = shown;
-        level_low = level_low;
-        level_new = level_new;
-      }
+    level_low : names ≤ 31
+    level_low =
+        omega (
+          arith,
+          ap (λ (o : Option Instance). level_of (block_numbered sc.blocks ((or_no_instance o).block))) s.stands.frame.is,
+          (nested.nested.each s.stands.frame.instance.block s.stands.frame.known).low,
+        )
+
+    pub called_procedure : CalledProcedure
+    called_procedure =
+        record {
+          parent = parent;
+          in_reach = in_reach;
+          seen_frame = seen_frame;
+          linked = linked;
+          u_known = u_known;
+          known = known;
+          around_is = around_is;
+          is_own = is_own;
+          fits = fits;
+          segment_there = segment_there;
+          entry_lies = entry_lies;
+          shown = shown;
+          level_low = level_low;
+          level_new = level_new;
+        }

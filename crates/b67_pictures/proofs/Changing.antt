@@ -1,70 +1,15 @@
 -- An action changes a cell of an instance whose frame lies in the stack of whatever process: the image after it pictures the world after it.
 use Rattle.std.proofs.Common.{◌≡◌, ◌≢◌, ◌⊎◌, inl, inr, refl, sym, ap, ◌∙◌, subst, ℕ, ◌+◌, ◌<◌, ◌≤◌, List, ◌∷◌, ◌++◌, length, Option, Some, Bool, false, arith, true, []}
-use Rattle.std.specs.Prelude.{if◌then◌else◌, slice_get}
-use Rattle.b67_list.specs.Numbered.{numbered}
-use Rattle.algol_tree.specs.Blocks.{block_numbered}
-use Rattle.algol_tree.specs.Plain.{PProgram}
-use Rattle.algol_tree.specs.Scopes.{Scopes, scopes_of}
-use Rattle.algol_meaning.specs.Critical.{referred_in}
-use Rattle.algol_meaning.specs.Rest.{Answer}
-use Rattle.algol_meaning.specs.Value.{Cell}
-use Rattle.algol_tree.specs.Sorts.{same_name}
-use Rattle.algol_meaning.specs.World.{NamedCell, Instance, Process, Part, State, lives, World, or_no_instance, with_process, cells_with, instance_at}
-use Rattle.algol_meaning.specs.Asks.{resume}
-use Rattle.algol_meaning.specs.Events.{list_in}
-use Rattle.algol_paths.specs.Arrays.{Made, all_to_make, all_left_to_make}
-use Rattle.algol_paths.specs.Laws.{RestsKeepToTheirText, AllIsMadeInOrder}
-use Rattle.algol_paths.specs.Texts.{InAnswer}
-use Rattle.algol_paths.specs.Blocks.{IsSeen}
-use Rattle.algol_standing.specs.Skeleton.{IsIn}
-use Rattle.algol_standing.specs.Worlds.{referred_in_cells, IsStanding, IsOwn}
-use Rattle.algol_standing.proofs.Seen.{in_front, in_back, in_either}
-use Rattle.b67_word.specs.Word.{Word}
-use Rattle.b67_control.specs.declared.Registers.{Registers}
-use Rattle.b67_segment.specs.declared.code.Code.{Code}
-use Rattle.b67_store.specs.Store.{stack_at, word_at, stack_limit}
-use Rattle.b67_table.specs.declared.ProcessState.{ProcessState}
-use Rattle.b67_table.specs.Chains.{place}
-use Rattle.b67_table.specs.Image.{Image, woken_number}
-use Rattle.b67_table.specs.Private.{floor}
-use Rattle.b67_templates.specs.Cells.{simple_cells}
-use Rattle.b67_templates.specs.Programs.{Texts}
-use Rattle.b67_standing.specs.Stepping.{Slot}
-use Rattle.b67_standing.specs.Standing.{ComesTo}
-use Rattle.b67_cores.specs.Cores.{Core, size, over, HasCore, with_core}
-use Rattle.b67_cores.specs.Stretches.{CoreAt, FragmentsArePerformed}
-use Rattle.b67_faithful.proofs.Choices.{length_set_numbered}
-use Rattle.b67_faithful.proofs.Contradictions.{some_same, none_some}
-use Rattle.b67_rows.proofs.Cored.{has_now, others_have, system_stays}
-use Rattle.b67_rows.proofs.Numbers.{same_or_not, numbered_set, get_within}
-use Rattle.b67_frames.specs.Arrays.{Layout, AreMade, ArraysAre}
-use Rattle.b67_frames.specs.Events.{EventsAre}
-use Rattle.b67_frames.specs.Frames.{CellsAre}
-use Rattle.b67_frames.proofs.Facts.{HasFacts, facts_of}
-use Rattle.b67_frames.proofs.Knowing.{KeepsArrays, keeps_same}
-use Rattle.b67_frames.proofs.Linked.{begins_core}
-use Rattle.b67_frames.proofs.Onward.{StandOn}
-use Rattle.b67_scenes.specs.Pictures.{Living, living, PicturesBy}
-use Rattle.b67_scenes.specs.States.{StateIs}
-use Rattle.b67_scenes.specs.Waiting.{AreAwaiting, WaitsAre}
-use Rattle.b67_scenes.proofs.Ancestors.{all_laid}
-use Rattle.b67_scenes.proofs.Finding.{Found, found_laid}
-use Rattle.b67_scenes.proofs.Kept.{LeavesAlone, alike_but}
-use Rattle.b67_scenes.proofs.Scene.{Scene}
-use Rattle.b67_scenes.proofs.Sights.{found_own}
-use Rattle.b67_scenes.proofs.Stage.{comes_to}
-use Rattle.b67_scenes.proofs.Staying.{text_in, level_in, context_in, most_in}
-use Rattle.b67_scenes.proofs.StoringFrames.{IsStored, put, length_put, changed, stored_world, others_at, ChangedCells}
+use Rattle.b67_pictures.proofs.Prelude.{if◌then◌else◌, slice_get, numbered, IsListed, block_numbered, PProgram, Scopes, scopes_of, same_name, resume, referred_in, list_in, Answer, Cell, NamedCell, Instance, Process, Part, State, lives, World, or_no_instance, with_process, cells_with, instance_at, Made, all_to_make, all_left_to_make, IsSeen, RestsKeepToTheirText, AllIsMadeInOrder, InAnswer, in_either, IsIn, referred_in_cells, IsStanding, IsOwn, Word, Registers, Code, stack_at, word_at, stack_limit, Event, waiters_at, place, Image, woken_number, floor, ProcessState, simple_cells, Texts, ComesTo, Slot, Core, size, over, HasCore, with_core, CoreAt, FragmentsArePerformed, length_set_numbered, some_same, none_some, has_now, others_have, system_stays, same_or_not, numbered_set, HasFacts, facts_of, KeepsArrays, keeps_same, begins_core, StandOn, AreMade, ArraysAre, EventsAre, CellsAre, all_laid, Found, found_laid, LeavesAlone, alike_but, Actor, found_own, comes_to, text_in, level_in, context_in, most_in, IsStored, put, length_put, stored_world, others_at, ChangedCells, EventsStay, state_stays, events_kept, events_beside, events_same, still_awaiting, waits_kept, waits_still, Living, living, PicturesBy, StateIs, AreAwaiting, WaitsAre}
+use Rattle.algol_standing.proofs.Seen.{in_front, in_back}
+use Rattle.b67_rows.proofs.Numbers.{get_within}
+use Rattle.b67_scenes.proofs.StoringFrames.{changed}
 use Rattle.b67_scenes.proofs.StoringOthers.{stored_pictured}
-use Rattle.b67_scenes.proofs.Tasks.{EventsStay, state_stays, events_kept, events_beside, events_same}
-use Rattle.b67_scenes.proofs.Waiting.{still_awaiting, waits_kept, waits_still}
 use Rattle.b67_pictures.proofs.Alone.{IsAfter, dependent_but, stands_on, leaves_alone}
 use Rattle.b67_pictures.proofs.GoingOn.{goes_along}
 use Rattle.b67_pictures.proofs.InFrame.{SameFrame}
 use Rattle.b67_pictures.proofs.OwnStored.{own_goes_along}
 use Rattle.b67_pictures.proofs.WordPut.{put_word, IsOnlyStored, put_only, stacks_beside, core_beside, core_put}
-use Rattle.b67_events.specs.Events.{Event, waiters_at}
-use Rattle.b67_deeds.specs.Listed.{IsListed}
 
 -- a process has one core, so far as there are words below the floor
 pub same_floor : (img : Image) (p : ℕ) (a b : Core) → HasCore img p a → HasCore img p b → length a.below ≡ length b.below
@@ -91,195 +36,197 @@ refers_fewer (d ∷ cells) name c none r inside = by_name (same_name d.name name
     by_name true later m = in_back (referred_in d.cell) (referred_in_cells cells) r (subst (λ (is : List ℕ). IsIn (is ++ referred_in_cells cells) r) none m)
     by_name false later m = further later (in_either (referred_in d.cell) (referred_in_cells (cells_with cells name c)) r m)
 
-module _ (tree : PProgram) (code : Code) (texts : Texts) (fragments : FragmentsArePerformed) (kept : RestsKeepToTheirText) (order : AllIsMadeInOrder) (w : World) (lay : Layout) (img : Image)
-    (p : ℕ) (q : Process) (part : Part) (outer : List Part) (bound : ℕ) (core : Core) (s : Scene tree code texts w lay img p q part outer bound core) (unmade : all_left_to_make part.rest ≡ all_to_make part.rest) (answer : Answer) (nameless : InAnswer (IsSeen (scopes_of tree) ((instance_at w part.instance).block)) answer)
-    (i : ℕ) (f : Found tree code texts w lay img i) (x : Instance) (at : numbered w.instances i ≡ Some x) (with_cells : List NamedCell) (far : ℕ) (word : Option Word) (many : length with_cells ≡ length x.cells)
-    (short : IsStored word → far < length (simple_cells (scopes_of tree) (block_numbered (scopes_of tree).blocks x.block))) (low : IsStored word → length f.lies.frame.lower + 2 + far < length f.core.below)
-    (keeps : KeepsArrays (scopes_of tree) w (stored_world w i x at with_cells) lay lay i) (fewer : (r : ℕ) → IsIn (referred_in_cells with_cells) r → IsIn (referred_in_cells x.cells) r)
-    (changes : (simple : List NamedCell) (values : List Word) (arrays : List NamedCell) (declared : List Made) (descriptors : List Word) →
-    CellsAre (simple_cells (scopes_of tree) (block_numbered (scopes_of tree).blocks x.block)) simple values → AreMade declared arrays (lay.rows i) descriptors → x.cells ≡ simple ++ arrays →
-    ChangedCells (simple_cells (scopes_of tree) (block_numbered (scopes_of tree).blocks x.block)) (lay.rows i) with_cells simple values (put word values far) declared descriptors)
-    (words : List Word) (registers : Registers) (frame_is : SameFrame core.registers registers) (pc : ℕ) (slots : List Slot)
-    (there : CoreAt (scopes_of tree) s.stands.held code (text_in tree texts w part) (level_in tree w part) pc slots (record { below = core.below; words = words; registers = registers })) (few : length slots ≤ most_in tree w part)
-    (comes : ComesTo (scopes_of tree) (context_in tree code texts w part s.stands.frame.gives) (text_in tree texts w part) (level_in tree w part) (most_in tree w part) (resume (scopes_of tree) part.rest answer) pc slots)
-    (small : size (record { below = core.below; words = words; registers = registers }) ≤ stack_limit) (able_is : lives q.state ≡ true) (state : State) where
-  abbrev sc : Scopes
-  sc = scopes_of tree
+module _ (tree : PProgram) (code : Code) (texts : Texts) (fragments : FragmentsArePerformed) (kept : RestsKeepToTheirText) (order : AllIsMadeInOrder) (actor : Actor tree code texts) where
+  open actor use {w, lay, img, p, q, part, outer, core, s}
 
-  -- the height of its frame, and the place of the cell
-  abbrev high : ℕ
-  high = length f.lies.frame.lower
+  module _ (unmade : all_left_to_make part.rest ≡ all_to_make part.rest) (answer : Answer) (nameless : InAnswer (IsSeen (scopes_of tree) ((instance_at w part.instance).block)) answer)
+      (i : ℕ) (f : Found tree code texts w lay img i) (x : Instance) (at : numbered w.instances i ≡ Some x) (with_cells : List NamedCell) (far : ℕ) (word : Option Word) (many : length with_cells ≡ length x.cells)
+      (short : IsStored word → far < length (simple_cells (scopes_of tree) (block_numbered (scopes_of tree).blocks x.block))) (low : IsStored word → length f.lies.frame.lower + 2 + far < length f.core.below)
+      (keeps : KeepsArrays (scopes_of tree) w (stored_world w i x at with_cells) lay lay i) (fewer : (r : ℕ) → IsIn (referred_in_cells with_cells) r → IsIn (referred_in_cells x.cells) r)
+      (changes : (simple : List NamedCell) (values : List Word) (arrays : List NamedCell) (declared : List Made) (descriptors : List Word) →
+      CellsAre (simple_cells (scopes_of tree) (block_numbered (scopes_of tree).blocks x.block)) simple values → AreMade declared arrays (lay.rows i) descriptors → x.cells ≡ simple ++ arrays →
+      ChangedCells (simple_cells (scopes_of tree) (block_numbered (scopes_of tree).blocks x.block)) (lay.rows i) with_cells simple values (put word values far) declared descriptors)
+      (words : List Word) (registers : Registers) (frame_is : SameFrame core.registers registers) (pc : ℕ) (slots : List Slot)
+      (there : CoreAt (scopes_of tree) s.stands.held code (text_in tree texts w part) (level_in tree w part) pc slots (record { below = core.below; words = words; registers = registers })) (few : length slots ≤ most_in tree w part)
+      (comes : ComesTo (scopes_of tree) (context_in tree code texts w part s.stands.frame.gives) (text_in tree texts w part) (level_in tree w part) (most_in tree w part) (resume (scopes_of tree) part.rest answer) pc slots)
+      (small : size (record { below = core.below; words = words; registers = registers }) ≤ stack_limit) (able_is : lives q.state ≡ true) (state : State) where
+    abbrev sc : Scopes
+    sc = scopes_of tree
 
-  abbrev k : ℕ
-  k = high + 2 + far
+    -- the height of its frame, and the place of the cell
+    abbrev high : ℕ
+    high = length f.lies.frame.lower
 
-  abbrev part' : Part
-  part' = record part { rest = resume sc part.rest answer }
+    abbrev k : ℕ
+    k = high + 2 + far
 
-  abbrev q' : Process
-  q' = record q { todo = part' ∷ outer; state = state }
+    abbrev part' : Part
+    part' = record part { rest = resume sc part.rest answer }
 
-  abbrev stored : World
-  stored = stored_world w i x at with_cells
+    abbrev q' : Process
+    q' = record q { todo = part' ∷ outer; state = state }
 
-  -- the world after it
-  abbrev pub changed_world : World
-  changed_world = with_process (stored_world w i x at with_cells) p (record q { todo = record part { rest = resume (scopes_of tree) part.rest answer } ∷ outer; state = state })
+    abbrev stored : World
+    stored = stored_world w i x at with_cells
 
-  abbrev before : Core
-  before = record { below = core.below; words = words; registers = registers }
+    -- the world after it
+    abbrev pub changed_world : World
+    changed_world = with_process (stored_world w i x at with_cells) p (record q { todo = record part { rest = resume (scopes_of tree) part.rest answer } ∷ outer; state = state })
 
-  laid : numbered lay.places i ≡ Some (place f.number high)
-  laid = found_laid tree code texts w lay img i f
+    abbrev before : Core
+    before = record { below = core.below; words = words; registers = registers }
 
-  facts : HasFacts w
-  facts = facts_of sc w s.ok
+    laid : numbered lay.places i ≡ Some (place f.number high)
+    laid = found_laid tree code texts w lay img i f
 
-  -- it is one of the process whose stack it is
-  mine : x.process ≡ f.number
-  mine =
-      ap (λ (y : Instance). y.process) (some_same (sym at ∙ ap (λ (j : ℕ). numbered w.instances j) (sym f.lies.instance_is) ∙ f.lies.owned.framed.is)) ∙ f.lies.owned.framed.own
+    facts : HasFacts w
+    facts = facts_of sc w s.ok
 
-  same_stack : registers.stack ≡ core.registers.stack
-  same_stack = ap (λ (r : Registers). r.stack) frame_is.is
+    -- it is one of the process whose stack it is
+    mine : x.process ≡ f.number
+    mine =
+        ap (λ (y : Instance). y.process) (some_same (sym at ∙ ap (λ (j : ℕ). numbered w.instances j) (sym f.lies.instance_is) ∙ f.lies.owned.framed.is)) ∙ f.lies.owned.framed.own
 
-  -- ---- the world after it
+    same_stack : registers.stack ≡ core.registers.stack
+    same_stack = ap (λ (r : Registers). r.stack) frame_is.is
 
-  keeps_on : KeepsArrays sc w changed_world lay lay i
-  keeps_on =
-      record {
-        block = keeps.block;
-        parent = keeps.parent;
-        arrays = λ name cell is. let h = keeps.arrays name cell is in record { later = h.later; is = h.is; bounds = h.bounds };
-        events = keeps.events;
-        leads = keeps.leads;
-        rows = keeps.rows;
-      }
+    -- ---- the world after it
 
-  each_keeps : (j : ℕ) → IsStanding w j → IsStanding changed_world j → KeepsArrays sc w changed_world lay lay j
-  each_keeps j st later = by_number (same_or_not j i)
-    where
-      by_number : (j ≡ i) ⊎ (j ≢ i) → KeepsArrays sc w changed_world lay lay j
-      by_number (inl e) = subst (λ (n : ℕ). KeepsArrays sc w changed_world lay lay n) (sym e) keeps_on
-      by_number (inr apart) = keeps_same sc w changed_world lay lay j (ap or_no_instance (others_at w i x at with_cells j apart)) refl
+    keeps_on : KeepsArrays sc w changed_world lay lay i
+    keeps_on =
+        record {
+          block = keeps.block;
+          parent = keeps.parent;
+          arrays = λ name cell is. let h = keeps.arrays name cell is in record { later = h.later; is = h.is; bounds = h.bounds };
+          events = keeps.events;
+          leads = keeps.leads;
+          rows = keeps.rows;
+        }
 
-  events_stay : EventsStay w changed_world
-  events_stay = events_beside w changed_world i (λ j apart. others_at w i x at with_cells j apart) (events_kept sc w changed_world lay lay i keeps_on)
+    each_keeps : (j : ℕ) → IsStanding w j → IsStanding changed_world j → KeepsArrays sc w changed_world lay lay j
+    each_keeps j st later = by_number (same_or_not j i)
+      where
+        by_number : (j ≡ i) ⊎ (j ≢ i) → KeepsArrays sc w changed_world lay lay j
+        by_number (inl e) = subst (λ (n : ℕ). KeepsArrays sc w changed_world lay lay n) (sym e) keeps_on
+        by_number (inr apart) = keeps_same sc w changed_world lay lay j (ap or_no_instance (others_at w i x at with_cells j apart)) refl
 
-  as_many : length w.instances ≡ length changed_world.instances
-  as_many = sym (length_set_numbered w.instances i (changed w i x at with_cells))
+    events_stay : EventsStay w changed_world
+    events_stay = events_beside w changed_world i (λ j apart. others_at w i x at with_cells j apart) (events_kept sc w changed_world lay lay i keeps_on)
 
-  abbrev ChangedWorld : Type 0
-  ChangedWorld = IsAfter sc w changed_world p
+    as_many : length w.instances ≡ length changed_world.instances
+    as_many = sym (length_set_numbered w.instances i (changed w i x at with_cells))
 
-  on : ChangedWorld → StandOn sc w changed_world lay lay
-  on after = stands_on sc w changed_world lay lay p facts after each_keeps (λ j g e. e)
+    abbrev ChangedWorld : Type 0
+    ChangedWorld = IsAfter sc w changed_world p
 
-  alone : ChangedWorld → (r : ℕ) → r ≢ p → LeavesAlone sc w changed_world lay lay r
-  alone after r other = leaves_alone sc w changed_world lay lay p facts after each_keeps (λ j g e. e) (all_laid w lay facts s.by.laid) (dependent_but w.processes p q q' s.at refl (λ e. able_is)) r other
+    on : ChangedWorld → StandOn sc w changed_world lay lay
+    on after = stands_on sc w changed_world lay lay p facts after each_keeps (λ j g e. e)
 
-  at_later : numbered changed_world.processes p ≡ Some q'
-  at_later = numbered_set w.processes p q q' s.at
+    alone : ChangedWorld → (r : ℕ) → r ≢ p → LeavesAlone sc w changed_world lay lay r
+    alone after r other = leaves_alone sc w changed_world lay lay p facts after each_keeps (λ j g e. e) (all_laid w lay facts s.by.laid) (dependent_but w.processes p q q' s.at refl (λ e. able_is)) r other
 
-  -- the core that the process has after it, where the frame is one of its own
-  abbrev own_core : Core
-  own_core = over (put word core.below k) before
+    at_later : numbered changed_world.processes p ≡ Some q'
+    at_later = numbered_set w.processes p q q' s.at
 
-  -- ---- the image after it: all is there but the word and the core
+    -- the core that the process has after it, where the frame is one of its own
+    abbrev own_core : Core
+    own_core = over (put word core.below k) before
 
-  module _ (base : Image) (same : (m : ℕ) (other : Core) → HasCore img m other → HasCore base m other) (stacks : base.stacks ≡ img.stacks)
-      (after : IsAfter (scopes_of tree) w (with_process (stored_world w i x at with_cells) p (record q { todo = record part { rest = resume (scopes_of tree) part.rest answer } ∷ outer; state = state })) p)
-      (arrays : ArraysAre (scopes_of tree) (with_process (stored_world w i x at with_cells) p (record q { todo = record part { rest = resume (scopes_of tree) part.rest answer } ∷ outer; state = state })) lay base.rows)
-      (events : EventsAre (scopes_of tree) (with_process (stored_world w i x at with_cells) p (record q { todo = record part { rest = resume (scopes_of tree) part.rest answer } ∷ outer; state = state })) lay base.events)
-      (list_same : list_in state ≡ list_in q.state) (lists : base.lists ≡ img.lists) (numbers : base.numbers ≡ img.numbers) (awaiting : AreAwaiting base) (output : base.output ≡ img.output) (fault : base.fault ≡ img.fault) (started : base.started ≡ img.started) (regs : length base.regs ≡ length img.regs) (many_states : length base.states ≡ length img.states)
-      (states : (m : ℕ) → m ≢ p → numbered base.states m ≡ numbered img.states m) (lives_so : lives state ≡ true) (state_is : StateIs (scopes_of tree) w lay state (numbered base.states p)) where
-    has : HasCore base p core
-    has = same p core s.has
+    -- ---- the image after it: all is there but the word and the core
 
-    state_then : StateIs sc changed_world lay state (numbered base.states p)
-    state_then = state_stays sc w changed_world lay lay events_stay (λ j f there. there) state (numbered base.states p) state_is
+    module _ (base : Image) (same : (m : ℕ) (other : Core) → HasCore img m other → HasCore base m other) (stacks : base.stacks ≡ img.stacks)
+        (after : IsAfter (scopes_of tree) w (with_process (stored_world w i x at with_cells) p (record q { todo = record part { rest = resume (scopes_of tree) part.rest answer } ∷ outer; state = state })) p)
+        (arrays : ArraysAre (scopes_of tree) (with_process (stored_world w i x at with_cells) p (record q { todo = record part { rest = resume (scopes_of tree) part.rest answer } ∷ outer; state = state })) lay base.rows)
+        (events : EventsAre (scopes_of tree) (with_process (stored_world w i x at with_cells) p (record q { todo = record part { rest = resume (scopes_of tree) part.rest answer } ∷ outer; state = state })) lay base.events)
+        (list_same : list_in state ≡ list_in q.state) (lists : base.lists ≡ img.lists) (numbers : base.numbers ≡ img.numbers) (awaiting : AreAwaiting base) (output : base.output ≡ img.output) (fault : base.fault ≡ img.fault) (started : base.started ≡ img.started) (regs : length base.regs ≡ length img.regs) (many_states : length base.states ≡ length img.states)
+        (states : (m : ℕ) → m ≢ p → numbered base.states m ≡ numbered img.states m) (lives_so : lives state ≡ true) (state_is : StateIs (scopes_of tree) w lay state (numbered base.states p)) where
+      has : HasCore base p core
+      has = same p core s.has
 
-    waits_then : WaitsAre sc changed_world lay base
-    waits_then = waits_still sc w changed_world lay lay events_stay (λ j f there. there) img base s.by.waits p q q' s.at refl list_same refl lists numbers awaiting
+      state_then : StateIs sc changed_world lay state (numbered base.states p)
+      state_then = state_stays sc w changed_world lay lay events_stay (λ j f there. there) state (numbered base.states p) state_is
 
-    system : stack_at base.stacks 0 ≡ stack_at img.stacks 0
-    system = ap (λ ss. stack_at ss 0) stacks
+      waits_then : WaitsAre sc changed_world lay base
+      waits_then = waits_still sc w changed_world lay lay events_stay (λ j f there. there) img base s.by.waits p q q' s.at refl list_same refl lists numbers awaiting
 
-    -- where it is an own one
-    module _ (here : f.number ≡ p) where
-      own : IsOwn (part ∷ outer) i
-      own = found_own tree code texts w lay img p q part outer bound core s i f here
+      system : stack_at base.stacks 0 ≡ stack_at img.stacks 0
+      system = ap (λ ss. stack_at ss 0) stacks
 
-      own_laid : numbered lay.places i ≡ Some (place p high)
-      own_laid = laid ∙ ap (λ (n : ℕ). Some (place n high)) here
+      -- where it is an own one
+      module _ (here : f.number ≡ p) where
+        own : IsOwn (part ∷ outer) i
+        own = found_own tree code texts actor i f here
 
-      has_own : HasCore (with_core base p own_core) p own_core
-      has_own =
-          has_now base p core own_core has same_stack
-          (record { bottom = length_put word core.below k ∙ there.is.bottom; top = omega (arith, there.is.top, length_put word core.below k) })
+        own_laid : numbered lay.places i ≡ Some (place p high)
+        own_laid = laid ∙ ap (λ (n : ℕ). Some (place n high)) here
 
-      living_own : Living tree code texts changed_world lay (with_core base p own_core) p q'
-      living_own =
-          own_goes_along tree code texts fragments kept order w lay img p q part outer bound core s unmade answer nameless i x at with_cells high own_laid far k refl word many short keeps facts fewer changes own words registers frame_is pc slots there few comes
-          state (on after) (with_core base p own_core) has_own small after.climb (all_laid changed_world lay after.climb.facts (s.by.laid ∙ as_many)) events_stay
+        has_own : HasCore (with_core base p own_core) p own_core
+        has_own =
+            has_now base p core own_core has same_stack
+            (record { bottom = length_put word core.below k ∙ there.is.bottom; top = omega (arith, there.is.top, length_put word core.below k) })
 
-      pub own_pictured : PicturesBy tree code texts (with_process (stored_world w i x at with_cells) p (record q { todo = record part { rest = resume (scopes_of tree) part.rest answer } ∷ outer; state = state })) lay
-          (with_core base p (over (put word core.below (length f.lies.frame.lower + 2 + far)) (record { below = core.below; words = words; registers = registers })))
-      own_pictured =
-          comes_to tree code texts w lay img s.by p q s.at changed_world lay (with_core base p own_core) q' refl (s.by.laid ∙ as_many) arrays events (record { numbers = waits_then.numbers; woken = waits_then.woken; lists = waits_then.lists; awaiting = waits_then.awaiting })
-          (λ r other. alike_but sc w changed_world lay r i x (changed w i x at with_cells) (alone after r other) at (λ (e : r ≡ x.process). other (e ∙ mine ∙ here)) refl events_stay)
-          (output ∙ s.by.output) refl fault started (length_set_numbered base.regs p own_core.registers ∙ regs) many_states states (system_stays base p core own_core has same_stack q w s.at ∙ system)
-          (λ r other_core apart had. others_have base p core own_core has same_stack r other_core apart (same r other_core had)) (living lives_so state_then living_own)
+        living_own : Living tree code texts changed_world lay (with_core base p own_core) p q'
+        living_own =
+            own_goes_along tree code texts fragments kept order actor unmade answer nameless i x at with_cells high own_laid far k refl word many short keeps facts fewer changes own words registers frame_is pc slots there few comes
+            state (on after) (with_core base p own_core) has_own small after.climb (all_laid changed_world lay after.climb.facts (s.by.laid ∙ as_many)) events_stay
 
-    -- where it is one of another process
-    module _ (other : f.number ≢ p) where
-      abbrev with_it : Image
-      with_it = put_word word base (place f.number k)
+        pub own_pictured : PicturesBy tree code texts (with_process (stored_world w i x at with_cells) p (record q { todo = record part { rest = resume (scopes_of tree) part.rest answer } ∷ outer; state = state })) lay
+            (with_core base p (over (put word core.below (length f.lies.frame.lower + 2 + far)) (record { below = core.below; words = words; registers = registers })))
+        own_pictured =
+            comes_to tree code texts w lay img s.by p q s.at changed_world lay (with_core base p own_core) q' refl (s.by.laid ∙ as_many) arrays events (record { numbers = waits_then.numbers; woken = waits_then.woken; lists = waits_then.lists; awaiting = waits_then.awaiting })
+            (λ r other. alike_but sc w changed_world lay r i x (changed w i x at with_cells) (alone after r other) at (λ (e : r ≡ x.process). other (e ∙ mine ∙ here)) refl events_stay)
+            (output ∙ s.by.output) refl fault started (length_set_numbered base.regs p own_core.registers ∙ regs) many_states states (system_stays base p core own_core has same_stack q w s.at ∙ system)
+            (λ r other_core apart had. others_have base p core own_core has same_stack r other_core apart (same r other_core had)) (living lives_so state_then living_own)
 
-      abbrev result : Image
-      result = with_core (put_word word base (place f.number k)) p before
+      -- where it is one of another process
+      module _ (other : f.number ≢ p) where
+        abbrev with_it : Image
+        with_it = put_word word base (place f.number k)
 
-      has_so : HasCore with_it p core
-      has_so = core_beside base f.number k word p core (λ (e : p ≡ f.number). other (sym e)) has
+        abbrev result : Image
+        result = with_core (put_word word base (place f.number k)) p before
 
-      has_here : HasCore result p before
-      has_here = has_now with_it p core before has_so same_stack there.is
+        has_so : HasCore with_it p core
+        has_so = core_beside base f.number k word p core (λ (e : p ≡ f.number). other (sym e)) has
 
-      same_own : (j : ℕ) (y : Instance) → numbered w.instances j ≡ Some y → y.process ≡ p → numbered changed_world.instances j ≡ Some y
-      same_own j y is of_it =
-          others_at w i x at with_cells j
-          (λ (e : j ≡ i). other (sym mine ∙ ap (λ (z : Instance). z.process) (some_same (sym at ∙ ap (λ (n : ℕ). numbered w.instances n) (sym e) ∙ is)) ∙ of_it)) ∙ is
+        has_here : HasCore result p before
+        has_here = has_now with_it p core before has_so same_stack there.is
 
-      living_here : Living tree code texts changed_world lay result p q'
-      living_here =
-          goes_along tree code texts fragments kept order w lay img p q part outer bound core s unmade answer nameless before refl frame_is s.stands.held s.stands.held_are pc slots there few comes changed_world lay state (on after) same_own
-          (λ j y is of_it. refl) events_stay (s.by.laid ∙ as_many) at_later result has_here small after.climb
+        same_own : (j : ℕ) (y : Instance) → numbered w.instances j ≡ Some y → y.process ≡ p → numbered changed_world.instances j ≡ Some y
+        same_own j y is of_it =
+            others_at w i x at with_cells j
+            (λ (e : j ≡ i). other (sym mine ∙ ap (λ (z : Instance). z.process) (some_same (sym at ∙ ap (λ (n : ℕ). numbered w.instances n) (sym e) ∙ is)) ∙ of_it)) ∙ is
 
-      -- its process has the word below its floor
-      low_there : (c : Core) → HasCore img f.number c → IsStored word → k < length c.below
-      low_there c had set = omega (arith, low set, same_floor img f.number f.core c f.has had)
+        living_here : Living tree code texts changed_world lay result p q'
+        living_here =
+            goes_along tree code texts fragments kept order actor unmade answer nameless before refl frame_is s.stands.held s.stands.held_are pc slots there few comes changed_world lay state (on after) same_own
+            (λ j y is of_it. refl) events_stay (s.by.laid ∙ as_many) at_later result has_here small after.climb
 
-      only : IsOnlyStored base (put_word word base (place f.number k))
-      only = put_only base f.number k word
+        -- its process has the word below its floor
+        low_there : (c : Core) → HasCore img f.number c → IsStored word → k < length c.below
+        low_there c had set = omega (arith, low set, same_floor img f.number f.core c f.has had)
 
-      -- nobody waits for others
-      waits_there : WaitsAre sc changed_world lay result
-      waits_there =
-          waits_kept sc changed_world changed_world lay lay (λ j. events_same changed_world changed_world j refl) (λ j f there. there) base result waits_then (ap length only.numbers ∙ waits_then.numbers) (λ r. (refl, refl)) only.lists
-          (λ r. ap (λ (ns : List ℕ). woken_number ns r) only.numbers)
-          (still_awaiting base result waits_then.awaiting (λ r there listed. subst (λ (es : List Event). IsListed (waiters_at there es) r) only.events listed) only.states only.lists)
+        only : IsOnlyStored base (put_word word base (place f.number k))
+        only = put_only base f.number k word
 
-      nobody : f.number ≢ 0
-      nobody e = none_some (ap (λ (n : ℕ). numbered w.processes n) (sym e) ∙ f.is)
+        -- nobody waits for others
+        waits_there : WaitsAre sc changed_world lay result
+        waits_there =
+            waits_kept sc changed_world changed_world lay lay (λ j. events_same changed_world changed_world j refl) (λ j f there. there) base result waits_then (ap length only.numbers ∙ waits_then.numbers) (λ r. (refl, refl)) only.lists
+            (λ r. ap (λ (ns : List ℕ). woken_number ns r) only.numbers)
+            (still_awaiting base result waits_then.awaiting (λ r there listed. subst (λ (es : List Event). IsListed (waiters_at there es) r) only.events listed) only.states only.lists)
 
-      pub other_pictured : PicturesBy tree code texts (with_process (stored_world w i x at with_cells) p (record q { todo = record part { rest = resume (scopes_of tree) part.rest answer } ∷ outer; state = state })) lay
-          (with_core (put_word word base (place f.number (length f.lies.frame.lower + 2 + far))) p (record { below = core.below; words = words; registers = registers }))
-      other_pictured =
-          stored_pictured tree code texts w lay f.number i x at with_cells high laid far k refl word many short keeps facts fewer changes p q' (alone after) img result mine
-          (λ o is. subst (λ (r : Process). IsOwn r.todo i) (some_same (sym f.is ∙ is)) (subst (λ (ps : List Part). IsOwn ps i) (sym f.todo) f.own)) low_there
-          (λ c had. others_have with_it p core before has_so same_stack f.number (over (put word c.below k) c) other (core_put base f.number k word c (low_there c had) (same f.number c had)))
-          (λ r c apart elsewhere had. others_have with_it p core before has_so same_stack r c apart (core_beside base f.number k word r c elsewhere (same r c had)))
-          (λ r apart. ap (λ (ss : List ProcessState). numbered ss r) only.states ∙ states r apart) s.by q s.at (subst (λ rows. ArraysAre sc changed_world lay rows) (sym only.rows) arrays)
-          (subst (λ es. EventsAre sc changed_world lay es) (sym only.events) events) waits_there (only.output ∙ output ∙ s.by.output) (only.fault ∙ fault) (only.started ∙ started) (length_set_numbered with_it.regs p before.registers ∙ ap length only.registers ∙ regs) (ap length only.states ∙ many_states)
-          (system_stays with_it p core before has_so same_stack q w s.at ∙ stacks_beside base f.number k word 0 nobody ∙ system)
-          (living lives_so (subst (λ (ss : List ProcessState). StateIs sc changed_world lay state (numbered ss p)) (sym only.states) state_then) living_here)
+        nobody : f.number ≢ 0
+        nobody e = none_some (ap (λ (n : ℕ). numbered w.processes n) (sym e) ∙ f.is)
+
+        pub other_pictured : PicturesBy tree code texts (with_process (stored_world w i x at with_cells) p (record q { todo = record part { rest = resume (scopes_of tree) part.rest answer } ∷ outer; state = state })) lay
+            (with_core (put_word word base (place f.number (length f.lies.frame.lower + 2 + far))) p (record { below = core.below; words = words; registers = registers }))
+        other_pictured =
+            stored_pictured tree code texts w lay f.number i x at with_cells high laid far k refl word many short keeps facts fewer changes p q' (alone after) img result mine
+            (λ o is. subst (λ (r : Process). IsOwn r.todo i) (some_same (sym f.is ∙ is)) (subst (λ (ps : List Part). IsOwn ps i) (sym f.todo) f.own)) low_there
+            (λ c had. others_have with_it p core before has_so same_stack f.number (over (put word c.below k) c) other (core_put base f.number k word c (low_there c had) (same f.number c had)))
+            (λ r c apart elsewhere had. others_have with_it p core before has_so same_stack r c apart (core_beside base f.number k word r c elsewhere (same r c had)))
+            (λ r apart. ap (λ (ss : List ProcessState). numbered ss r) only.states ∙ states r apart) s.by q s.at (subst (λ rows. ArraysAre sc changed_world lay rows) (sym only.rows) arrays)
+            (subst (λ es. EventsAre sc changed_world lay es) (sym only.events) events) waits_there (only.output ∙ output ∙ s.by.output) (only.fault ∙ fault) (only.started ∙ started) (length_set_numbered with_it.regs p before.registers ∙ ap length only.registers ∙ regs) (ap length only.states ∙ many_states)
+            (system_stays with_it p core before has_so same_stack q w s.at ∙ stacks_beside base f.number k word 0 nobody ∙ system)
+            (living lives_so (subst (λ (ss : List ProcessState). StateIs sc changed_world lay state (numbered ss p)) (sym only.states) state_then) living_here)

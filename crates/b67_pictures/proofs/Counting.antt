@@ -1,28 +1,18 @@
 -- A process of a pictured image performs at most as many operators for an entry as the longest segment has syllables.
 use Rattle.std.proofs.Common.{◌≡◌, refl, ap, ℕ, ◌≤◌, Bool, false, List, [], ◌∷◌, Option, Some, None, cond, arith}
-use Rattle.b67_list.specs.Numbered.{numbered}
-use Rattle.algol_tree.specs.Plain.{PProgram}
-use Rattle.algol_meaning.specs.World.{Process, Part, World}
+use Rattle.b67_pictures.proofs.Prelude.{numbered, PProgram, Process, Part, World, Code, Image, is_live, Plains, stay, go, Acts, Texts, AreFew, numbered_beyond, runs_low, Layout, Living, Pictured, living, dead, PicturesBy}
 use Rattle.b67_ops.specs.declared.TheConstants.{MOST_LEVEL}
-use Rattle.b67_segment.specs.declared.code.Code.{Code}
-use Rattle.b67_templates.specs.Programs.{Texts}
 use Rattle.b67_table.specs.declared.InterruptKind.TheVariants.{BadCode as bad_code}
 use Rattle.b67_table.specs.Effect.{interrupts}
 use Rattle.b67_table.specs.Outcome.{limited}
 use Rattle.b67_table.specs.Outcome as outcomes
-use Rattle.b67_table.specs.Image.{Image, is_live}
 use Rattle.b67_table.specs.Table.{table, raw, by_registers, stack_length}
-use Rattle.b67_table.specs.Runs.{Plains, stay, go, Acts, acts, fails}
+use Rattle.b67_table.specs.Runs.{acts, fails}
 use Rattle.b67_cores.proofs.Counting.{plains_few}
 use Rattle.b67_cores.proofs.Performing.{steps_keep}
 use Rattle.b67_faithful.specs.Faithful.{longest}
-use Rattle.b67_faithful.specs.Simulation.{AreFew}
 use Rattle.b67_faithful.proofs.Counting.{longest_is}
-use Rattle.b67_rows.proofs.Numbers.{numbered_beyond}
-use Rattle.b67_frames.specs.Arrays.{Layout}
 use Rattle.b67_frames.specs.Frames.{Frames}
-use Rattle.b67_frames.proofs.Lying.{runs_low}
-use Rattle.b67_scenes.specs.Pictures.{Living, Pictured, living, dead, PicturesBy}
 use Rattle.b67_scenes.proofs.Plainly.{no_operator}
 use Rattle.b67_pictures.proofs.Simulating.{gives_interrupts, faults_interrupts}
 

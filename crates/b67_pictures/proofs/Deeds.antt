@@ -1,16 +1,11 @@
 -- Facts of deeds, read from their table, and of who waits.
 use Rattle.std.proofs.Common.{◌≡◌, ◌⊎◌, inl, inr, refl, ℕ, List, [], ◌∷◌, Option, Some, None, Bool, true, false}
-use Rattle.std.specs.Prelude.{if◌then◌else◌, take}
-use Rattle.algol_meaning.specs.Value.{Reference}
-use Rattle.algol_meaning.specs.World.{State, able, waits_for, waits_any, procures, ended, is_able}
-use Rattle.algol_standing.specs.Worlds.{Awaits}
+use Rattle.b67_pictures.proofs.Prelude.{if◌then◌else◌, EventDeed, Deed, deed, answers, is_of_several, after_change, EventState, joined, IsListed, EventTest, Reference, State, able, waits_for, waits_any, procures, ended, is_able, Awaits}
+use Rattle.std.specs.Prelude.{take}
 use Rattle.b67_deeds.specs.declared.EventAct.TheVariants as act
-use Rattle.b67_deeds.specs.declared.EventTest.{EventTest}
 use Rattle.b67_deeds.specs.declared.EventTest.TheVariants as test
-use Rattle.b67_deeds.specs.Events.{EventState, joined}
-use Rattle.b67_deeds.specs.Listed.{IsListed}
 use Rattle.b67_deeds.specs.Deeds as deeds
-use Rattle.b67_deeds.specs.Deeds.{EventDeed, acts, tests, Next, Deed, deed, answers, is_of_several, after_change}
+use Rattle.b67_deeds.specs.Deeds.{acts, tests}
 
 -- what a deed with one event tells: a statement nothing, a test an answer
 abbrev pub Tells : EventDeed → Option Bool → Type 0

@@ -1,41 +1,11 @@
 -- A process that stands at its action does it: by what its head asks for.
-use Rattle.b67_deeds.specs.Deeds.{EventDeed}
-use Rattle.std.proofs.Common.{◌≡◌, refl, ap, ℕ, zero, suc, ◌+◌, ◌<◌, ◌≤◌, ◌^◌, List, [], ◌∷◌, length, Option, Some, Bool, true, false, arith}
-use Rattle.std.specs.Prelude.{if◌then◌else◌}
-use Rattle.b67_list.specs.Numbered.{numbered}
-use Rattle.algol_tree.specs.declared.TheConstants.{MOST_BLOCK_CELLS, MOST_LEVEL}
-use Rattle.algol_tree.specs.declared.tree.Kind.{Kind}
-use Rattle.algol_tree.specs.declared.tree.Named.{Named}
-use Rattle.algol_tree.specs.declared.tree.PhraseText.{PhraseText}
-use Rattle.algol_tree.specs.Blocks.{Block, block_numbered}
-use Rattle.algol_tree.specs.Cells.{level_of}
-use Rattle.algol_tree.specs.Plain.{PProgram, PPair, PStmts, PBody}
-use Rattle.algol_tree.specs.Scopes.{Scopes, scopes_of, use_of}
-use Rattle.algol_tree.specs.Sorts.{same_name}
-use Rattle.algol_meaning.specs.Value.{Value, Reference}
-use Rattle.algol_meaning.specs.Rest.{Place, own, there, element_of, Given, Answer, done, value, cell, place, entered}
-use Rattle.algol_meaning.specs.World.{Instance, Process, Part, lives, World, or_no_instance}
-use Rattle.algol_meaning.specs.Asks.{Ask, nothing, reads, reads_element, indexes, fails, enters, passes, resolves, reads_result, leaves, stores, selects, turns, goes_to, enters_block, starts, writes, makes_arrays, makes_event, ask, resume, event_deed}
-use Rattle.algol_paths.specs.Laws.{RestsKeepToTheirText, AllIsMadeInOrder}
-use Rattle.b67_ops.specs.declared.Couple.{Couple}
-use Rattle.b67_segment.specs.declared.code.Code.{Code}
-use Rattle.b67_scenes.specs.States.{StateIs}
-use Rattle.b67_table.specs.Image.{Image}
-use Rattle.b67_templates.specs.Contexts.{Yields}
-use Rattle.b67_templates.specs.Cells.{Simple, Found, found_from, simple_cells, IsVariable, IsRead, of_variable, of_formal}
-use Rattle.b67_templates.specs.Programs.{Texts}
-use Rattle.b67_standing.specs.Stepping.{Slot}
-use Rattle.b67_standing.specs.Standing.{ActionAt, Acted, Entered, Gives, pushed, ComesTo, GoesOn}
-use Rattle.b67_standing.specs.Laws.{RestsGoOn}
-use Rattle.b67_cores.specs.Cores.{Core}
-use Rattle.b67_cores.specs.Stretches.{FragmentsArePerformed}
-use Rattle.b67_templates.specs.Nested.{AreNested, LiesNested}
-use Rattle.b67_frames.specs.Arrays.{Layout}
-use Rattle.b67_scenes.proofs.Scene.{Scene}
-use Rattle.b67_scenes.proofs.Staying.{text_in, level_in, context_in, most_in, names_in}
-use Rattle.b67_pictures.specs.Acting.{Does}
+use Rattle.std.proofs.Common.{◌≡◌, refl, ap, ℕ, zero, suc, ◌<◌, ◌≤◌, ◌^◌, List, [], ◌∷◌, length, Option, arith}
+use Rattle.b67_pictures.proofs.Prelude.{EventDeed, Block, block_numbered, level_of, PProgram, PPair, PStmts, PBody, Scopes, scopes_of, use_of, MOST_BLOCK_CELLS, Kind, Named, PhraseText, Ask, nothing, reads, reads_element, indexes, enters, passes, resolves, reads_result, leaves, stores, selects, turns, goes_to, enters_block, starts, writes, makes_arrays, makes_event, ask, event_deed, own, there, element_of, Given, done, value, cell, Value, Reference, Instance, or_no_instance, RestsKeepToTheirText, AllIsMadeInOrder, Couple, Code, simple_cells, IsVariable, IsRead, of_variable, of_formal, AreNested, LiesNested, Texts, RestsGoOn, GoesOn, FragmentsArePerformed, found_low, AbleActor, actor_of, text_in, level_in, context_in, most_in, names_in, Does}
+use Rattle.algol_tree.specs.declared.TheConstants.{MOST_LEVEL}
+use Rattle.algol_meaning.specs.Rest.{Place, place, entered}
+use Rattle.algol_meaning.specs.Asks.{fails}
 use Rattle.b67_pictures.proofs.Resolving.{resolving}
-use Rattle.b67_pictures.proofs.Evaluating.{ActualsAreEntered, WaitsAfter, ReturnsAfter, evaluating_value, evaluating_place}
+use Rattle.b67_pictures.proofs.Evaluating.{ActualsAreEntered, WaitsAfter, ReturnsAfter, evaluating_value, evaluating_place, At, AnswersAfter}
 use Rattle.b67_pictures.proofs.StoringThere.{storing_there}
 use Rattle.b67_pictures.proofs.Reading.{reading, reading_name}
 use Rattle.b67_pictures.proofs.ReadingResult.{reading_result}
@@ -45,17 +15,6 @@ use Rattle.b67_pictures.proofs.Turning.{turning}
 
 -- ---- the cells of a block are few
 
--- a cell that is found is one of them
-found_below : (from : ℕ) (ss : List Simple) (name : List ℕ) (f : Found) → found_from from ss name ≡ Some f → f.number < from + length ss
-found_below from [] name f e = cc
-found_below from (s ∷ ss) name f e = by_name (λ h. found_below (from + 1) ss name f h) (same_name s.name name) e
-  where
-    by_name : (found_from (from + 1) ss name ≡ Some f → f.number < from + 1 + length ss) → (b : Bool) → (if b then Some (record { number = from; cell = s }) else found_from (from + 1) ss name) ≡ Some f → f.number < from + length (s ∷ ss)
-    by_name later true h =
-        let is_f : record { number = from; cell = s } ≡ f = cc in
-        omega (arith, ap (λ (x : Found). x.number) is_f)
-    by_name later false h = omega (arith, later h)
-
 known_or_empty : (sc : Scopes) (bs : List Block) (j : ℕ) → (j < length bs → length (simple_cells sc (block_numbered bs j)) ≤ MOST_BLOCK_CELLS) → length (simple_cells sc (block_numbered bs j)) ≤ MOST_BLOCK_CELLS
 known_or_empty sc [] j few = omega arith
 known_or_empty sc (b ∷ bs) zero few = few (omega arith)
@@ -64,34 +23,25 @@ known_or_empty sc (b ∷ bs) (suc j) few = known_or_empty sc bs j (λ low. few (
 pub small_index : (sc : Scopes) → AreNested sc → (level : ℕ) (n : Named) (kind : Kind) (couple : Couple) → IsVariable sc level n kind couple → couple.index < 2 ^ 14
 small_index sc nested level n kind couple v =
     let cells = simple_cells sc (block_numbered sc.blocks ((use_of sc n).block)) in
-    omega (arith, found_below 0 cells n.name v.found v.there, known_or_empty sc sc.blocks ((use_of sc n).block) (λ low. omega (arith, (nested.each ((use_of sc n).block) low).few)), v.index_is)
+    omega (arith, found_low 0 cells n.name v.found v.there, known_or_empty sc sc.blocks ((use_of sc n).block) (λ low. omega (arith, (nested.each ((use_of sc n).block) low).few)), v.index_is)
 
 -- ---- the actions
 
 module _ (tree : PProgram) (code : Code) (texts : Texts) where
-  -- what an action of a scene, which stands at what its head asks for, needs of the place to which it leads
-  abbrev pub GoesOnFrom : (w : World) (lay : Layout) (img : Image) (p : ℕ) (q : Process) (part : Part) (outer : List Part) (bound : ℕ) (core : Core) →
-      Scene tree code texts w lay img p q part outer bound core → (k : Ask) → Type 0
-  GoesOnFrom w lay img p q part outer bound core s k =
-      (a : ActionAt (scopes_of tree) (context_in tree code texts w part s.stands.frame.gives) (text_in tree texts w part) (level_in tree w part) (most_in tree w part) k s.stands.pc s.stands.slots) →
-      ((r : Answer) (at : ℕ) (left : List Slot) →
-      Acted (scopes_of tree) (context_in tree code texts w part s.stands.frame.gives) (text_in tree texts w part) (level_in tree w part) (most_in tree w part) k s.stands.pc s.stands.slots a r at left →
-      ComesTo (scopes_of tree) (context_in tree code texts w part s.stands.frame.gives) (text_in tree texts w part) (level_in tree w part) (most_in tree w part) (resume (scopes_of tree) part.rest r) at left) →
-      ((at : ℕ) (after : List Slot) (wanted : Yields) →
-      Entered (scopes_of tree) (context_in tree code texts w part s.stands.frame.gives) (text_in tree texts w part) (level_in tree w part) (most_in tree w part) k s.stands.pc s.stands.slots a at after wanted →
-      ask (resume (scopes_of tree) part.rest entered) ≡ nothing) →
-      ((at : ℕ) (after : List Slot) (wanted : Yields) →
-      Entered (scopes_of tree) (context_in tree code texts w part s.stands.frame.gives) (text_in tree texts w part) (level_in tree w part) (most_in tree w part) k s.stands.pc s.stands.slots a at after wanted →
-      (r : Answer) → Gives wanted r →
-      ComesTo (scopes_of tree) (context_in tree code texts w part s.stands.frame.gives) (text_in tree texts w part) (level_in tree w part) (most_in tree w part) (resume (scopes_of tree) (resume (scopes_of tree) part.rest entered) r) at
-      (pushed wanted r after)) →
-      Does tree code texts w img p
+  -- what the head of a process asks for, at whose operator the machine stands: where each answer leads, and each entry
+  module _ (actor : AbleActor tree code texts) where
+    open actor use {part, s}
 
-  -- each scene whose head asks for this does its action
+    pub record Head (k : Ask) : Type 0 where
+      pub asks : ask part.rest ≡ k
+      pub action : At tree code texts (actor_of s) k
+      pub answered : AnswersAfter tree code texts (actor_of s) k action
+      pub waits : WaitsAfter tree code texts (actor_of s) k action
+      pub returns : ReturnsAfter tree code texts (actor_of s) k action
+
+  -- each process whose head asks for this does its action
   abbrev pub IsDone : Ask → Type 0
-  IsDone k =
-      (w : World) (lay : Layout) (img : Image) (p : ℕ) (q : Process) (part : Part) (outer : List Part) (bound : ℕ) (core : Core) (s : Scene tree code texts w lay img p q part outer bound core) →
-      lives q.state ≡ true → StateIs (scopes_of tree) w lay q.state (numbered img.states p) → ask part.rest ≡ k → GoesOnFrom w lay img p q part outer bound core s k
+  IsDone k = (actor : AbleActor tree code texts) → Head actor k → Does tree code texts actor.w actor.img actor.p
 
   -- a line, the choice of a statement, the entry of a block or of a procedure, what is done with arrays and events, the leaving of a block, of a
   -- procedure, or of an evaluation, the end, GO TO, the start of a process
@@ -113,10 +63,8 @@ module _ (tree : PProgram) (code : Code) (texts : Texts) where
     pub going : (n : Named) → IsDone (goes_to n)
     pub starting : (n : Named) (gs : List Given) (task : Option Named) → IsDone (starts n gs task)
 
-  module _ (lies : LiesNested tree) (actuals : ActualsAreEntered tree code texts) (fragments : FragmentsArePerformed) (keeps : RestsKeepToTheirText) (order : AllIsMadeInOrder) (rests : RestsGoOn) (others : OthersAreDone) (w : World) (lay : Layout) (img : Image)
-      (p : ℕ) (q : Process) (part : Part) (outer : List Part) (bound : ℕ) (core : Core) (s : Scene tree code texts w lay img p q part outer bound core) (able_is : lives q.state ≡ true) (able_p : StateIs (scopes_of tree) w lay q.state (numbered img.states p)) where
-    abbrev IsReadThere : Named → Type 0
-    IsReadThere n = ActionAt (scopes_of tree) (context_in tree code texts w part s.stands.frame.gives) (text_in tree texts w part) (level_in tree w part) (most_in tree w part) (reads n) s.stands.pc s.stands.slots
+  module _ (lies : LiesNested tree) (actuals : ActualsAreEntered tree code texts) (fragments : FragmentsArePerformed) (keeps : RestsKeepToTheirText) (order : AllIsMadeInOrder) (rests : RestsGoOn) (others : OthersAreDone) (actor : AbleActor tree code texts) where
+    open actor use {w, lay, img, p, q, part, outer, bound, core, s, able_is, able_p}
 
     -- the part's level is one that the machine has
     low : names_in tree w part ≤ MOST_LEVEL
@@ -126,59 +74,48 @@ module _ (tree : PProgram) (code : Code) (texts : Texts) where
         ap (λ (o : Option Instance). level_of (block_numbered (scopes_of tree).blocks ((or_no_instance o).block))) framed.is in
         omega (arith, same, (lies.nested.each framed.instance.block framed.known).low)
 
-    abbrev WaitsHere : (k : Ask) → ActionAt (scopes_of tree) (context_in tree code texts w part s.stands.frame.gives) (text_in tree texts w part) (level_in tree w part) (most_in tree w part) k s.stands.pc s.stands.slots → Type 0
-    WaitsHere k a = WaitsAfter tree code texts w lay img p q part outer bound core s k a
-
-    abbrev ReturnsHere : (k : Ask) → ActionAt (scopes_of tree) (context_in tree code texts w part s.stands.frame.gives) (text_in tree texts w part) (level_in tree w part) (most_in tree w part) k s.stands.pc s.stands.slots → Type 0
-    ReturnsHere k a = ReturnsAfter tree code texts w lay img p q part outer bound core s k a
-
     -- by what is read
-    read_by : (n : Named) (e : ask part.rest ≡ reads n) (a : IsReadThere n) → ((r : Answer) (at : ℕ) (left : List Slot) →
-        Acted (scopes_of tree) (context_in tree code texts w part s.stands.frame.gives) (text_in tree texts w part) (level_in tree w part) (most_in tree w part) (reads n) s.stands.pc s.stands.slots a r at left →
-        ComesTo (scopes_of tree) (context_in tree code texts w part s.stands.frame.gives) (text_in tree texts w part) (level_in tree w part) (most_in tree w part) (resume (scopes_of tree) part.rest r) at left) →
-        WaitsHere (reads n) a → ReturnsHere (reads n) a → IsRead (scopes_of tree) (names_in tree w part) n a.0 a.2.0 → Does tree code texts w img p
-    read_by n e a answered waits returns (of_variable v) = reading tree code texts fragments keeps order w lay img p q part outer bound core s able_is able_p n e a answered v
-    read_by n e a answered waits returns (of_formal v) =
-        reading_name tree code texts fragments keeps order w lay img p q part outer bound core s able_is able_p n e a answered lies.nested
-        (evaluating_value tree code texts lies actuals fragments keeps order w lay img p q part outer bound core s able_is able_p n e a waits returns) v
+    read_by : (n : Named) (h : Head actor (reads n)) → IsRead (scopes_of tree) (names_in tree w part) n h.action.0 h.action.2.0 → Does tree code texts w img p
+    read_by n h (of_variable v) = reading tree code texts fragments keeps order actor n h.asks h.action h.answered v
+    read_by n h (of_formal v) =
+        reading_name tree code texts fragments keeps order actor n h.asks h.action h.answered lies.nested
+        (evaluating_value tree code texts lies actuals fragments keeps order actor n h.asks h.action h.waits h.returns) v
 
-    by_ask : (k : Ask) → ask part.rest ≡ k → GoesOnFrom w lay img p q part outer bound core s k
-    by_ask (reads n) e a answered waits returns = read_by n e a answered waits returns a.2.1
-    by_ask (fails fault) e a answered waits returns = failing tree code texts w lay img p q part outer bound core s fault e a
-    by_ask (stores (own n) v) e a answered waits returns =
-        storing tree code texts fragments keeps order w lay img p q part outer bound core s able_is able_p n v e a answered (omega (arith, a.2.variable.level_is, low))
-        (small_index (scopes_of tree) lies.nested (names_in tree w part) n a.2.kind a.2.couple a.2.variable)
-    by_ask turns e a answered waits returns = turning tree code texts fragments keeps order w lay img p q part outer bound core s able_is able_p e a answered
-    by_ask (writes phrases vs) e a answered waits returns = others.writing phrases vs w lay img p q part outer bound core s able_is able_p e a answered waits returns
-    by_ask (selects v ss) e a answered waits returns = others.selecting v ss w lay img p q part outer bound core s able_is able_p e a answered waits returns
-    by_ask (enters_block b) e a answered waits returns = others.entering b w lay img p q part outer bound core s able_is able_p e a answered waits returns
-    by_ask (leaves done) e a answered waits returns = others.leaving w lay img p q part outer bound core s able_is able_p e a answered waits returns
-    by_ask (leaves (value v)) e a answered waits returns = others.returning v w lay img p q part outer bound core s able_is able_p e a answered waits returns
-    by_ask (leaves (cell c)) e a answered waits returns = absurd a
-    by_ask (leaves (place x)) e a answered waits returns = others.placing x w lay img p q part outer bound core s able_is able_p e a answered waits returns
-    by_ask (leaves entered) e a answered waits returns = absurd a
-    by_ask (stores (there r) v) e a answered waits returns =
-        storing_there tree code texts lies.nested fragments keeps order w lay img p q part outer bound core s able_is able_p r v e a answered
-    by_ask (stores (element_of r ks) v) e a answered waits returns = others.storing r ks v w lay img p q part outer bound core s able_is able_p e a answered waits returns
-    by_ask nothing e a answered waits returns = absurd a
-    by_ask (reads_element n ks v) e a answered waits returns = others.reading n ks v w lay img p q part outer bound core s able_is able_p e a answered waits returns
-    by_ask (indexes n ks v) e a answered waits returns = others.indexing n ks v w lay img p q part outer bound core s able_is able_p e a answered waits returns
-    by_ask (enters n gs) e a answered waits returns = others.calling n gs w lay img p q part outer bound core s able_is able_p e a answered waits returns
-    by_ask (passes n) e a answered waits returns = others.passing n w lay img p q part outer bound core s able_is able_p e a answered waits returns
-    by_ask (resolves n) e a answered waits returns =
-        resolving tree code texts lies.nested fragments keeps order w lay img p q part outer bound core s able_is able_p n e a answered
-        (evaluating_place tree code texts lies actuals fragments keeps order w lay img p q part outer bound core s able_is able_p n e a waits returns)
-    by_ask (reads_result name) e a answered waits returns =
-        reading_result tree code texts lies.nested fragments keeps order w lay img p q part outer bound core s able_is able_p name e a answered
-    by_ask (goes_to n) e a answered waits returns = others.going n w lay img p q part outer bound core s able_is able_p e a answered waits returns
-    by_ask (starts n gs task) e a answered waits returns = others.starting n gs task w lay img p q part outer bound core s able_is able_p e a answered waits returns
-    by_ask (event_deed x ns) e a answered waits returns = others.acting x ns w lay img p q part outer bound core s able_is able_p e a answered waits returns
-    by_ask (makes_arrays kind ns pairs vs) e a answered waits returns = others.making kind ns pairs vs w lay img p q part outer bound core s able_is able_p e a answered waits returns
-    by_ask (makes_event n) e a answered waits returns = others.making_event n w lay img p q part outer bound core s able_is able_p e a answered waits returns
+    by_ask : (k : Ask) → Head actor k → Does tree code texts w img p
+    by_ask (reads n) h = read_by n h h.action.2.1
+    by_ask (fails fault) h = failing tree code texts (actor_of s) fault h.asks h.action
+    by_ask (stores (own n) v) h =
+        storing tree code texts fragments keeps order actor n v h.asks h.action h.answered (omega (arith, h.action.2.variable.level_is, low))
+        (small_index (scopes_of tree) lies.nested (names_in tree w part) n h.action.2.kind h.action.2.couple h.action.2.variable)
+    by_ask turns h = turning tree code texts fragments keeps order actor h.asks h.action h.answered
+    by_ask (writes phrases vs) h = others.writing phrases vs actor h
+    by_ask (selects v ss) h = others.selecting v ss actor h
+    by_ask (enters_block b) h = others.entering b actor h
+    by_ask (leaves done) h = others.leaving actor h
+    by_ask (leaves (value v)) h = others.returning v actor h
+    by_ask (leaves (cell c)) h = absurd h.action
+    by_ask (leaves (place x)) h = others.placing x actor h
+    by_ask (leaves entered) h = absurd h.action
+    by_ask (stores (there r) v) h = storing_there tree code texts lies.nested fragments keeps order actor r v h.asks h.action h.answered
+    by_ask (stores (element_of r ks) v) h = others.storing r ks v actor h
+    by_ask nothing h = absurd h.action
+    by_ask (reads_element n ks v) h = others.reading n ks v actor h
+    by_ask (indexes n ks v) h = others.indexing n ks v actor h
+    by_ask (enters n gs) h = others.calling n gs actor h
+    by_ask (passes n) h = others.passing n actor h
+    by_ask (resolves n) h =
+        resolving tree code texts lies.nested fragments keeps order actor n h.asks h.action h.answered
+        (evaluating_place tree code texts lies actuals fragments keeps order actor n h.asks h.action h.waits h.returns)
+    by_ask (reads_result name) h = reading_result tree code texts lies.nested fragments keeps order actor name h.asks h.action h.answered
+    by_ask (goes_to n) h = others.going n actor h
+    by_ask (starts n gs task) h = others.starting n gs task actor h
+    by_ask (event_deed x ns) h = others.acting x ns actor h
+    by_ask (makes_arrays kind ns pairs vs) h = others.making kind ns pairs vs actor h
+    by_ask (makes_event n) h = others.making_event n actor h
 
     -- whatever its head asks for
     pub scene_does : Does tree code texts w img p
     scene_does =
         let on : GoesOn (scopes_of tree) (context_in tree code texts w part s.stands.frame.gives) (text_in tree texts w part) (level_in tree w part) (most_in tree w part) part.rest s.stands.pc s.stands.slots =
         rests (scopes_of tree) (context_in tree code texts w part s.stands.frame.gives) (text_in tree texts w part) (level_in tree w part) (most_in tree w part) part.rest s.stands.pc s.stands.slots s.stands.stands s.stands.asks in
-        by_ask (ask part.rest) refl on.action on.answered on.waits on.returns
+        by_ask (ask part.rest) (record { asks = refl; action = on.action; answered = on.answered; waits = on.waits; returns = on.returns })

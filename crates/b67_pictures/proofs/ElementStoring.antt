@@ -1,306 +1,254 @@
 -- A store to an element.
-use Rattle.std.proofs.Common.{◌≡◌, ◌≢◌, ◌⊎◌, inl, inr, refl, sym, ap, ◌∙◌, subst, ℕ, ◌+◌, ◌≤◌, List, [], ◌∷◌, ◌++◌, length, Option, Some, None, Ok, arith, true}
-use Rattle.b67_list.specs.Numbered.{numbered}
-use Rattle.algol_tree.specs.declared.tree.Kind.{Kind}
-use Rattle.algol_tree.specs.Blocks.{block_numbered}
-use Rattle.algol_tree.specs.Cells.{level_of}
-use Rattle.algol_tree.specs.Plain.{PProgram}
-use Rattle.algol_tree.specs.Scopes.{Scopes, scopes_of}
-use Rattle.algol_meaning.specs.Value.{Value, Reference, ArrayCell, Cell, array}
+use Rattle.std.proofs.Common.{◌≡◌, ◌≢◌, ◌⊎◌, inl, inr, refl, sym, ap, ◌∙◌, subst, ℕ, ◌+◌, ◌≤◌, List, [], ◌∷◌, ◌++◌, length, Option, Some, None, Ok, arith}
+use Rattle.b67_pictures.proofs.Prelude.{numbered, ElementStore, block_numbered, level_of, PProgram, Scopes, scopes_of, Kind, Ask, stores, ask, resume, Choice, choice, choice_of, goes, is_evaluation, Answer, done, element_of, Value, Reference, ArrayCell, Cell, array, NamedCell, Instance, Process, Part, World, instance_at, or_no_instance, with_instance, with_process, set_cell, cell_in, cells_with, array_in, Made, RestsKeepToTheirText, AllIsMadeInOrder, segment_of, Word, Placed, Code, Rows, stack_limit, Image, with_rows, frame, operator_at, told_by, element_or_not, stored_letter, operator_letter, Simple, simple_cells, HasKind, Texts, ActionAt, Acted, ComesTo, Slot, element, operand, descriptor, Core, size, HasCore, IsCore, with_core, ValueIs, newest, SlotsAre, CoreAt, FragmentsArePerformed, registers_now, without_two, same_or_not, action_not_plain, action_is, Top, top_slot, makes, unmade, value_tag, arrays_unchanged, ElementFound, element_found, event_before, events_replaced, facts_of, KeepsArrays, known_is, OwnCells, framed_cells, AreMade, HoldElements, ArraysAre, IsElement, EventsAre, IsInReach, CellsAre, Stands, run_level, at_element, ElementHome, element_home, Found, operator_there, AbleActor, actor_of, gives_within, choice_is, text_in, level_in, context_in, most_in, length_cells, stored_world, ChangedCells, PicturesBy, MayAct, Does, gave}
 use Rattle.algol_meaning.specs.Arrays.{with_element, flat}
-use Rattle.algol_meaning.specs.Rest.{Answer, done, element_of}
-use Rattle.algol_meaning.specs.World.{NamedCell, Instance, Process, Part, lives, World, instance_at, or_no_instance, with_instance, with_process, set_cell, cell_in, cells_with, array_in}
-use Rattle.b67_deeds.specs.declared.Letter.TheVariants.{ElementStore}
-use Rattle.algol_meaning.specs.Asks.{Ask, stores, ask, resume}
-use Rattle.algol_meaning.specs.Choice.{Choice, choice, choice_of, goes}
-use Rattle.algol_paths.specs.Arrays.{Made}
-use Rattle.algol_paths.specs.Laws.{RestsKeepToTheirText, AllIsMadeInOrder}
-use Rattle.algol_paths.specs.Segments.{segment_of}
-use Rattle.b67_word.specs.Word.{Word}
 use Rattle.b67_ops.specs.declared.Operator.TheVariants as ops
 use Rattle.b67_ops.specs.declared.PlainKind.TheVariants as kinds
-use Rattle.b67_segment.specs.Operators.{Placed}
-use Rattle.b67_segment.specs.declared.code.Code.{Code}
-use Rattle.b67_store.specs.Store.{Rows, stack_limit, with_row_word}
-use Rattle.b67_scenes.specs.States.{StateIs}
+use Rattle.b67_store.specs.Store.{with_row_word}
 use Rattle.b67_table.specs.Effect as effects
-use Rattle.b67_table.specs.Image.{Image, with_rows}
 use Rattle.b67_table.specs.Outcome as outcomes
-use Rattle.b67_table.specs.Private.{frame}
-use Rattle.b67_table.specs.Table.{table, raw, operator_at}
-use Rattle.b67_templates.specs.Cells.{Simple, simple_cells}
-use Rattle.b67_templates.specs.Fragments.{HasKind}
-use Rattle.b67_templates.specs.Programs.{Texts}
-use Rattle.b67_standing.specs.Stepping.{Slot, element, operand, descriptor}
-use Rattle.b67_standing.specs.Standing.{ActionAt, Acted, ComesTo}
-use Rattle.b67_cores.specs.Cores.{Core, size, HasCore, IsCore, with_core}
-use Rattle.b67_cores.specs.Slots.{ValueIs, newest, SlotsAre}
-use Rattle.b67_cores.specs.Stretches.{CoreAt, FragmentsArePerformed}
+use Rattle.b67_table.specs.Table.{table, raw}
 use Rattle.b67_deeds.specs.declared.Letter.TheVariants as letters
-use Rattle.b67_letters.specs.Letters.{told_by, element_or_not, stored_letter, operator_letter}
-use Rattle.b67_rows.proofs.Cored.{registers_now}
-use Rattle.b67_rows.proofs.IndexRows.{without_two, two_seen, stored_gives, stored_raw, stored_class}
-use Rattle.b67_frames.specs.Arrays.{Layout, AreMade, HoldElements, ArraysAre, IsElement}
-use Rattle.b67_frames.specs.Events.{EventsAre}
-use Rattle.b67_frames.specs.Frames.{IsInReach, CellsAre, Stands, run_level}
-use Rattle.b67_frames.proofs.ArraysKept.{arrays_unchanged}
-use Rattle.b67_frames.proofs.ElementRows.{ElementFound, element_found}
-use Rattle.b67_frames.proofs.Knowing.{KeepsArrays, known_is}
-use Rattle.b67_frames.proofs.Facts.{facts_of}
+use Rattle.b67_rows.proofs.IndexRows.{two_seen, stored_gives, stored_raw, stored_class}
 use Rattle.b67_frames.proofs.MadeArrays.{IsPast, past_values}
-use Rattle.b67_scenes.specs.Pictures.{PicturesBy}
-use Rattle.b67_scenes.proofs.ElementHomes.{at_element, ElementHome, element_home}
-use Rattle.b67_scenes.proofs.Homes.{operator_there}
-use Rattle.b67_scenes.proofs.Finding.{Found}
-use Rattle.b67_pictures.specs.Acting.{MayAct, Does, gave}
 use Rattle.b67_pictures.proofs.Alone.{IsAfter, after_choice}
 use Rattle.b67_pictures.proofs.Changing.{refers_fewer, own_pictured, other_pictured}
-use Rattle.b67_rows.proofs.Numbers.{same_or_not}
-use Rattle.b67_rows.proofs.Rows.{action_not_plain, action_is}
-use Rattle.b67_rows.proofs.Slotted.{Top, top_slot}
 use Rattle.b67_rows.proofs.StackWords.{length-set}
-use Rattle.b67_rows.proofs.Unmade.{makes, unmade}
-use Rattle.b67_rows.proofs.Words.{value_tag}
-use Rattle.b67_frames.proofs.OwnCells.{OwnCells, framed_cells}
 use Rattle.b67_frames.proofs.StoredCells.{made_stays}
 use Rattle.b67_frames.proofs.StoredElement.{element_stored, element_keeps}
-use Rattle.b67_scenes.proofs.Scene.{Scene}
-use Rattle.b67_scenes.proofs.Stage.{gives_within, choice_is}
-use Rattle.b67_scenes.proofs.Staying.{text_in, level_in, context_in, most_in}
-use Rattle.b67_scenes.proofs.StoringFrames.{length_cells, changed, stored_world, ChangedCells}
-use Rattle.algol_meaning.specs.Critical.{is_evaluation}
-use Rattle.b67_frames.proofs.EventsKept.{event_before, events_replaced}
+use Rattle.b67_scenes.proofs.StoringFrames.{changed}
 
-module _ (tree : PProgram) (code : Code) (texts : Texts) (fragments : FragmentsArePerformed) (kept : RestsKeepToTheirText) (order : AllIsMadeInOrder) (w : World) (lay : Layout) (img : Image)
-    (p : ℕ) (q : Process) (part : Part) (outer : List Part) (bound : ℕ) (core : Core) (s : Scene tree code texts w lay img p q part outer bound core)
-    (able_is : lives q.state ≡ true) (able_p : StateIs (scopes_of tree) w lay q.state (numbered img.states p)) (r : Reference) (ks : List ℕ) (v : Value) (asks : ask part.rest ≡ stores (element_of r ks) v)
-    (a : ActionAt (scopes_of tree) (context_in tree code texts w part s.stands.frame.gives) (text_in tree texts w part) (level_in tree w part) (most_in tree w part) (stores (element_of r ks) v) s.stands.pc s.stands.slots)
-    (answered : (x : Answer) (at : ℕ) (left : List Slot) →
-    Acted (scopes_of tree) (context_in tree code texts w part s.stands.frame.gives) (text_in tree texts w part) (level_in tree w part) (most_in tree w part) (stores (element_of r ks) v) s.stands.pc s.stands.slots a x at left →
-    ComesTo (scopes_of tree) (context_in tree code texts w part s.stands.frame.gives) (text_in tree texts w part) (level_in tree w part) (most_in tree w part) (resume (scopes_of tree) part.rest x) at left) where
-  abbrev sc : Scopes
-  sc = scopes_of tree
+module _ (tree : PProgram) (code : Code) (texts : Texts) (fragments : FragmentsArePerformed) (kept : RestsKeepToTheirText) (order : AllIsMadeInOrder) (actor : AbleActor tree code texts) where
+  open actor use {w, lay, img, p, q, part, outer, core, s, able_is, able_p}
 
-  abbrev b : ℕ
-  b = (instance_at w part.instance).block
+  module _ (r : Reference) (ks : List ℕ) (v : Value) (asks : ask part.rest ≡ stores (element_of r ks) v)
+      (a : ActionAt (scopes_of tree) (context_in tree code texts w part s.stands.frame.gives) (text_in tree texts w part) (level_in tree w part) (most_in tree w part) (stores (element_of r ks) v) s.stands.pc s.stands.slots)
+      (answered : (x : Answer) (at : ℕ) (left : List Slot) →
+      Acted (scopes_of tree) (context_in tree code texts w part s.stands.frame.gives) (text_in tree texts w part) (level_in tree w part) (most_in tree w part) (stores (element_of r ks) v) s.stands.pc s.stands.slots a x at left →
+      ComesTo (scopes_of tree) (context_in tree code texts w part s.stands.frame.gives) (text_in tree texts w part) (level_in tree w part) (most_in tree w part) (resume (scopes_of tree) part.rest x) at left) where
+    abbrev sc : Scopes
+    sc = scopes_of tree
 
-  abbrev level : ℕ
-  level = run_level (is_evaluation part.purpose) (level_of (block_numbered sc.blocks b))
+    abbrev b : ℕ
+    b = (instance_at w part.instance).block
 
-  abbrev text : List Placed
-  text = texts.placed (segment_of sc.blocks b)
+    abbrev level : ℕ
+    level = run_level (is_evaluation part.purpose) (level_of (block_numbered sc.blocks b))
 
-  abbrev st : Stands tree code texts w lay p part outer core
-  st = s.stands
+    abbrev text : List Placed
+    text = texts.placed (segment_of sc.blocks b)
 
-  abbrev next : ℕ
-  next = a.0
+    abbrev st : Stands tree code texts w lay p part outer core
+    st = s.stands
 
-  abbrev below : List Slot
-  below = a.1
+    abbrev next : ℕ
+    next = a.0
 
-  there : operator_at code core.registers ≡ Ok (ops.Plain kinds.Stod, next)
-  there = operator_there sc st.held code text level st.pc st.slots core (ops.Plain kinds.Stod) next st.there a.2.stands
+    abbrev below : List Slot
+    below = a.1
 
-  module _ (x y : Word) (words : List Word) (top : core.words ≡ x ∷ y ∷ words) (x_is : ValueIs v x) (e : IsElement sc w lay (IsInReach w (part ∷ outer)) r ks a.2.kind y)
-      (left_are : SlotsAre sc st.held level (frame core.registers) (length core.below) below words) (h : ElementHome tree code texts w lay img p q part outer bound core s r ks a.2.kind y e) where
-    -- the instance of the array, whose frame lies in the stack
-    abbrev i : ℕ
-    i = h.lies.lies.part.instance
+    there : operator_at code core.registers ≡ Ok (ops.Plain kinds.Stod, next)
+    there = operator_there sc st.held code text level st.pc st.slots core (ops.Plain kinds.Stod) next st.there a.2.stands
 
-    abbrev instance : Instance
-    instance = h.lies.lies.owned.framed.instance
+    module _ (x y : Word) (words : List Word) (top : core.words ≡ x ∷ y ∷ words) (x_is : ValueIs v x) (e : IsElement sc w lay (IsInReach w (part ∷ outer)) r ks a.2.kind y)
+        (left_are : SlotsAre sc st.held level (frame core.registers) (length core.below) below words) (h : ElementHome tree code texts (actor_of s) r ks a.2.kind y e) where
+      -- the instance of the array, whose frame lies in the stack
+      abbrev i : ℕ
+      i = h.lies.lies.part.instance
 
-    instance_there : numbered w.instances i ≡ Some instance
-    instance_there = h.lies.lies.owned.framed.is
+      abbrev instance : Instance
+      instance = h.lies.lies.owned.framed.instance
 
-    abbrev own : OwnCells sc w lay i instance
-    own = framed_cells sc w lay h.lies.lies.owned.framed
+      instance_there : numbered w.instances i ≡ Some instance
+      instance_there = h.lies.lies.owned.framed.is
 
-    means : cell_in instance.cells r.name ≡ array e.cell
-    means = ap (λ (o : Option Instance). cell_in ((or_no_instance o).cells) r.name) (sym instance_there) ∙ h.of.is
+      abbrev own : OwnCells sc w lay i instance
+      own = framed_cells sc w lay h.lies.lies.owned.framed
 
-    -- ---- its rows
+      means : cell_in instance.cells r.name ≡ array e.cell
+      means = ap (λ (o : Option Instance). cell_in ((or_no_instance o).cells) r.name) (sym instance_there) ∙ h.of.is
 
-    holds : HoldElements img.rows e.declared.kind e.cell e.allotted
-    holds = s.by.arrays.held i h.of.number e.declared e.cell e.allotted h.has
+      -- ---- its rows
 
-    old : ElementFound sc w lay img.rows e.declared.kind e.cell e.allotted holds ks e.at e.number
-    old = element_found sc w lay img.rows e.declared.kind e.cell e.allotted holds ks e.index e.at e.number e.within e.part
+      holds : HoldElements img.rows e.declared.kind e.cell e.allotted
+      holds = s.by.arrays.held i h.of.number e.declared e.cell e.allotted h.has
 
-    fits : HasKind e.declared.kind v
-    fits = subst (λ (k : Kind). HasKind k v) (sym e.kind_is) a.2.fits
+      old : ElementFound sc w lay img.rows e.declared.kind e.cell e.allotted holds ks e.at e.number
+      old = element_found sc w lay img.rows e.declared.kind e.cell e.allotted holds ks e.index e.at e.number e.within e.part
 
-    abbrev rows' : Rows
-    rows' = with_row_word img.rows e.number e.at x
+      fits : HasKind e.declared.kind v
+      fits = subst (λ (k : Kind). HasKind k v) (sym e.kind_is) a.2.fits
 
-    -- ---- the world after it
+      abbrev rows' : Rows
+      rows' = with_row_word img.rows e.number e.at x
 
-    abbrev later : ArrayCell
-    later = with_element e.cell ks v
+      -- ---- the world after it
 
-    abbrev cells' : List NamedCell
-    cells' = cells_with instance.cells r.name (array later)
+      abbrev later : ArrayCell
+      later = with_element e.cell ks v
 
-    abbrev part' : Part
-    part' = record part { rest = resume sc part.rest done }
+      abbrev cells' : List NamedCell
+      cells' = cells_with instance.cells r.name (array later)
 
-    abbrev q' : Process
-    q' = record q { todo = part' ∷ outer }
+      abbrev part' : Part
+      part' = record part { rest = resume sc part.rest done }
 
-    abbrev stored : World
-    stored = stored_world w i instance instance_there cells'
+      abbrev q' : Process
+      q' = record q { todo = part' ∷ outer }
 
-    abbrev w' : World
-    w' = with_process stored p q'
+      abbrev stored : World
+      stored = stored_world w i instance instance_there cells'
 
-    abbrev new : Core
-    new = without_two core words next
+      abbrev w' : World
+      w' = with_process stored p q'
 
-    abbrev img' : Image
-    img' = with_rows img rows'
+      abbrev new : Core
+      new = without_two core words next
 
-    abbrev after : Image
-    after = with_core img' p new
+      abbrev img' : Image
+      img' = with_rows img rows'
 
-    many : length cells' ≡ length instance.cells
-    many = length_cells instance.cells r.name (array later)
+      abbrev after : Image
+      after = with_core img' p new
 
-    instance_now : instance_at w i ≡ instance
-    instance_now = ap or_no_instance instance_there
+      many : length cells' ≡ length instance.cells
+      many = length_cells instance.cells r.name (array later)
 
-    -- the one with the element stored
-    stored_is : set_cell w (record { instance = i; name = r.name }) (array later) ≡ stored
-    stored_is = ap (λ (z : Instance). with_instance w i (record z { cells = cells_with z.cells r.name (array later) })) instance_now
+      instance_now : instance_at w i ≡ instance
+      instance_now = ap or_no_instance instance_there
 
-    chosen : choice sc w p ≡ record { action = ElementStore; world = w'; released = []; started = None }
-    chosen =
-        choice_is sc w p q part outer s.at s.todo
-        ∙ ap (λ (m : Ask). choice_of sc w p q part outer m) asks
-        ∙ ap (λ (c : Cell). goes sc w p q part outer ElementStore (set_cell w r (array (with_element (array_in c) ks v))) done) e.array.is
-        ∙ ap (λ (j : ℕ). goes sc w p q part outer ElementStore (set_cell w (record { instance = j; name = r.name }) (array later)) done) h.home_is
-        ∙ ap (λ (u : World). goes sc w p q part outer ElementStore u done) stored_is
+      -- the one with the element stored
+      stored_is : set_cell w (record { instance = i; name = r.name }) (array later) ≡ stored
+      stored_is = ap (λ (z : Instance). with_instance w i (record z { cells = cells_with z.cells r.name (array later) })) instance_now
 
-    -- ---- its cells after it
+      chosen : choice sc w p ≡ record { action = ElementStore; world = w'; released = []; started = None }
+      chosen =
+          choice_is sc w p q part outer s.at s.todo
+          ∙ ap (λ (m : Ask). choice_of sc w p q part outer m) asks
+          ∙ ap (λ (c : Cell). goes sc w p q part outer ElementStore (set_cell w r (array (with_element (array_in c) ks v))) done) e.array.is
+          ∙ ap (λ (j : ℕ). goes sc w p q part outer ElementStore (set_cell w (record { instance = j; name = r.name }) (array later)) done) h.home_is
+          ∙ ap (λ (u : World). goes sc w p q part outer ElementStore u done) stored_is
 
-    -- where its frame lies
-    found : Found tree code texts w lay img i
-    found = subst (λ (j : ℕ). Found tree code texts w lay img j) h.home_is h.lies
+      -- ---- its cells after it
 
-    abbrev ss : List Simple
-    ss = simple_cells sc (block_numbered sc.blocks instance.block)
+      -- where its frame lies
+      found : Found tree code texts w lay img i
+      found = subst (λ (j : ℕ). Found tree code texts w lay img j) h.home_is h.lies
 
-    changes : (first : List NamedCell) (values : List Word) (arrays : List NamedCell) (declared : List Made) (descriptors : List Word) → CellsAre ss first values → AreMade declared arrays (lay.rows i) descriptors →
-        instance.cells ≡ first ++ arrays → ChangedCells ss (lay.rows i) cells' first values values declared descriptors
-    changes first values arrays declared descriptors are made has_cells =
-        record {
-          simple = first;
-          references = λ n c word there lies is. (there, lies);
-          arrays = cells_with arrays r.name (array later);
-          simple_are = are;
-          made = made_stays r.name e.cell later (record { bounds = refl; many = length-set e.cell.elements (flat 0 e.cell.bounds ks) v }) declared arrays (lay.rows i) descriptors
-              (sym (past.found arrays) ∙ means_all) made;
-          has = ap (λ (cells : List NamedCell). cells_with cells r.name (array later)) has_cells ∙ past.changed arrays (array later);
-        }
-      where
-        means_all : cell_in (first ++ arrays) r.name ≡ array e.cell
-        means_all = ap (λ (cells : List NamedCell). cell_in cells r.name) (sym has_cells) ∙ means
+      abbrev ss : List Simple
+      ss = simple_cells sc (block_numbered sc.blocks instance.block)
 
-        past : IsPast first r.name
-        past = past_values ss first values arrays r.name e.cell are means_all
+      changes : (first : List NamedCell) (values : List Word) (arrays : List NamedCell) (declared : List Made) (descriptors : List Word) → CellsAre ss first values → AreMade declared arrays (lay.rows i) descriptors →
+          instance.cells ≡ first ++ arrays → ChangedCells ss (lay.rows i) cells' first values values declared descriptors
+      changes first values arrays declared descriptors are made has_cells =
+          record {
+            simple = first;
+            references = λ n c word there lies is. (there, lies);
+            arrays = cells_with arrays r.name (array later);
+            simple_are = are;
+            made = made_stays r.name e.cell later (record { bounds = refl; many = length-set e.cell.elements (flat 0 e.cell.bounds ks) v }) declared arrays (lay.rows i) descriptors
+                (sym (past.found arrays) ∙ means_all) made;
+            has = ap (λ (cells : List NamedCell). cells_with cells r.name (array later)) has_cells ∙ past.changed arrays (array later);
+          }
+        where
+          means_all : cell_in (first ++ arrays) r.name ≡ array e.cell
+          means_all = ap (λ (cells : List NamedCell). cell_in cells r.name) (sym has_cells) ∙ means
 
-    keeps : KeepsArrays sc w stored lay lay i
-    keeps =
-        subst (λ (u : World). KeepsArrays sc w u lay lay i) stored_is
-        (element_keeps sc w lay img.rows s.by.arrays i instance own r.name e.declared e.cell e.allotted h.of ks e.index e.at e.number e.within e.part v x fits x_is i)
+          past : IsPast first r.name
+          past = past_values ss first values arrays r.name e.cell are means_all
 
-    -- ---- the core after it
+      keeps : KeepsArrays sc w stored lay lay i
+      keeps =
+          subst (λ (u : World). KeepsArrays sc w u lay lay i) stored_is
+          (element_keeps sc w lay img.rows s.by.arrays i instance own r.name e.declared e.cell e.allotted h.of ks e.index e.at e.number e.within e.part v x fits x_is i)
 
-    long : core.registers.s ≡ length core.below + (length words + 2)
-    long = omega (arith, s.has.is.top, ap length top)
+      -- ---- the core after it
 
-    is_new : IsCore new
-    is_new = record { bottom = s.has.is.bottom; top = omega (arith, long) }
+      long : core.registers.s ≡ length core.below + (length words + 2)
+      long = omega (arith, s.has.is.top, ap length top)
 
-    core_at : CoreAt sc st.held code text level next below new
-    core_at =
-        record {
-          segment = st.there.segment;
-          there = st.there.there;
-          spells = st.there.spells;
-          level_is = st.there.level_is;
-          place_is = refl;
-          is = is_new;
-          mark_is = st.there.mark_is ∙ ap (λ (slots : List Slot). newest (frame core.registers) (length core.below) slots) a.2.lies;
-          words_are = left_are;
-        }
+      is_new : IsCore new
+      is_new = record { bottom = s.has.is.bottom; top = omega (arith, long) }
 
-    raw_is : raw code img p ≡ effects.gives after
-    raw_is = stored_raw code img p core s.has next there ∙ stored_gives img p core s.has x y words top (at_element e.at e.number) old.word h.reads old.lies (value_tag v x x_is) next
+      core_at : CoreAt sc st.held code text level next below new
+      core_at =
+          record {
+            segment = st.there.segment;
+            there = st.there.there;
+            spells = st.there.spells;
+            level_is = st.there.level_is;
+            place_is = refl;
+            is = is_new;
+            mark_is = st.there.mark_is ∙ ap (λ (slots : List Slot). newest (frame core.registers) (length core.below) slots) a.2.lies;
+            words_are = left_are;
+          }
 
-    -- the word under the top is the descriptor of an element
-    stored_here : operator_letter (ops.Plain kinds.Stod) img core.registers ≡ Some letters.ElementStore
-    stored_here =
-        ap (told_by stored_letter) (two_seen img p core s.has x y words top)
-        ∙ ap (λ o. Some (element_or_not letters.ElementStore letters.Store o)) h.reads
+      raw_is : raw code img p ≡ effects.gives after
+      raw_is = stored_raw code img p core s.has next there ∙ stored_gives img p core s.has x y words top (at_element e.at e.number) old.word h.reads old.lies (value_tag v x x_is) next
 
-    held : length below ≤ most_in tree w part
-    held = let more : length st.slots ≡ length below + 2 = ap length a.2.lies ∙ omega arith in omega (arith, st.few, more)
+      -- the word under the top is the descriptor of an element
+      stored_here : operator_letter (ops.Plain kinds.Stod) img core.registers ≡ Some letters.ElementStore
+      stored_here =
+          ap (told_by stored_letter) (two_seen img p core s.has x y words top)
+          ∙ ap (λ o. Some (element_or_not letters.ElementStore letters.Store o)) h.reads
 
-    smaller : size new ≤ stack_limit
-    smaller = omega (arith, s.small, ap length top)
+      held : length below ≤ most_in tree w part
+      held = let more : length st.slots ≡ length below + 2 = ap length a.2.lies ∙ omega arith in omega (arith, st.few, more)
 
-    -- ---- the picture after it
+      smaller : size new ≤ stack_limit
+      smaller = omega (arith, s.small, ap length top)
 
-    -- other rows change no core
-    with_other_rows : (m : ℕ) (other : Core) → HasCore img m other → HasCore img' m other
-    with_other_rows m other h = record { live = h.live; registers = h.registers; own = h.own; stack = h.stack; is = h.is }
+      -- ---- the picture after it
 
-    has' : HasCore img' p core
-    has' = with_other_rows p core s.has
+      -- other rows change no core
+      with_other_rows : (m : ℕ) (other : Core) → HasCore img m other → HasCore img' m other
+      with_other_rows m other h = record { live = h.live; registers = h.registers; own = h.own; stack = h.stack; is = h.is }
 
-    arrays_after : ArraysAre sc w' lay rows'
-    arrays_after =
-        arrays_unchanged sc stored w' lay rows' refl
-        (subst (λ (u : World). ArraysAre sc u lay rows') stored_is
-        (element_stored sc w lay img.rows s.by.arrays i instance own r.name e.declared e.cell e.allotted h.of ks e.index e.at e.number e.within e.part v x fits x_is))
+      has' : HasCore img' p core
+      has' = with_other_rows p core s.has
 
-    events_after : EventsAre sc w' lay img.events
-    events_after =
-        events_replaced sc w w' lay lay i instance (changed w i instance instance_there cells') instance_there refl refl refl (event_before instance.cells r.name (array later) tt) (λ j f laid. laid) img.events s.by.events
+      arrays_after : ArraysAre sc w' lay rows'
+      arrays_after =
+          arrays_unchanged sc stored w' lay rows' refl
+          (subst (λ (u : World). ArraysAre sc u lay rows') stored_is
+          (element_stored sc w lay img.rows s.by.arrays i instance own r.name e.declared e.cell e.allotted h.of ks e.index e.at e.number e.within e.part v x fits x_is))
 
-    after_so : MayAct sc w p → IsAfter sc w w' p
-    after_so may = after_choice sc w w' p q (facts_of sc w s.ok) may s.at (ap (λ (c : Choice). c.world) chosen)
+      events_after : EventsAre sc w' lay img.events
+      events_after =
+          events_replaced sc w w' lay lay i instance (changed w i instance instance_there cells') instance_there refl refl refl (event_before instance.cells r.name (array later) tt) (λ j f laid. laid) img.events s.by.events
 
-    -- in the process's own stack, or in another's
-    pictured : MayAct sc w p → PicturesBy tree code texts w' lay after
-    pictured may = by_number (same_or_not found.number p)
-      where
-        by_number : (found.number ≡ p) ⊎ (found.number ≢ p) → PicturesBy tree code texts w' lay after
-        by_number (inl here) =
-            own_pictured tree code texts fragments kept order w lay img p q part outer bound core s (unmade part.rest (ap makes asks)) done tt i found instance instance_there cells' 0 None many (λ set. absurd set) (λ set. absurd set) keeps
-            (refers_fewer instance.cells r.name (array later) refl) changes words new.registers (record { is = refl }) next below core_at held (answered done next below (refl, refl)) smaller able_is q.state img' with_other_rows refl (after_so may)
-            arrays_after events_after refl refl refl s.by.waits.awaiting refl refl refl refl refl (λ m other. refl) able_is able_p here
-        by_number (inr other) =
-            other_pictured tree code texts fragments kept order w lay img p q part outer bound core s (unmade part.rest (ap makes asks)) done tt i found instance instance_there cells' 0 None many (λ set. absurd set) (λ set. absurd set) keeps
-            (refers_fewer instance.cells r.name (array later) refl) changes words new.registers (record { is = refl }) next below core_at held (answered done next below (refl, refl)) smaller able_is q.state img' with_other_rows refl (after_so may)
-            arrays_after events_after refl refl refl s.by.waits.awaiting refl refl refl refl refl (λ m other. refl) able_is able_p other
+      after_so : MayAct sc w p → IsAfter sc w w' p
+      after_so may = after_choice sc w w' p q (facts_of sc w s.ok) may s.at (ap (λ (c : Choice). c.world) chosen)
 
-    does : Does tree code texts w img p
-    does =
-        let is : table code img p ≡ outcomes.gives after =
-        gives_within code img after p new.registers raw_is (registers_now img' p core new has' refl) (omega (arith, smaller, is_new.top)) in
-        gave after (action_not_plain code img p core s.has (ops.Plain kinds.Stod) next there (stored_class core.registers.place)) is
-        (action_is code img p core s.has (ops.Plain kinds.Stod) next there (outcomes.gives after) is ∙ stored_here ∙ ap (λ (c : Choice). Some c.action) (sym chosen))
-        (λ may. (lay, subst (λ (c : Choice). PicturesBy tree code texts c.world lay after) (sym chosen) (pictured may)))
+      -- in the process's own stack, or in another's
+      pictured : MayAct sc w p → PicturesBy tree code texts w' lay after
+      pictured may = by_number (same_or_not found.number p)
+        where
+          by_number : (found.number ≡ p) ⊎ (found.number ≢ p) → PicturesBy tree code texts w' lay after
+          by_number (inl here) =
+              own_pictured tree code texts fragments kept order (actor_of s) (unmade part.rest (ap makes asks)) done tt i found instance instance_there cells' 0 None many (λ set. absurd set) (λ set. absurd set) keeps
+              (refers_fewer instance.cells r.name (array later) refl) changes words new.registers (record { is = refl }) next below core_at held (answered done next below (refl, refl)) smaller able_is q.state img' with_other_rows refl (after_so may)
+              arrays_after events_after refl refl refl s.by.waits.awaiting refl refl refl refl refl (λ m other. refl) able_is able_p here
+          by_number (inr other) =
+              other_pictured tree code texts fragments kept order (actor_of s) (unmade part.rest (ap makes asks)) done tt i found instance instance_there cells' 0 None many (λ set. absurd set) (λ set. absurd set) keeps
+              (refers_fewer instance.cells r.name (array later) refl) changes words new.registers (record { is = refl }) next below core_at held (answered done next below (refl, refl)) smaller able_is q.state img' with_other_rows refl (after_so may)
+              arrays_after events_after refl refl refl s.by.waits.awaiting refl refl refl refl refl (λ m other. refl) able_is able_p other
 
-  pub element_storing : Does tree code texts w img p
-  element_storing =
-      let first : Top sc st.held level (frame core.registers) (length core.below) (operand v) (descriptor (element r ks a.2.kind) ∷ below) core.words =
-      top_slot sc st.held level (frame core.registers) (length core.below) st.slots (operand v) (descriptor (element r ks a.2.kind) ∷ below) core.words st.there.words_are a.2.lies in
-      let second : Top sc st.held level (frame core.registers) (length core.below) (descriptor (element r ks a.2.kind)) below first.words_below =
-      top_slot sc st.held level (frame core.registers) (length core.below) (descriptor (element r ks a.2.kind) ∷ below) (descriptor (element r ks a.2.kind)) below first.words_below first.are refl in
-      let e : IsElement sc w lay (IsInReach w (part ∷ outer)) r ks a.2.kind second.word =
-      known_is sc w lay (IsInReach w (part ∷ outer)) part.instance st.held st.held_are (element r ks a.2.kind) second.word second.slot_is in
-      does first.word second.word second.words_below (first.is ∙ ap (λ (ws : List Word). first.word ∷ ws) second.is) first.slot_is e second.are
-      (element_home tree code texts w lay img p q part outer bound core s r ks a.2.kind second.word e)
+      does : Does tree code texts w img p
+      does =
+          let is : table code img p ≡ outcomes.gives after =
+          gives_within code img after p new.registers raw_is (registers_now img' p core new has' refl) (omega (arith, smaller, is_new.top)) in
+          gave after (action_not_plain code img p core s.has (ops.Plain kinds.Stod) next there (stored_class core.registers.place)) is
+          (action_is code img p core s.has (ops.Plain kinds.Stod) next there (outcomes.gives after) is ∙ stored_here ∙ ap (λ (c : Choice). Some c.action) (sym chosen))
+          (λ may. (lay, subst (λ (c : Choice). PicturesBy tree code texts c.world lay after) (sym chosen) (pictured may)))
+
+    pub element_storing : Does tree code texts w img p
+    element_storing =
+        let first : Top sc st.held level (frame core.registers) (length core.below) (operand v) (descriptor (element r ks a.2.kind) ∷ below) core.words =
+        top_slot sc st.held level (frame core.registers) (length core.below) st.slots (operand v) (descriptor (element r ks a.2.kind) ∷ below) core.words st.there.words_are a.2.lies in
+        let second : Top sc st.held level (frame core.registers) (length core.below) (descriptor (element r ks a.2.kind)) below first.words_below =
+        top_slot sc st.held level (frame core.registers) (length core.below) (descriptor (element r ks a.2.kind) ∷ below) (descriptor (element r ks a.2.kind)) below first.words_below first.are refl in
+        let e : IsElement sc w lay (IsInReach w (part ∷ outer)) r ks a.2.kind second.word =
+        known_is sc w lay (IsInReach w (part ∷ outer)) part.instance st.held st.held_are (element r ks a.2.kind) second.word second.slot_is in
+        does first.word second.word second.words_below (first.is ∙ ap (λ (ws : List Word). first.word ∷ ws) second.is) first.slot_is e second.are
+        (element_home tree code texts (actor_of s) r ks a.2.kind second.word e)

@@ -1,35 +1,23 @@
 -- EXIT of the base frame of a process with a task: what it comes to, and whom it releases.
 use Rattle.std.proofs.Common.{◌≡◌, refl, ap, ◌∙◌, ℕ, ◌+◌, List, [], ◌∷◌, ◌++◌, length, take, drop, Option, Some, Bool, false, Ok, append-nil}
-use Rattle.std.specs.Prelude.{if◌then◌else◌, nat_eq, reverse}
-use Rattle.b67_list.specs.Numbered.{numbered, set_numbered}
+use Rattle.b67_pictures.proofs.Prelude.{if◌then◌else◌, reverse, numbered, set_numbered, caused, Word, Place, Registers, Code, Rows, words_of, Event, closed_from, waiters_at, changed as with_event, with_state, unlisted, gives, Image, with_rows, arrays_closed, is_critical, frame, Program, Change, asked, answer, live_criticals, operator_at, able_again, told_positions, Ended, registers_releases, Core, HasCore, words_are, ended_at}
+use Rattle.std.specs.Prelude.{nat_eq}
 use Rattle.b67_num.specs.declared.FaultKind.TheVariants.{CriticalBlockExit}
-use Rattle.b67_word.specs.declared.Place.{Place}
-use Rattle.b67_word.specs.Word.{Word}
-use Rattle.b67_control.specs.declared.Registers.{Registers}
 use Rattle.b67_ops.specs.declared.Operator.TheVariants as ops
 use Rattle.b67_ops.specs.declared.PlainKind.TheVariants as kinds
-use Rattle.b67_segment.specs.declared.code.Code.{Code}
-use Rattle.b67_store.specs.Store.{Rows, words_of}
-use Rattle.b67_deeds.specs.Events.{caused}
-use Rattle.b67_events.specs.Events.{Event, closed_from, waiters_at, changed as with_event, with_state, withdrawn, unlisted}
-use Rattle.b67_table.specs.Effect.{gives}
-use Rattle.b67_table.specs.Image.{Image, with_rows}
-use Rattle.b67_table.specs.Linkage.{arrays_closed, caused_by, frame_left, is_critical, leave_base, leave_other}
-use Rattle.b67_table.specs.Private.{frame}
-use Rattle.b67_table.specs.Program.{Program, Change, done, changed, asked, answer, fault, registers, end_process, close_events}
-use Rattle.b67_table.specs.Questions.{live_criticals, told}
+use Rattle.b67_events.specs.Events.{withdrawn}
+use Rattle.b67_table.specs.Linkage.{caused_by, frame_left, leave_base, leave_other}
+use Rattle.b67_table.specs.Program.{done, changed, fault, registers, end_process, close_events}
+use Rattle.b67_table.specs.Questions.{told}
 use Rattle.b67_table.specs.Questions as questions
 use Rattle.b67_table.specs.Rows.{row, exit}
-use Rattle.b67_table.specs.Table.{raw, operator_at}
-use Rattle.b67_table.specs.Writes.{written, able_again, told_positions}
+use Rattle.b67_table.specs.Table.{raw}
+use Rattle.b67_table.specs.Writes.{written}
 use Rattle.b67_table.specs.Writes as writes
-use Rattle.b67_table.specs.declared.ProcessState.TheVariants.{Ended}
 use Rattle.b67_letters.proofs.Calm.{arrays_have}
-use Rattle.b67_letters.specs.Releases.{change_releases, effect_releases, fetched_releases, registers_releases}
-use Rattle.b67_cores.specs.Cores.{Core, HasCore}
-use Rattle.b67_rows.proofs.Rows.{words_are}
+use Rattle.b67_letters.specs.Releases.{change_releases, effect_releases, fetched_releases}
 use Rattle.b67_rows.proofs.StackWords.{take-seam}
-use Rattle.b67_frames.proofs.ExitRow.{ended_at, exit_causes}
+use Rattle.b67_frames.proofs.ExitRow.{exit_causes}
 
 module _ (code : Code) (img : Image) (p : ℕ) (core : Core) (has : HasCore img p core) (next : ℕ) (at : operator_at code core.registers ≡ Ok (ops.Plain kinds.Exit, next))
     (mark control : Word) (cells : List Word) (below : core.below ≡ mark ∷ control ∷ cells) (counted : core.registers.cells ≡ length cells) (base : frame core.registers ≡ 0)

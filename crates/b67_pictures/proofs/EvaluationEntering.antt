@@ -1,85 +1,22 @@
 -- An evaluation is entered: a part that evaluates an actual has a frame without cells above the words of the part around, which waits. No instance is made.
 use Rattle.std.proofs.Common.{◌≡◌, ◌⊎◌, inl, inr, refl, sym, ap, ◌∙◌, subst, ℕ, zero, suc, ◌+◌, ◌-◌, ◌*◌, ◌≤◌, ◌<◌, List, [], ◌∷◌, length, Some, Bool, true, false, arith, None}
-use Rattle.b67_letters.specs.Letters.{letter}
-use Rattle.std.specs.Prelude.{if◌then◌else◌, slice_get}
-use Rattle.b67_list.specs.Numbered.{numbered}
-use Rattle.algol_tree.specs.declared.tree.Kind.{Kind}
-use Rattle.algol_tree.specs.Blocks.{block_numbered}
-use Rattle.algol_tree.specs.Cells.{level_of}
+use Rattle.b67_pictures.proofs.Prelude.{if◌then◌else◌, slice_get, numbered, Enter, block_numbered, level_of, PProgram, Scopes, scopes_of, Kind, nothing, ask, resume, Choice, choice, is_evaluation, Rest, Answer, Instance, Process, Part, Purpose, World, instance_at, or_no_instance, ancestor, with_process, all_to_make, all_left_to_make, KeepsToText, RestsKeepToTheirText, AllIsMadeInOrder, segment_of, newest_own, Word, Place, place_at, Placed, Code, stack_limit, place, entered_mark, control_word, frame, plain, letter, has_place, in_routine, Yields, depth, LiesNested, Texts, context_of, Gives, pushed, selected, ComesTo, Slot, slots_length, Core, size, IsCore, HasCore, with_core, newest, SlotsAre, CoreAt, FragmentsArePerformed, length_set_numbered, IsShort, tokens_around, part_weight, weight, parts_weight, has_now, others_have, system_stays, shown, lower_of, numbered_set, most_or_more, HaveTexts, arrays_unchanged, events_unchanged, HasFacts, facts_of, keeps_same, Linked, StayBelow, top_still, StandOn, frame_resumed, AreKnown, IsInReach, most_around, run_level, IsChained, Frame, Waits, Around, of_lent, Lent, Takes, AreLaid, all_laid, Found, found_laid, alike_by, steps_none, living_of, AbleActor, actor_of, gives_within, limit_beyond, goes_on, weight_of, text_in, level_in, context_in, most_in, FrameStill, frame_still, still_low, parts_weigh, known_stays, task_stays, state_stays, events_same, Living, Pictures, PicturesBy, Does, gave, stopped}
 use Rattle.algol_tree.specs.Plain as forms
-use Rattle.algol_tree.specs.Plain.{PExpr, PProgram}
-use Rattle.algol_tree.specs.Scopes.{Scopes, scopes_of}
-use Rattle.b67_deeds.specs.declared.Letter.TheVariants.{Enter}
-use Rattle.algol_meaning.specs.Asks.{nothing, ask, resume}
-use Rattle.algol_meaning.specs.Choice.{Choice, choice}
-use Rattle.algol_meaning.specs.Critical.{is_evaluation}
-use Rattle.algol_meaning.specs.Rest.{Rest, Answer, entered}
-use Rattle.algol_meaning.specs.World.{Instance, Process, Part, Purpose, lives, World, instance_at, or_no_instance, ancestor, with_process}
-use Rattle.algol_paths.specs.Arrays.{all_to_make, all_left_to_make}
-use Rattle.algol_paths.specs.Laws.{KeepsToText, RestsKeepToTheirText, AllIsMadeInOrder}
-use Rattle.algol_paths.specs.Segments.{segment_of}
-use Rattle.algol_standing.specs.Worlds.{newest_own}
-use Rattle.b67_word.specs.declared.Place.{Place}
-use Rattle.b67_word.specs.Word.{Word}
+use Rattle.algol_tree.specs.Plain.{PExpr}
+use Rattle.algol_meaning.specs.Rest.{entered}
 use Rattle.b67_control.specs.declared.Rcw.{Rcw}
 use Rattle.b67_control.specs.Control.{as_mscw, as_rcw}
-use Rattle.b67_control.specs.Display.{place_at}
-use Rattle.b67_segment.specs.Operators.{Placed}
-use Rattle.b67_segment.specs.declared.code.Code.{Code}
-use Rattle.b67_store.specs.Store.{stack_limit}
-use Rattle.b67_scenes.specs.States.{StateIs}
-use Rattle.b67_table.specs.Chains.{place}
 use Rattle.b67_table.specs.Effect as effects
-use Rattle.b67_table.specs.Image.{Image}
-use Rattle.b67_table.specs.Linkage.{entered_mark, control_word}
 use Rattle.b67_table.specs.Outcome as outcomes
-use Rattle.b67_table.specs.Private.{frame}
-use Rattle.b67_table.specs.Table.{table, raw, plain}
-use Rattle.b67_templates.specs.Cells.{has_place}
-use Rattle.b67_templates.specs.Code.{in_routine}
-use Rattle.b67_templates.specs.Contexts.{Yields}
-use Rattle.b67_templates.specs.Depths.{depth}
-use Rattle.b67_templates.specs.Programs.{Texts, context_of}
-use Rattle.b67_standing.specs.Stepping.{Slot}
-use Rattle.b67_standing.specs.Standing.{Gives, pushed, selected, ComesTo}
-use Rattle.b67_cores.specs.Cores.{Core, size, IsCore, HasCore, with_core}
-use Rattle.b67_cores.specs.Slots.{newest, SlotsAre}
-use Rattle.b67_cores.specs.Stretches.{CoreAt, FragmentsArePerformed}
-use Rattle.b67_cores.proofs.Moving.{slots_length}
-use Rattle.b67_faithful.specs.Faithful.{IsShort}
-use Rattle.b67_faithful.specs.Weight.{tokens_around, part_weight, weight, parts_weight}
-use Rattle.b67_faithful.proofs.Choices.{length_set_numbered}
-use Rattle.b67_templates.specs.Nested.{LiesNested}
-use Rattle.b67_rows.proofs.Cored.{has_now, others_have, system_stays}
-use Rattle.b67_rows.proofs.Displays.{shown, shown_below}
-use Rattle.b67_rows.proofs.EntryRow.{lower_of}
-use Rattle.b67_rows.proofs.Numbers.{numbered_set, most_or_more}
-use Rattle.b67_rows.proofs.Spelled.{HaveTexts}
-use Rattle.b67_frames.specs.Arrays.{Layout, IsActual, AreKnown}
-use Rattle.b67_frames.specs.Frames.{IsInReach, most_around, run_level, IsChained, Frame, Waits, Around, of_lent}
-use Rattle.b67_frames.specs.Lent.{IsAsked, IsOfExpression, Lent}
-use Rattle.b67_frames.proofs.ArraysKept.{arrays_unchanged}
-use Rattle.b67_frames.proofs.Facts.{HasFacts, facts_of}
-use Rattle.b67_frames.proofs.Knowing.{keeps_same}
-use Rattle.b67_frames.proofs.Linked.{Linked}
-use Rattle.b67_frames.proofs.Resumed.{frame_resumed}
-use Rattle.b67_frames.proofs.Lying.{StayBelow, top_still}
-use Rattle.b67_frames.proofs.Onward.{StandOn, StandsStill, path_still}
-use Rattle.b67_frames.proofs.EventsKept.{events_unchanged}
-use Rattle.b67_scenes.specs.Pictures.{Living, Pictures, PicturesBy}
+use Rattle.b67_table.specs.Table.{table, raw}
+use Rattle.b67_rows.proofs.Displays.{shown_below}
+use Rattle.b67_frames.specs.Arrays.{IsActual}
+use Rattle.b67_frames.specs.Lent.{IsAsked, IsOfExpression}
+use Rattle.b67_frames.proofs.Onward.{StandsStill, path_still}
 use Rattle.b67_scenes.specs.Reaches as reaching
 use Rattle.b67_scenes.proofs.ActualEntries as entries
-use Rattle.b67_scenes.proofs.ActualEntries.{Takes}
 use Rattle.b67_scenes.proofs.ActualHomes.{ActualHome}
-use Rattle.b67_scenes.proofs.Ancestors.{AreLaid, all_laid, same_place}
-use Rattle.b67_scenes.proofs.Finding.{Found, found_laid}
-use Rattle.b67_scenes.proofs.Kept.{alike_by}
-use Rattle.b67_scenes.proofs.Landing.{steps_none, living_of}
-use Rattle.b67_scenes.proofs.Scene.{Scene}
-use Rattle.b67_scenes.proofs.Tasks.{task_stays, state_stays, events_same}
-use Rattle.b67_scenes.proofs.Stage.{gives_within, limit_beyond, goes_on, weight_of}
-use Rattle.b67_scenes.proofs.Staying.{text_in, level_in, context_in, most_in, FrameStill, frame_still, still_low, parts_weigh, known_stays}
-use Rattle.b67_pictures.specs.Acting.{Does, gave, stopped}
+use Rattle.b67_scenes.proofs.Ancestors.{same_place}
 use Rattle.b67_pictures.proofs.Alone.{IsAfter, after_choice, dependent_but, stands_on, leaves_alone}
 use Rattle.b67_pictures.proofs.FrameEntering.{around_of}
 
@@ -124,8 +61,9 @@ module _ (tree : PProgram) (code : Code) (texts : Texts) (w : World) where
 
 module _ (tree : PProgram) (code : Code) (texts : Texts) (nested : LiesNested tree) (short : IsShort tree code) (stand : HaveTexts tree code texts)
     (fragments : FragmentsArePerformed) (keeps : RestsKeepToTheirText) (order : AllIsMadeInOrder)
-    (w : World) (lay : Layout) (img : Image) (p : ℕ) (q : Process) (part : Part) (outer : List Part) (bound : ℕ) (core : Core)
-    (s : Scene tree code texts w lay img p q part outer bound core) (able_is : lives q.state ≡ true) (able_p : StateIs (scopes_of tree) w lay q.state (numbered img.states p)) where
+    (actor : AbleActor tree code texts) where
+  open actor use {w, lay, img, p, q, part, outer, core, s, able_is, able_p}
+
   abbrev sc : Scopes
   sc = scopes_of tree
 
@@ -137,9 +75,9 @@ module _ (tree : PProgram) (code : Code) (texts : Texts) (nested : LiesNested tr
         ComesTo sc (context_in tree code texts w part s.stands.frame.gives) (text_in tree texts w part) (level_in tree w part) (most_in tree w part) (resume sc (resume sc part.rest entered) a) next (pushed gives a waiting)
     pub few : length waiting + 1 ≤ most_in tree w part
 
-  module _ (next : ℕ) (taken more : List Word) (waiting : List Slot) (t : Takes tree code texts nested short stand w lay img p q part outer bound core s next taken more waiting)
+  module _ (next : ℕ) (taken more : List Word) (waiting : List Slot) (t : Takes tree code texts nested short stand (actor_of s) next taken more waiting)
       (i : ℕ) (e : PExpr) (kind : Kind) (word : Word) (is : IsActual sc w lay (IsInReach w (part ∷ outer)) i e kind word)
-      (h : ActualHome tree code texts nested.nested w lay img p q part outer bound core s i e kind word is)
+      (h : ActualHome tree code texts nested.nested (actor_of s) i e kind word is)
       (purpose : Purpose) (gives : Yields) (selector : Bool) (rest : Rest) (evaluation : Evaluation tree code texts w i e h.at purpose gives selector rest) (behind : Awaits next waiting gives) where
     -- the block in whose text the actual stands, the level of its names, and that at which its code runs
     abbrev block : ℕ
@@ -169,7 +107,7 @@ module _ (tree : PProgram) (code : Code) (texts : Texts) (nested : LiesNested tr
     w' = evaluating_world sc w p q part outer inner
 
     own_low : length s.stands.frame.lower + 2 + length s.stands.frame.cells ≡ length core.below
-    own_low = entries.own_low tree code texts nested short stand w lay img p q part outer bound core s next taken more waiting t i e kind word is h
+    own_low = entries.own_low tree code texts nested short stand (actor_of s) next taken more waiting t i e kind word is h
 
     -- where the instance's frame lies
     abbrev found_there : Found tree code texts w lay img i
@@ -190,7 +128,7 @@ module _ (tree : PProgram) (code : Code) (texts : Texts) (nested : LiesNested tr
     home = place h.seen_there.found.number (length h.seen_there.found.lies.frame.lower)
 
     abbrev l : Linked sc w lay img.stacks i
-    l = entries.l tree code texts nested short stand w lay img p q part outer bound core s next taken more waiting t i e kind word is h
+    l = entries.l tree code texts nested short stand (actor_of s) next taken more waiting t i e kind word is h
 
     abbrev frames : List Place
     frames = home ∷ l.more
@@ -205,27 +143,27 @@ module _ (tree : PProgram) (code : Code) (texts : Texts) (nested : LiesNested tr
     control = control_word core.registers next inner_level
 
     abbrev pub new : Core
-    new = entries.new tree code texts nested short stand w lay img p q part outer bound core s next taken more waiting t i e kind word is h selector
+    new = entries.new tree code texts nested short stand (actor_of s) next taken more waiting t i e kind word is h selector
 
     new_core : IsCore new
-    new_core = entries.new_core tree code texts nested short stand w lay img p q part outer bound core s next taken more waiting t i e kind word is h selector
+    new_core = entries.new_core tree code texts nested short stand (actor_of s) next taken more waiting t i e kind word is h selector
 
     core_at : CoreAt sc [] code ps inner_level h.at (selected (has_place e) selector) new
-    core_at = entries.core_at tree code texts nested short stand w lay img p q part outer bound core s next taken more waiting t i e kind word is h selector
+    core_at = entries.core_at tree code texts nested short stand (actor_of s) next taken more waiting t i e kind word is h selector
 
     new_long : length new.below ≡ at + 2
-    new_long = entries.new_long tree code texts nested short stand w lay img p q part outer bound core s next taken more waiting t i e kind word is h selector
+    new_long = entries.new_long tree code texts nested short stand (actor_of s) next taken more waiting t i e kind word is h selector
 
     at_is : at ≡ length core.below + length waiting
     at_is =
         omega (
           arith,
-          entries.at_is tree code texts nested short stand w lay img p q part outer bound core s next taken more waiting t i e kind word is h,
-          entries.as_many tree code texts nested short stand w lay img p q part outer bound core s next taken more waiting t i e kind word is h,
+          entries.at_is tree code texts nested short stand (actor_of s) next taken more waiting t i e kind word is h,
+          entries.as_many tree code texts nested short stand (actor_of s) next taken more waiting t i e kind word is h,
         )
 
     level_is : inner_level ≡ length frames + 2
-    level_is = entries.level_is tree code texts nested short stand w lay img p q part outer bound core s next taken more waiting t i e kind word is h
+    level_is = entries.level_is tree code texts nested short stand (actor_of s) next taken more waiting t i e kind word is h
 
     abbrev bound' : ℕ
     bound' = at + 2 + most_around tree block
@@ -337,13 +275,13 @@ module _ (tree : PProgram) (code : Code) (texts : Texts) (nested : LiesNested tr
             subst (λ (x : Instance). x.block < length sc.blocks) (sym (ap or_no_instance here)) found_there.lies.owned.framed.known
 
         mark_reads : as_mscw mark ≡ Some (record { entered = true; stack = found_there.number; displacement = length found_there.lies.frame.lower; df = df })
-        mark_reads = entries.mark_reads tree code texts nested short stand w lay img p q part outer bound core s next taken more waiting t i e kind word is h low_at
+        mark_reads = entries.mark_reads tree code texts nested short stand (actor_of s) next taken more waiting t i e kind word is h low_at
 
         abbrev back : Rcw
-        back = entries.back tree code texts nested short stand w lay img p q part outer bound core s next taken more waiting t i e kind word is h
+        back = entries.back tree code texts nested short stand (actor_of s) next taken more waiting t i e kind word is h
 
         control_reads : as_rcw control ≡ Some back
-        control_reads = entries.control_reads tree code texts nested short stand w lay img p q part outer bound core s next taken more waiting t i e kind word is h
+        control_reads = entries.control_reads tree code texts nested short stand (actor_of s) next taken more waiting t i e kind word is h
 
         lent : Lent lay (IsInReach w' (part' ∷ outer)) inner [] home gives
         lent =
@@ -392,7 +330,7 @@ module _ (tree : PProgram) (code : Code) (texts : Texts) (nested : LiesNested tr
         words_now : SlotsAre sc s.stands.held (level_in tree w' part') (length still.frame.lower) (length core.below) waiting more
         words_now =
             subst (λ (k : ℕ). SlotsAre sc s.stands.held (level_in tree w part) k (length core.below) waiting more)
-            (entries.own_is tree code texts nested short stand w lay img p q part outer bound core s next taken more waiting t i e kind word is h ∙ same_lower) t.are
+            (entries.own_is tree code texts nested short stand (actor_of s) next taken more waiting t i e kind word is h ∙ same_lower) t.are
 
         known_now : AreKnown sc w' lay (IsInReach w' (part' ∷ outer)) part.instance s.stands.held
         known_now = known_stays tree code texts w w' lay lay p limit stay laid_all part outer core s.stands s.around all_low s.stands.held s.stands.held_are
@@ -415,7 +353,7 @@ module _ (tree : PProgram) (code : Code) (texts : Texts) (nested : LiesNested tr
               home = home;
               df = df;
               mark_is = mark_reads;
-              far = ap (λ (k : ℕ). df + newest k (length core.below) waiting) (sym same_lower) ∙ entries.far tree code texts nested short stand w lay img p q part outer bound core s next taken more waiting t i e kind word is h;
+              far = ap (λ (k : ℕ). df + newest k (length core.below) waiting) (sym same_lower) ∙ entries.far tree code texts nested short stand (actor_of s) next taken more waiting t i e kind word is h;
               back = back;
               control_is = control_reads;
               segment_is = s.stands.segment_is;
@@ -446,7 +384,7 @@ module _ (tree : PProgram) (code : Code) (texts : Texts) (nested : LiesNested tr
               counted = refl;
               chained = chained_now;
               top = ap (λ (x : Bool). place_at (shown (place p at) frames) (run_level x names)) evaluation.evaluates
-                  ∙ entries.shown_here tree code texts nested short stand w lay img p q part outer bound core s next taken more waiting t i e kind word is h;
+                  ∙ entries.shown_here tree code texts nested short stand (actor_of s) next taken more waiting t i e kind word is h;
               segment_is = refl;
               pc = h.at;
               slots = selected (has_place e) selector;

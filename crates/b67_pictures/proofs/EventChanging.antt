@@ -1,57 +1,14 @@
 -- An event changes, and with it the state of the process that acts on it: the image pictures the world after it.
 use Rattle.std.proofs.Common.{◌≡◌, ◌≢◌, ◌⊎◌, inl, inr, refl, sym, ap, ◌∙◌, subst, ℕ, ◌≤◌, List, ◌∷◌, length, Option, Some, None, true}
-use Rattle.b67_list.specs.Numbered.{numbered}
-use Rattle.algol_tree.specs.Plain.{PProgram}
-use Rattle.algol_tree.specs.Scopes.{Scopes, scopes_of}
-use Rattle.algol_meaning.specs.Events.{set_event, list_in}
-use Rattle.algol_meaning.specs.Rest.{Answer}
-use Rattle.algol_meaning.specs.Value.{Reference, event}
-use Rattle.b67_deeds.specs.Events.{EventState}
+use Rattle.b67_pictures.proofs.Prelude.{numbered, EventState, PProgram, Scopes, scopes_of, resume, set_event, list_in, Answer, Reference, event, NamedCell, Instance, State, lives, World, instance_at, or_no_instance, with_instance, with_process, cells_with, all_to_make, all_left_to_make, IsSeen, RestsKeepToTheirText, AllIsMadeInOrder, InAnswer, Word, Place, Registers, Code, stack_limit, Event, changed as with_event, place, Image, is_live, cell_place, ProcessState, AreNested, Texts, ComesTo, Slot, Core, size, HasCore, with_core, CoreAt, FragmentsArePerformed, same_or_not, arrays_unchanged, events_unchanged, OwnCells, OwnEvent, Layout, ArraysAre, event_there, EventsAre, cell_there, found_laid, Actor, Seen, text_in, level_in, context_in, most_in, stored_world, PicturesBy, StateIs, AreAwaiting}
 use Rattle.algol_meaning.specs.World as meant
-use Rattle.algol_meaning.specs.World.{NamedCell, Instance, Process, Part, State, lives, World, instance_at, or_no_instance, with_instance, with_process, cells_with}
-use Rattle.algol_meaning.specs.Asks.{resume}
-use Rattle.algol_paths.specs.Arrays.{all_to_make, all_left_to_make}
-use Rattle.algol_paths.specs.Laws.{RestsKeepToTheirText, AllIsMadeInOrder}
-use Rattle.algol_paths.specs.Texts.{InAnswer}
-use Rattle.algol_paths.specs.Blocks.{IsSeen}
-use Rattle.b67_word.specs.declared.Place.{Place}
-use Rattle.b67_word.specs.Word.{Word}
-use Rattle.b67_events.specs.Events.{Event, changed as with_event}
 use Rattle.b67_events.specs.Laws.{StaysInPlace}
-use Rattle.b67_segment.specs.declared.code.Code.{Code}
-use Rattle.b67_store.specs.Store.{stack_limit}
-use Rattle.b67_table.specs.declared.ProcessState.{ProcessState}
 use Rattle.b67_table.specs.declared.ProcessState.TheVariants as image_states
-use Rattle.b67_table.specs.Chains.{place}
-use Rattle.b67_table.specs.Image.{Image, is_live}
-use Rattle.b67_table.specs.References.{cell_place}
-use Rattle.b67_templates.specs.Programs.{Texts}
-use Rattle.b67_standing.specs.Stepping.{Slot}
-use Rattle.b67_standing.specs.Standing.{ComesTo}
-use Rattle.b67_cores.specs.Cores.{Core, size, HasCore, with_core}
-use Rattle.b67_cores.specs.Stretches.{CoreAt, FragmentsArePerformed}
-use Rattle.b67_templates.specs.Nested.{AreNested}
-use Rattle.b67_rows.proofs.Numbers.{same_or_not}
-use Rattle.b67_frames.specs.Arrays.{Layout, ArraysAre}
-use Rattle.b67_frames.specs.Events.{event_there, EventsAre}
-use Rattle.b67_frames.proofs.ArraysKept.{arrays_unchanged}
-use Rattle.b67_frames.proofs.EventsKept.{events_unchanged}
-use Rattle.b67_frames.proofs.OwnCells.{OwnCells}
-use Rattle.b67_frames.proofs.OwnEvents.{OwnEvent}
-use Rattle.b67_scenes.specs.Pictures.{PicturesBy}
-use Rattle.b67_scenes.specs.States.{StateIs}
-use Rattle.b67_scenes.specs.Waiting.{AreAwaiting}
-use Rattle.b67_scenes.proofs.EventHomes.{cell_there, own_there}
+use Rattle.b67_scenes.proofs.EventHomes.{own_there}
 use Rattle.b67_scenes.proofs.EventThere.{as_many, cells_changed, event_keeps, arrays_after, events_after}
-use Rattle.b67_scenes.proofs.Finding.{found_laid}
-use Rattle.b67_scenes.proofs.Scene.{Scene}
-use Rattle.b67_scenes.proofs.Sights.{Seen}
-use Rattle.b67_scenes.proofs.Staying.{text_in, level_in, context_in, most_in}
-use Rattle.b67_scenes.proofs.StoringFrames.{stored_world}
 use Rattle.b67_pictures.proofs.Alone.{IsAfter}
 use Rattle.b67_pictures.proofs.Changing.{refers_fewer, own_pictured, other_pictured}
 use Rattle.b67_pictures.proofs.InFrame.{SameFrame}
-use Rattle.b67_control.specs.declared.Registers.{Registers}
 
 -- who lives in a world lives in its image
 lives_there : (sc : Scopes) (w : World) (lay : Layout) (x : State) (o : Option ProcessState) → StateIs sc w lay x o → lives x ≡ true → is_live o ≡ true
@@ -66,108 +23,111 @@ lives_there sc w lay (meant.waits_any rs) _ is e = absurd is
 lives_there sc w lay (meant.procures r) _ is e = absurd is
 lives_there sc w lay meant.ended _ is e = absurd is
 
-module _ (tree : PProgram) (code : Code) (texts : Texts) (w : World) (lay : Layout) (img : Image)
-    (p : ℕ) (q : Process) (part : Part) (outer : List Part) (bound : ℕ) (core : Core) (s : Scene tree code texts w lay img p q part outer bound core)
-    (r : Reference) (l : Seen tree code texts w lay img p q part outer bound core s r.instance) where
-  pub instance_there : numbered w.instances r.instance ≡ Some l.found.lies.owned.framed.instance
-  instance_there = ap (numbered w.instances) (sym l.found.lies.instance_is) ∙ l.found.lies.owned.framed.is
+module _ (tree : PProgram) (code : Code) (texts : Texts) (actor : Actor tree code texts) where
+  open actor use {w}
 
-  -- the world with another event there
-  pub event_world : (later : EventState) → set_event w r later ≡ stored_world w r.instance l.found.lies.owned.framed.instance instance_there (cells_with l.found.lies.owned.framed.instance.cells r.name (event later))
-  event_world later = ap (λ (z : Instance). with_instance w r.instance (record z { cells = cells_with z.cells r.name (event later) })) (ap or_no_instance instance_there)
+  module _ (r : Reference) (l : Seen tree code texts actor r.instance) where
+    pub instance_there : numbered w.instances r.instance ≡ Some l.found.lies.owned.framed.instance
+    instance_there = ap (numbered w.instances) (sym l.found.lies.instance_is) ∙ l.found.lies.owned.framed.is
+
+    -- the world with another event there
+    pub event_world : (later : EventState) → set_event w r later ≡ stored_world w r.instance l.found.lies.owned.framed.instance instance_there (cells_with l.found.lies.owned.framed.instance.cells r.name (event later))
+    event_world later = ap (λ (z : Instance). with_instance w r.instance (record z { cells = cells_with z.cells r.name (event later) })) (ap or_no_instance instance_there)
 
 -- The event with this number of an instance whose frame is seen becomes another one; the process comes to this state, with these words above
 -- the floor.
-module _ (tree : PProgram) (code : Code) (texts : Texts) (nested : AreNested (scopes_of tree)) (fragments : FragmentsArePerformed) (kept : RestsKeepToTheirText) (order : AllIsMadeInOrder) (w : World) (lay : Layout) (img : Image)
-    (p : ℕ) (q : Process) (part : Part) (outer : List Part) (bound : ℕ) (core : Core) (s : Scene tree code texts w lay img p q part outer bound core) (able_is : lives q.state ≡ true) (unmade : all_left_to_make part.rest ≡ all_to_make part.rest)
-    (answer : Answer) (nameless : InAnswer (IsSeen (scopes_of tree) ((instance_at w part.instance).block)) answer)
-    (r : Reference) (l : Seen tree code texts w lay img p q part outer bound core s r.instance) (number : ℕ)
-    (found : OwnEvent (scopes_of tree) w lay l.found.lies.part.instance l.found.lies.owned.framed.instance (own_there tree code texts nested w lay img p q part outer bound core s l) r.name number)
-    (later : EventState) (change : Event → Event) (stays : StaysInPlace change)
-    (becomes : change (event_there (cell_place (cell_there tree code texts nested w lay img p q part outer bound core s l number)) found.cell)
-    ≡ event_there (cell_place (cell_there tree code texts nested w lay img p q part outer bound core s l number)) later)
-    (state : State) (lives_now : lives state ≡ true) (states : List ProcessState) (many_states : length states ≡ length img.states) (state_is : StateIs (scopes_of tree) w lay state (numbered states p)) (states_are : (m : ℕ) → m ≢ p → numbered states m ≡ numbered img.states m)
-    (list_same : list_in state ≡ list_in q.state)
-    (words : List Word) (registers : Registers) (frame_is : SameFrame core.registers registers) (next : ℕ) (below : List Slot) (held : length below ≤ most_in tree w part)
-    (there : CoreAt (scopes_of tree) s.stands.held code (text_in tree texts w part) (level_in tree w part) next below (record { below = core.below; words = words; registers = registers }))
-    (comes : ComesTo (scopes_of tree) (context_in tree code texts w part s.stands.frame.gives) (text_in tree texts w part) (level_in tree w part) (most_in tree w part) (resume (scopes_of tree) part.rest answer) next below)
-    (smaller : size (record { below = core.below; words = words; registers = registers }) ≤ stack_limit)
-    (awaiting : AreAwaiting (record img {
-      events = with_event (cell_place (cell_there tree code texts nested w lay img p q part outer bound core s l number)) change img.events;
-      states = states;
-    }))
-    (after : IsAfter (scopes_of tree) w
-    (with_process
-    (stored_world w r.instance l.found.lies.owned.framed.instance (instance_there tree code texts w lay img p q part outer bound core s r l) (cells_with l.found.lies.owned.framed.instance.cells r.name (event later))) p
-    (record q { todo = record part { rest = resume (scopes_of tree) part.rest answer } ∷ outer; state = state })) p) where
-  abbrev sc : Scopes
-  sc = scopes_of tree
+module _ (tree : PProgram) (code : Code) (texts : Texts) (nested : AreNested (scopes_of tree)) (fragments : FragmentsArePerformed) (kept : RestsKeepToTheirText) (order : AllIsMadeInOrder) (actor : Actor tree code texts) where
+  open actor use {w, lay, img, p, q, part, outer, core, s}
 
-  -- the instance of the event
-  abbrev i : ℕ
-  i = r.instance
-
-  abbrev instance : Instance
-  instance = l.found.lies.owned.framed.instance
-
-  abbrev at : Place
-  at = cell_place (cell_there tree code texts nested w lay img p q part outer bound core s l number)
-
-  -- .. has it under its own number
-  abbrev HasIt : ℕ → Type 0
-  HasIt j = (own : OwnCells sc w lay j instance) × (e : OwnEvent sc w lay j instance own r.name number) × (e.cell ≡ found.cell)
-
-  has_it : HasIt i
-  has_it = subst HasIt l.found.lies.instance_is (own_there tree code texts nested w lay img p q part outer bound core s l, found, refl)
-
-  abbrev cells' : List NamedCell
-  cells' = cells_with instance.cells r.name (event later)
-
-  abbrev stored : World
-  stored = stored_world w i instance (instance_there tree code texts w lay img p q part outer bound core s r l) cells'
-
-  abbrev w' : World
-  w' = with_process stored p (record q { todo = record part { rest = resume sc part.rest answer } ∷ outer; state = state })
-
-  abbrev base : Image
-  base = record img { events = with_event at change img.events; states = states }
-
-  -- each one has its core
-  same : (m : ℕ) (other : Core) → HasCore img m other → HasCore base m other
-  same m other had = record { live = by_number (same_or_not m p); registers = had.registers; own = had.own; stack = had.stack; is = had.is }
-    where
-      by_number : (m ≡ p) ⊎ (m ≢ p) → is_live (numbered states m) ≡ true
-      by_number (inl e) = ap (λ (n : ℕ). is_live (numbered states n)) e ∙ lives_there sc w lay state (numbered states p) state_is lives_now
-      by_number (inr apart) = ap is_live (states_are m apart) ∙ had.live
-
-  arrays_now : ArraysAre sc w' lay img.rows
-  arrays_now = arrays_unchanged sc stored w' lay img.rows refl (arrays_after sc w lay i instance has_it.0 r.name number has_it.1 later img.rows s.by.arrays)
-
-  events_now : EventsAre sc w' lay (with_event at change img.events)
-  events_now =
-      events_unchanged sc stored w' lay (with_event at change img.events) refl
-      (events_after sc w lay i instance has_it.0 r.name number has_it.1 later (place l.found.number (length l.found.lies.frame.lower)) (found_laid tree code texts w lay img i l.found) change stays
-      (ap (λ c. change (event_there at c)) has_it.2 ∙ becomes) img.events s.by.events)
-
-  pub event_pictured :
-      PicturesBy tree code texts
-      (with_process
-      (stored_world w r.instance l.found.lies.owned.framed.instance (instance_there tree code texts w lay img p q part outer bound core s r l) (cells_with l.found.lies.owned.framed.instance.cells r.name (event later))) p
-      (record q { todo = record part { rest = resume (scopes_of tree) part.rest answer } ∷ outer; state = state })) lay
-      (with_core (record img {
-        events = with_event (cell_place (cell_there tree code texts nested w lay img p q part outer bound core s l number)) change img.events;
+  module _ (able_is : lives q.state ≡ true) (unmade : all_left_to_make part.rest ≡ all_to_make part.rest)
+      (answer : Answer) (nameless : InAnswer (IsSeen (scopes_of tree) ((instance_at w part.instance).block)) answer)
+      (r : Reference) (l : Seen tree code texts actor r.instance) (number : ℕ)
+      (found : OwnEvent (scopes_of tree) w lay l.found.lies.part.instance l.found.lies.owned.framed.instance (own_there tree code texts nested actor l) r.name number)
+      (later : EventState) (change : Event → Event) (stays : StaysInPlace change)
+      (becomes : change (event_there (cell_place (cell_there tree code texts nested actor l number)) found.cell)
+      ≡ event_there (cell_place (cell_there tree code texts nested actor l number)) later)
+      (state : State) (lives_now : lives state ≡ true) (states : List ProcessState) (many_states : length states ≡ length img.states) (state_is : StateIs (scopes_of tree) w lay state (numbered states p)) (states_are : (m : ℕ) → m ≢ p → numbered states m ≡ numbered img.states m)
+      (list_same : list_in state ≡ list_in q.state)
+      (words : List Word) (registers : Registers) (frame_is : SameFrame core.registers registers) (next : ℕ) (below : List Slot) (held : length below ≤ most_in tree w part)
+      (there : CoreAt (scopes_of tree) s.stands.held code (text_in tree texts w part) (level_in tree w part) next below (record { below = core.below; words = words; registers = registers }))
+      (comes : ComesTo (scopes_of tree) (context_in tree code texts w part s.stands.frame.gives) (text_in tree texts w part) (level_in tree w part) (most_in tree w part) (resume (scopes_of tree) part.rest answer) next below)
+      (smaller : size (record { below = core.below; words = words; registers = registers }) ≤ stack_limit)
+      (awaiting : AreAwaiting (record img {
+        events = with_event (cell_place (cell_there tree code texts nested actor l number)) change img.events;
         states = states;
-      }) p (record { below = core.below; words = words; registers = registers }))
-  event_pictured = by_number (same_or_not l.found.number p)
-    where
-      by_number : (l.found.number ≡ p) ⊎ (l.found.number ≢ p) → PicturesBy tree code texts w' lay (with_core base p (record { below = core.below; words = words; registers = registers }))
-      by_number (inl here) =
-          own_pictured tree code texts fragments kept order w lay img p q part outer bound core s unmade answer nameless i l.found instance (instance_there tree code texts w lay img p q part outer bound core s r l) cells' 0 None
-          (as_many sc w lay i instance has_it.0 r.name number has_it.1 later) (λ set. absurd set) (λ set. absurd set) (event_keeps sc w lay i instance has_it.0 r.name number has_it.1 later)
-          (refers_fewer instance.cells r.name (event later) refl) (cells_changed sc w lay i instance has_it.0 r.name number has_it.1 later) words registers frame_is next below there held comes
-          smaller able_is state base same refl after arrays_now events_now list_same refl refl awaiting refl refl refl refl many_states states_are lives_now state_is here
-      by_number (inr other) =
-          other_pictured tree code texts fragments kept order w lay img p q part outer bound core s unmade answer nameless i l.found instance (instance_there tree code texts w lay img p q part outer bound core s r l) cells' 0 None
-          (as_many sc w lay i instance has_it.0 r.name number has_it.1 later) (λ set. absurd set) (λ set. absurd set) (event_keeps sc w lay i instance has_it.0 r.name number has_it.1 later)
-          (refers_fewer instance.cells r.name (event later) refl) (cells_changed sc w lay i instance has_it.0 r.name number has_it.1 later) words registers frame_is next below there held comes
-          smaller able_is state base same refl after arrays_now events_now list_same refl refl awaiting refl refl refl refl many_states states_are lives_now state_is other
+      }))
+      (after : IsAfter (scopes_of tree) w
+      (with_process
+      (stored_world w r.instance l.found.lies.owned.framed.instance (instance_there tree code texts actor r l) (cells_with l.found.lies.owned.framed.instance.cells r.name (event later))) p
+      (record q { todo = record part { rest = resume (scopes_of tree) part.rest answer } ∷ outer; state = state })) p) where
+    abbrev sc : Scopes
+    sc = scopes_of tree
+
+    -- the instance of the event
+    abbrev i : ℕ
+    i = r.instance
+
+    abbrev instance : Instance
+    instance = l.found.lies.owned.framed.instance
+
+    abbrev at : Place
+    at = cell_place (cell_there tree code texts nested actor l number)
+
+    -- .. has it under its own number
+    abbrev HasIt : ℕ → Type 0
+    HasIt j = (own : OwnCells sc w lay j instance) × (e : OwnEvent sc w lay j instance own r.name number) × (e.cell ≡ found.cell)
+
+    has_it : HasIt i
+    has_it = subst HasIt l.found.lies.instance_is (own_there tree code texts nested actor l, found, refl)
+
+    abbrev cells' : List NamedCell
+    cells' = cells_with instance.cells r.name (event later)
+
+    abbrev stored : World
+    stored = stored_world w i instance (instance_there tree code texts actor r l) cells'
+
+    abbrev w' : World
+    w' = with_process stored p (record q { todo = record part { rest = resume sc part.rest answer } ∷ outer; state = state })
+
+    abbrev base : Image
+    base = record img { events = with_event at change img.events; states = states }
+
+    -- each one has its core
+    same : (m : ℕ) (other : Core) → HasCore img m other → HasCore base m other
+    same m other had = record { live = by_number (same_or_not m p); registers = had.registers; own = had.own; stack = had.stack; is = had.is }
+      where
+        by_number : (m ≡ p) ⊎ (m ≢ p) → is_live (numbered states m) ≡ true
+        by_number (inl e) = ap (λ (n : ℕ). is_live (numbered states n)) e ∙ lives_there sc w lay state (numbered states p) state_is lives_now
+        by_number (inr apart) = ap is_live (states_are m apart) ∙ had.live
+
+    arrays_now : ArraysAre sc w' lay img.rows
+    arrays_now = arrays_unchanged sc stored w' lay img.rows refl (arrays_after sc w lay i instance has_it.0 r.name number has_it.1 later img.rows s.by.arrays)
+
+    events_now : EventsAre sc w' lay (with_event at change img.events)
+    events_now =
+        events_unchanged sc stored w' lay (with_event at change img.events) refl
+        (events_after sc w lay i instance has_it.0 r.name number has_it.1 later (place l.found.number (length l.found.lies.frame.lower)) (found_laid tree code texts w lay img i l.found) change stays
+        (ap (λ c. change (event_there at c)) has_it.2 ∙ becomes) img.events s.by.events)
+
+    pub event_pictured :
+        PicturesBy tree code texts
+        (with_process
+        (stored_world w r.instance l.found.lies.owned.framed.instance (instance_there tree code texts actor r l) (cells_with l.found.lies.owned.framed.instance.cells r.name (event later))) p
+        (record q { todo = record part { rest = resume (scopes_of tree) part.rest answer } ∷ outer; state = state })) lay
+        (with_core (record img {
+          events = with_event (cell_place (cell_there tree code texts nested actor l number)) change img.events;
+          states = states;
+        }) p (record { below = core.below; words = words; registers = registers }))
+    event_pictured = by_number (same_or_not l.found.number p)
+      where
+        by_number : (l.found.number ≡ p) ⊎ (l.found.number ≢ p) → PicturesBy tree code texts w' lay (with_core base p (record { below = core.below; words = words; registers = registers }))
+        by_number (inl here) =
+            own_pictured tree code texts fragments kept order actor unmade answer nameless i l.found instance (instance_there tree code texts actor r l) cells' 0 None
+            (as_many sc w lay i instance has_it.0 r.name number has_it.1 later) (λ set. absurd set) (λ set. absurd set) (event_keeps sc w lay i instance has_it.0 r.name number has_it.1 later)
+            (refers_fewer instance.cells r.name (event later) refl) (cells_changed sc w lay i instance has_it.0 r.name number has_it.1 later) words registers frame_is next below there held comes
+            smaller able_is state base same refl after arrays_now events_now list_same refl refl awaiting refl refl refl refl many_states states_are lives_now state_is here
+        by_number (inr other) =
+            other_pictured tree code texts fragments kept order actor unmade answer nameless i l.found instance (instance_there tree code texts actor r l) cells' 0 None
+            (as_many sc w lay i instance has_it.0 r.name number has_it.1 later) (λ set. absurd set) (λ set. absurd set) (event_keeps sc w lay i instance has_it.0 r.name number has_it.1 later)
+            (refers_fewer instance.cells r.name (event later) refl) (cells_changed sc w lay i instance has_it.0 r.name number has_it.1 later) words registers frame_is next below there held comes
+            smaller able_is state base same refl after arrays_now events_now list_same refl refl awaiting refl refl refl refl many_states states_are lives_now state_is other

@@ -1,48 +1,11 @@
 -- One event of a world becomes another one, and nobody acts: the image in which it has changed pictures the world after it.
 use Rattle.std.proofs.Common.{◌≡◌, refl, sym, ap, ◌∙◌, subst, ℕ, ◌+◌, List, ◌++◌, length, Some, None, true}
-use Rattle.std.specs.Prelude.{slice_get}
-use Rattle.b67_list.specs.Numbered.{numbered}
-use Rattle.b67_deeds.specs.Events.{EventState}
-use Rattle.algol_tree.specs.Blocks.{block_numbered}
-use Rattle.algol_tree.specs.Plain.{PProgram}
-use Rattle.algol_tree.specs.Scopes.{Scopes, scopes_of}
-use Rattle.algol_meaning.specs.Value.{Reference, event}
-use Rattle.algol_meaning.specs.World.{NamedCell, Instance, Process, lives, World, instance_at, or_no_instance, no_process, event_in, cell_in, cell_at, cells_with}
-use Rattle.algol_meaning.specs.Events.{set_event, change_event}
-use Rattle.algol_paths.specs.Arrays.{Made, an_event}
-use Rattle.algol_standing.specs.Skeleton.{IsIn}
-use Rattle.algol_standing.specs.Worlds.{IsOwn, referred_in_cells}
-use Rattle.b67_word.specs.declared.Place.{Place}
-use Rattle.b67_word.specs.Word.{Word}
-use Rattle.b67_events.specs.Events.{Event, changed as with_event, with_state}
+use Rattle.b67_pictures.proofs.Prelude.{slice_get, numbered, EventState, block_numbered, PProgram, Scopes, scopes_of, set_event, change_event, Reference, event, NamedCell, Instance, Process, lives, World, instance_at, or_no_instance, event_in, cell_in, cell_at, cells_with, Made, an_event, IsIn, IsOwn, referred_in_cells, Word, Place, Code, changed as with_event, with_state, place, Image, simple_cells, made_base, made_of, Texts, Core, HasCore, length_set_numbered, some_same, none_some, true_false, HasFacts, KeepsArrays, StandOn, OwnCells, framed_cells, OwnEvent, known_event, Layout, AreMade, event_there, HasEvent, EventsAre, CellsAre, all_laid, LeavesAlone, put, stored_world, others_at, stored_on, ChangedCells, others_stored, EventsStay, events_kept, events_beside, waits_kept, IsEventAt, Living, Pictured, living, dead, PicturesBy, AreAwaiting}
+use Rattle.algol_meaning.specs.World.{no_process}
 use Rattle.b67_events.specs.Events as kernel
-use Rattle.b67_segment.specs.declared.code.Code.{Code}
-use Rattle.b67_table.specs.Chains.{place}
-use Rattle.b67_table.specs.Image.{Image}
-use Rattle.b67_templates.specs.Cells.{simple_cells, made_base, made_of}
-use Rattle.b67_templates.specs.Programs.{Texts}
-use Rattle.b67_cores.specs.Cores.{Core, HasCore}
-use Rattle.b67_faithful.proofs.Choices.{length_set_numbered}
-use Rattle.b67_faithful.proofs.Contradictions.{some_same, none_some, true_false}
-use Rattle.b67_frames.specs.Arrays.{Layout, AreMade}
-use Rattle.b67_frames.specs.Events.{event_there, HasEvent, EventsAre}
-use Rattle.b67_frames.specs.Frames.{CellsAre}
-use Rattle.b67_frames.proofs.Facts.{HasFacts}
-use Rattle.b67_frames.proofs.Knowing.{KeepsArrays}
-use Rattle.b67_frames.proofs.OwnCells.{OwnCells, framed_cells}
-use Rattle.b67_frames.proofs.OwnEvents.{OwnEvent, known_event}
-use Rattle.b67_frames.proofs.Onward.{StandOn}
-use Rattle.b67_scenes.specs.Depending.{IsEventAt}
-use Rattle.b67_scenes.specs.Pictures.{Living, Pictured, living, dead, PicturesBy}
-use Rattle.b67_scenes.specs.Waiting.{AreAwaiting}
-use Rattle.b67_scenes.proofs.Ancestors.{all_laid}
 use Rattle.b67_scenes.proofs.EventThere as there
 use Rattle.b67_scenes.proofs.EventThere.{FramedThere, framed_there}
-use Rattle.b67_scenes.proofs.Kept.{LeavesAlone}
-use Rattle.b67_scenes.proofs.StoringFrames.{put, changed, stored_world, others_at, stored_on, ChangedCells}
-use Rattle.b67_scenes.proofs.StoringOthers.{others_stored}
-use Rattle.b67_scenes.proofs.Tasks.{EventsStay, events_kept, events_beside}
-use Rattle.b67_scenes.proofs.Waiting.{waits_kept}
+use Rattle.b67_scenes.proofs.StoringFrames.{changed}
 use Rattle.b67_pictures.proofs.Changing.{refers_fewer}
 use Rattle.b67_pictures.proofs.EventLow.{event_low}
 

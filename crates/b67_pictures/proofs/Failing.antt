@@ -1,41 +1,17 @@
 -- The action of an operator without a result: the fault.
-use Rattle.std.proofs.Common.{◌≡◌, refl, sym, ap, ◌∙◌, subst, ℕ, List, [], ◌∷◌, length, Some, None, Ok, Err}
+use Rattle.std.proofs.Common.{◌≡◌, refl, sym, ap, ◌∙◌, subst, List, [], ◌∷◌, length, Some, None, Ok, Err}
+use Rattle.b67_pictures.proofs.Prelude.{Fault, PProgram, scopes_of, Ask, ask, Choice, choice, choice_of, Value, Word, Code, failed, frame, operator_at, operator_for, Texts, ActionAt, operand, ValueIs, fault_not_plain, action_is, Top, top_slot, operator_there, Actor, faults_so, choice_is, faulted, text_in, level_in, context_in, most_in, Pictures, Does, failed_by}
 use Rattle.algol_tree.specs.declared.tree.Op.{Op}
 use Rattle.algol_tree.specs.declared.tree.Op.TheVariants as operators
-use Rattle.algol_tree.specs.Plain.{PProgram}
-use Rattle.algol_tree.specs.Scopes.{scopes_of}
-use Rattle.algol_meaning.specs.Value.{Value}
 use Rattle.algol_meaning.specs.Operators.{result_of}
-use Rattle.algol_meaning.specs.World.{Process, Part, World}
-use Rattle.b67_deeds.specs.declared.Letter.TheVariants.{Fault}
-use Rattle.algol_meaning.specs.Asks.{Ask, fails, ask}
-use Rattle.algol_meaning.specs.Choice.{Choice, choice, choice_of}
+use Rattle.algol_meaning.specs.Asks.{fails}
 use Rattle.b67_num.specs.declared.NumFault.{NumFault}
 use Rattle.b67_num.specs.Whole.{fault_of}
-use Rattle.b67_word.specs.Word.{Word}
 use Rattle.b67_ops.specs.declared.Operator.TheVariants as ops
-use Rattle.b67_segment.specs.declared.code.Code.{Code}
-use Rattle.b67_table.specs.Image.{Image}
-use Rattle.b67_table.specs.Ending.{failed}
 use Rattle.b67_table.specs.Outcome as outcomes
-use Rattle.b67_table.specs.Private.{frame}
-use Rattle.b67_table.specs.Table.{table, operator_at}
-use Rattle.b67_templates.specs.Fragments.{operator_for}
-use Rattle.b67_templates.specs.Programs.{Texts}
-use Rattle.b67_standing.specs.Stepping.{operand, ready}
-use Rattle.b67_standing.specs.Standing.{ActionAt}
-use Rattle.b67_cores.specs.Cores.{Core}
-use Rattle.b67_cores.specs.Slots.{ValueIs}
-use Rattle.b67_rows.proofs.Rows.{fault_not_plain, action_is}
+use Rattle.b67_table.specs.Table.{table}
+use Rattle.b67_standing.specs.Stepping.{ready}
 use Rattle.b67_rows.proofs.Breaking.{break_raw}
-use Rattle.b67_rows.proofs.Slotted.{Top, top_slot}
-use Rattle.b67_frames.specs.Arrays.{Layout}
-use Rattle.b67_scenes.specs.Pictures.{Pictures}
-use Rattle.b67_scenes.proofs.Homes.{operator_there}
-use Rattle.b67_scenes.proofs.Stage.{faults_so, choice_is, faulted}
-use Rattle.b67_scenes.proofs.Scene.{Scene}
-use Rattle.b67_scenes.proofs.Staying.{text_in, level_in, context_in, most_in}
-use Rattle.b67_pictures.specs.Acting.{Does, failed_by}
 
 -- of an operator without a result the first operand is as it stands
 ready_same : (op : Op) (v w : Value) (f : NumFault) → result_of op v w ≡ Err f → ready op v ≡ v
@@ -56,27 +32,28 @@ ready_same operators.And v w f e = refl
 ready_same operators.Or v w f e = refl
 ready_same operators.Eqv v w f e = refl
 
-module _ (tree : PProgram) (code : Code) (texts : Texts) (w : World) (lay : Layout) (img : Image)
-    (p : ℕ) (q : Process) (part : Part) (outer : List Part) (bound : ℕ) (core : Core) (s : Scene tree code texts w lay img p q part outer bound core)
-    (fault : NumFault) (asks : ask part.rest ≡ fails fault) (a : ActionAt (scopes_of tree) (context_in tree code texts w part s.stands.frame.gives) (text_in tree texts w part) (level_in tree w part) (most_in tree w part) (fails fault) s.stands.pc s.stands.slots) where
-  there : operator_at code core.registers ≡ Ok (ops.Plain (operator_for a.0), a.3)
-  there = operator_there (scopes_of tree) s.stands.held code (text_in tree texts w part) (level_in tree w part) s.stands.pc s.stands.slots core (ops.Plain (operator_for a.0)) a.3 s.stands.there a.5.stands
+module _ (tree : PProgram) (code : Code) (texts : Texts) (actor : Actor tree code texts) where
+  open actor use {w, lay, img, p, q, part, outer, core, s}
 
-  table_is : table code img p ≡ outcomes.faults (fault_of fault)
-  table_is =
-      let second : Top (scopes_of tree) s.stands.held (level_in tree w part) (frame core.registers) (length core.below) (operand a.2) (operand (ready a.0 a.1) ∷ a.4) core.words =
-      top_slot (scopes_of tree) s.stands.held (level_in tree w part) (frame core.registers) (length core.below) s.stands.slots (operand a.2) (operand (ready a.0 a.1) ∷ a.4) core.words s.stands.there.words_are a.5.lies in
-      let first : Top (scopes_of tree) s.stands.held (level_in tree w part) (frame core.registers) (length core.below) (operand (ready a.0 a.1)) a.4 second.words_below =
-      top_slot (scopes_of tree) s.stands.held (level_in tree w part) (frame core.registers) (length core.below) (operand (ready a.0 a.1) ∷ a.4) (operand (ready a.0 a.1)) a.4 second.words_below second.are refl in
-      faults_so code img p (fault_of fault)
-      (break_raw code img p core s.has a.0 a.3 there a.1 a.2 first.word second.word first.words_below (second.is ∙ ap (λ (ws : List Word). second.word ∷ ws) first.is) a.5.first_fits a.5.second_fits
-      (subst (λ (v : Value). ValueIs v first.word) (ready_same a.0 a.1 a.2 fault a.5.breaks) first.slot_is) second.slot_is fault a.5.breaks)
+  module _ (fault : NumFault) (asks : ask part.rest ≡ fails fault) (a : ActionAt (scopes_of tree) (context_in tree code texts w part s.stands.frame.gives) (text_in tree texts w part) (level_in tree w part) (most_in tree w part) (fails fault) s.stands.pc s.stands.slots) where
+    there : operator_at code core.registers ≡ Ok (ops.Plain (operator_for a.0), a.3)
+    there = operator_there (scopes_of tree) s.stands.held code (text_in tree texts w part) (level_in tree w part) s.stands.pc s.stands.slots core (ops.Plain (operator_for a.0)) a.3 s.stands.there a.5.stands
 
-  chosen : choice (scopes_of tree) w p ≡ record { action = Fault; world = record w { fault = Some (record { kind = fault_of fault; process = p }) }; released = []; started = None }
-  chosen = choice_is (scopes_of tree) w p q part outer s.at s.todo ∙ ap (λ (k : Ask). choice_of (scopes_of tree) w p q part outer k) asks
+    table_is : table code img p ≡ outcomes.faults (fault_of fault)
+    table_is =
+        let second : Top (scopes_of tree) s.stands.held (level_in tree w part) (frame core.registers) (length core.below) (operand a.2) (operand (ready a.0 a.1) ∷ a.4) core.words =
+        top_slot (scopes_of tree) s.stands.held (level_in tree w part) (frame core.registers) (length core.below) s.stands.slots (operand a.2) (operand (ready a.0 a.1) ∷ a.4) core.words s.stands.there.words_are a.5.lies in
+        let first : Top (scopes_of tree) s.stands.held (level_in tree w part) (frame core.registers) (length core.below) (operand (ready a.0 a.1)) a.4 second.words_below =
+        top_slot (scopes_of tree) s.stands.held (level_in tree w part) (frame core.registers) (length core.below) (operand (ready a.0 a.1) ∷ a.4) (operand (ready a.0 a.1)) a.4 second.words_below second.are refl in
+        faults_so code img p (fault_of fault)
+        (break_raw code img p core s.has a.0 a.3 there a.1 a.2 first.word second.word first.words_below (second.is ∙ ap (λ (ws : List Word). second.word ∷ ws) first.is) a.5.first_fits a.5.second_fits
+        (subst (λ (v : Value). ValueIs v first.word) (ready_same a.0 a.1 a.2 fault a.5.breaks) first.slot_is) second.slot_is fault a.5.breaks)
 
-  pub failing : Does tree code texts w img p
-  failing =
-      failed_by (fault_of fault) (fault_not_plain code img p core s.has (ops.Plain (operator_for a.0)) a.3 there (fault_of fault) table_is) table_is
-      (action_is code img p core s.has (ops.Plain (operator_for a.0)) a.3 there (outcomes.faults (fault_of fault)) table_is ∙ ap (λ (c : Choice). Some c.action) (sym chosen))
-      (subst (λ (c : Choice). Pictures tree code texts c.world (failed img p (fault_of fault))) (sym chosen) (lay, faulted tree code texts w lay img s.by p q s.at s.ok (fault_of fault)))
+    chosen : choice (scopes_of tree) w p ≡ record { action = Fault; world = record w { fault = Some (record { kind = fault_of fault; process = p }) }; released = []; started = None }
+    chosen = choice_is (scopes_of tree) w p q part outer s.at s.todo ∙ ap (λ (k : Ask). choice_of (scopes_of tree) w p q part outer k) asks
+
+    pub failing : Does tree code texts w img p
+    failing =
+        failed_by (fault_of fault) (fault_not_plain code img p core s.has (ops.Plain (operator_for a.0)) a.3 there (fault_of fault) table_is) table_is
+        (action_is code img p core s.has (ops.Plain (operator_for a.0)) a.3 there (outcomes.faults (fault_of fault)) table_is ∙ ap (λ (c : Choice). Some c.action) (sym chosen))
+        (subst (λ (c : Choice). Pictures tree code texts c.world (failed img p (fault_of fault))) (sym chosen) (lay, faulted tree code texts w lay img s.by p q s.at s.ok (fault_of fault)))

@@ -1,93 +1,26 @@
 -- A frame is entered: the instance of a block or a procedure has it above the words of the part around, which waits.
-use Rattle.b67_control.specs.Display.{place_at}
 use Rattle.std.proofs.Common.{◌≡◌, ◌≢◌, refl, sym, ap, ◌∙◌, subst, ℕ, zero, suc, ◌+◌, ◌*◌, ◌≤◌, ◌<◌, List, [], ◌∷◌, ◌++◌, length, Option, Some, None, Bool, false, arith, append_assoc, append-nil, length-append, true}
-use Rattle.std.specs.Prelude.{if◌then◌else◌, ◌&&◌, ◌||◌, ◌==◌, replicate, reverse, slice_get}
-use Rattle.std.proofs.lemmas.Bool.Decides.{nat_tests}
-use Rattle.std.proofs.lemmas.List.{length-reverse}
-use Rattle.b67_list.specs.Numbered.{numbered}
-use Rattle.algol_tree.specs.Plain.{PProgram}
-use Rattle.algol_tree.specs.Blocks.{Block, block_numbered}
-use Rattle.algol_tree.specs.Cells.{level_of}
-use Rattle.algol_tree.specs.Scopes.{Scopes, scopes_of}
-use Rattle.algol_meaning.specs.Rest.{Answer, Given, entered}
-use Rattle.algol_meaning.specs.World.{Instance, Process, Purpose, Part, lives, World, instance_at, or_no_instance, ancestor, with_process}
-use Rattle.algol_meaning.specs.Critical.{is_this, is_evaluation, some_depends}
+use Rattle.b67_pictures.proofs.Prelude.{nat_tests, length-reverse, if◌then◌else◌, ◌&&◌, ◌||◌, ◌==◌, replicate, reverse, slice_get, numbered, Enter, Block, block_numbered, level_of, PProgram, Scopes, scopes_of, nothing, ask, resume, Choice, choice, is_this, is_evaluation, some_depends, fresh_cells, Answer, Given, settle_items, items_of, Cell, Instance, Process, Purpose, Part, lives, World, instance_at, or_no_instance, ancestor, with_process, all_to_make, all_left_to_make, KeepsToText, RestsKeepToTheirText, AllIsMadeInOrder, segment_of, IsStanding, newest_own, Word, Place, pcw_word, place_at, Pcw, Registers, Placed, Code, stack_limit, numbered_within, place, entered_mark, control_word, frame, Wanted, parameter_cells, zero_cells, simple_cells, actuals_of, made_of, CellsAt, in_routine, yields_of, Yields, LiesNested, Texts, context_of, Gives, pushed, ComesTo, Slot, Core, size, IsCore, HasCore, with_core, newest, SlotsAre, CoreAt, BlocksBegin, FragmentsArePerformed, control_words, length_set_numbered, none_some, IsShort, tokens_around, part_weight, weight, parts_weight, has_now, others_have, system_stays, lower_of, ActualsAre, numbered_last, numbered_before, numbered_earlier, numbered_set, length_mapped, rows_there, no_elements, no_rows, arrays_joined, block_few, events_joined, HasFacts, facts_of, LeadAll, fresh_are, simple_many, KeepsArrays, Remain, denotes_lasts, keeps_same, all_each, StayBelow, runs_at, top_still, as_many_values, StandOn, frame_resumed, zero_word, cells_length, Allotted, Layout, AreMade, AreKnown, IsInReach, block_controls, controls_count, most_around, CellsAre, IsChained, home_of, Framed, ItemsStand, Frame, Waits, Around, of_own, run_level, AreLaid, all_laid, Calls, AreAlike, living_of, reached_stands, AbleActor, actor_of, gives_within, goes_on, weight_of, text_in, level_in, context_in, most_in, FrameStill, frame_still, still_low, known_stays, parts_weigh, names_in, EventsStay, critical_stays, task_stays, state_stays, events_before, Living, Pictures, PicturesBy, Does, gave}
+use Rattle.algol_meaning.specs.Rest.{entered}
 use Rattle.algol_meaning.specs.Instances as instances
-use Rattle.algol_meaning.specs.Instances.{fresh_cells}
-use Rattle.algol_meaning.specs.Value.{Cell}
-use Rattle.algol_meaning.specs.Statements.{settle_items, items_of}
-use Rattle.b67_deeds.specs.declared.Letter.TheVariants.{Enter}
-use Rattle.algol_meaning.specs.Asks.{nothing, ask, resume}
-use Rattle.algol_meaning.specs.Choice.{Choice, choice}
-use Rattle.algol_paths.specs.Arrays.{all_to_make, all_left_to_make}
-use Rattle.algol_paths.specs.Laws.{KeepsToText, RestsKeepToTheirText, AllIsMadeInOrder}
-use Rattle.algol_paths.specs.Segments.{segment_of}
-use Rattle.algol_standing.specs.Worlds.{IsStanding, newest_own}
-use Rattle.b67_word.specs.declared.Place.{Place}
-use Rattle.b67_word.specs.Word.{Word}
-use Rattle.b67_control.specs.declared.Pcw.{Pcw}
-use Rattle.b67_control.specs.declared.Registers.{Registers}
-use Rattle.b67_control.specs.Control.{pcw_word}
-use Rattle.b67_segment.specs.Operators.{Placed}
-use Rattle.b67_segment.specs.declared.code.Code.{Code}
-use Rattle.b67_store.specs.Store.{stack_limit}
-use Rattle.b67_scenes.specs.States.{StateIs}
-use Rattle.b67_table.specs.Chains.{place}
-use Rattle.b67_table.specs.Image.{Image}
-use Rattle.b67_table.specs.Linkage.{entered_mark, control_word}
 use Rattle.b67_table.specs.Outcome as outcomes
 use Rattle.b67_table.specs.Table.{table}
-use Rattle.b67_templates.specs.Contexts.{yields_of, Yields}
-use Rattle.b67_templates.specs.Cells.{Wanted, parameter_cells, zero_cells, simple_cells, actuals_of, made_of}
-use Rattle.b67_templates.specs.Code.{CellsAt, in_routine}
 use Rattle.b67_templates.specs.Fragments.{Goes}
-use Rattle.b67_templates.specs.Programs.{Texts, context_of}
-use Rattle.b67_standing.specs.Stepping.{Slot}
-use Rattle.b67_table.specs.Private.{frame}
-use Rattle.b67_standing.specs.Standing.{Gives, pushed, ComesTo}
-use Rattle.b67_cores.specs.Cores.{Core, size, IsCore, HasCore, with_core}
-use Rattle.b67_cores.specs.Slots.{newest, SlotsAre}
-use Rattle.b67_cores.specs.Stretches.{CoreAt, Begins, BlocksBegin, FragmentsArePerformed, control_words}
-use Rattle.b67_faithful.specs.Faithful.{IsShort}
-use Rattle.b67_faithful.specs.Weight.{tokens_around, part_weight, weight, parts_weight}
-use Rattle.b67_faithful.proofs.Contradictions.{none_some}
-use Rattle.b67_faithful.proofs.Choices.{length_set_numbered}
-use Rattle.b67_templates.specs.Nested.{LiesNested, IsText}
-use Rattle.b67_rows.proofs.Cored.{has_now, others_have, system_stays}
-use Rattle.b67_rows.proofs.EntryRow.{lower_of}
-use Rattle.b67_rows.proofs.GivenWords.{ActualsAre}
-use Rattle.b67_rows.proofs.Growing.{numbered_last, numbered_before, numbered_low, numbered_earlier}
-use Rattle.b67_rows.proofs.Numbers.{numbered_set}
-use Rattle.b67_rows.proofs.Segmented.{length_mapped}
+use Rattle.b67_cores.specs.Stretches.{Begins}
+use Rattle.b67_templates.specs.Nested.{IsText}
 use Rattle.b67_rows.proofs.StackWords.{length-stack}
 use Rattle.b67_rows.proofs.Texted.{block_keeps, block_makes}
-use Rattle.b67_frames.specs.Arrays.{Allotted, Layout, AreMade, AreKnown}
-use Rattle.b67_frames.specs.Frames.{IsInReach, block_controls, controls_count, most_around, CellsAre, IsChained, home_of, Framed, RoutinesStand, ItemsStand, Frame, Waits, Around, of_own, run_level}
-use Rattle.b67_frames.proofs.ArraysKept.{rows_but, rows_there, rows_other, no_elements, no_rows, arrays_joined}
-use Rattle.b67_frames.proofs.ControlWords.{block_few, routines_long, controls_many}
-use Rattle.b67_frames.proofs.Formals.{LeadAll, lead_there}
-use Rattle.b67_frames.proofs.FreshCells.{fresh_are, fresh_lead, simple_many, words_long}
-use Rattle.b67_frames.proofs.Knowing.{KeepsArrays, Remain, denotes_lasts, keeps_same}
-use Rattle.b67_frames.proofs.Linked.{all_each, shown_chained}
-use Rattle.b67_frames.proofs.Resumed.{frame_resumed}
-use Rattle.b67_frames.proofs.Lying.{StayBelow, runs_at, top_still, frame_remains}
-use Rattle.b67_frames.proofs.Onward.{StandOn}
-use Rattle.b67_frames.proofs.Facts.{HasFacts, facts_of}
-use Rattle.b67_frames.proofs.Zeros.{zero_word, cells_length}
-use Rattle.b67_frames.proofs.EventsKept.{events_joined}
-use Rattle.b67_scenes.specs.Pictures.{Living, Pictures, PicturesBy}
+use Rattle.b67_frames.specs.Frames.{RoutinesStand}
+use Rattle.b67_frames.proofs.ArraysKept.{rows_but, rows_other}
+use Rattle.b67_frames.proofs.ControlWords.{routines_long, controls_many}
+use Rattle.b67_frames.proofs.Formals.{lead_there}
+use Rattle.b67_frames.proofs.FreshCells.{fresh_lead}
+use Rattle.b67_frames.proofs.Linked.{shown_chained}
+use Rattle.b67_frames.proofs.Lying.{frame_remains}
 use Rattle.b67_scenes.specs.Reaches as reaching
-use Rattle.b67_scenes.proofs.Ancestors.{AreLaid, all_laid, same_place}
+use Rattle.b67_scenes.proofs.Ancestors.{same_place}
 use Rattle.b67_scenes.proofs.Entries as entries
-use Rattle.b67_scenes.proofs.Entries.{Calls}
-use Rattle.b67_scenes.proofs.Kept.{AreAlike}
-use Rattle.b67_scenes.proofs.Landing.{living_of}
-use Rattle.b67_scenes.proofs.Led.{reached_stands}
-use Rattle.b67_scenes.proofs.Scene.{Scene}
-use Rattle.b67_scenes.proofs.Tasks.{PlacesStay, EventsStay, critical_stays, task_stays, state_stays, events_before}
-use Rattle.b67_scenes.proofs.Stage.{gives_within, goes_on, weight_of}
-use Rattle.b67_scenes.proofs.Staying.{text_in, level_in, context_in, most_in, FrameStill, frame_still, still_low, known_stays, parts_weigh, names_in}
-use Rattle.b67_pictures.specs.Acting.{Does, gave}
+use Rattle.b67_scenes.proofs.Tasks.{PlacesStay}
 use Rattle.b67_pictures.proofs.Alone.{IsAfter, AreAsDependent, dependent_but, free_still, after_choice, stands_on, leaves_alone}
 
 -- the new instance of a block or a procedure, and its part
@@ -126,13 +59,14 @@ entered_world sc w p q part outer h j given purpose =
 
 module _ (tree : PProgram) (code : Code) (texts : Texts) (nested : LiesNested tree) (short : IsShort tree code)
     (fragments : FragmentsArePerformed) (begins : BlocksBegin) (keeps : RestsKeepToTheirText) (order : AllIsMadeInOrder)
-    (w : World) (lay : Layout) (img : Image) (p : ℕ) (q : Process) (part : Part) (outer : List Part) (bound : ℕ) (core : Core)
-    (s : Scene tree code texts w lay img p q part outer bound core) (able_is : lives q.state ≡ true) (able_p : StateIs (scopes_of tree) w lay q.state (numbered img.states p)) where
+    (actor : AbleActor tree code texts) where
+  open actor use {w, lay, img, p, q, part, outer, core, s, able_is, able_p}
+
   abbrev sc : Scopes
   sc = scopes_of tree
 
   abbrev CallsThere : List Wanted → List Given → Slot → ℕ → List Slot → ℕ → ℕ → ℕ → Type 0
-  CallsThere wanted gs slot next waiting h j begin = Calls tree code texts nested short w lay img p q part outer bound core s wanted gs slot next waiting h j begin
+  CallsThere wanted gs slot next waiting h j begin = Calls tree code texts nested short (actor_of s) wanted gs slot next waiting h j begin
 
   -- These cells of the block's parameters have the words of the actuals, and those of arrays lead to arrays.
   pub record AreCells (j : ℕ) (given : List Cell) (ws : List Word) : Type 0 where
@@ -190,7 +124,7 @@ module _ (tree : PProgram) (code : Code) (texts : Texts) (nested : LiesNested tr
 
     -- what was given, and after it zeros
     abbrev arguments : List Word
-    arguments = entries.arguments tree code texts nested short w lay img p q part outer bound core s wanted gs slot next waiting h j begin e
+    arguments = entries.arguments tree code texts nested short (actor_of s) wanted gs slot next waiting h j begin e
 
     abbrev taken : List Word
     taken = reverse arguments
@@ -202,10 +136,10 @@ module _ (tree : PProgram) (code : Code) (texts : Texts) (nested : LiesNested tr
     cells = (taken ++ zeros) ++ control_words controls
 
     given_there : AreCells j given taken
-    given_there = fit taken (entries.given tree code texts nested short w lay img p q part outer bound core s wanted gs slot next waiting h j begin e).actuals
+    given_there = fit taken (entries.given tree code texts nested short (actor_of s) wanted gs slot next waiting h j begin e).actuals
 
     taken_many : length taken ≡ length (parameter_cells sc b)
-    taken_many = words_long (parameter_cells sc b) (instances.parameter_cells b.parameters given) taken given_there.cells
+    taken_many = as_many_values (parameter_cells sc b) (instances.parameter_cells b.parameters given) taken given_there.cells
 
     as_given : length taken ≡ length arguments
     as_given = length-reverse arguments
@@ -233,7 +167,7 @@ module _ (tree : PProgram) (code : Code) (texts : Texts) (nested : LiesNested tr
         omega (
           arith,
           length-append (taken ++ zeros) (control_words controls),
-          words_long (simple_cells sc b) (fresh_cells b given) (taken ++ zeros) cells_are,
+          as_many_values (simple_cells sc b) (fresh_cells b given) (taken ++ zeros) cells_are,
           all_many,
           length_mapped (λ (pcw : Pcw). pcw_word pcw) controls,
         )
@@ -259,7 +193,7 @@ module _ (tree : PProgram) (code : Code) (texts : Texts) (nested : LiesNested tr
     w' = entered_world sc w p q part outer h j given purpose
 
     abbrev at : ℕ
-    at = entries.at tree code texts nested short w lay img p q part outer bound core s wanted gs slot next waiting h j begin e
+    at = entries.at tree code texts nested short (actor_of s) wanted gs slot next waiting h j begin e
 
     abbrev lay' : Layout
     lay' = record { places = lay.places ++ place p at ∷ []; rows = rows_but lay.rows n [] }
@@ -275,7 +209,7 @@ module _ (tree : PProgram) (code : Code) (texts : Texts) (nested : LiesNested tr
 
     -- the rows of all others are those that they were
     rows_before : (k : ℕ) (x : Instance) → numbered w.instances k ≡ Some x → lay'.rows k ≡ lay.rows k
-    rows_before k x e = rows_other lay.rows n [] k (λ (same : k ≡ n). let low : k ≤ length w.instances = numbered_low w.instances k x e in omega (arith, same, low))
+    rows_before k x e = rows_other lay.rows n [] k (λ (same : k ≡ n). let low : k ≤ length w.instances = numbered_within w.instances k x e in omega (arith, same, low))
 
     places_stay : PlacesStay lay lay'
     places_stay k x e = numbered_before lay.places (place p at ∷ []) k x e
@@ -309,7 +243,7 @@ module _ (tree : PProgram) (code : Code) (texts : Texts) (nested : LiesNested tr
     each_keeps k st later = let x = facts.there k st in keeps_same sc w w' lay lay' k (sym (stays_there k x.0 x.1)) (rows_before k x.0 x.1)
 
     parent_stands : IsStanding w h
-    parent_stands = reached_stands tree code texts w lay img p q part outer bound core s h e.in_reach
+    parent_stands = reached_stands tree code texts (actor_of s) h e.in_reach
 
     here : instance_at w i ≡ instance_at w' i
     here = stays_there i s.stands.frame.instance s.stands.frame.is
@@ -320,10 +254,10 @@ module _ (tree : PProgram) (code : Code) (texts : Texts) (nested : LiesNested tr
     -- ---- the core in the frame
 
     abbrev more : List Word
-    more = entries.more tree code texts nested short w lay img p q part outer bound core s wanted gs slot next waiting h j begin e
+    more = entries.more tree code texts nested short (actor_of s) wanted gs slot next waiting h j begin e
 
     abbrev df : ℕ
-    df = entries.df tree code texts nested short w lay img p q part outer bound core s wanted gs slot next waiting h j begin e
+    df = entries.df tree code texts nested short (actor_of s) wanted gs slot next waiting h j begin e
 
     abbrev home : Place
     home = e.linked.at
@@ -341,13 +275,13 @@ module _ (tree : PProgram) (code : Code) (texts : Texts) (nested : LiesNested tr
     control = control_word core.registers next inner_level
 
     abbrev new : Core
-    new = entries.new tree code texts nested short w lay img p q part outer bound core s wanted gs slot next waiting h j begin e
+    new = entries.new tree code texts nested short (actor_of s) wanted gs slot next waiting h j begin e
 
     level_is : inner_level ≡ length frames + 2
-    level_is = omega (arith, entries.level_is tree code texts nested short w lay img p q part outer bound core s wanted gs slot next waiting h j begin e)
+    level_is = omega (arith, entries.level_is tree code texts nested short (actor_of s) wanted gs slot next waiting h j begin e)
 
     new_core : IsCore new
-    new_core = entries.new_core tree code texts nested short w lay img p q part outer bound core s wanted gs slot next waiting h j begin e
+    new_core = entries.new_core tree code texts nested short (actor_of s) wanted gs slot next waiting h j begin e
 
     new_long : length new.below ≡ at + 2 + length taken
     new_long = length-append lower (mark ∷ control ∷ taken) ∙ omega arith
@@ -361,7 +295,7 @@ module _ (tree : PProgram) (code : Code) (texts : Texts) (nested : LiesNested tr
     g : Begins sc [] code ps inner_level bound' many controls body.start new
     g =
         begins sc [] (context_of code texts sc j) code ps inner_level bound' many controls begin body.ready body.start new body.over body.cells_at
-        (entries.core_at tree code texts nested short w lay img p q part outer bound core s wanted gs slot next waiting h j begin e) (omega (arith, few_cells, as_given)) (omega (arith, new_long))
+        (entries.core_at tree code texts nested short (actor_of s) wanted gs slot next waiting h j begin e) (omega (arith, few_cells, as_given)) (omega (arith, new_long))
 
     has_here : HasCore (with_core img p new) p new
     has_here = has_now img p core new s.has refl new_core
@@ -395,7 +329,7 @@ module _ (tree : PProgram) (code : Code) (texts : Texts) (nested : LiesNested tr
       still : FrameStill tree code texts w w' lay lay' p limit stay part outer core.below s.stands.frame.cells s.stands.frame.gives
       still =
           frame_still tree code texts w w' lay lay' p limit stay part outer core.below s.stands.frame s.around
-          (omega (arith, entries.own_low tree code texts nested short w lay img p q part outer bound core s wanted gs slot next waiting h j begin e))
+          (omega (arith, entries.own_low tree code texts nested short (actor_of s) wanted gs slot next waiting h j begin e))
 
       same_lower : length s.stands.frame.lower ≡ length still.frame.lower
       same_lower = sym (still_low tree code texts w w' lay lay' p limit stay part outer core.below s.stands.frame still)
@@ -410,7 +344,7 @@ module _ (tree : PProgram) (code : Code) (texts : Texts) (nested : LiesNested tr
           by_number (suc k) e = e
 
       frame_lies : length s.stands.frame.lower < limit
-      frame_lies = omega (arith, entries.own_low tree code texts nested short w lay img p q part outer bound core s wanted gs slot next waiting h j begin e)
+      frame_lies = omega (arith, entries.own_low tree code texts nested short (actor_of s) wanted gs slot next waiting h j begin e)
 
       -- what is in reach stands after it
       reached_later : (k : ℕ) → IsInReach w (part ∷ outer) k → IsStanding w' k
@@ -451,9 +385,9 @@ module _ (tree : PProgram) (code : Code) (texts : Texts) (nested : LiesNested tr
             home = home;
             linked = home_there;
             df = df;
-            mark_is = entries.mark_reads tree code texts nested short w lay img p q part outer bound core s wanted gs slot next waiting h j begin e;
-            back = entries.back tree code texts nested short w lay img p q part outer bound core s wanted gs slot next waiting h j begin e;
-            control_is = entries.control_reads tree code texts nested short w lay img p q part outer bound core s wanted gs slot next waiting h j begin e;
+            mark_is = entries.mark_reads tree code texts nested short (actor_of s) wanted gs slot next waiting h j begin e;
+            back = entries.back tree code texts nested short (actor_of s) wanted gs slot next waiting h j begin e;
+            control_is = entries.control_reads tree code texts nested short (actor_of s) wanted gs slot next waiting h j begin e;
             level_is = refl;
           }
 
@@ -501,8 +435,8 @@ module _ (tree : PProgram) (code : Code) (texts : Texts) (nested : LiesNested tr
       words_now =
           subst (λ (x : Instance). SlotsAre sc s.stands.held (run_level (is_evaluation part.purpose) (level_of (block_numbered sc.blocks x.block))) (length still.frame.lower) (length core.below) waiting more) here
           (subst (λ (k : ℕ). SlotsAre sc s.stands.held level k (length core.below) waiting more)
-          (entries.own_is tree code texts nested short w lay img p q part outer bound core s wanted gs slot next waiting h j begin e ∙ same_lower)
-          (entries.second tree code texts nested short w lay img p q part outer bound core s wanted gs slot next waiting h j begin e).are)
+          (entries.own_is tree code texts nested short (actor_of s) wanted gs slot next waiting h j begin e ∙ same_lower)
+          (entries.second tree code texts nested short (actor_of s) wanted gs slot next waiting h j begin e).are)
 
       known_now : AreKnown sc w' lay' (IsInReach w' (part' ∷ outer)) i s.stands.held
       known_now = known_stays tree code texts w w' lay lay' p limit stay laid_before part outer core s.stands s.around all_low s.stands.held s.stands.held_are
@@ -514,7 +448,7 @@ module _ (tree : PProgram) (code : Code) (texts : Texts) (nested : LiesNested tr
 
       few_waiting : length waiting + 2 ≤ most_in tree w part
       few_waiting =
-          omega (arith, ap length e.lies, (entries.given tree code texts nested short w lay img p q part outer bound core s wanted gs slot next waiting h j begin e).slots_many, s.stands.few)
+          omega (arith, ap length e.lies, (entries.given tree code texts nested short (actor_of s) wanted gs slot next waiting h j begin e).slots_many, s.stands.few)
 
       abbrev waits_now : Waits tree code texts w' lay' p part' outer lower mark control (yields_of b.result)
       waits_now =
@@ -533,10 +467,10 @@ module _ (tree : PProgram) (code : Code) (texts : Texts) (nested : LiesNested tr
             words_are = words_now;
             home = home;
             df = df;
-            mark_is = entries.mark_reads tree code texts nested short w lay img p q part outer bound core s wanted gs slot next waiting h j begin e;
-            far = ap (λ (k : ℕ). df + newest k (length core.below) waiting) (sym same_lower) ∙ entries.far tree code texts nested short w lay img p q part outer bound core s wanted gs slot next waiting h j begin e;
-            back = entries.back tree code texts nested short w lay img p q part outer bound core s wanted gs slot next waiting h j begin e;
-            control_is = entries.control_reads tree code texts nested short w lay img p q part outer bound core s wanted gs slot next waiting h j begin e;
+            mark_is = entries.mark_reads tree code texts nested short (actor_of s) wanted gs slot next waiting h j begin e;
+            far = ap (λ (k : ℕ). df + newest k (length core.below) waiting) (sym same_lower) ∙ entries.far tree code texts nested short (actor_of s) wanted gs slot next waiting h j begin e;
+            back = entries.back tree code texts nested short (actor_of s) wanted gs slot next waiting h j begin e;
+            control_is = entries.control_reads tree code texts nested short (actor_of s) wanted gs slot next waiting h j begin e;
             segment_is = s.stands.segment_is ∙ ap (λ (x : Instance). segment_of sc.blocks x.block) here;
             place_is = omega arith;
             level_is = s.stands.there.level_is ∙ ap (λ (x : Instance). run_level (is_evaluation part.purpose) (level_of (block_numbered sc.blocks x.block))) here;
@@ -556,7 +490,7 @@ module _ (tree : PProgram) (code : Code) (texts : Texts) (nested : LiesNested tr
           ∙ all_many
 
       more_few : length more + 2 ≤ most_in tree w part
-      more_few = omega (arith, entries.as_many tree code texts nested short w lay img p q part outer bound core s wanted gs slot next waiting h j begin e, few_waiting)
+      more_few = omega (arith, entries.as_many tree code texts nested short (actor_of s) wanted gs slot next waiting h j begin e, few_waiting)
 
       inner_weight : part_weight tree w' inner ≡ 8 + (length taken + many) + 4 * tokens_around tree j
       inner_weight =
@@ -590,7 +524,7 @@ module _ (tree : PProgram) (code : Code) (texts : Texts) (nested : LiesNested tr
           ∙ ap (λ (o : Option Instance). numbered lay'.places (ancestor w' up ((or_no_instance o).parent))) (sym made_there)
 
       new_small : size new ≤ stack_limit
-      new_small = omega (arith, new_long, entries.room tree code texts nested short w lay img p q part outer bound core s wanted gs slot next waiting h j begin e, more_long, as_given)
+      new_small = omega (arith, new_long, entries.room tree code texts nested short (actor_of s) wanted gs slot next waiting h j begin e, more_long, as_given)
 
       cells_counted : length arguments + (many + length controls) ≡ length cells
       cells_counted = omega (arith, cells_many, as_given)
@@ -613,7 +547,7 @@ module _ (tree : PProgram) (code : Code) (texts : Texts) (nested : LiesNested tr
                 (shown_chained sc w' lay' n (names_in tree w' inner) (place p at) frames made_laid (ap (λ (k : ℕ). level_of (block_numbered sc.blocks k)) block_in ∙ level_is) each_now);
             top = ap (λ (r : Registers). place_at r.display (level_in tree w' inner)) g.registers
                 ∙ ap (place_at new.registers.display) (sym (runs_at inner (names_in tree w' inner) owns) ∙ ap (λ (k : ℕ). level_of (block_numbered sc.blocks k)) block_in)
-                ∙ entries.shown_here tree code texts nested short w lay img p q part outer bound core s wanted gs slot next waiting h j begin e;
+                ∙ entries.shown_here tree code texts nested short (actor_of s) wanted gs slot next waiting h j begin e;
             segment_is = ap (λ (r : Registers). r.segment) g.registers ∙ ap (segment_of sc.blocks) (sym block_in);
             pc = body.start;
             slots = [];
@@ -640,13 +574,13 @@ module _ (tree : PProgram) (code : Code) (texts : Texts) (nested : LiesNested tr
 
     table_is : table code img p ≡ outcomes.gives (with_core img p new)
     table_is =
-        gives_within code img (with_core img p new) p new.registers (entries.entry_raw tree code texts nested short w lay img p q part outer bound core s wanted gs slot next waiting h j begin e) has_here.registers
+        gives_within code img (with_core img p new) p new.registers (entries.entry_raw tree code texts nested short (actor_of s) wanted gs slot next waiting h j begin e) has_here.registers
         (omega (arith, s.has.is.top, s.small))
 
     -- where the choice is the entry, the operator does it
     pub entering : choice sc w p ≡ record { action = Enter; world = w'; released = []; started = None } → Does tree code texts w img p
     entering chosen =
-        gave (with_core img p new) (entries.entry_not_plain tree code texts nested short w lay img p q part outer bound core s wanted gs slot next waiting h j begin e) table_is
-        (entries.entry_action tree code texts nested short w lay img p q part outer bound core s wanted gs slot next waiting h j begin e table_is ∙ ap (λ (x : Choice). Some x.action) (sym chosen))
+        gave (with_core img p new) (entries.entry_not_plain tree code texts nested short (actor_of s) wanted gs slot next waiting h j begin e) table_is
+        (entries.entry_action tree code texts nested short (actor_of s) wanted gs slot next waiting h j begin e table_is ∙ ap (λ (x : Choice). Some x.action) (sym chosen))
         (λ may. subst (λ (x : Choice). Pictures tree code texts x.world (with_core img p new)) (sym chosen)
         (lay', pictured (after_choice sc w w' p q facts may s.at (ap (λ (x : Choice). x.world) chosen))))

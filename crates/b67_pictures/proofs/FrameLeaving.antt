@@ -1,216 +1,167 @@
 -- The frame of a block or of a procedure is left: it goes, and the part around goes on, with what is given.
 use Rattle.std.proofs.Common.{◌≡◌, ◌≢◌, refl, sym, ap, ◌∙◌, subst, ℕ, ◌<◌, List, [], ◌∷◌, length, Option, Some, None, Bool, false, arith, true, ◌⊎◌, inl, inr, ◌++◌}
-use Rattle.b67_letters.specs.Letters.{letter}
-use Rattle.std.specs.Prelude.{if◌then◌else◌, reverse}
-use Rattle.b67_list.specs.Numbered.{numbered}
+use Rattle.b67_pictures.proofs.Prelude.{if◌then◌else◌, reverse, numbered, Leave, PProgram, Scopes, scopes_of, Ask, leaves, ask, Choice, choice, choice_of, left_with, left_or_ended, fails, some_depends, is_evaluation, leave, Answer, Process, Part, lives, World, instance_at, RestsKeepToTheirText, AllIsMadeInOrder, IsStanding, IsOwn, Word, Place, Code, Rows, is_from, place, gives, Image, plain, Below, letter, Texts, Gives, Core, IsCore, HasCore, FragmentsArePerformed, length_set_numbered, some_same, system_stays, Leaves, after, outer_is, left_has, left_others, numbered_set, IsSameBut, same_but, HaveTexts, arrays_unchanged, IsClosed, FramesClose, events_left, IsElsewhere, event_outside, HasFacts, facts_of, KeepsArrays, StayBelow, owned_frame, ArraysAre, AreKnown, EventsAre, IsInReach, Waits, Owned, all_laid, AreAlike, alike_but, InnerActor, choice_is, gives_within, goes_on, fewer_closed, held_of, Living, Pictures, PicturesBy, StateIs, Does, gave}
 use Rattle.b67_num.specs.declared.FaultKind.TheVariants as fault
-use Rattle.algol_tree.specs.Plain.{PProgram}
-use Rattle.algol_tree.specs.Scopes.{Scopes, scopes_of}
-use Rattle.algol_meaning.specs.Rest.{Answer}
-use Rattle.algol_meaning.specs.World.{Process, Part, lives, World, instance_at}
-use Rattle.algol_meaning.specs.Instances.{leave}
-use Rattle.b67_deeds.specs.declared.Letter.TheVariants.{Leave}
-use Rattle.algol_meaning.specs.Asks.{Ask, leaves, ask}
-use Rattle.algol_meaning.specs.Choice.{Choice, choice, choice_of, left_with, left_or_ended, fails}
-use Rattle.algol_meaning.specs.Critical.{some_depends, is_evaluation}
-use Rattle.algol_paths.specs.Laws.{RestsKeepToTheirText, AllIsMadeInOrder}
-use Rattle.b67_word.specs.declared.Place.{Place}
-use Rattle.b67_word.specs.Word.{Word}
-use Rattle.b67_segment.specs.declared.code.Code.{Code}
-use Rattle.b67_store.specs.Store.{Rows}
-use Rattle.b67_table.specs.declared.Below.{Below}
-use Rattle.b67_scenes.specs.States.{StateIs}
-use Rattle.b67_table.specs.Chains.{place}
-use Rattle.b67_table.specs.Image.{Image}
 use Rattle.b67_table.specs.Outcome as outcomes
-use Rattle.b67_table.specs.Table.{raw, table, plain}
-use Rattle.b67_table.specs.Effect.{gives}
-use Rattle.b67_templates.specs.Programs.{Texts}
-use Rattle.b67_standing.specs.Standing.{Gives}
-use Rattle.b67_cores.specs.Cores.{Core, IsCore, HasCore}
-use Rattle.b67_cores.specs.Stretches.{FragmentsArePerformed}
-use Rattle.b67_faithful.proofs.Contradictions.{some_same}
-use Rattle.b67_faithful.proofs.Choices.{length_set_numbered}
-use Rattle.b67_rows.proofs.Cored.{system_stays}
-use Rattle.b67_rows.proofs.LeaveRow.{Leaves, after, outer_is, left_has, left_others}
-use Rattle.b67_rows.proofs.Numbers.{numbered_set}
-use Rattle.b67_rows.proofs.Parting.{IsSameBut, parted, same_but, same_ancestors, others_stay}
-use Rattle.b67_rows.proofs.Spelled.{HaveTexts}
-use Rattle.b67_frames.specs.Arrays.{Layout, ArraysAre, AreKnown}
-use Rattle.b67_frames.specs.Frames.{IsInReach, Waits, Owned}
-use Rattle.b67_frames.proofs.ArraysKept.{arrays_unchanged}
-use Rattle.b67_frames.proofs.Closing.{IsClosed, FramesClose}
-use Rattle.b67_frames.proofs.Facts.{HasFacts, facts_of}
-use Rattle.b67_frames.proofs.Knowing.{KeepsArrays}
-use Rattle.b67_frames.proofs.Lying.{StayBelow, owned_frame}
-use Rattle.b67_frames.specs.Events.{EventsAre}
-use Rattle.b67_frames.proofs.EventsLow.{IsElsewhere, event_outside}
-use Rattle.b67_scenes.specs.Pictures.{Living, Pictures, PicturesBy}
-use Rattle.b67_scenes.proofs.Ancestors.{all_laid}
-use Rattle.b67_scenes.proofs.Kept.{AreAlike, alike_but}
-use Rattle.b67_scenes.proofs.Scene.{Scene}
-use Rattle.b67_scenes.proofs.Stage.{choice_is, gives_within, goes_on}
+use Rattle.b67_table.specs.Table.{raw, table}
+use Rattle.b67_rows.proofs.Parting.{parted, same_ancestors, others_stay}
 use Rattle.b67_scenes.proofs.Tasks as tasks
-use Rattle.b67_scenes.proofs.Worlds.{held_of}
-use Rattle.b67_scenes.proofs.Waiting.{fewer_closed}
-use Rattle.algol_standing.specs.Worlds.{IsStanding, IsOwn}
-use Rattle.b67_pictures.specs.Acting.{Does, gave}
 use Rattle.b67_pictures.proofs.Alone.{IsAfter, dependent_but, after_choice, stands_on, leaves_alone}
 use Rattle.b67_pictures.proofs.LeftInstances.{keeps_left}
 use Rattle.b67_pictures.proofs.LeavingWords as leaving
 use Rattle.b67_pictures.proofs.LeavingWords.{IsGiven, known_given, leaves_so, rows_are, low, shown_home}
 use Rattle.b67_pictures.proofs.PartAround as around
 use Rattle.b67_pictures.proofs.PartAround.{smaller, living_now}
-use Rattle.b67_events.specs.Events.{is_from}
-use Rattle.b67_frames.proofs.EventsKept.{events_left}
 
 module _ (tree : PProgram) (code : Code) (texts : Texts) (stand : HaveTexts tree code texts) (fragments : FragmentsArePerformed) (keeps : RestsKeepToTheirText) (order : AllIsMadeInOrder) (closing : FramesClose)
-    (w : World) (lay : Layout) (img : Image) (p : ℕ) (q : Process) (part next : Part) (parts : List Part) (bound : ℕ) (core : Core)
-    (s : Scene tree code texts w lay img p q part (next ∷ parts) bound core) (able_is : lives q.state ≡ true) (able_p : StateIs (scopes_of tree) w lay q.state (numbered img.states p)) (owns : is_evaluation part.purpose ≡ false) where
-  abbrev sc : Scopes
-  sc = scopes_of tree
+    (actor : InnerActor tree code texts) where
+  open actor use {w, lay, img, p, q, part, next, parts, core, s}
 
-  abbrev i : ℕ
-  i = part.instance
+  module _ (able_is : lives q.state ≡ true) (able_p : StateIs (scopes_of tree) w lay q.state (numbered img.states p)) (owns : is_evaluation part.purpose ≡ false) where
+    abbrev sc : Scopes
+    sc = scopes_of tree
 
-  -- the part has the frame's instance for its own
-  abbrev own_frame : Owned tree code texts w lay p part (next ∷ parts) (length s.stands.frame.lower) s.stands.frame.mark s.stands.frame.control s.stands.frame.cells
-  own_frame = owned_frame tree code texts w lay p part (next ∷ parts) core.below s.stands.frame owns
+    abbrev i : ℕ
+    i = part.instance
 
-  abbrev u : Waits tree code texts w lay p next parts s.stands.frame.lower s.stands.frame.mark s.stands.frame.control s.stands.frame.gives
-  u = s.around.0
+    -- the part has the frame's instance for its own
+    abbrev own_frame : Owned tree code texts w lay p part (next ∷ parts) (length s.stands.frame.lower) s.stands.frame.mark s.stands.frame.control s.stands.frame.cells
+    own_frame = owned_frame tree code texts w lay p part (next ∷ parts) core.below s.stands.frame owns
 
-  abbrev f : ℕ
-  f = length s.stands.frame.lower
+    abbrev u : Waits tree code texts w lay p next parts s.stands.frame.lower s.stands.frame.mark s.stands.frame.control s.stands.frame.gives
+    u = s.around.0
 
-  abbrev b : Below
-  b = leaving.b tree code texts w lay img p q part next parts bound core s
+    abbrev f : ℕ
+    f = length s.stands.frame.lower
 
-  abbrev display : List (Option Place)
-  display = leaving.display tree code texts w lay img p q part next parts bound core s
+    abbrev b : Below
+    b = leaving.b tree code texts actor
 
-  -- the arrays of the instance are closed
-  pub shut : IsClosed sc w lay img i s.stands.frame.cells
-  shut = closing sc w lay img s.by.arrays p i (next ∷ parts) f s.stands.frame.mark s.stands.frame.control s.stands.frame.cells own_frame.framed
+    abbrev display : List (Option Place)
+    display = leaving.display tree code texts actor
 
-  abbrev pub e : Leaves img core u.below u.words s.stands.frame.mark s.stands.frame.control s.stands.frame.cells b display
-  e = leaves_so tree code texts w lay img p q part next parts bound core s shut.rows shut.changes
+    -- the arrays of the instance are closed
+    pub shut : IsClosed sc w lay img i s.stands.frame.cells
+    shut = closing sc w lay img s.by.arrays p i (next ∷ parts) f s.stands.frame.mark s.stands.frame.control s.stands.frame.cells own_frame.framed
 
-  own_is : numbered w.instances i ≡ Some own_frame.framed.instance
-  own_is = own_frame.framed.is
+    abbrev pub e : Leaves img core u.below u.words s.stands.frame.mark s.stands.frame.control s.stands.frame.cells b display
+    e = leaves_so tree code texts actor shut.rows shut.changes
 
-  module _ (r : Answer) (given : Option Word) (g : IsGiven s.stands.frame.gives r given) (gives_it : Gives s.stands.frame.gives r)
-      (known_there : AreKnown (scopes_of tree) w lay (IsInReach w (next ∷ parts)) next.instance (known_given s.stands.frame.gives r given)) where
-    abbrev q' : Process
-    q' = around.q' tree code texts stand fragments keeps order w lay img p q part next parts bound core s r given g gives_it known_there
+    own_is : numbered w.instances i ≡ Some own_frame.framed.instance
+    own_is = own_frame.framed.is
 
-    abbrev new : Core
-    new = around.new tree code texts stand fragments keeps order w lay img p q part next parts bound core s r given g gives_it known_there
+    module _ (r : Answer) (given : Option Word) (g : IsGiven s.stands.frame.gives r given) (gives_it : Gives s.stands.frame.gives r)
+        (known_there : AreKnown (scopes_of tree) w lay (IsInReach w (next ∷ parts)) next.instance (known_given s.stands.frame.gives r given)) where
+      abbrev q' : Process
+      q' = around.q' tree code texts stand fragments keeps order actor r given g gives_it known_there
 
-    -- ---- the world
+      abbrev new : Core
+      new = around.new tree code texts stand fragments keeps order actor r given g gives_it known_there
 
-    abbrev w' : World
-    w' = parted w p q' i own_frame.framed.instance own_is
+      -- ---- the world
 
-    as_many : length lay.places ≡ length w'.instances
-    as_many = s.by.laid ∙ sym (length_set_numbered w.instances i (record (instance_at w i) { left = true }))
+      abbrev w' : World
+      w' = parted w p q' i own_frame.framed.instance own_is
 
-    facts : HasFacts w
-    facts = facts_of sc w s.ok
+      as_many : length lay.places ≡ length w'.instances
+      as_many = s.by.laid ∙ sym (length_set_numbered w.instances i (record (instance_at w i) { left = true }))
 
-    same_now : (j : ℕ) → IsSameBut (instance_at w' j) (instance_at w j)
-    same_now j = same_but w p q' i own_frame.framed.instance own_is j
+      facts : HasFacts w
+      facts = facts_of sc w s.ok
 
-    abbrev IsLater : Type 0
-    IsLater = IsAfter sc w w' p
+      same_now : (j : ℕ) → IsSameBut (instance_at w' j) (instance_at w j)
+      same_now j = same_but w p q' i own_frame.framed.instance own_is j
 
-    keeps_all : (j : ℕ) → IsStanding w j → IsStanding w' j → KeepsArrays sc w w' lay lay j
-    keeps_all j st later = keeps_left sc w w' lay j (same_now j)
+      abbrev IsLater : Type 0
+      IsLater = IsAfter sc w w' p
 
-    alike : IsLater → (m : ℕ) → m ≢ p → AreAlike sc w w' lay lay m
-    alike after_it m other =
-        alike_but sc w w' lay m i own_frame.framed.instance (record (instance_at w i) { left = true })
-        (leaves_alone sc w w' lay lay p facts after_it keeps_all (λ j x there. there) (all_laid w lay facts s.by.laid) (dependent_but w.processes p q q' s.at refl (λ alive. alive)) m other) own_is
-        (λ (x : m ≡ own_frame.framed.instance.process). other (x ∙ own_frame.framed.own)) refl (tasks.events_left w w' same_now)
+      keeps_all : (j : ℕ) → IsStanding w j → IsStanding w' j → KeepsArrays sc w w' lay lay j
+      keeps_all j st later = keeps_left sc w w' lay j (same_now j)
 
-    stay : IsLater → StayBelow sc w w' lay lay p f
-    stay after_it =
-        record {
-          on = stands_on sc w w' lay lay p facts after_it keeps_all (λ j x there. there);
-          instances = λ j at x there own laid under. others_stay w p q' i own_frame.framed.instance own_is j (λ (same : i ≡ j). lower j at laid under same) ∙ there;
-          rows = λ j at x there own laid under. refl;
-        }
-      where
-        lower : (j at : ℕ) → numbered lay.places j ≡ Some (place p at) → at < f → i ≡ j → ⊥
-        lower j at laid under same =
-            let k : f ≡ at = ap (λ (x : Place). x.at) (some_same (sym own_frame.framed.laid ∙ ap (numbered lay.places) same ∙ laid)) in
-            absurd (omega (arith, k, under))
+      alike : IsLater → (m : ℕ) → m ≢ p → AreAlike sc w w' lay lay m
+      alike after_it m other =
+          alike_but sc w w' lay m i own_frame.framed.instance (record (instance_at w i) { left = true })
+          (leaves_alone sc w w' lay lay p facts after_it keeps_all (λ j x there. there) (all_laid w lay facts s.by.laid) (dependent_but w.processes p q q' s.at refl (λ alive. alive)) m other) own_is
+          (λ (x : m ≡ own_frame.framed.instance.process). other (x ∙ own_frame.framed.own)) refl (tasks.events_left w w' same_now)
 
-    -- ---- the image
-
-    module _ (over : ℕ) where
-      is_core : IsCore new
-      is_core =
-          outer_is code img p core s.has over u.below u.words s.stands.frame.mark s.stands.frame.control s.stands.frame.cells b display e given
-          (shown_home tree code texts w lay img p q part next parts bound core s ∙ ap (λ (n : ℕ). Some (place n (length u.frame.lower))) (sym s.has.own))
-          (omega (arith, low tree code texts w lay img p q part next parts bound core s, u.cells_are))
-
-      abbrev pub now : Image
-      now = after code img p core s.has over u.below u.words s.stands.frame.mark s.stands.frame.control s.stands.frame.cells b display e given
-
-      has_here : HasCore now p new
-      has_here = left_has code img p core s.has over u.below u.words s.stands.frame.mark s.stands.frame.control s.stands.frame.cells b display e given is_core
-
-      others : (m : ℕ) (other : Core) → m ≢ p → HasCore img m other → HasCore now m other
-      others = left_others code img p core s.has over u.below u.words s.stands.frame.mark s.stands.frame.control s.stands.frame.cells b display e given
-
-      here : IsLater → Living tree code texts w' lay now p q'
-      here after_it =
-          living_now tree code texts stand fragments keeps order w lay img p q part next parts bound core s r given g gives_it known_there w' after_it.climb as_many (numbered_set w.processes p q q' s.at) (stay after_it)
-          same_now (λ up j. same_ancestors w p q' i own_frame.framed.instance own_is up j) now has_here
-
-      -- the events of the instance are closed, and no others
-      events_now : EventsAre sc w' lay now.events
-      events_now =
-          events_left sc w w' lay i own_frame.framed.instance (record (instance_at w i) { left = true }) own_is refl refl core.registers.stack (length (u.below ++ reverse u.words)) img.events
-          (λ j number e at other h.
-          ap (λ (n : ℕ). is_from n (length (u.below ++ reverse u.words)) at) s.has.own
-          ∙ ap (λ (ws : List Word). is_from p (length ws) at) (sym u.lower_is)
-          ∙ event_outside tree code texts w lay p (next ∷ parts) s.stands.frame.lower s.stands.frame.mark s.stands.frame.control s.stands.frame.gives s.around j
-          (in_outer j other (subst (λ (ps : List Part). IsOwn ps j ⊎ IsElsewhere lay p j) s.todo (held_of tree code texts w lay img s.by s.ok p q s.at j h.instance h.is h.stands))) number e at h) s.by.events
+      stay : IsLater → StayBelow sc w w' lay lay p f
+      stay after_it =
+          record {
+            on = stands_on sc w w' lay lay p facts after_it keeps_all (λ j x there. there);
+            instances = λ j at x there own laid under. others_stay w p q' i own_frame.framed.instance own_is j (λ (same : i ≡ j). lower j at laid under same) ∙ there;
+            rows = λ j at x there own laid under. refl;
+          }
         where
-          without : (j : ℕ) → i ≢ j → IsOwn (part ∷ next ∷ parts) j → IsOwn (next ∷ parts) j
-          without j other (inl own) = absurd (other own.1)
-          without j other (inr own) = own
+          lower : (j at : ℕ) → numbered lay.places j ≡ Some (place p at) → at < f → i ≡ j → ⊥
+          lower j at laid under same =
+              let k : f ≡ at = ap (λ (x : Place). x.at) (some_same (sym own_frame.framed.laid ∙ ap (numbered lay.places) same ∙ laid)) in
+              absurd (omega (arith, k, under))
 
-          in_outer : (j : ℕ) → i ≢ j → IsOwn (part ∷ next ∷ parts) j ⊎ IsElsewhere lay p j → IsOwn (next ∷ parts) j ⊎ IsElsewhere lay p j
-          in_outer j other (inl own) = inl (without j other own)
-          in_outer j other (inr elsewhere) = inr elsewhere
+      -- ---- the image
 
-      pictured : IsLater → PicturesBy tree code texts w' lay now
-      pictured after_it =
-          goes_on tree code texts w lay img s.by p q s.at w' lay now q' refl able_is as_many
-          (subst (λ (rows : Rows). ArraysAre sc w' lay rows) (sym (rows_are tree code texts w lay img p q part next parts bound core s shut.rows shut.changes)) (arrays_unchanged sc (leave w (i ∷ [])) w' lay shut.rows refl shut.are)) events_now refl refl refl refl (λ m there listed. fewer_closed core.registers.stack (length (u.below ++ reverse u.words)) img.events m there listed) (alike after_it)
-          s.by.output refl refl refl (length_set_numbered img.regs p new.registers) refl (system_stays img p core new s.has refl q w s.at)
-          (tasks.state_stays sc w w' lay lay (tasks.events_left w w' same_now) (λ j f laid. laid) q.state (numbered img.states p) able_p) others (here after_it)
+      module _ (over : ℕ) where
+        is_core : IsCore new
+        is_core =
+            outer_is code img p core s.has over u.below u.words s.stands.frame.mark s.stands.frame.control s.stands.frame.cells b display e given
+            (shown_home tree code texts actor ∙ ap (λ (n : ℕ). Some (place n (length u.frame.lower))) (sym s.has.own))
+            (omega (arith, low tree code texts actor, u.cells_are))
 
-      chosen : some_depends w.processes i ≡ false → ask part.rest ≡ leaves r → choice sc w p ≡ record { action = Leave; world = w'; released = []; started = None }
-      chosen free asks =
-          choice_is sc w p q part (next ∷ parts) s.at s.todo
-          ∙ ap (λ (k : Ask). choice_of sc w p q part (next ∷ parts) k) asks
-          ∙ ap
-          (λ (t : Bool). if t then left_with sc w p q part (next ∷ parts) w r (next ∷ parts) else if some_depends w.processes i then fails sc w p q part (next ∷ parts) fault.CriticalBlockExit
-          else left_or_ended sc w p q part (next ∷ parts) r (next ∷ parts)) owns
-          ∙ ap (λ (t : Bool). if t then fails sc w p q part (next ∷ parts) fault.CriticalBlockExit else left_or_ended sc w p q part (next ∷ parts) r (next ∷ parts)) free
+        abbrev pub now : Image
+        now = after code img p core s.has over u.below u.words s.stands.frame.mark s.stands.frame.control s.stands.frame.cells b display e given
 
-      -- an operator that leaves the frame with that does it, where no process depends on the instance
-      pub leaving_frame : some_depends w.processes i ≡ false → ask part.rest ≡ leaves r → raw code img p ≡ gives now → plain code img p ≡ false → (table code img p ≡ outcomes.gives now → letter code img p ≡ Some Leave) → Does tree code texts w img p
-      leaving_frame free asks raw_is not_plain acts =
-          gave now not_plain table_is (acts table_is ∙ ap (λ (c : Choice). Some c.action) (sym (chosen free asks)))
-          (λ may. subst (λ (c : Choice). Pictures tree code texts c.world now) (sym (chosen free asks))
-          (lay, pictured (after_choice sc w w' p q facts may s.at (ap (λ (c : Choice). c.world) (chosen free asks)))))
-        where
-          table_is : table code img p ≡ outcomes.gives now
-          table_is =
-              gives_within code img now p new.registers raw_is has_here.registers
-              (omega (arith, has_here.is.top, smaller tree code texts stand fragments keeps order w lay img p q part next parts bound core s r given g gives_it known_there))
+        has_here : HasCore now p new
+        has_here = left_has code img p core s.has over u.below u.words s.stands.frame.mark s.stands.frame.control s.stands.frame.cells b display e given is_core
+
+        others : (m : ℕ) (other : Core) → m ≢ p → HasCore img m other → HasCore now m other
+        others = left_others code img p core s.has over u.below u.words s.stands.frame.mark s.stands.frame.control s.stands.frame.cells b display e given
+
+        here : IsLater → Living tree code texts w' lay now p q'
+        here after_it =
+            living_now tree code texts stand fragments keeps order actor r given g gives_it known_there w' after_it.climb as_many (numbered_set w.processes p q q' s.at) (stay after_it)
+            same_now (λ up j. same_ancestors w p q' i own_frame.framed.instance own_is up j) now has_here
+
+        -- the events of the instance are closed, and no others
+        events_now : EventsAre sc w' lay now.events
+        events_now =
+            events_left sc w w' lay i own_frame.framed.instance (record (instance_at w i) { left = true }) own_is refl refl core.registers.stack (length (u.below ++ reverse u.words)) img.events
+            (λ j number e at other h.
+            ap (λ (n : ℕ). is_from n (length (u.below ++ reverse u.words)) at) s.has.own
+            ∙ ap (λ (ws : List Word). is_from p (length ws) at) (sym u.lower_is)
+            ∙ event_outside tree code texts w lay p (next ∷ parts) s.stands.frame.lower s.stands.frame.mark s.stands.frame.control s.stands.frame.gives s.around j
+            (in_outer j other (subst (λ (ps : List Part). IsOwn ps j ⊎ IsElsewhere lay p j) s.todo (held_of tree code texts w lay img s.by s.ok p q s.at j h.instance h.is h.stands))) number e at h) s.by.events
+          where
+            without : (j : ℕ) → i ≢ j → IsOwn (part ∷ next ∷ parts) j → IsOwn (next ∷ parts) j
+            without j other (inl own) = absurd (other own.1)
+            without j other (inr own) = own
+
+            in_outer : (j : ℕ) → i ≢ j → IsOwn (part ∷ next ∷ parts) j ⊎ IsElsewhere lay p j → IsOwn (next ∷ parts) j ⊎ IsElsewhere lay p j
+            in_outer j other (inl own) = inl (without j other own)
+            in_outer j other (inr elsewhere) = inr elsewhere
+
+        pictured : IsLater → PicturesBy tree code texts w' lay now
+        pictured after_it =
+            goes_on tree code texts w lay img s.by p q s.at w' lay now q' refl able_is as_many
+            (subst (λ (rows : Rows). ArraysAre sc w' lay rows) (sym (rows_are tree code texts actor shut.rows shut.changes)) (arrays_unchanged sc (leave w (i ∷ [])) w' lay shut.rows refl shut.are)) events_now refl refl refl refl (λ m there listed. fewer_closed core.registers.stack (length (u.below ++ reverse u.words)) img.events m there listed) (alike after_it)
+            s.by.output refl refl refl (length_set_numbered img.regs p new.registers) refl (system_stays img p core new s.has refl q w s.at)
+            (tasks.state_stays sc w w' lay lay (tasks.events_left w w' same_now) (λ j f laid. laid) q.state (numbered img.states p) able_p) others (here after_it)
+
+        chosen : some_depends w.processes i ≡ false → ask part.rest ≡ leaves r → choice sc w p ≡ record { action = Leave; world = w'; released = []; started = None }
+        chosen free asks =
+            choice_is sc w p q part (next ∷ parts) s.at s.todo
+            ∙ ap (λ (k : Ask). choice_of sc w p q part (next ∷ parts) k) asks
+            ∙ ap
+            (λ (t : Bool). if t then left_with sc w p q part (next ∷ parts) w r (next ∷ parts) else if some_depends w.processes i then fails sc w p q part (next ∷ parts) fault.CriticalBlockExit
+            else left_or_ended sc w p q part (next ∷ parts) r (next ∷ parts)) owns
+            ∙ ap (λ (t : Bool). if t then fails sc w p q part (next ∷ parts) fault.CriticalBlockExit else left_or_ended sc w p q part (next ∷ parts) r (next ∷ parts)) free
+
+        -- an operator that leaves the frame with that does it, where no process depends on the instance
+        pub leaving_frame : some_depends w.processes i ≡ false → ask part.rest ≡ leaves r → raw code img p ≡ gives now → plain code img p ≡ false → (table code img p ≡ outcomes.gives now → letter code img p ≡ Some Leave) → Does tree code texts w img p
+        leaving_frame free asks raw_is not_plain acts =
+            gave now not_plain table_is (acts table_is ∙ ap (λ (c : Choice). Some c.action) (sym (chosen free asks)))
+            (λ may. subst (λ (c : Choice). Pictures tree code texts c.world now) (sym (chosen free asks))
+            (lay, pictured (after_choice sc w w' p q facts may s.at (ap (λ (c : Choice). c.world) (chosen free asks)))))
+          where
+            table_is : table code img p ≡ outcomes.gives now
+            table_is =
+                gives_within code img now p new.registers raw_is has_here.registers
+                (omega (arith, has_here.is.top, smaller tree code texts stand fragments keeps order actor r given g gives_it known_there))

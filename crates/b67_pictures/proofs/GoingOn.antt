@@ -1,134 +1,95 @@
 -- A process goes on in its innermost part, in a world in which its own instances, and the rows of their arrays, are what they were.
 use Rattle.std.proofs.Common.{◌≡◌, refl, sym, ap, ◌∙◌, subst, ℕ, ◌+◌, ◌<◌, ◌≤◌, List, ◌∷◌, length, Some, arith}
-use Rattle.b67_list.specs.Numbered.{numbered}
-use Rattle.algol_tree.specs.Blocks.{block_numbered}
-use Rattle.algol_tree.specs.Cells.{level_of}
-use Rattle.algol_tree.specs.Plain.{PProgram}
-use Rattle.algol_tree.specs.Scopes.{scopes_of}
-use Rattle.algol_meaning.specs.Critical.{is_evaluation}
-use Rattle.algol_meaning.specs.Rest.{Answer}
-use Rattle.algol_meaning.specs.World.{Instance, Process, Part, State, World, instance_at}
-use Rattle.algol_meaning.specs.Asks.{resume}
-use Rattle.algol_paths.specs.Arrays.{all_to_make, all_left_to_make}
-use Rattle.algol_paths.specs.Blocks.{IsSeen}
-use Rattle.algol_paths.specs.Laws.{RestsKeepToTheirText, AllIsMadeInOrder}
-use Rattle.algol_paths.specs.Segments.{segment_of}
-use Rattle.algol_paths.specs.Texts.{InAnswer}
-use Rattle.b67_control.specs.declared.Registers.{Registers}
-use Rattle.b67_control.specs.Display.{place_at}
-use Rattle.b67_segment.specs.declared.code.Code.{Code}
-use Rattle.b67_store.specs.Store.{stack_limit}
-use Rattle.b67_table.specs.Image.{Image}
-use Rattle.b67_templates.specs.Code.{in_routine}
-use Rattle.b67_templates.specs.Contexts.{Yields}
-use Rattle.b67_templates.specs.Programs.{Texts, context_of}
-use Rattle.b67_standing.specs.Stepping.{Slot}
-use Rattle.b67_standing.specs.Standing.{ComesTo}
-use Rattle.b67_cores.specs.Cores.{Core, size, HasCore}
-use Rattle.b67_cores.specs.Slots.{Known}
-use Rattle.b67_cores.specs.Stretches.{CoreAt, FragmentsArePerformed}
-use Rattle.b67_faithful.specs.Weight.{weight}
-use Rattle.b67_frames.specs.Arrays.{Layout, AreKnown}
-use Rattle.b67_frames.specs.Frames.{IsInReach, most_around, IsChained, Frame, run_level}
-use Rattle.b67_frames.proofs.Facts.{facts_of}
-use Rattle.b67_frames.proofs.Resumed.{frame_resumed}
-use Rattle.b67_frames.proofs.Lying.{StayBelow}
-use Rattle.b67_frames.proofs.Onward.{StandOn}
-use Rattle.b67_scenes.specs.Depending.{CriticalIs, TaskIs}
-use Rattle.b67_scenes.specs.Pictures.{Living}
+use Rattle.b67_pictures.proofs.Prelude.{numbered, block_numbered, level_of, PProgram, scopes_of, resume, is_evaluation, Answer, Instance, Process, Part, State, World, instance_at, all_to_make, all_left_to_make, IsSeen, RestsKeepToTheirText, AllIsMadeInOrder, segment_of, InAnswer, place_at, Registers, Code, stack_limit, Image, in_routine, Yields, Texts, context_of, ComesTo, Slot, Core, size, HasCore, Known, CoreAt, FragmentsArePerformed, weight, facts_of, StayBelow, StandOn, frame_resumed, Layout, AreKnown, IsInReach, most_around, IsChained, Frame, run_level, AreLaid, all_laid, steps_none, living_of, CanClimb, Actor, weight_of, text_in, level_in, context_in, most_in, names_in, FrameStill, frame_still, frame_low, chained_stays, top_stays, parts_weigh, known_stays, EventsStay, critical_stays, task_stays, CriticalIs, TaskIs, Living}
 use Rattle.b67_scenes.specs.Reaches as reaching
-use Rattle.b67_scenes.proofs.Ancestors.{AreLaid, all_laid}
-use Rattle.b67_scenes.proofs.Landing.{steps_none, living_of}
-use Rattle.b67_scenes.proofs.Paths.{CanClimb}
-use Rattle.b67_scenes.proofs.Scene.{Scene}
-use Rattle.b67_scenes.proofs.Stage.{weight_of}
-use Rattle.b67_scenes.proofs.Staying.{text_in, level_in, context_in, most_in, names_in, FrameStill, frame_still, frame_low, chained_stays, top_stays, parts_weigh, known_stays, block_stays}
-use Rattle.b67_scenes.proofs.Tasks.{EventsStay, critical_stays, task_stays}
+use Rattle.b67_scenes.proofs.Staying.{block_stays}
 use Rattle.b67_pictures.proofs.InFrame.{SameFrame}
 
-module _ (tree : PProgram) (code : Code) (texts : Texts) (fragments : FragmentsArePerformed) (keeps : RestsKeepToTheirText) (order : AllIsMadeInOrder) (w : World) (lay : Layout) (img : Image)
-    (p : ℕ) (q : Process) (part : Part) (outer : List Part) (bound : ℕ) (core : Core) (s : Scene tree code texts w lay img p q part outer bound core) (unmade : all_left_to_make part.rest ≡ all_to_make part.rest)
-    (a : Answer) (nameless : InAnswer (IsSeen (scopes_of tree) ((instance_at w part.instance).block)) a) (new : Core) (below : new.below ≡ core.below) (frame_is : SameFrame core.registers new.registers)
-    (known : List Known) (known_are : AreKnown (scopes_of tree) w lay (IsInReach w (part ∷ outer)) part.instance known)
-    (pc : ℕ) (slots : List Slot) (there : CoreAt (scopes_of tree) known code (text_in tree texts w part) (level_in tree w part) pc slots new) (few : length slots ≤ most_in tree w part)
-    (comes : ComesTo (scopes_of tree) (context_in tree code texts w part s.stands.frame.gives) (text_in tree texts w part) (level_in tree w part) (most_in tree w part) (resume (scopes_of tree) part.rest a) pc slots)
-    (w' : World) (lay' : Layout) (state : State) (on : StandOn (scopes_of tree) w w' lay lay') (own : (i : ℕ) (x : Instance) → numbered w.instances i ≡ Some x → x.process ≡ p → numbered w'.instances i ≡ Some x)
-    (rows : (i : ℕ) (x : Instance) → numbered w.instances i ≡ Some x → x.process ≡ p → lay'.rows i ≡ lay.rows i) (events : EventsStay w w') (laid_later : length lay'.places ≡ length w'.instances) (at_later : numbered w'.processes p ≡ Some (record q { todo = record part { rest = resume (scopes_of tree) part.rest a } ∷ outer; state = state })) where
-  abbrev part' : Part
-  part' = record part { rest = resume (scopes_of tree) part.rest a }
+module _ (tree : PProgram) (code : Code) (texts : Texts) (fragments : FragmentsArePerformed) (keeps : RestsKeepToTheirText) (order : AllIsMadeInOrder) (actor : Actor tree code texts) where
+  open actor use {w, lay, p, q, part, outer, bound, core, s}
 
-  abbrev q' : Process
-  q' = record q { todo = part' ∷ outer; state = state }
+  module _ (unmade : all_left_to_make part.rest ≡ all_to_make part.rest)
+      (a : Answer) (nameless : InAnswer (IsSeen (scopes_of tree) ((instance_at w part.instance).block)) a) (new : Core) (below : new.below ≡ core.below) (frame_is : SameFrame core.registers new.registers)
+      (known : List Known) (known_are : AreKnown (scopes_of tree) w lay (IsInReach w (part ∷ outer)) part.instance known)
+      (pc : ℕ) (slots : List Slot) (there : CoreAt (scopes_of tree) known code (text_in tree texts w part) (level_in tree w part) pc slots new) (few : length slots ≤ most_in tree w part)
+      (comes : ComesTo (scopes_of tree) (context_in tree code texts w part s.stands.frame.gives) (text_in tree texts w part) (level_in tree w part) (most_in tree w part) (resume (scopes_of tree) part.rest a) pc slots)
+      (w' : World) (lay' : Layout) (state : State) (on : StandOn (scopes_of tree) w w' lay lay') (own : (i : ℕ) (x : Instance) → numbered w.instances i ≡ Some x → x.process ≡ p → numbered w'.instances i ≡ Some x)
+      (rows : (i : ℕ) (x : Instance) → numbered w.instances i ≡ Some x → x.process ≡ p → lay'.rows i ≡ lay.rows i) (events : EventsStay w w') (laid_later : length lay'.places ≡ length w'.instances) (at_later : numbered w'.processes p ≡ Some (record q { todo = record part { rest = resume (scopes_of tree) part.rest a } ∷ outer; state = state })) where
+    abbrev part' : Part
+    part' = record part { rest = resume (scopes_of tree) part.rest a }
 
-  laid : AreLaid w lay
-  laid = all_laid w lay (facts_of (scopes_of tree) w s.ok) s.by.laid
+    abbrev q' : Process
+    q' = record q { todo = part' ∷ outer; state = state }
 
-  abbrev stay : StayBelow (scopes_of tree) w w' lay lay' p (length core.below)
-  stay = record { on = on; instances = λ i at x e mine lies low. own i x e mine; rows = λ i at x e mine lies low. rows i x e mine }
+    laid : AreLaid w lay
+    laid = all_laid w lay (facts_of (scopes_of tree) w s.ok) s.by.laid
 
-  all_low : length core.below ≤ length core.below
-  all_low = omega arith
+    abbrev stay : StayBelow (scopes_of tree) w w' lay lay' p (length core.below)
+    stay = record { on = on; instances = λ i at x e mine lies low. own i x e mine; rows = λ i at x e mine lies low. rows i x e mine }
 
-  frame_lies : length s.stands.frame.lower < length core.below
-  frame_lies = omega (arith, frame_low tree code texts w lay p part outer core.below s.stands.frame)
+    all_low : length core.below ≤ length core.below
+    all_low = omega arith
 
-  still : FrameStill tree code texts w w' lay lay' p (length core.below) stay part outer core.below s.stands.frame.cells s.stands.frame.gives
-  still = frame_still tree code texts w w' lay lay' p (length core.below) stay part outer core.below s.stands.frame s.around frame_lies
+    frame_lies : length s.stands.frame.lower < length core.below
+    frame_lies = omega (arith, frame_low tree code texts w lay p part outer core.below s.stands.frame)
 
-  block_is : (instance_at w part.instance).block ≡ (instance_at w' part.instance).block
-  block_is = block_stays tree code texts w w' lay lay' p (length core.below) stay laid part outer core s.stands s.around all_low
+    still : FrameStill tree code texts w w' lay lay' p (length core.below) stay part outer core.below s.stands.frame.cells s.stands.frame.gives
+    still = frame_still tree code texts w w' lay lay' p (length core.below) stay part outer core.below s.stands.frame s.around frame_lies
 
-  abbrev At : ℕ → Type 0
-  At b = CoreAt (scopes_of tree) known code (texts.placed (segment_of (scopes_of tree).blocks b)) (run_level (is_evaluation part.purpose) (level_of (block_numbered (scopes_of tree).blocks b))) pc slots new
+    block_is : (instance_at w part.instance).block ≡ (instance_at w' part.instance).block
+    block_is = block_stays tree code texts w w' lay lay' p (length core.below) stay laid part outer core s.stands s.around all_low
 
-  abbrev Comes : ℕ → Yields → Type 0
-  Comes b y =
-      ComesTo (scopes_of tree) (in_routine y (context_of code texts (scopes_of tree) b)) (texts.placed (segment_of (scopes_of tree).blocks b)) (run_level (is_evaluation part.purpose) (level_of (block_numbered (scopes_of tree).blocks b))) (most_around tree b)
-      (resume (scopes_of tree) part.rest a) pc slots
+    abbrev At : ℕ → Type 0
+    At b = CoreAt (scopes_of tree) known code (texts.placed (segment_of (scopes_of tree).blocks b)) (run_level (is_evaluation part.purpose) (level_of (block_numbered (scopes_of tree).blocks b))) pc slots new
 
-  abbrev frame' : Frame tree code texts w' lay' p part' outer new.below
-  frame' = frame_resumed tree code texts w' lay' p keeps order part outer core.below new.below still.frame below unmade a (subst (λ (b : ℕ). InAnswer (IsSeen (scopes_of tree) b) a) block_is nameless)
+    abbrev Comes : ℕ → Yields → Type 0
+    Comes b y =
+        ComesTo (scopes_of tree) (in_routine y (context_of code texts (scopes_of tree) b)) (texts.placed (segment_of (scopes_of tree).blocks b)) (run_level (is_evaluation part.purpose) (level_of (block_numbered (scopes_of tree).blocks b))) (most_around tree b)
+        (resume (scopes_of tree) part.rest a) pc slots
 
-  light' : bound + 3 ≤ weight tree w' p
-  light' =
-      subst (λ (n : ℕ). bound + 3 ≤ n)
-      (weight_of tree w p q (part ∷ outer) s.at s.todo
-      ∙ sym (parts_weigh tree code texts w w' lay lay' p (length core.below) stay laid part outer core s.stands s.around all_low)
-      ∙ sym (weight_of tree w' p q' (part' ∷ outer) at_later refl)) s.light
+    abbrev frame' : Frame tree code texts w' lay' p part' outer new.below
+    frame' = frame_resumed tree code texts w' lay' p keeps order part outer core.below new.below still.frame below unmade a (subst (λ (b : ℕ). InAnswer (IsSeen (scopes_of tree) b) a) block_is nameless)
 
-  room' : length new.below + most_in tree w part ≤ bound
-  room' = omega (arith, s.room, ap length below)
+    light' : bound + 3 ≤ weight tree w' p
+    light' =
+        subst (λ (n : ℕ). bound + 3 ≤ n)
+        (weight_of tree w p q (part ∷ outer) s.at s.todo
+        ∙ sym (parts_weigh tree code texts w w' lay lay' p (length core.below) stay laid part outer core s.stands s.around all_low)
+        ∙ sym (weight_of tree w' p q' (part' ∷ outer) at_later refl)) s.light
 
-  pub goes_along : (after : Image) → HasCore after p new → size new ≤ stack_limit → CanClimb (scopes_of tree) w' →
-      Living tree code texts w' lay' after p (record q { todo = record part { rest = resume (scopes_of tree) part.rest a } ∷ outer; state = state })
-  goes_along after has small climb =
-      living_of tree code texts w' lay' after climb (all_laid w' lay' on.after laid_later) fragments p q' part' outer bound new new (record {
-        todo = refl;
-        has = has;
-        critical = subst (λ (r : Registers). CriticalIs lay' q.critical r.critical) (sym frame_is.is) (critical_stays lay lay' on.places q.critical core.registers.critical s.critical);
-        task = subst (λ (r : Registers). TaskIs (scopes_of tree) w' lay' q.task r.task) (sym frame_is.is)
-            (task_stays (scopes_of tree) w w' lay lay' events on.places q.task core.registers.task s.task);
-        sees = ap (λ (r : Registers). place_at r.display 0) frame_is.is ∙ s.sees;
-        small = small;
-        begun = 0;
-        begins = steps_none (scopes_of tree) known code (text_in tree texts w part) (level_in tree w part) (most_in tree w part) bound pc slots new there few room';
-        frame = frame';
-        around = still.around;
-        counted = ap (λ (r : Registers). r.cells) frame_is.is ∙ s.stands.counted ∙ sym (ap length still.cells_are);
-        chained = subst (λ d. IsChained (scopes_of tree) w' lay' part.instance (names_in tree w' part) d) (sym (ap (λ (r : Registers). r.display) frame_is.is))
-            (subst (λ (b : ℕ). IsChained (scopes_of tree) w' lay' part.instance (level_of (block_numbered (scopes_of tree).blocks b)) core.registers.display) block_is
-            (chained_stays tree code texts w w' lay lay' p (length core.below) stay laid part outer core s.stands s.around all_low core.registers.display s.stands.chained));
-        top = ap (λ (r : Registers). place_at r.display (level_in tree w' part)) frame_is.is
-            ∙ top_stays tree code texts w w' lay lay' p (length core.below) stay laid part outer core s.stands s.around all_low still;
-        segment_is = ap (λ (r : Registers). r.segment) frame_is.is ∙ s.stands.segment_is ∙ ap (λ (b : ℕ). segment_of (scopes_of tree).blocks b) block_is;
-        pc = pc;
-        slots = slots;
-        known = known;
-        known_are = known_stays tree code texts w w' lay lay' p (length core.below) stay laid part outer core s.stands s.around all_low known known_are;
-        at = subst At block_is there;
-        held = subst (λ (b : ℕ). length slots ≤ most_around tree b) block_is few;
-        comes = subst (λ (b : ℕ). Comes b still.frame.gives) block_is (subst (λ (y : Yields). Comes ((instance_at w part.instance).block) y) (sym still.gives_are) comes);
-        reaches = reaching.all refl;
-        room = subst (λ (b : ℕ). length new.below + most_around tree b ≤ bound) block_is room';
-        light = light';
-      })
+    room' : length new.below + most_in tree w part ≤ bound
+    room' = omega (arith, s.room, ap length below)
+
+    pub goes_along : (after : Image) → HasCore after p new → size new ≤ stack_limit → CanClimb (scopes_of tree) w' →
+        Living tree code texts w' lay' after p (record q { todo = record part { rest = resume (scopes_of tree) part.rest a } ∷ outer; state = state })
+    goes_along after has small climb =
+        living_of tree code texts w' lay' after climb (all_laid w' lay' on.after laid_later) fragments p q' part' outer bound new new (record {
+          todo = refl;
+          has = has;
+          critical = subst (λ (r : Registers). CriticalIs lay' q.critical r.critical) (sym frame_is.is) (critical_stays lay lay' on.places q.critical core.registers.critical s.critical);
+          task = subst (λ (r : Registers). TaskIs (scopes_of tree) w' lay' q.task r.task) (sym frame_is.is)
+              (task_stays (scopes_of tree) w w' lay lay' events on.places q.task core.registers.task s.task);
+          sees = ap (λ (r : Registers). place_at r.display 0) frame_is.is ∙ s.sees;
+          small = small;
+          begun = 0;
+          begins = steps_none (scopes_of tree) known code (text_in tree texts w part) (level_in tree w part) (most_in tree w part) bound pc slots new there few room';
+          frame = frame';
+          around = still.around;
+          counted = ap (λ (r : Registers). r.cells) frame_is.is ∙ s.stands.counted ∙ sym (ap length still.cells_are);
+          chained = subst (λ d. IsChained (scopes_of tree) w' lay' part.instance (names_in tree w' part) d) (sym (ap (λ (r : Registers). r.display) frame_is.is))
+              (subst (λ (b : ℕ). IsChained (scopes_of tree) w' lay' part.instance (level_of (block_numbered (scopes_of tree).blocks b)) core.registers.display) block_is
+              (chained_stays tree code texts w w' lay lay' p (length core.below) stay laid part outer core s.stands s.around all_low core.registers.display s.stands.chained));
+          top = ap (λ (r : Registers). place_at r.display (level_in tree w' part)) frame_is.is
+              ∙ top_stays tree code texts w w' lay lay' p (length core.below) stay laid part outer core s.stands s.around all_low still;
+          segment_is = ap (λ (r : Registers). r.segment) frame_is.is ∙ s.stands.segment_is ∙ ap (λ (b : ℕ). segment_of (scopes_of tree).blocks b) block_is;
+          pc = pc;
+          slots = slots;
+          known = known;
+          known_are = known_stays tree code texts w w' lay lay' p (length core.below) stay laid part outer core s.stands s.around all_low known known_are;
+          at = subst At block_is there;
+          held = subst (λ (b : ℕ). length slots ≤ most_around tree b) block_is few;
+          comes = subst (λ (b : ℕ). Comes b still.frame.gives) block_is (subst (λ (y : Yields). Comes ((instance_at w part.instance).block) y) (sym still.gives_are) comes);
+          reaches = reaching.all refl;
+          room = subst (λ (b : ℕ). length new.below + most_around tree b ≤ bound) block_is room';
+          light = light';
+        })

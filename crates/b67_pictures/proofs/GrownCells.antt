@@ -1,15 +1,8 @@
 -- An instance to whose cells others are added, of arrays and events, keeps what it has.
 use Rattle.std.proofs.Common.{◌≡◌, refl, sym, ap, ◌∙◌, subst, ℕ, zero, suc, List, [], ◌∷◌, ◌++◌, Some, Bool, true, false}
-use Rattle.std.specs.Prelude.{if◌then◌else◌, slice_get}
-use Rattle.algol_tree.specs.Scopes.{Scopes}
-use Rattle.algol_tree.specs.Sorts.{same_name}
-use Rattle.algol_meaning.specs.Value.{Reference, Cell, ArrayCell, reference, array, event}
-use Rattle.b67_deeds.specs.Events.{EventState}
-use Rattle.algol_meaning.specs.World.{NamedCell, World, instance_at, cell_in, by_cell}
-use Rattle.algol_paths.specs.Arrays.{Made, an_array, an_event}
-use Rattle.b67_word.specs.Word.{Word}
-use Rattle.b67_frames.specs.Arrays.{Allotted, Layout, AreMade}
-use Rattle.b67_frames.proofs.Knowing.{KeepsArrays, IsNoReference}
+use Rattle.b67_pictures.proofs.Prelude.{if◌then◌else◌, slice_get, Scopes, same_name, Reference, Cell, ArrayCell, array, NamedCell, World, instance_at, cell_in, by_cell, Made, an_array, an_event, Word, KeepsArrays, Allotted, Layout, AreMade}
+use Rattle.b67_frames.proofs.Knowing.{IsNoReference, leads_home}
+use Rattle.b67_scenes.proofs.Tasks.{event_front}
 
 abbrev pub HaveNoReference : List NamedCell → Type 0
 HaveNoReference [] = Unit {0}
@@ -35,18 +28,6 @@ array_front (c ∷ cells) more name a is = by_name (same_name c.name name) is (a
     by_name : (b : Bool) → (if b then c.cell else cell_in cells name) ≡ array a → (cell_in cells name ≡ array a → cell_in (cells ++ more) name ≡ array a) → (if b then c.cell else cell_in (cells ++ more) name) ≡ array a
     by_name true here later = here
     by_name false further later = later further
-
-event_front : (cells more : List NamedCell) (name : List ℕ) (e : EventState) → cell_in cells name ≡ event e → cell_in (cells ++ more) name ≡ event e
-event_front [] more name e is = cc
-event_front (c ∷ cells) more name e is = by_name (same_name c.name name) is (event_front cells more name e)
-  where
-    by_name : (b : Bool) → (if b then c.cell else cell_in cells name) ≡ event e → (cell_in cells name ≡ event e → cell_in (cells ++ more) name ≡ event e) → (if b then c.cell else cell_in (cells ++ more) name) ≡ event e
-    by_name true here later = here
-    by_name false further later = later further
-
-leads_home : (c : Cell) (r : Reference) → IsNoReference c → by_cell c r ≡ r
-leads_home (reference s) r none = absurd none
-leads_home _ r none = refl
 
 none_leads : (more : List NamedCell) (name : List ℕ) (r : Reference) → HaveNoReference more → by_cell (cell_in more name) r ≡ r
 none_leads [] name r none = refl

@@ -1,53 +1,25 @@
 -- A code in which a program stands whose blocks lie in one another, and which is short and can be listed, is faithful to it.
-use Rattle.b67_deeds.specs.Deeds.{EventDeed}
-use Rattle.std.proofs.Common.{sym, ◌∙◌, ℕ, ◌≤◌, List, [], ◌∷◌, length, Option, None}
-use Rattle.std.specs.Prelude.{All}
-use Rattle.algol_tree.specs.declared.tree.Kind.{Kind}
-use Rattle.algol_tree.specs.declared.tree.Named.{Named}
-use Rattle.algol_tree.specs.Blocks.{block_numbered}
+use Rattle.std.proofs.Common.{◌≡◌, sym, ◌∙◌, ℕ, ◌≤◌, List, [], ◌∷◌, length, Option, None}
+use Rattle.b67_pictures.proofs.Prelude.{All, EventDeed, block_numbered, PProgram, PPair, PBody, scopes_of, Kind, Named, reads_element, indexes, leaves, enters, passes, stores, goes_to, enters_block, starts, makes_arrays, makes_event, event_deed, ask, element_of, Given, done, value, cell, Value, Reference, World, instance_at, Part, RestsKeepToTheirText, AllIsMadeInOrder, JumpsKeepToTheirText, first_world_stands, IsOk, IsWhole, Code, Segment, segment_limit, HasNames, AreNested, LiesNested, Texts, ProgramAt, blocks_start, RestsGoOn, blocks_begin, fragments_are_performed, HasFormats, IsShort, Faithful, FramesClose, asks_as_own, frame_gives, block_small, of_own, of_lent, scene_of, Scene, actor_of, narrow_of, Does, NestedProgramsAreFaithful, IsListable, outmost_actor}
+use Rattle.b67_scenes.proofs.Scene.{able_actor}
 use Rattle.algol_tree.specs.Plain as plain
-use Rattle.algol_tree.specs.Plain.{PProgram, PPair, PBody}
-use Rattle.algol_tree.specs.Scopes.{scopes_of}
-use Rattle.algol_meaning.specs.Value.{Value, Reference}
-use Rattle.algol_meaning.specs.Rest.{Place, element_of, Given, done, value, place, cell, entered}
-use Rattle.algol_meaning.specs.World.{World, instance_at}
-use Rattle.algol_meaning.specs.Asks.{reads_element, indexes, leaves, enters, passes, stores, goes_to, enters_block, starts, makes_arrays, makes_event, event_deed}
-use Rattle.algol_paths.specs.Laws.{RestsKeepToTheirText, AllIsMadeInOrder, JumpsKeepToTheirText}
+use Rattle.algol_meaning.specs.Rest.{Place, place, entered}
 use Rattle.algol_calls.specs.Texts.{HasTexts}
-use Rattle.algol_standing.specs.Worlds.{IsWhole}
-use Rattle.algol_standing.specs.Fitting.{IsOk}
-use Rattle.algol_standing.proofs.Worlds.{first_world_stands}
-use Rattle.b67_segment.specs.declared.code.Code.{Code}
-use Rattle.b67_segment.specs.declared.code.Segment.{Segment}
-use Rattle.b67_table.specs.Limits.{segment_limit}
-use Rattle.b67_templates.specs.Programs.{Texts, ProgramAt}
-use Rattle.b67_standing.specs.Laws.{RestsGoOn}
 use Rattle.b67_standing.proofs.GoingOn.{rests_go_on}
 use Rattle.b67_standing.proofs.Routines.{routines_give_values, routines_give_places}
 use Rattle.b67_standing.proofs.Jumping.{jumps_stand}
-use Rattle.b67_standing.proofs.Starting.{blocks_start, inner_blocks_start, inner_blocks_follow}
-use Rattle.b67_cores.proofs.Beginnings.{blocks_begin}
+use Rattle.b67_standing.proofs.Starting.{inner_blocks_start, inner_blocks_follow}
 use Rattle.b67_cores.proofs.Performing.{steps_are_performed, steps_come_to_limit}
-use Rattle.b67_cores.proofs.Placing.{fragments_are_performed}
-use Rattle.b67_listing.specs.Listings.{HasOperators, IsListable}
-use Rattle.b67_faithful.specs.Faithful.{HasFormats, IsShort, Faithful}
-use Rattle.b67_templates.specs.Names.{HasNames}
-use Rattle.b67_templates.specs.Nested.{AreNested, LiesNested}
+use Rattle.b67_listing.specs.Listings.{HasOperators}
 use Rattle.b67_rows.proofs.Yielding.{no_value, no_element}
 use Rattle.b67_rows.proofs.Spelled.{have_texts}
-use Rattle.b67_frames.specs.Frames.{Shape, of_own, of_lent}
-use Rattle.b67_frames.proofs.Closing.{FramesClose}
-use Rattle.b67_frames.proofs.Lying.{asks_as_own, frame_gives}
-use Rattle.b67_frames.proofs.Segmenting.{block_small, actuals_fit}
-use Rattle.b67_scenes.proofs.Scene.{scene_of}
-use Rattle.algol_standing.proofs.Worlds.{first_world_stands}
+use Rattle.b67_frames.specs.Frames.{Shape}
+use Rattle.b67_frames.proofs.Segmenting.{actuals_fit}
+use Rattle.b67_scenes.proofs.Scene.{inner_actor}
 use Rattle.b67_scenes.proofs.Starting.{first_pictured}
-use Rattle.b67_scenes.proofs.Worlds.{narrow_of}
-use Rattle.b67_pictures.specs.Acting.{Does}
-use Rattle.b67_pictures.specs.Programs.{NestedProgramsAreFaithful}
 use Rattle.b67_pictures.proofs.Dispatching.{IsDone, OthersAreDone}
 use Rattle.b67_pictures.proofs.Settling.{AreFreed, EndsAreFreed, scene_settled}
-use Rattle.b67_pictures.proofs.Evaluating.{ActualsAreEntered}
+use Rattle.b67_pictures.proofs.Evaluating.{ActualsAreEntered, At}
 use Rattle.b67_pictures.proofs.Writing.{writing}
 use Rattle.b67_pictures.proofs.Selecting.{selecting}
 use Rattle.b67_pictures.proofs.EndOfProcess.{ending, ending_frees}
@@ -58,7 +30,9 @@ use Rattle.b67_pictures.proofs.Jumping.{jumping}
 use Rattle.b67_pictures.proofs.Leaving.{leaving, leaving_with}
 use Rattle.b67_pictures.proofs.Quiet.{SettledAct}
 use Rattle.b67_pictures.proofs.Simulating as simulating
-use Rattle.b67_pictures.proofs.Simulating.{StandApart}
+use Rattle.b67_pictures.proofs.Simulating.{StandApart, StacksApart}
+use Rattle.b67_settling.specs.Local.{StacksStayOwn}
+use Rattle.b67_pictures.specs.Programs.{NestedStacksStayOwn}
 use Rattle.b67_pictures.proofs.Counting.{operators_are_few}
 
 -- what is done with arrays: an element is read, indexed, or stored, a parameter is passed on, and arrays are made
@@ -87,62 +61,75 @@ module _ (keeps : RestsKeepToTheirText) (order : AllIsMadeInOrder) (jumps_keep :
 
   -- a block or a procedure is left, or the process ends
   leaves_done : IsDone tree code texts (leaves done)
-  leaves_done w lay img p q part [] bound core s able_is able_p asks a answered waits returns =
-      ending tree code texts closing w lay img p q part bound core s (asks_as_own tree code texts w lay p part [] core.below s.stands.frame (leaves done) asks (λ e. e)) able_is asks a
-  leaves_done w lay img p q part (next ∷ parts) bound core s able_is able_p asks a answered waits returns =
-      leaving tree code texts (have_texts tree code at) fragments_are_performed keeps order closing w lay img p q part next parts bound core s able_is able_p
-      (asks_as_own tree code texts w lay p part (next ∷ parts) core.below s.stands.frame (leaves done) asks (λ e. e)) asks a
+  leaves_done actor h = by actor.outer actor.s h.asks h.action
+    where
+      by : (outer : List Part) (s : Scene tree code texts actor.w actor.lay actor.img actor.p actor.q actor.part outer actor.bound actor.core) → ask actor.part.rest ≡ leaves done → At tree code texts (actor_of s) (leaves done) →
+          Does tree code texts actor.w actor.img actor.p
+      by [] s asks a =
+          ending tree code texts closing (outmost_actor s) (asks_as_own tree code texts actor.w actor.lay actor.p actor.part [] actor.core.below s.stands.frame (leaves done) asks (λ e. e)) actor.able_is asks a
+      by (next ∷ parts) s asks a =
+          leaving tree code texts (have_texts tree code at) fragments_are_performed keeps order closing (inner_actor s) actor.able_is actor.able_p
+          (asks_as_own tree code texts actor.w actor.lay actor.p actor.part (next ∷ parts) actor.core.below s.stands.frame (leaves done) asks (λ e. e)) asks a
 
   -- of the outermost part no value is wanted
   gives_back : (v : Value) → IsDone tree code texts (leaves (value v))
-  gives_back v w lay img p q part [] bound core s able_is able_p asks a answered waits returns = no_value a.0 (sym s.around.1 ∙ a.2)
-  gives_back v w lay img p q part (next ∷ parts) bound core s able_is able_p asks a answered waits returns =
-      by_shape s.stands.frame.shape
+  gives_back v actor h = by actor.outer actor.s h.asks h.action
     where
-      by_shape : Shape tree code texts w lay p part (next ∷ parts) (length s.stands.frame.lower) s.stands.frame.mark s.stands.frame.control s.stands.frame.cells s.stands.frame.home s.stands.frame.gives → Does tree code texts w img p
-      by_shape (of_own o is) =
-          leaving_with tree code texts (have_texts tree code at) fragments_are_performed keeps order closing w lay img p q part next parts bound core s able_is able_p o.owns v asks a
-      by_shape (of_lent l) = left_value tree code texts (have_texts tree code at) fragments_are_performed keeps order w lay img p q part next parts bound core s able_is able_p l v asks a
+      by : (outer : List Part) (s : Scene tree code texts actor.w actor.lay actor.img actor.p actor.q actor.part outer actor.bound actor.core) → ask actor.part.rest ≡ leaves (value v) → At tree code texts (actor_of s) (leaves (value v)) →
+          Does tree code texts actor.w actor.img actor.p
+      by [] s asks a = no_value a.0 (sym s.around.1 ∙ a.2)
+      by (next ∷ parts) s asks a = by_shape s.stands.frame.shape
+        where
+          by_shape : Shape tree code texts actor.w actor.lay actor.p actor.part (next ∷ parts) (length s.stands.frame.lower) s.stands.frame.mark s.stands.frame.control s.stands.frame.cells s.stands.frame.home s.stands.frame.gives →
+              Does tree code texts actor.w actor.img actor.p
+          by_shape (of_own o is) =
+              leaving_with tree code texts (have_texts tree code at) fragments_are_performed keeps order closing (inner_actor s) actor.able_is actor.able_p o.owns v asks a
+          by_shape (of_lent l) = left_value tree code texts (have_texts tree code at) fragments_are_performed keeps order (inner_actor s) actor.able_is actor.able_p l v asks a
 
   -- no block gives a place, but an evaluation does
   gives_place : (x : Place) → IsDone tree code texts (leaves (place x))
-  gives_place x w lay img p q part [] bound core s able_is able_p asks a answered waits returns = no_element None a.0 (sym s.around.1 ∙ a.2)
-  gives_place x w lay img p q part (next ∷ parts) bound core s able_is able_p asks a answered waits returns = by_shape s.stands.frame.shape
+  gives_place x actor h = by actor.outer actor.s h.asks h.action
     where
-      by_shape : Shape tree code texts w lay p part (next ∷ parts) (length s.stands.frame.lower) s.stands.frame.mark s.stands.frame.control s.stands.frame.cells s.stands.frame.home s.stands.frame.gives → Does tree code texts w img p
-      by_shape (of_own o is) =
-          no_element (block_numbered (scopes_of tree).blocks ((instance_at w part.instance).block)).result a.0
-          (sym (frame_gives tree code texts w lay p part (next ∷ parts) core.below s.stands.frame o.owns) ∙ a.2)
-      by_shape (of_lent l) = left_place tree code texts (have_texts tree code at) fragments_are_performed keeps order w lay img p q part next parts bound core s able_is able_p l lies.nested x asks a
+      by : (outer : List Part) (s : Scene tree code texts actor.w actor.lay actor.img actor.p actor.q actor.part outer actor.bound actor.core) → ask actor.part.rest ≡ leaves (place x) → At tree code texts (actor_of s) (leaves (place x)) →
+          Does tree code texts actor.w actor.img actor.p
+      by [] s asks a = no_element None a.0 (sym s.around.1 ∙ a.2)
+      by (next ∷ parts) s asks a = by_shape s.stands.frame.shape
+        where
+          by_shape : Shape tree code texts actor.w actor.lay actor.p actor.part (next ∷ parts) (length s.stands.frame.lower) s.stands.frame.mark s.stands.frame.control s.stands.frame.cells s.stands.frame.home s.stands.frame.gives →
+              Does tree code texts actor.w actor.img actor.p
+          by_shape (of_own o is) =
+              no_element (block_numbered (scopes_of tree).blocks ((instance_at actor.w actor.part.instance).block)).result a.0
+              (sym (frame_gives tree code texts actor.w actor.lay actor.p actor.part (next ∷ parts) actor.core.below s.stands.frame o.owns) ∙ a.2)
+          by_shape (of_lent l) = left_place tree code texts (have_texts tree code at) fragments_are_performed keeps order (inner_actor s) actor.able_is actor.able_p l lies.nested x asks a
 
   -- the end of a process that has a task
   ends_freed : EndsAreFreed tree code texts
-  ends_freed w lay img p q part bound core s alive task has done asks a =
-      ending_frees tree code texts closing w lay img p q part bound core s (asks_as_own tree code texts w lay p part [] core.below s.stands.frame (leaves done) asks (λ e. e)) alive asks a task has
-  ends_freed w lay img p q part bound core s alive task has (value v) asks a = no_value a.0 (sym s.around.1 ∙ a.2)
-  ends_freed w lay img p q part bound core s alive task has (place x) asks a = no_element None a.0 (sym s.around.1 ∙ a.2)
-  ends_freed w lay img p q part bound core s alive task has (cell c) asks a = absurd a
-  ends_freed w lay img p q part bound core s alive task has entered asks a = absurd a
+  ends_freed actor alive task has done asks a =
+      ending_frees tree code texts closing actor (asks_as_own tree code texts actor.w actor.lay actor.p actor.part [] actor.core.below actor.s.stands.frame (leaves done) asks (λ e. e)) alive asks a task has
+  ends_freed actor alive task has (value v) asks a = no_value a.0 (sym actor.s.around.1 ∙ a.2)
+  ends_freed actor alive task has (place x) asks a = no_element None a.0 (sym actor.s.around.1 ∙ a.2)
+  ends_freed actor alive task has (cell c) asks a = absurd a
+  ends_freed actor alive task has entered asks a = absurd a
 
   enters_done : (b : PBody) → IsDone tree code texts (enters_block b)
-  enters_done (plain.body spot ds ss) w lay img p q part outer bound core s able_is able_p asks a answered waits returns =
-      entering_block tree code texts lies short fragments_are_performed blocks_begin inner_blocks_start inner_blocks_follow keeps order w lay img p q part outer bound core s able_is able_p spot ds ss asks a waits returns
+  enters_done (plain.body spot ds ss) actor h =
+      entering_block tree code texts lies short fragments_are_performed blocks_begin inner_blocks_start inner_blocks_follow keeps order actor spot ds ss h.asks h.action h.waits h.returns
 
   calls_done : (n : Named) (gs : List Given) → IsDone tree code texts (enters n gs)
-  calls_done n gs w lay img p q part outer bound core s able_is able_p asks a answered waits returns =
-      entering_procedure tree code at lies short (block_small tree names) fragments_are_performed blocks_begin blocks_start keeps order w lay img p q part outer bound core s able_is able_p n gs asks a waits returns
+  calls_done n gs actor h =
+      entering_procedure tree code at lies short (block_small tree names) fragments_are_performed blocks_begin blocks_start keeps order actor n gs h.asks h.action h.waits h.returns
 
   goes_done : (n : Named) → IsDone tree code texts (goes_to n)
-  goes_done n w lay img p q part outer bound core s able_is able_p asks a answered waits returns =
-      jumping tree code texts lies names (have_texts tree code at) at.labels segments fragments_are_performed keeps jumps_keep jumps_stand closing w lay img p q part outer bound core s able_is able_p n asks a
+  goes_done n actor h =
+      jumping tree code texts lies names (have_texts tree code at) at.labels segments fragments_are_performed keeps jumps_keep jumps_stand closing actor n h.asks h.action
 
   others : OthersAreDone tree code texts
   others =
       record {
-        writing = λ ts vs w lay img p q part outer bound core s able_is able_p asks a answered waits returns.
-            writing tree code texts fragments_are_performed keeps order w lay img p q part outer bound core s able_is able_p ts vs asks a answered;
-        selecting = λ v ss w lay img p q part outer bound core s able_is able_p asks a answered waits returns.
-            selecting tree code texts fragments_are_performed keeps order segments w lay img p q part outer bound core s able_is able_p v ss asks a answered;
+        writing = λ ts vs actor h.
+            writing tree code texts fragments_are_performed keeps order actor ts vs h.asks h.action h.answered;
+        selecting = λ v ss actor h.
+            selecting tree code texts fragments_are_performed keeps order segments actor v ss h.asks h.action h.answered;
         entering = enters_done;
         calling = calls_done;
         reading = arrays.reading;
@@ -173,13 +160,19 @@ module _ (keeps : RestsKeepToTheirText) (order : AllIsMadeInOrder) (jumps_keep :
   settled_act : (w : World) → IsOk (scopes_of tree) IsWhole w → SettledAct tree code texts w
   settled_act w ok lay img p q by at_p able_is able_p l has =
       let s = scene_of tree code texts w lay img p q (narrow_of tree code texts w lay img by ok p q at_p) ok by at_p l has in
-      scene_settled tree code texts lies actuals_are_entered fragments_are_performed keeps order rests_go_on others events.freeing ends_freed w lay img p q s.0 s.1 l.bound l.settled s.2 able_is able_p
+      scene_settled tree code texts lies actuals_are_entered fragments_are_performed keeps order rests_go_on others events.freeing ends_freed (able_actor s.2 able_is able_p)
 
   program_is_faithful : HasFormats tree code → IsListable code → Faithful tree code
   program_is_faithful formats =
       simulating.code_is_faithful tree code texts steps_are_performed steps_come_to_limit fit.texts settled_act fit.outer apart
       (λ w lay a by b p n plains. operators_are_few tree code texts w lay a by b p n plains)
       (first_pictured tree code names lies.nested at fragments_are_performed blocks_begin blocks_start keeps order (first_world_stands (scopes_of tree) fit.outer)) at.many formats short
+
+  program_stacks_stay : StacksApart tree code at.texts → StacksStayOwn code
+  program_stacks_stay stacks =
+      simulating.stacks_stay tree code texts steps_are_performed steps_come_to_limit fit.texts settled_act fit.outer apart
+      (λ w lay a by b p n plains. operators_are_few tree code texts w lay a by b p n plains)
+      (first_pictured tree code names lies.nested at fragments_are_performed blocks_begin blocks_start keeps order (first_world_stands (scopes_of tree) fit.outer)) stacks
 
 -- segments that can be listed have no more words than a segment may have
 within_limit : (segments : List Segment) → All HasOperators segments → All (λ (segment : Segment). length segment.words ≤ segment_limit) segments
@@ -196,3 +189,13 @@ pub nested_programs_follow : RestsKeepToTheirText → AllIsMadeInOrder → Jumps
     ((tree : PProgram) (code : Code) (at : ProgramAt code tree) → LiesNested tree → HasNames tree → IsShort tree code → ProcessesAreDone tree code at.texts) → NestedProgramsAreFaithful
 nested_programs_follow keeps in_order jumps_keep closing apart arrays events processes tree code lies names fit at formats short listable =
     program_is_faithful keeps in_order jumps_keep closing tree code names lies fit short (within_limit code.segments listable.segments) at (apart tree code at.texts lies.nested rests_go_on) (arrays tree code at lies short) (events tree code at lies) (processes tree code at lies names short) formats listable
+
+-- .. and its stacks stay own
+pub nested_stacks_stay : RestsKeepToTheirText → AllIsMadeInOrder → JumpsKeepToTheirText → FramesClose → ProcessesStandApart →
+    ((tree : PProgram) (code : Code) (texts : Texts) → AreNested (scopes_of tree) → RestsGoOn → StacksApart tree code texts) →
+    ((tree : PProgram) (code : Code) (at : ProgramAt code tree) → LiesNested tree → IsShort tree code → ArraysAreDone tree code at.texts) →
+    ((tree : PProgram) (code : Code) (at : ProgramAt code tree) → LiesNested tree → EventsAreDone tree code at.texts) →
+    ((tree : PProgram) (code : Code) (at : ProgramAt code tree) → LiesNested tree → HasNames tree → IsShort tree code → ProcessesAreDone tree code at.texts) → NestedStacksStayOwn
+nested_stacks_stay keeps in_order jumps_keep closing apart stacks arrays events processes tree code lies names fit at formats short listable =
+    program_stacks_stay keeps in_order jumps_keep closing tree code names lies fit short (within_limit code.segments listable.segments) at (apart tree code at.texts lies.nested rests_go_on) (arrays tree code at lies short) (events tree code at lies) (processes tree code at lies names short)
+    (stacks tree code at.texts lies.nested rests_go_on)

@@ -1,40 +1,17 @@
 -- A process joins those who wait for several events: its image with it in all of their lists pictures the world after that.
 use Rattle.std.proofs.Common.{◌≡◌, ◌≢◌, ◌⊎◌, inl, inr, refl, sym, ap, ◌∙◌, subst, ℕ, List, [], ◌∷◌, Option, Some, Bool, true, false}
-use Rattle.std.specs.Prelude.{if◌then◌else◌, ◌||◌}
-use Rattle.b67_list.specs.Numbered.{numbered, set_numbered}
-use Rattle.b67_deeds.specs.Events.{joined}
-use Rattle.b67_deeds.specs.Listed.{IsListed}
-use Rattle.algol_tree.specs.Plain.{PProgram}
-use Rattle.algol_tree.specs.Scopes.{Scopes, scopes_of}
-use Rattle.algol_meaning.specs.Value.{Reference}
-use Rattle.algol_meaning.specs.World.{Process, waits_any, lives, World, with_process}
+use Rattle.b67_pictures.proofs.Prelude.{if◌then◌else◌, ◌||◌, numbered, set_numbered, joined, IsListed, PProgram, Scopes, scopes_of, change_event, Reference, Process, waits_any, lives, World, with_process, IsOwn, Place, Code, same_place-self, waiters_at, is_among, with_state, list_of, Image, with_events, AwaitsAt, ProcessState, WaitsAny, Texts, some_same, none_some, same_or_not, numbered_set, numbered_other, HasFacts, Layout, process_is, events_same, list_stays, PicturesBy, AreAwaiting, ListIs}
 use Rattle.algol_meaning.specs.Events as meant
-use Rattle.algol_meaning.specs.Events.{change_event, event_at, joined_all}
-use Rattle.b67_word.specs.declared.Place.{Place}
+use Rattle.algol_meaning.specs.Events.{joined_all}
 use Rattle.b67_events.specs.Events as kernel
-use Rattle.b67_events.specs.Events.{Event, waiters_at, is_among, with_state, list_of, with_list}
-use Rattle.b67_segment.specs.declared.code.Code.{Code}
-use Rattle.b67_table.specs.declared.ProcessState.{ProcessState}
-use Rattle.b67_table.specs.declared.ProcessState.TheVariants.{WaitsAny}
-use Rattle.b67_table.specs.Image.{Image, with_events}
-use Rattle.b67_table.specs.Valid.{AwaitsAt}
-use Rattle.b67_templates.specs.Programs.{Texts}
-use Rattle.b67_rows.proofs.Numbers.{same_or_not, numbered_set, numbered_other}
-use Rattle.b67_frames.specs.Arrays.{Layout}
-use Rattle.b67_frames.proofs.Facts.{HasFacts}
-use Rattle.b67_scenes.specs.Pictures.{PicturesBy}
-use Rattle.b67_scenes.specs.Waiting.{AreAwaiting, ListIs}
+use Rattle.b67_events.specs.Events.{with_list}
 use Rattle.b67_scenes.proofs.Freeing.{state_facts, state_pictured}
-use Rattle.b67_scenes.proofs.Stage.{process_is}
-use Rattle.b67_scenes.proofs.Tasks.{events_same}
-use Rattle.b67_scenes.proofs.Waiting.{list_there, list_others, list_stays}
+use Rattle.b67_scenes.proofs.Waiting.{list_there}
 use Rattle.b67_pictures.proofs.EventMoving.{IsOwned, moved_is, moved_world, moved_facts, moved_stay, moved_pictured}
 use Rattle.b67_pictures.proofs.LettingGo.{events_swapped, owned_same, all_owned}
 use Rattle.b67_pictures.proofs.SameEvents.{AllOwned, among_there}
 use Rattle.b67_pictures.proofs.Walking.{joining, joining_all, step_more, all_more}
-use Rattle.b67_events.proofs.Listed.{same_place-self}
-use Rattle.b67_faithful.proofs.Contradictions.{some_same, none_some}
-use Rattle.algol_standing.specs.Worlds.{IsOwn}
+use Rattle.b67_table.proofs.Several.{list_other}
 
 -- what becomes of another process is beside it
 pub joined_beside : (seen rs : List Reference) (w : World) (p : ℕ) (q : Process) (k : ℕ) → joined_all (with_process w p q) k seen rs ≡ with_process (joined_all w k seen rs) p q
@@ -132,7 +109,7 @@ module _ (tree : PProgram) (code : Code) (texts : Texts) (lay : Layout) where
     first_is : PicturesBy tree code texts waiting lay first
     first_is =
         state_pictured tree code texts lay w img by p q is alive facts (waits_any rs) refl WaitsAny refl q.woken lists img.numbers tt (λ to listed. absurd (nowhere to listed))
-        (subst (λ (places : List Place). ListIs sc waiting lay rs places) (sym (list_there img.lists p ats some)) (stay rs ats list)) (λ r other. list_others img.lists p r ats other) refl
+        (subst (λ (places : List Place). ListIs sc waiting lay rs places) (sym (list_there img.lists p ats some)) (stay rs ats list)) (λ r other. list_other img.lists p r ats other) refl
         (by.waits.woken p ∙ ap (λ (z : Process). z.woken) (process_is w p q is)) (λ r other. refl)
 
     first_facts : HasFacts waiting

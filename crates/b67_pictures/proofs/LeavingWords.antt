@@ -1,47 +1,15 @@
 -- What lies under a frame that is left: the words of the part around, with what is given on top.
 use Rattle.std.proofs.Common.{◌≡◌, inl, refl, sym, ap, ◌∙◌, subst, ℕ, ◌+◌, ◌≤◌, List, [], ◌∷◌, ◌++◌, length, Option, Some, None, Ok, arith}
-use Rattle.std.specs.Prelude.{reverse}
-use Rattle.algol_tree.specs.declared.tree.Kind.{Kind}
-use Rattle.algol_tree.specs.declared.tree.Named.{Named}
-use Rattle.algol_tree.specs.Plain.{PProgram}
-use Rattle.algol_tree.specs.Scopes.{Scopes, scopes_of}
-use Rattle.algol_meaning.specs.Value.{Value}
+use Rattle.b67_pictures.proofs.Prelude.{reverse, PProgram, Scopes, scopes_of, Kind, Named, Answer, done, value, Value, InAnswer, IsStanding, Word, Place, place_at, Code, Rows, stack_limit, place, rebuilt, with_rows, arrays_closed, seen, Change, Below, Yields, Texts, pushed, IsFound, held_at, Slot, slots_length, ValueIs, Known, newest, SlotsAre, shown, shown_top, rebuilt_seen, Leaves, facts_of, Hangs, hangs, Linked, Begins_with, begins_core, part_stands, Waits, frame_is, actor_of, InnerActor, level_in, most_in}
 use Rattle.algol_meaning.specs.Rest as rests
-use Rattle.algol_meaning.specs.Rest.{Answer, done, value}
-use Rattle.algol_meaning.specs.World.{Process, Part, World}
-use Rattle.algol_paths.specs.Texts.{InPlace, InAnswer}
-use Rattle.b67_word.specs.declared.Place.{Place}
-use Rattle.b67_word.specs.Word.{Word}
-use Rattle.b67_control.specs.Display.{place_at}
-use Rattle.b67_segment.specs.declared.code.Code.{Code}
-use Rattle.b67_store.specs.Store.{Rows, stack_limit}
-use Rattle.b67_table.specs.declared.Below.{Below}
-use Rattle.b67_table.specs.Chains.{place, left_to, rebuilt}
-use Rattle.b67_table.specs.Image.{Image, with_rows}
-use Rattle.b67_table.specs.Linkage.{arrays_closed}
-use Rattle.b67_table.specs.Look.{seen}
-use Rattle.b67_table.specs.Program.{Change, changed}
+use Rattle.algol_paths.specs.Texts.{InPlace}
+use Rattle.b67_table.specs.Chains.{left_to}
+use Rattle.b67_table.specs.Program.{changed}
 use Rattle.b67_templates.specs.Contexts as yielding
-use Rattle.b67_templates.specs.Contexts.{Yields}
-use Rattle.b67_templates.specs.Programs.{Texts}
-use Rattle.b67_standing.specs.Stepping.{IsFound, held_at, Slot}
-use Rattle.b67_standing.specs.Standing.{pushed}
-use Rattle.b67_cores.specs.Cores.{Core}
-use Rattle.b67_cores.specs.Slots.{ValueIs, Known, newest, SlotsAre}
-use Rattle.b67_cores.proofs.Moving.{slots_length}
-use Rattle.b67_rows.proofs.Displays.{IsEntered, shown, shown_top, rebuilt_seen}
-use Rattle.b67_rows.proofs.LeaveRow.{Leaves, given_words}
-use Rattle.b67_frames.specs.Arrays.{Layout}
-use Rattle.b67_frames.specs.Frames.{Waits}
-use Rattle.b67_frames.proofs.Hanging.{Hangs, hangs}
-use Rattle.b67_frames.proofs.Linked.{Linked, Begins_with, begins_core}
-use Rattle.b67_frames.proofs.Facts.{facts_of}
-use Rattle.b67_frames.proofs.Lying.{part_stands}
-use Rattle.algol_standing.specs.Worlds.{IsStanding}
+use Rattle.b67_rows.proofs.Displays.{IsEntered}
+use Rattle.b67_rows.proofs.LeaveRow.{given_words}
 use Rattle.b67_pictures.proofs.ParentPlaces.{standing_linked}
 use Rattle.b67_scenes.proofs.FrameBelow as under
-use Rattle.b67_scenes.proofs.Scene.{Scene, frame_is}
-use Rattle.b67_scenes.proofs.Staying.{level_in, most_in}
 use Rattle.b67_pictures.proofs.Indexing.{more_known}
 
 -- what a part gives, and the word of it
@@ -61,8 +29,9 @@ found_nameless P (rests.own n) found = absurd found
 found_nameless P (rests.there r) found = tt
 found_nameless P (rests.element_of r ks) found = tt
 
-module _ (tree : PProgram) (code : Code) (texts : Texts) (w : World) (lay : Layout) (img : Image) (p : ℕ) (q : Process) (part next : Part) (parts : List Part) (bound : ℕ) (core : Core)
-    (s : Scene tree code texts w lay img p q part (next ∷ parts) bound core) where
+module _ (tree : PProgram) (code : Code) (texts : Texts) (actor : InnerActor tree code texts) where
+  open actor use {w, lay, img, p, part, next, parts, core, s}
+
   abbrev sc : Scopes
   sc = scopes_of tree
 
@@ -140,7 +109,7 @@ module _ (tree : PProgram) (code : Code) (texts : Texts) (w : World) (lay : Layo
         record {
           is = s.stands.frame.words_are ∙ ap (λ (ws : List Word). ws ++ s.stands.frame.mark ∷ s.stands.frame.control ∷ s.stands.frame.cells) u.lower_is;
           some = omega (arith, same_f, height, low);
-          frame_is = frame_is tree code texts w lay img p q part (next ∷ parts) bound core s ∙ same_f;
+          frame_is = frame_is tree code texts (actor_of s) ∙ same_f;
           counted = s.stands.counted;
           rows = rows;
           closed = closed;

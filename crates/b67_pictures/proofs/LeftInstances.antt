@@ -1,10 +1,6 @@
 -- Instances that are left keep all but that they stand: what others have of them is as it was.
 use Rattle.std.proofs.Common.{refl, ap, ◌∙◌, ℕ, List}
-use Rattle.algol_tree.specs.Scopes.{Scopes}
-use Rattle.algol_meaning.specs.World.{NamedCell, World, instance_at, cell_in, by_cell}
-use Rattle.b67_rows.proofs.Parting.{IsSameBut}
-use Rattle.b67_frames.specs.Arrays.{Layout}
-use Rattle.b67_frames.proofs.Knowing.{KeepsArrays}
+use Rattle.b67_pictures.proofs.Prelude.{Scopes, NamedCell, World, instance_at, cell_in, by_cell, IsSameBut, KeepsArrays, Layout}
 
 pub keeps_left : (sc : Scopes) (w w' : World) (lay : Layout) (j : ℕ) → IsSameBut (instance_at w' j) (instance_at w j) → KeepsArrays sc w w' lay lay j
 keeps_left sc w w' lay j same =

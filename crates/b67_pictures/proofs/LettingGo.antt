@@ -1,43 +1,22 @@
 -- A process that is released from a wait leaves all events for which it waits: its image without it in any list of an event, with its woken number,
 -- pictures the world after that.
 use Rattle.std.proofs.Common.{◌≡◌, ◌≢◌, ◌⊎◌, inl, inr, refl, sym, ap, ◌∙◌, subst, ℕ, zero, suc, List, [], ◌∷◌, length, Option, Some, None, true}
-use Rattle.std.specs.Prelude.{slice_set, map}
-use Rattle.b67_list.specs.Numbered.{numbered, set_numbered}
-use Rattle.b67_deeds.specs.Events.{EventState, left_by}
-use Rattle.b67_deeds.specs.Listed.{IsListed, AreOnce}
-use Rattle.algol_tree.specs.Plain.{PProgram}
-use Rattle.algol_tree.specs.Scopes.{Scopes, scopes_of}
-use Rattle.algol_meaning.specs.Value.{Reference, event}
-use Rattle.algol_meaning.specs.World.{Process, able, lives, World, cell_at, or_no_process, process_at, with_process, set_able, set_all_able, Instance, or_no_instance, cell_in}
-use Rattle.algol_meaning.specs.Events.{change_event, event_at, list_in, forgotten, told_number, woken_by, withdrawn, all_withdrawn}
+use Rattle.b67_pictures.proofs.Prelude.{map, numbered, set_numbered, EventState, left_by, IsListed, PProgram, Scopes, scopes_of, change_event, event_at, list_in, all_withdrawn, Reference, event, Process, able, lives, World, cell_at, process_at, with_process, set_able, set_all_able, Instance, or_no_instance, cell_in, IsOwn, Place, Code, Event, waiters_at, is_among, with_state, list_of, unlisted, Image, woken_number, with_events, able_again, told_positions, Texts, Core, HasCore, length_set_numbered, some_same, none_some, same_or_not, numbered_set, numbered_other, numbered_beyond, HasFacts, Layout, EventsAre, numbered_swap, process_is, EventsStay, event_stays, number_by, number_is, list_stays, still_awaiting, IsEventAt, Pictured, living, dead, PicturesBy, AreAwaiting, ListIs}
+use Rattle.b67_deeds.specs.Listed.{AreOnce}
+use Rattle.algol_meaning.specs.World.{or_no_process}
+use Rattle.algol_meaning.specs.Events.{forgotten, told_number, woken_by, withdrawn}
 use Rattle.algol_laws.proofs.Releasing.{forgotten_processes}
-use Rattle.b67_word.specs.declared.Place.{Place}
 use Rattle.b67_events.specs.Events as kernel
-use Rattle.b67_events.specs.Events.{Event, waiters_at, is_among, with_state, list_of, position_of, unlisted}
-use Rattle.b67_segment.specs.declared.code.Code.{Code}
+use Rattle.b67_events.specs.Events.{position_of}
 use Rattle.b67_table.specs.declared.ProcessState.TheVariants.{Able}
-use Rattle.b67_table.specs.Image.{Image, woken_number, with_events}
-use Rattle.b67_table.specs.Writes.{able_again, with_number, told_positions}
-use Rattle.b67_templates.specs.Programs.{Texts}
-use Rattle.b67_cores.specs.Cores.{Core, HasCore}
-use Rattle.b67_faithful.proofs.Choices.{length_set_numbered}
-use Rattle.b67_faithful.proofs.Contradictions.{some_same, none_some}
-use Rattle.b67_rows.proofs.Numbers.{same_or_not, numbered_set, numbered_other, numbered_beyond}
-use Rattle.b67_frames.specs.Arrays.{Layout}
-use Rattle.b67_frames.specs.Events.{EventsAre}
-use Rattle.b67_frames.proofs.Facts.{HasFacts}
-use Rattle.b67_scenes.specs.Depending.{IsEventAt}
-use Rattle.b67_scenes.specs.Pictures.{Pictured, living, dead, PicturesBy}
-use Rattle.b67_scenes.specs.Waiting.{AreAwaiting, ListIs}
-use Rattle.b67_scenes.proofs.Freeing.{numbered_swap, woken_facts, woken_pictured}
-use Rattle.b67_scenes.proofs.Stage.{process_is}
-use Rattle.b67_scenes.proofs.Tasks.{EventsStay, event_stays}
-use Rattle.b67_scenes.proofs.Waiting.{number_by, number_is, list_emptied, list_beside, list_stays, still_awaiting}
+use Rattle.b67_table.specs.Writes.{with_number}
+use Rattle.b67_scenes.proofs.Freeing.{woken_facts, woken_pictured}
+use Rattle.b67_scenes.proofs.Waiting.{list_emptied, list_beside}
 use Rattle.b67_pictures.proofs.EventMoving.{IsOwned, moved_is, moved_world, moved_facts, moved_stay, moved_pictured}
 use Rattle.b67_pictures.proofs.SameEvents.{AllOwned, position_there}
 use Rattle.b67_pictures.proofs.SameShape.{IsSameShape, shape_self, shape_on, event_moves, event_later, states_set, states_self, states_on, AreSameButStates, states_back, stays_shape}
 use Rattle.b67_pictures.proofs.Walking.{walked, walked_all, all_changed, step_fewer, left_fewer, left_gone}
-use Rattle.algol_standing.specs.Worlds.{IsOwn}
+use Rattle.algol_standing.proofs.Going.{set_twice}
 use Rattle.b67_scenes.proofs.Kept.{living_there}
 
 -- ---- worlds
@@ -50,14 +29,9 @@ abbrev pub let_go_all : World → Reference → List ℕ → World
 let_go_all w r [] = w
 let_go_all w r (p ∷ ps) = let_go_all (let_go_one w r p) r ps
 
-set_again : {A : Type 0} (xs : List A) (k : ℕ) (x y : A) → slice_set (slice_set xs k x) k y ≡ slice_set xs k y
-set_again [] k x y = refl
-set_again (z ∷ zs) zero x y = refl
-set_again (z ∷ zs) (suc k) x y = ap (λ (ys : List _). z ∷ ys) (set_again zs k x y)
-
 pub numbered_again : {A : Type 0} (xs : List A) (k : ℕ) (x y : A) → set_numbered (set_numbered xs k x) k y ≡ set_numbered xs k y
 numbered_again xs zero x y = refl
-numbered_again xs (suc k) x y = set_again xs k x y
+numbered_again xs (suc k) x y = set_twice xs k x y
 
 -- another process beside it
 forgotten_beside : (rs : List Reference) (w : World) (p : ℕ) (q : Process) (k : ℕ) → forgotten (with_process w p q) k rs ≡ with_process (forgotten w k rs) p q

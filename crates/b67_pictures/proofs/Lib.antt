@@ -1,3 +1,4 @@
+pub mod Prelude
 pub mod Deeds
 pub mod Alone
 pub mod SameShape
@@ -50,7 +51,6 @@ pub mod Dispatching
 pub mod TouchingElements
 pub mod TouchingApart
 pub mod TouchingStarts
-pub mod TouchingCores
 pub mod ArraysMaking
 pub mod Joining
 pub mod Concluding

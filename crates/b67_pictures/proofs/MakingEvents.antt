@@ -1,222 +1,181 @@
 -- The making of an event: ENTR on EVENT, after which PUSH makes a cell of its word.
-use Rattle.std.proofs.Common.{◌≡◌, ◌≢◌, ◌⊎◌, inl, inr, refl, sym, ap, ◌∙◌, subst, ℕ, ◌+◌, List, [], ◌∷◌, ◌++◌, length, Option, Some, None, Ok, true, false, arith, length-append}
-use Rattle.std.specs.Prelude.{slice_get}
-use Rattle.b67_list.specs.Numbered.{numbered}
-use Rattle.algol_tree.specs.declared.tree.Named.{Named}
-use Rattle.algol_tree.specs.Blocks.{Block, block_numbered}
-use Rattle.algol_tree.specs.Plain.{PProgram}
-use Rattle.algol_tree.specs.Scopes.{Scopes, scopes_of}
+use Rattle.std.proofs.Common.{◌≡◌, ◌≢◌, ◌⊎◌, inl, inr, refl, sym, ap, ◌∙◌, subst, ℕ, ◌+◌, List, [], ◌∷◌, ◌++◌, length, Option, Some, None, Ok, false, arith, length-append}
+use Rattle.b67_pictures.proofs.Prelude.{slice_get, EventState, Block, block_numbered, PProgram, Scopes, scopes_of, Named, Ask, makes_event, ask, resume, choice, choice_of, is_evaluation, Answer, done, ArrayCell, event, array, NamedCell, Instance, Part, World, or_no_instance, with_instance, with_process, Made, an_event, all_to_make, all_left_to_make, RestsKeepToTheirText, AllIsMadeInOrder, IsOwn, Place, event_word, Code, get_within, place, frame, operator_at, simple_cells, made_base, AreNested, Texts, ActionAt, Acted, ComesTo, Slot, intrinsic, mark, SlotsAre, FragmentsArePerformed, CellsAreMade, made_many, IsElsewhere, asks_as_own, below_frame, cells_length, Allotted, Layout, AreMade, ArraysAre, HasEvent, EventsAre, Framed, IsEntered, entered_with, operator_there, AbleActor, actor_of, choice_is, text_in, level_in, context_in, most_in, held_of, Does}
 use Rattle.b67_deeds.specs.declared.Letter.TheVariants.{MakeEvent}
-use Rattle.algol_meaning.specs.Asks.{Ask, makes_event, ask, resume}
-use Rattle.algol_meaning.specs.Choice.{choice, choice_of}
-use Rattle.algol_meaning.specs.Critical.{is_evaluation}
 use Rattle.b67_deeds.specs.Events.{fresh_state}
-use Rattle.algol_meaning.specs.Rest.{Answer, done}
-use Rattle.algol_meaning.specs.Value.{ArrayCell, event, array}
-use Rattle.b67_deeds.specs.Events.{EventState}
-use Rattle.algol_meaning.specs.World.{NamedCell, Instance, Process, Part, lives, World, or_no_instance, with_instance, with_process}
-use Rattle.algol_paths.specs.Arrays.{Made, an_event, all_to_make, all_left_to_make}
-use Rattle.algol_paths.specs.Laws.{RestsKeepToTheirText, AllIsMadeInOrder}
-use Rattle.b67_word.specs.declared.Place.{Place}
-use Rattle.b67_control.specs.Control.{event_word}
 use Rattle.b67_events.specs.Events.{opened}
 use Rattle.b67_ops.specs.declared.Operator.TheVariants as ops
 use Rattle.b67_ops.specs.declared.PlainKind.TheVariants as kinds
 use Rattle.b67_ops.specs.declared.intrinsic.Intrinsic.TheVariants.{Event}
-use Rattle.b67_segment.specs.declared.code.Code.{Code}
-use Rattle.b67_table.specs.Chains.{place}
-use Rattle.b67_table.specs.Image.{Image}
-use Rattle.b67_table.specs.Private.{frame}
-use Rattle.b67_table.specs.Table.{operator_at}
-use Rattle.b67_templates.specs.Cells.{simple_cells, made_base}
-use Rattle.b67_templates.specs.Programs.{Texts}
-use Rattle.b67_standing.specs.Stepping.{Slot, intrinsic, mark}
-use Rattle.b67_standing.specs.Standing.{ActionAt, Acted, ComesTo}
-use Rattle.b67_cores.specs.Cores.{Core}
-use Rattle.b67_cores.specs.Slots.{SlotsAre}
-use Rattle.b67_cores.specs.Stretches.{FragmentsArePerformed, CellsAreMade}
-use Rattle.b67_templates.specs.Nested.{AreNested}
 use Rattle.b67_rows.proofs.MakingAsked.{makes_event_first}
-use Rattle.b67_rows.proofs.Numbers.{get_below}
-use Rattle.b67_frames.specs.Arrays.{Allotted, Layout, AreMade, ArraysAre}
-use Rattle.b67_frames.specs.Events.{HasEvent, EventsAre}
-use Rattle.b67_frames.specs.Frames.{Framed}
-use Rattle.b67_frames.proofs.Completing.{made_many}
 use Rattle.b67_frames.proofs.EventCells.{arrays_still, event_has_none, array_in_front, get_first}
 use Rattle.b67_frames.proofs.EventRows.{event_raw}
 use Rattle.b67_frames.proofs.EventsChanged.{events_made}
-use Rattle.b67_frames.proofs.EventsLow.{IsElsewhere, event_in_frame}
-use Rattle.b67_frames.proofs.Lying.{asks_as_own, below_frame, lies_in}
-use Rattle.b67_frames.proofs.Zeros.{cells_length}
-use Rattle.b67_scenes.specs.States.{StateIs}
-use Rattle.b67_scenes.proofs.Calling.{IsEntered, entered_with, none_lying}
-use Rattle.b67_scenes.proofs.Homes.{operator_there}
+use Rattle.b67_frames.proofs.EventsLow.{event_in_frame}
+use Rattle.b67_frames.proofs.Lying.{lies_in}
+use Rattle.b67_scenes.proofs.Calling.{none_lying}
 use Rattle.b67_scenes.proofs.MakingFrame as frames
-use Rattle.b67_scenes.proofs.Scene.{Scene}
-use Rattle.b67_scenes.proofs.Stage.{choice_is}
-use Rattle.b67_scenes.proofs.Staying.{text_in, level_in, context_in, most_in}
-use Rattle.b67_scenes.proofs.Worlds.{held_of}
 use Rattle.b67_scenes.proofs.Waiting.{fewer_opened}
-use Rattle.algol_standing.specs.Worlds.{IsOwn}
-use Rattle.b67_pictures.specs.Acting.{Does}
 use Rattle.b67_pictures.proofs.MakingCells.{none_left, cells_are_made}
 
 module _ (tree : PProgram) (code : Code) (texts : Texts) (nested : AreNested (scopes_of tree)) (fragments : FragmentsArePerformed) (cells_made : CellsAreMade) (keeps : RestsKeepToTheirText) (order : AllIsMadeInOrder)
-    (w : World) (lay : Layout) (img : Image) (p : ℕ) (q : Process) (part : Part) (outer : List Part) (bound : ℕ) (core : Core) (s : Scene tree code texts w lay img p q part outer bound core) (able_is : lives q.state ≡ true) (able_p : StateIs (scopes_of tree) w lay q.state (numbered img.states p))
-    (n : Named) (asks : ask part.rest ≡ makes_event n)
-    (a : ActionAt (scopes_of tree) (context_in tree code texts w part s.stands.frame.gives) (text_in tree texts w part) (level_in tree w part) (most_in tree w part) (makes_event n) s.stands.pc s.stands.slots)
-    (answered : (r : Answer) (at : ℕ) (left : List Slot) → Acted (scopes_of tree) (context_in tree code texts w part s.stands.frame.gives) (text_in tree texts w part) (level_in tree w part) (most_in tree w part) (makes_event n) s.stands.pc s.stands.slots a r at left →
-    ComesTo (scopes_of tree) (context_in tree code texts w part s.stands.frame.gives) (text_in tree texts w part) (level_in tree w part) (most_in tree w part) (resume (scopes_of tree) part.rest r) at left) where
-  abbrev sc : Scopes
-  sc = scopes_of tree
+    (actor : AbleActor tree code texts) where
+  open actor use {w, lay, img, p, q, part, outer, core, s}
 
-  abbrev i : ℕ
-  i = part.instance
+  module _ (n : Named) (asks : ask part.rest ≡ makes_event n)
+      (a : ActionAt (scopes_of tree) (context_in tree code texts w part s.stands.frame.gives) (text_in tree texts w part) (level_in tree w part) (most_in tree w part) (makes_event n) s.stands.pc s.stands.slots)
+      (answered : (r : Answer) (at : ℕ) (left : List Slot) → Acted (scopes_of tree) (context_in tree code texts w part s.stands.frame.gives) (text_in tree texts w part) (level_in tree w part) (most_in tree w part) (makes_event n) s.stands.pc s.stands.slots a r at left →
+      ComesTo (scopes_of tree) (context_in tree code texts w part s.stands.frame.gives) (text_in tree texts w part) (level_in tree w part) (most_in tree w part) (resume (scopes_of tree) part.rest r) at left) where
+    abbrev sc : Scopes
+    sc = scopes_of tree
 
-  -- the part has the frame's instance for its own
-  owns : is_evaluation part.purpose ≡ false
-  owns = asks_as_own tree code texts w lay p part outer core.below s.stands.frame (makes_event n) asks (λ e. e)
+    abbrev i : ℕ
+    i = part.instance
 
-  abbrev ms : List Made
-  ms = an_event n.name ∷ []
+    -- the part has the frame's instance for its own
+    owns : is_evaluation part.purpose ≡ false
+    owns = asks_as_own tree code texts w lay p part outer core.below s.stands.frame (makes_event n) asks (λ e. e)
 
-  made_first : all_to_make part.rest ≡ ms ++ all_left_to_make part.rest
-  made_first = makes_event_first part.rest n asks
+    abbrev ms : List Made
+    ms = an_event n.name ∷ []
 
-  abbrev one : NamedCell
-  one = record { name = n.name; cell = event fresh_state }
+    made_first : all_to_make part.rest ≡ ms ++ all_left_to_make part.rest
+    made_first = makes_event_first part.rest n asks
 
-  -- an event has no rows
-  abbrev none_allotted : Allotted
-  none_allotted = record { mother = None; parts = [] }
+    abbrev one : NamedCell
+    one = record { name = n.name; cell = event fresh_state }
 
-  added : AreMade ms (one ∷ []) (none_allotted ∷ []) (event_word (record {}) ∷ [])
-  added = (record { named = refl; cell = fresh_state; is = refl; none = refl; word_is = refl }, tt)
+    -- an event has no rows
+    abbrev none_allotted : Allotted
+    none_allotted = record { mother = None; parts = [] }
 
-  there : operator_at code core.registers ≡ Ok (ops.Plain kinds.Entr, a.1.made)
-  there = operator_there sc s.stands.held code (text_in tree texts w part) (level_in tree w part) s.stands.pc s.stands.slots core (ops.Plain kinds.Entr) a.1.made s.stands.there a.1.stands
+    added : AreMade ms (one ∷ []) (none_allotted ∷ []) (event_word (record {}) ∷ [])
+    added = (record { named = refl; cell = fresh_state; is = refl; none = refl; word_is = refl }, tt)
 
-  entered : IsEntered tree code texts w lay img p q part outer bound core s Event (intrinsic Event ∷ mark ∷ []) [] a.1.lies []
-  entered =
-      entered_with tree code texts w lay img p q part outer bound core s Event (intrinsic Event ∷ mark ∷ []) [] a.1.lies
-      (none_lying sc s.stands.held (level_in tree w part) (frame core.registers) (length core.below) (intrinsic Event ∷ mark ∷ []) core.words
-      (subst (λ (l : List Slot). SlotsAre sc s.stands.held (level_in tree w part) (frame core.registers) (length core.below) l core.words) a.1.lies s.stands.there.words_are))
+    there : operator_at code core.registers ≡ Ok (ops.Plain kinds.Entr, a.1.made)
+    there = operator_there sc s.stands.held code (text_in tree texts w part) (level_in tree w part) s.stands.pc s.stands.slots core (ops.Plain kinds.Entr) a.1.made s.stands.there a.1.stands
 
-  none : entered.others ≡ []
-  none = none_left sc s.stands.held (level_in tree w part) (frame core.registers) (length core.below) entered.others (entered.after_at a.1.made).words_are
+    entered : IsEntered tree code texts (actor_of s) Event (intrinsic Event ∷ mark ∷ []) [] a.1.lies []
+    entered =
+        entered_with tree code texts (actor_of s) Event (intrinsic Event ∷ mark ∷ []) [] a.1.lies
+        (none_lying sc s.stands.held (level_in tree w part) (frame core.registers) (length core.below) (intrinsic Event ∷ mark ∷ []) core.words
+        (subst (λ (l : List Slot). SlotsAre sc s.stands.held (level_in tree w part) (frame core.registers) (length core.below) l core.words) a.1.lies s.stands.there.words_are))
 
-  -- ---- the world after it
+    none : entered.others ≡ []
+    none = none_left sc s.stands.held (level_in tree w part) (frame core.registers) (length core.below) entered.others (entered.after_at a.1.made).words_are
 
-  abbrev framed : Framed sc w lay p part.instance outer (length s.stands.frame.lower) s.stands.frame.mark s.stands.frame.control s.stands.frame.cells
-  framed = (frames.own_frame tree code texts nested keeps order w lay img p q part outer bound core s owns ms made_first).framed
+    -- ---- the world after it
 
-  abbrev x : Instance
-  x = framed.instance
+    abbrev framed : Framed sc w lay p part.instance outer (length s.stands.frame.lower) s.stands.frame.mark s.stands.frame.control s.stands.frame.cells
+    framed = (frames.own_frame tree code texts nested keeps order (actor_of s) owns ms made_first).framed
 
-  abbrev b : Block
-  b = block_numbered sc.blocks x.block
+    abbrev x : Instance
+    x = framed.instance
 
-  abbrev number : ℕ
-  number = length framed.declared
+    abbrev b : Block
+    b = block_numbered sc.blocks x.block
 
-  abbrev w' : World
-  w' = frames.w' tree code texts nested keeps order w lay img p q part outer bound core s owns ms made_first (one ∷ []) (none_allotted ∷ []) (event_word (record {}) ∷ []) added
+    abbrev number : ℕ
+    number = length framed.declared
 
-  abbrev lay' : Layout
-  lay' = frames.lay' tree code texts nested keeps order w lay img p q part outer bound core s owns ms made_first (one ∷ []) (none_allotted ∷ []) (event_word (record {}) ∷ []) added
+    abbrev w' : World
+    w' = frames.w' tree code texts nested keeps order (actor_of s) owns ms made_first (one ∷ []) (none_allotted ∷ []) (event_word (record {}) ∷ []) added
 
-  chosen : choice sc w p ≡ record { action = MakeEvent; world = w'; released = []; started = None }
-  chosen =
-      choice_is sc w p q part outer s.at s.todo
-      ∙ ap (λ (k : Ask). choice_of sc w p q part outer k) asks
-      ∙ ap (λ (o : Option Instance). record {
-        action = MakeEvent;
-        world = with_process (with_instance w part.instance (record (or_no_instance o) { cells = (or_no_instance o).cells ++ one ∷ [] })) p (record q { todo = record part { rest = resume sc part.rest done } ∷ outer });
-        released = [];
-        started = None;
-      }) framed.is
+    abbrev lay' : Layout
+    lay' = frames.lay' tree code texts nested keeps order (actor_of s) owns ms made_first (one ∷ []) (none_allotted ∷ []) (event_word (record {}) ∷ []) added
 
-  -- so many cells it has
-  many : length x.cells ≡ length (simple_cells sc b) + number
-  many =
-      omega (
-        arith,
-        ap length framed.has,
-        length-append framed.simple framed.arrays,
-        cells_length (simple_cells sc b) framed.simple framed.values framed.simple_are,
-        (made_many framed.declared framed.arrays (lay.rows i) framed.descriptors framed.made).cells_many,
-      )
+    chosen : choice sc w p ≡ record { action = MakeEvent; world = w'; released = []; started = None }
+    chosen =
+        choice_is sc w p q part outer s.at s.todo
+        ∙ ap (λ (k : Ask). choice_of sc w p q part outer k) asks
+        ∙ ap (λ (o : Option Instance). record {
+          action = MakeEvent;
+          world = with_process (with_instance w part.instance (record (or_no_instance o) { cells = (or_no_instance o).cells ++ one ∷ [] })) p (record q { todo = record part { rest = resume sc part.rest done } ∷ outer });
+          released = [];
+          started = None;
+        }) framed.is
 
-  -- ---- its arrays
+    -- so many cells it has
+    many : length x.cells ≡ length (simple_cells sc b) + number
+    many =
+        omega (
+          arith,
+          ap length framed.has,
+          length-append framed.simple framed.arrays,
+          cells_length (simple_cells sc b) framed.simple framed.values framed.simple_are,
+          (made_many framed.declared framed.arrays (lay.rows i) framed.descriptors framed.made).cells_many,
+        )
 
-  rows_many : length (lay.rows i) ≡ number
-  rows_many = (made_many framed.declared framed.arrays (lay.rows i) framed.descriptors framed.made).rows_many
+    -- ---- its arrays
 
-  arrays_now : ArraysAre sc w' lay' img.rows
-  arrays_now =
-      arrays_still sc w w' lay lay' i x (record x { cells = x.cells ++ one ∷ [] }) framed.is refl refl refl (event_has_none x.cells n.name fresh_state).0 (event_has_none x.cells n.name fresh_state).1 was
-      (λ j other. frames.rows_elsewhere tree code texts nested keeps order w lay img p q part outer bound core s owns ms made_first (one ∷ []) (none_allotted ∷ []) (event_word (record {}) ∷ []) added j (λ same. other (sym same))) img.rows s.by.arrays
-    where
-      was : (k : ℕ) (name : List ℕ) (c : ArrayCell) (al : Allotted) → slice_get (x.cells ++ one ∷ []) (length (simple_cells sc b) + k) ≡ Some (record { name = name; cell = array c }) → slice_get (lay'.rows i) k ≡ Some al →
-          (slice_get x.cells (length (simple_cells sc b) + k) ≡ Some (record { name = name; cell = array c })) × (slice_get (lay.rows i) k ≡ Some al)
-      was k name c al lies allots =
-          let in_front = array_in_front x.cells n.name fresh_state (length (simple_cells sc b) + k) name c lies in
-          let low = get_below x.cells (length (simple_cells sc b) + k) (record { name = name; cell = array c }) in_front in (
-            in_front,
-            sym (get_first (lay.rows i) (none_allotted ∷ []) k (omega (arith, low, many, rows_many)))
-                ∙ ap (λ (as' : List Allotted). slice_get as' k)
-                (sym (frames.rows_here tree code texts nested keeps order w lay img p q part outer bound core s owns ms made_first (one ∷ []) (none_allotted ∷ []) (event_word (record {}) ∷ []) added))
-                ∙ allots,
-          )
+    rows_many : length (lay.rows i) ≡ number
+    rows_many = (made_many framed.declared framed.arrays (lay.rows i) framed.descriptors framed.made).rows_many
 
-  -- ---- its events
+    arrays_now : ArraysAre sc w' lay' img.rows
+    arrays_now =
+        arrays_still sc w w' lay lay' i x (record x { cells = x.cells ++ one ∷ [] }) framed.is refl refl refl (event_has_none x.cells n.name fresh_state).0 (event_has_none x.cells n.name fresh_state).1 was
+        (λ j other. frames.rows_elsewhere tree code texts nested keeps order (actor_of s) owns ms made_first (one ∷ []) (none_allotted ∷ []) (event_word (record {}) ∷ []) added j (λ same. other (sym same))) img.rows s.by.arrays
+      where
+        was : (k : ℕ) (name : List ℕ) (c : ArrayCell) (al : Allotted) → slice_get (x.cells ++ one ∷ []) (length (simple_cells sc b) + k) ≡ Some (record { name = name; cell = array c }) → slice_get (lay'.rows i) k ≡ Some al →
+            (slice_get x.cells (length (simple_cells sc b) + k) ≡ Some (record { name = name; cell = array c })) × (slice_get (lay.rows i) k ≡ Some al)
+        was k name c al lies allots =
+            let in_front = array_in_front x.cells n.name fresh_state (length (simple_cells sc b) + k) name c lies in
+            let low = get_within x.cells (length (simple_cells sc b) + k) (record { name = name; cell = array c }) in_front in (
+              in_front,
+              sym (get_first (lay.rows i) (none_allotted ∷ []) k (omega (arith, low, many, rows_many)))
+                  ∙ ap (λ (as' : List Allotted). slice_get as' k)
+                  (sym (frames.rows_here tree code texts nested keeps order (actor_of s) owns ms made_first (one ∷ []) (none_allotted ∷ []) (event_word (record {}) ∷ []) added))
+                  ∙ allots,
+            )
 
-  abbrev here : Place
-  here = place p (length s.stands.frame.lower + (made_base sc b + number))
+    -- ---- its events
 
-  -- where the mark lies
-  here_is : place core.registers.stack core.registers.f ≡ here
-  here_is =
-      ap (λ (k : ℕ). place k core.registers.f) s.has.own
-      ∙ ap (λ (k : ℕ). place p k)
-      (omega (
-        arith,
-        entered.calls.called.mark_at,
-        ap length none,
-        below_frame core.below s.stands.frame.lower s.stands.frame.mark s.stands.frame.control s.stands.frame.cells s.stands.frame.words_are,
-        frames.cells_many tree code texts nested keeps order w lay img p q part outer bound core s owns ms made_first,
-      ))
+    abbrev here : Place
+    here = place p (length s.stands.frame.lower + (made_base sc b + number))
 
-  -- all others lie below, or in other stacks
-  below_here : (j other : ℕ) (e : EventState) (at : Place) → HasEvent sc w lay j other e at → at ≢ here
-  below_here j other e at h = by_place (held_of tree code texts w lay img s.by s.ok p q s.at j h.instance h.is h.stands)
-    where
-      high : length s.stands.frame.lower + (made_base sc b + number) ≡ length core.below
-      high =
-          omega (
-            arith,
-            below_frame core.below s.stands.frame.lower s.stands.frame.mark s.stands.frame.control s.stands.frame.cells s.stands.frame.words_are,
-            frames.cells_many tree code texts nested keeps order w lay img p q part outer bound core s owns ms made_first,
-          )
+    -- where the mark lies
+    here_is : place core.registers.stack core.registers.f ≡ here
+    here_is =
+        ap (λ (k : ℕ). place k core.registers.f) s.has.own
+        ∙ ap (λ (k : ℕ). place p k)
+        (omega (
+          arith,
+          entered.calls.called.mark_at,
+          ap length none,
+          below_frame core.below s.stands.frame.lower s.stands.frame.mark s.stands.frame.control s.stands.frame.cells s.stands.frame.words_are,
+          frames.cells_many tree code texts nested keeps order (actor_of s) owns ms made_first,
+        ))
 
-      by_place : IsOwn q.todo j ⊎ IsElsewhere lay p j → at ≢ here
-      by_place (inl own) same =
-          let low = event_in_frame tree code texts w lay p (part ∷ outer) j core.below
-          (lies_in tree code texts w lay p part outer core s.stands s.around j (subst (λ (ps : List Part). IsOwn ps j) s.todo own)) other e at h in
-          omega (arith, low.1, ap (λ (z : Place). z.at) same, high)
-      by_place (inr elsewhere) same = elsewhere h.frame h.laid (ap (λ (z : Place). z.stack) (sym h.at_is ∙ same))
+    -- all others lie below, or in other stacks
+    below_here : (j other : ℕ) (e : EventState) (at : Place) → HasEvent sc w lay j other e at → at ≢ here
+    below_here j other e at h = by_place (held_of tree code texts w lay img s.by s.ok p q s.at j h.instance h.is h.stands)
+      where
+        high : length s.stands.frame.lower + (made_base sc b + number) ≡ length core.below
+        high =
+            omega (
+              arith,
+              below_frame core.below s.stands.frame.lower s.stands.frame.mark s.stands.frame.control s.stands.frame.cells s.stands.frame.words_are,
+              frames.cells_many tree code texts nested keeps order (actor_of s) owns ms made_first,
+            )
 
-  events_now : EventsAre sc w' lay' (opened (place core.registers.stack core.registers.f) img.events)
-  events_now =
-      subst (λ (z : Place). EventsAre sc w' lay' (opened z img.events)) (sym here_is)
-      (events_made sc w w' lay lay' i x n.name number framed.is refl many (λ j f laid. laid) (place p (length s.stands.frame.lower)) framed.laid img.events below_here s.by.events)
+        by_place : IsOwn q.todo j ⊎ IsElsewhere lay p j → at ≢ here
+        by_place (inl own) same =
+            let low = event_in_frame tree code texts w lay p (part ∷ outer) j core.below
+            (lies_in tree code texts w lay p part outer core s.stands s.around j (subst (λ (ps : List Part). IsOwn ps j) s.todo own)) other e at h in
+            omega (arith, low.1, ap (λ (z : Place). z.at) same, high)
+        by_place (inr elsewhere) same = elsewhere h.frame h.laid (ap (λ (z : Place). z.stack) (sym h.at_is ∙ same))
 
-  -- ---- the action
+    events_now : EventsAre sc w' lay' (opened (place core.registers.stack core.registers.f) img.events)
+    events_now =
+        subst (λ (z : Place). EventsAre sc w' lay' (opened z img.events)) (sym here_is)
+        (events_made sc w w' lay lay' i x n.name number framed.is refl many (λ j f laid. laid) (place p (length s.stands.frame.lower)) framed.laid img.events below_here s.by.events)
 
-  pub making_event : Does tree code texts w img p
-  making_event =
-      cells_are_made tree code texts nested fragments cells_made keeps order w lay img p q part outer bound core s able_is able_p owns ms made_first (one ∷ []) (none_allotted ∷ []) (event_word (record {}) ∷ []) added Event
-      (intrinsic Event ∷ mark ∷ []) a.1.lies [] entered a.1.made a.0 a.1.stands a.1.push (answered done a.0 [] (refl, refl)) (omega arith) (omega (arith, ap length a.1.lies, s.stands.few)) img.rows
-      (opened (place core.registers.stack core.registers.f) img.events) arrays_now events_now
-      (λ m there listed. fewer_opened (place core.registers.stack core.registers.f) img.events m there listed) MakeEvent refl
-      (event_raw code img p core s.has a.1.made there entered.reference entered.marked entered.others none entered.calls) chosen
+    -- ---- the action
+
+    pub making_event : Does tree code texts w img p
+    making_event =
+        cells_are_made tree code texts nested fragments cells_made keeps order actor owns ms made_first (one ∷ []) (none_allotted ∷ []) (event_word (record {}) ∷ []) added Event
+        (intrinsic Event ∷ mark ∷ []) a.1.lies [] entered a.1.made a.0 a.1.stands a.1.push (answered done a.0 [] (refl, refl)) (omega arith) (omega (arith, ap length a.1.lies, s.stands.few)) img.rows
+        (opened (place core.registers.stack core.registers.f) img.events) arrays_now events_now
+        (λ m there listed. fewer_opened (place core.registers.stack core.registers.f) img.events m there listed) MakeEvent refl
+        (event_raw code img p core s.has a.1.made there entered.reference entered.marked entered.others none entered.calls) chosen

@@ -1,53 +1,13 @@
 -- The frames that the words of parameters name are those of the instances to which their cells refer.
-use Rattle.std.proofs.Common.{◌≡◌, inl, inr, refl, sym, ap, ◌∙◌, subst, ℕ, ◌+◌, ◌^◌, ◌<◌, ◌≤◌, List, [], ◌∷◌, ◌++◌, length, Option, Some, Bool, true, false, arith}
-use Rattle.std.specs.Prelude.{if◌then◌else◌}
-use Rattle.b67_list.specs.Numbered.{numbered}
-use Rattle.algol_tree.specs.declared.TheConstants.{MOST_BLOCK_CELLS}
-use Rattle.algol_tree.specs.Blocks.{block_numbered}
-use Rattle.algol_tree.specs.Plain.{PProgram}
-use Rattle.algol_tree.specs.Scopes.{Scopes, scopes_of}
-use Rattle.algol_tree.specs.Sorts.{Parameter, same_name}
-use Rattle.algol_meaning.specs.Critical.{referred_in, referred_by}
+use Rattle.std.proofs.Common.{◌≡◌, inl, inr, refl, sym, ap, ◌∙◌, subst, ℕ, ◌+◌, ◌^◌, ◌<◌, ◌≤◌, List, [], ◌∷◌, ◌++◌, length, Option, Some, arith}
+use Rattle.b67_pictures.proofs.Prelude.{numbered, block_numbered, PProgram, Scopes, scopes_of, Parameter, MOST_BLOCK_CELLS, referred_in, referred_by, Cell, simple, event, array, named, Instance, World, instance_at, or_no_instance, an_array, an_event, numbered_small, IsOk, IsIn, IsStanding, IsWhole, Word, Place, as_sirw, Sirw, Code, get_within, place, Image, cell_word, named_frames, Simple, Wanted, simple_cells, actuals_of, made_of, AreNested, Texts, some_same, IsAmongPlaces, value_tag, no_sirw, block_few, LeadAll, found_low, Layout, Denotes, CellsAre, Found as FoundFrame, find, found_laid, two_below, PicturesBy}
 use Rattle.algol_meaning.specs.Instances as instances
-use Rattle.algol_meaning.specs.Value.{Cell, simple, event, array, reference, named}
-use Rattle.algol_meaning.specs.World.{Instance, World, instance_at, or_no_instance}
-use Rattle.algol_paths.specs.Arrays.{an_array, an_event}
-use Rattle.algol_standing.specs.Skeleton.{IsIn}
-use Rattle.algol_standing.specs.Worlds.{IsStanding, IsWhole}
-use Rattle.algol_standing.specs.Fitting.{IsOk}
-use Rattle.b67_word.specs.declared.Place.{Place}
-use Rattle.b67_word.specs.Word.{Word}
-use Rattle.b67_control.specs.declared.Sirw.{Sirw}
-use Rattle.b67_control.specs.Control.{as_sirw}
-use Rattle.b67_segment.specs.declared.code.Code.{Code}
-use Rattle.b67_table.specs.Chains.{place}
-use Rattle.b67_table.specs.Image.{Image}
-use Rattle.b67_table.specs.References.{cell_word}
-use Rattle.b67_table.specs.Starting.{sirw_frame, named_frames}
+use Rattle.algol_meaning.specs.Value.{reference}
+use Rattle.b67_table.specs.Starting.{sirw_frame}
 use Rattle.b67_templates.specs.Cells as wants
-use Rattle.b67_templates.specs.Cells.{Simple, Wanted, Found, found_from, simple_cells, actuals_of, made_of}
-use Rattle.b67_templates.specs.Programs.{Texts}
-use Rattle.b67_faithful.proofs.Contradictions.{some_same}
-use Rattle.b67_templates.specs.Nested.{AreNested}
-use Rattle.b67_rows.proofs.CriticalRow.{IsAmongPlaces}
-use Rattle.b67_rows.proofs.Numbers.{get_below}
-use Rattle.b67_rows.proofs.Words.{value_tag, no_sirw}
-use Rattle.b67_frames.specs.Arrays.{Layout, Denotes}
-use Rattle.b67_frames.specs.Frames.{CellIs, Refers, CellsAre}
-use Rattle.b67_frames.proofs.ControlWords.{block_few}
-use Rattle.b67_frames.proofs.Formals.{LeadAll}
+use Rattle.b67_frames.specs.Frames.{CellIs, Refers}
 use Rattle.b67_frames.proofs.MadeArrays.{low_made}
-use Rattle.b67_scenes.specs.Pictures.{PicturesBy}
-use Rattle.b67_scenes.proofs.ArrayPlaces.{cell_read, number_within}
-use Rattle.b67_scenes.proofs.Finding.{Found as FoundFrame, find, found_laid, two_below}
-
-found_low : (k : ℕ) (cells : List Simple) (name : List ℕ) (f : Found) → found_from k cells name ≡ Some f → f.number < k + length cells
-found_low k [] name f e = cc
-found_low k (c ∷ cells) name f e = by_name (same_name c.name name) e (λ h. found_low (k + 1) cells name f h)
-  where
-    by_name : (b : Bool) → (if b then Some (record { number = k; cell = c }) else found_from (k + 1) cells name) ≡ Some f → (found_from (k + 1) cells name ≡ Some f → f.number < k + 1 + length cells) → f.number < k + length (c ∷ cells)
-    by_name true e more = let same = some_same e in omega (arith, ap (λ (x : Found). x.number) (sym same))
-    by_name false e more = let low = more e in omega (arith, low)
+use Rattle.b67_scenes.proofs.ArrayPlaces.{cell_read}
 
 module _ (tree : PProgram) (code : Code) (texts : Texts) (nested : AreNested (scopes_of tree)) (w : World) (lay : Layout) (img : Image) (by : PicturesBy tree code texts w lay img) (ok : IsOk (scopes_of tree) IsWhole w)
     (Stand : ℕ → Type 0) (stands : (i : ℕ) → Stand i → IsStanding w i) where
@@ -66,7 +26,7 @@ module _ (tree : PProgram) (code : Code) (texts : Texts) (nested : AreNested (sc
       small : FoundThere i → (g.stack < 2 ^ 10) × (g.at < 2 ^ 16)
       small f =
           let same : g ≡ place f.number (length f.lies.frame.lower) = some_same (sym laid ∙ found_laid tree code texts w lay img i f) in (
-            omega (arith, ap (λ (x : Place). x.stack) same, number_within w.processes f.number f.process f.is, by.few),
+            omega (arith, ap (λ (x : Place). x.stack) same, numbered_small w.processes f.number f.process f.is, by.few),
             omega (arith, ap (λ (x : Place). x.at) same, two_below tree code texts w lay img i f, f.small),
           )
 
@@ -110,7 +70,7 @@ module _ (tree : PProgram) (code : Code) (texts : Texts) (nested : AreNested (sc
       (omega (arith, few r.instance (stands r.instance d.own), found_low 0 (simple_cells sc (block_numbered sc.blocks (block r.instance))) r.name d.found d.there)) d.word_is
   denoted (wants.by_name kind) (named a) x asked d =
       denoted_by (named a) x a.instance d.frame d.couple.index refl d.own d.laid
-      (omega (arith, few a.instance (stands a.instance d.own), d.stands.index_is, get_below (actuals_of sc (block_numbered sc.blocks (block a.instance))) d.stands.number (record { expr = a.actual; kind = kind }) d.stands.there)) d.word_is
+      (omega (arith, few a.instance (stands a.instance d.own), d.stands.index_is, get_within (actuals_of sc (block_numbered sc.blocks (block a.instance))) d.stands.number (record { expr = a.actual; kind = kind }) d.stands.there)) d.word_is
   denoted (wants.array shape) (simple v) x asked d = absurd d
   denoted (wants.array shape) (event v) x asked d = absurd d
   denoted (wants.array shape) (array v) x asked d = absurd d

@@ -1,87 +1,61 @@
 -- Where an intrinsic is called with the reference of an event: the event's cell in the world and in the image, and the call.
 use Rattle.std.proofs.Common.{◌≡◌, sym, ap, ◌∙◌, ℕ, List, [], ◌∷◌, length, Option, Some, true}
-use Rattle.std.specs.Prelude.{is_some}
-use Rattle.algol_tree.specs.declared.tree.Named.{Named}
-use Rattle.algol_tree.specs.Plain.{PProgram}
-use Rattle.algol_tree.specs.Scopes.{Scopes, scopes_of}
-use Rattle.algol_meaning.specs.Asks.{ask}
-use Rattle.algol_meaning.specs.Value.{Reference, event}
-use Rattle.algol_meaning.specs.World.{Instance, Process, Part, World, instance_at, or_no_instance, cell_at, cell_in, followed}
-use Rattle.b67_word.specs.Word.{Word}
-use Rattle.b67_control.specs.Control.{as_irw}
-use Rattle.b67_events.specs.Events.{Event, is_open}
+use Rattle.b67_pictures.proofs.Prelude.{is_some, PProgram, Scopes, scopes_of, Named, ask, Reference, event, Instance, instance_at, or_no_instance, cell_at, cell_in, followed, Word, as_irw, Intrinsic, Code, one_event, Event, is_open, frame, cell_place, AreNested, Texts, ActsAt, Slot, reference, intrinsic, mark, IsAsked, Top, top_slot, reference_read, named_from, event_there, IsEntered, entered_with, cell_there, EventHome, has_there, Actor, text_in, level_in, context_in, most_in}
 use Rattle.b67_events.specs.Events as kernel
-use Rattle.b67_events.proofs.EventLaws.{one_event}
-use Rattle.b67_ops.specs.declared.intrinsic.Intrinsic.{Intrinsic}
-use Rattle.b67_segment.specs.declared.code.Code.{Code}
-use Rattle.b67_table.specs.Image.{Image}
-use Rattle.b67_table.specs.Private.{frame}
-use Rattle.b67_table.specs.References.{cell_place}
-use Rattle.b67_templates.specs.Programs.{Texts}
-use Rattle.b67_standing.specs.Stepping.{Slot, reference, intrinsic, mark}
-use Rattle.b67_standing.proofs.OnEvents.{ActsAt}
-use Rattle.b67_cores.specs.Cores.{Core}
-use Rattle.b67_templates.specs.Nested.{AreNested}
-use Rattle.b67_rows.proofs.AskedElements.{IsAsked}
-use Rattle.b67_rows.proofs.Slotted.{Top, top_slot}
-use Rattle.b67_rows.proofs.Words.{reference_read}
-use Rattle.b67_frames.specs.Arrays.{Layout, named_from}
-use Rattle.b67_frames.specs.Events.{event_there}
-use Rattle.b67_scenes.proofs.Calling.{IsEntered, entered_with, one_lying}
-use Rattle.b67_scenes.proofs.EventHomes.{cell_there, EventHome, event_home, has_there}
-use Rattle.b67_scenes.proofs.Scene.{Scene}
-use Rattle.b67_scenes.proofs.Staying.{text_in, level_in, context_in, most_in}
+use Rattle.b67_scenes.proofs.Calling.{one_lying}
+use Rattle.b67_scenes.proofs.EventHomes.{event_home}
 
-module _ (tree : PProgram) (code : Code) (texts : Texts) (nested : AreNested (scopes_of tree)) (w : World) (lay : Layout) (img : Image)
-    (p : ℕ) (q : Process) (part : Part) (outer : List Part) (bound : ℕ) (core : Core) (s : Scene tree code texts w lay img p q part outer bound core)
-    (name : Intrinsic) (n : Named) (asks : IsAsked (ask part.rest) n) (next : ℕ) (below : List Slot)
-    (found : ActsAt (scopes_of tree) (context_in tree code texts w part s.stands.frame.gives) (text_in tree texts w part) (level_in tree w part) (most_in tree w part) name n s.stands.pc next s.stands.slots below) where
-  abbrev sc : Scopes
-  sc = scopes_of tree
+module _ (tree : PProgram) (code : Code) (texts : Texts) (nested : AreNested (scopes_of tree)) (actor : Actor tree code texts) where
+  open actor use {w, lay, img, part, core, s}
 
-  abbrev pub target : Reference
-  target = followed w (named_from (scopes_of tree) w lay part.instance n)
+  module _ (name : Intrinsic) (n : Named) (asks : IsAsked (ask part.rest) n) (next : ℕ) (below : List Slot)
+      (found : ActsAt (scopes_of tree) (context_in tree code texts w part s.stands.frame.gives) (text_in tree texts w part) (level_in tree w part) (most_in tree w part) name n s.stands.pc next s.stands.slots below) where
+    abbrev sc : Scopes
+    sc = scopes_of tree
 
-  abbrev slots : List Slot
-  slots = reference found.couple ∷ intrinsic name ∷ mark ∷ below
+    abbrev pub target : Reference
+    target = followed w (named_from (scopes_of tree) w lay part.instance n)
 
-  -- the event's cell in the world and in the image, and the call
-  pub record OnEvent : Type 0 where
-    pub home : EventHome tree code texts nested w lay img p q part outer bound core s (followed w (named_from (scopes_of tree) w lay part.instance n)) found.couple
-    pub word : Word
-    pub reads : as_irw word ≡ Some (record { level = found.couple.level; index = found.couple.index })
-    pub call : IsEntered tree code texts w lay img p q part outer bound core s name (reference found.couple ∷ intrinsic name ∷ mark ∷ below) below found.lies (word ∷ [])
+    abbrev slots : List Slot
+    slots = reference found.couple ∷ intrinsic name ∷ mark ∷ below
 
-  abbrev IsTop : Type 0
-  IsTop = Top sc s.stands.held (level_in tree w part) (frame core.registers) (length core.below) (reference found.couple) (intrinsic name ∷ mark ∷ below) core.words
+    -- the event's cell in the world and in the image, and the call
+    pub record OnEvent : Type 0 where
+      pub home : EventHome tree code texts nested actor (followed w (named_from (scopes_of tree) w lay part.instance n)) found.couple
+      pub word : Word
+      pub reads : as_irw word ≡ Some (record { level = found.couple.level; index = found.couple.index })
+      pub call : IsEntered tree code texts actor name (reference found.couple ∷ intrinsic name ∷ mark ∷ below) below found.lies (word ∷ [])
 
-  pub on_event : OnEvent
-  on_event =
-      let h : EventHome tree code texts nested w lay img p q part outer bound core s target found.couple = event_home tree code texts nested w lay img p q part outer bound core s n found.couple asks found.is_event in
-      let t : IsTop =
-      top_slot sc s.stands.held (level_in tree w part) (frame core.registers) (length core.below) s.stands.slots (reference found.couple) (intrinsic name ∷ mark ∷ below) core.words s.stands.there.words_are found.lies in
-      record {
-        home = h;
-        word = t.word;
-        reads = ap as_irw t.slot_is ∙ reference_read found.couple h.fits.0 h.fits.1;
-        call = entered_with tree code texts w lay img p q part outer bound core s name slots below found.lies
-            (one_lying sc s.stands.held (level_in tree w part) (frame core.registers) (length core.below) found.couple (intrinsic name ∷ mark ∷ below) core.words t);
-      }
+    abbrev IsTop : Type 0
+    IsTop = Top sc s.stands.held (level_in tree w part) (frame core.registers) (length core.below) (reference found.couple) (intrinsic name ∷ mark ∷ below) core.words
 
-  module _ (o : OnEvent) where
-    -- it is open there, as the world has it
-    pub open_as : kernel.event_at (cell_place (cell_there tree code texts nested w lay img p q part outer bound core s o.home.lies o.home.number)) img.events
-        ≡ Some (event_there (cell_place (cell_there tree code texts nested w lay img p q part outer bound core s o.home.lies o.home.number)) o.home.found.cell)
-    open_as =
-        s.by.events.are_open o.home.lies.found.lies.part.instance o.home.number o.home.found.cell _
-        (has_there tree code texts nested w lay img p q part outer bound core s o.home.lies target.name o.home.number o.home.found)
+    pub on_event : OnEvent
+    on_event =
+        let h : EventHome tree code texts nested actor target found.couple = event_home tree code texts nested actor n found.couple asks found.is_event in
+        let t : IsTop =
+        top_slot sc s.stands.held (level_in tree w part) (frame core.registers) (length core.below) s.stands.slots (reference found.couple) (intrinsic name ∷ mark ∷ below) core.words s.stands.there.words_are found.lies in
+        record {
+          home = h;
+          word = t.word;
+          reads = ap as_irw t.slot_is ∙ reference_read found.couple h.fits.0 h.fits.1;
+          call = entered_with tree code texts actor name slots below found.lies
+              (one_lying sc s.stands.held (level_in tree w part) (frame core.registers) (length core.below) found.couple (intrinsic name ∷ mark ∷ below) core.words t);
+        }
 
-    pub is_open_there : is_open (cell_place (cell_there tree code texts nested w lay img p q part outer bound core s o.home.lies o.home.number)) img.events ≡ true
-    is_open_there = one_event.found _ img.events ∙ ap (λ (x : Option Event). is_some x) open_as
+    module _ (o : OnEvent) where
+      -- it is open there, as the world has it
+      pub open_as : kernel.event_at (cell_place (cell_there tree code texts nested actor o.home.lies o.home.number)) img.events
+          ≡ Some (event_there (cell_place (cell_there tree code texts nested actor o.home.lies o.home.number)) o.home.found.cell)
+      open_as =
+          s.by.events.are_open o.home.lies.found.lies.part.instance o.home.number o.home.found.cell _
+          (has_there tree code texts nested actor o.home.lies target.name o.home.number o.home.found)
 
-    -- what the world has there
-    pub world_has : cell_at w (followed w (named_from (scopes_of tree) w lay part.instance n)) ≡ event o.home.found.cell
-    world_has =
-        ap (λ (j : ℕ). cell_in ((instance_at w j).cells) target.name) (sym o.home.lies.found.lies.instance_is)
-        ∙ ap (λ (x : Option Instance). cell_in ((or_no_instance x).cells) target.name) o.home.lies.found.lies.owned.framed.is
-        ∙ o.home.found.means
+      pub is_open_there : is_open (cell_place (cell_there tree code texts nested actor o.home.lies o.home.number)) img.events ≡ true
+      is_open_there = one_event.found _ img.events ∙ ap (λ (x : Option Event). is_some x) open_as
+
+      -- what the world has there
+      pub world_has : cell_at w (followed w (named_from (scopes_of tree) w lay part.instance n)) ≡ event o.home.found.cell
+      world_has =
+          ap (λ (j : ℕ). cell_in ((instance_at w j).cells) target.name) (sym o.home.lies.found.lies.instance_is)
+          ∙ ap (λ (x : Option Instance). cell_in ((or_no_instance x).cells) target.name) o.home.lies.found.lies.owned.framed.is
+          ∙ o.home.found.means

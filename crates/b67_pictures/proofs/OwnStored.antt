@@ -1,213 +1,166 @@
 -- A process goes on in its innermost part, after a store into a cell of one of its own instances: of a variable, whose word in its stack is another one, or
 -- of an array or an event, whose word stays.
 use Rattle.std.proofs.Common.{◌≡◌, refl, sym, ap, ◌∙◌, subst, ℕ, suc, ◌+◌, ◌<◌, ◌≤◌, List, ◌∷◌, ◌++◌, length, Option, Some, arith}
-use Rattle.b67_list.specs.Numbered.{numbered}
-use Rattle.algol_tree.specs.Blocks.{block_numbered}
-use Rattle.algol_tree.specs.Cells.{level_of}
-use Rattle.algol_tree.specs.Plain.{PProgram}
-use Rattle.algol_tree.specs.Scopes.{Scopes, scopes_of}
-use Rattle.algol_meaning.specs.Critical.{is_evaluation}
-use Rattle.algol_meaning.specs.Rest.{Answer}
-use Rattle.algol_meaning.specs.World.{NamedCell, Instance, Process, Part, State, World, instance_at, with_process}
-use Rattle.algol_meaning.specs.Asks.{resume}
-use Rattle.algol_paths.specs.Arrays.{Made, all_to_make, all_left_to_make}
-use Rattle.algol_paths.specs.Laws.{RestsKeepToTheirText, AllIsMadeInOrder}
-use Rattle.algol_paths.specs.Segments.{segment_of}
-use Rattle.algol_paths.specs.Texts.{InAnswer}
-use Rattle.algol_paths.specs.Blocks.{IsSeen}
-use Rattle.algol_standing.specs.Skeleton.{IsIn}
-use Rattle.algol_standing.specs.Worlds.{referred_in_cells, IsOwn}
-use Rattle.b67_word.specs.Word.{Word}
-use Rattle.b67_control.specs.declared.Registers.{Registers}
-use Rattle.b67_control.specs.Display.{place_at}
-use Rattle.b67_segment.specs.declared.code.Code.{Code}
-use Rattle.b67_store.specs.Store.{stack_limit}
-use Rattle.b67_table.specs.Chains.{place}
-use Rattle.b67_table.specs.Image.{Image}
-use Rattle.b67_table.specs.Private.{frame}
-use Rattle.b67_templates.specs.Cells.{simple_cells}
-use Rattle.b67_templates.specs.Code.{in_routine}
-use Rattle.b67_templates.specs.Contexts.{Yields}
-use Rattle.b67_templates.specs.Programs.{Texts, context_of}
-use Rattle.b67_standing.specs.Stepping.{Slot}
-use Rattle.b67_standing.specs.Standing.{ComesTo}
-use Rattle.b67_cores.specs.Cores.{Core, size, over, HasCore}
-use Rattle.b67_cores.specs.Slots.{newest, SlotsAre}
-use Rattle.b67_cores.specs.Stretches.{CoreAt, FragmentsArePerformed}
-use Rattle.b67_faithful.specs.Weight.{weight}
-use Rattle.b67_rows.proofs.Numbers.{numbered_set}
-use Rattle.b67_frames.specs.Arrays.{Layout, AreMade, AreKnown}
-use Rattle.b67_frames.specs.Frames.{IsInReach, CellsAre, most_around, IsChained, Frame, Stands, run_level}
-use Rattle.b67_frames.proofs.Facts.{HasFacts}
-use Rattle.b67_frames.proofs.Knowing.{KeepsArrays}
-use Rattle.b67_frames.proofs.Resumed.{frame_resumed}
-use Rattle.b67_frames.proofs.Lying.{StayBelow, known_after}
-use Rattle.b67_frames.proofs.Onward.{StandOn}
-use Rattle.b67_scenes.specs.Depending.{CriticalIs, TaskIs}
-use Rattle.b67_scenes.specs.Pictures.{Living}
+use Rattle.b67_pictures.proofs.Prelude.{numbered, block_numbered, level_of, PProgram, Scopes, scopes_of, resume, is_evaluation, Answer, NamedCell, Instance, Process, Part, State, World, instance_at, with_process, Made, all_to_make, all_left_to_make, IsSeen, RestsKeepToTheirText, AllIsMadeInOrder, segment_of, InAnswer, IsIn, referred_in_cells, IsOwn, Word, place_at, Registers, Code, stack_limit, place, Image, frame, simple_cells, in_routine, Yields, Texts, context_of, ComesTo, Slot, Core, size, over, HasCore, newest, SlotsAre, CoreAt, FragmentsArePerformed, weight, numbered_set, HasFacts, KeepsArrays, StayBelow, known_after, StandOn, frame_resumed, AreMade, AreKnown, IsInReach, CellsAre, most_around, IsChained, Frame, Stands, run_level, AreLaid, steps_none, living_of, CanClimb, Actor, weight_of, text_in, level_in, context_in, most_in, names_in, same_weight, FrameStill, frame_still, still_low, IsStored, put, length_put, stored_world, same_of, ChangedCells, EventsStay, task_stays, CriticalIs, TaskIs, Living}
 use Rattle.b67_scenes.specs.Reaches as reaching
-use Rattle.b67_scenes.proofs.Ancestors.{AreLaid}
-use Rattle.b67_scenes.proofs.Landing.{steps_none, living_of}
-use Rattle.b67_scenes.proofs.Paths.{CanClimb}
-use Rattle.b67_scenes.proofs.Scene.{Scene}
-use Rattle.b67_scenes.proofs.Stage.{weight_of}
-use Rattle.b67_scenes.proofs.Staying.{text_in, level_in, context_in, most_in, names_in, IsAsHeavy, same_weight, FrameStill, frame_still, still_low}
-use Rattle.b67_scenes.proofs.StoringFrames.{IsStored, put, length_put, stored_world, same_of, same_ancestors, as_heavy, ChangedCells, Stored, known_stored, onward_from, frame_stored}
-use Rattle.b67_scenes.proofs.Tasks.{EventsStay, task_stays}
+use Rattle.b67_scenes.proofs.Staying.{IsAsHeavy}
+use Rattle.b67_scenes.proofs.StoringFrames.{same_ancestors, as_heavy, Stored, known_stored, onward_from, frame_stored}
 use Rattle.b67_pictures.proofs.InFrame.{SameFrame}
 
-module _ (tree : PProgram) (code : Code) (texts : Texts) (fragments : FragmentsArePerformed) (kept : RestsKeepToTheirText) (order : AllIsMadeInOrder) (w : World) (lay : Layout) (img : Image)
-    (p : ℕ) (q : Process) (part : Part) (outer : List Part) (bound : ℕ) (core : Core) (s : Scene tree code texts w lay img p q part outer bound core) (unmade : all_left_to_make part.rest ≡ all_to_make part.rest) (answer : Answer) (nameless : InAnswer (IsSeen (scopes_of tree) ((instance_at w part.instance).block)) answer)
-    (i : ℕ) (x : Instance) (at : numbered w.instances i ≡ Some x) (with_cells : List NamedCell) (high : ℕ) (laid : numbered lay.places i ≡ Some (place p high)) (far k : ℕ) (place_is : k ≡ high + 2 + far)
-    (word : Option Word) (many : length with_cells ≡ length x.cells) (short : IsStored word → far < length (simple_cells (scopes_of tree) (block_numbered (scopes_of tree).blocks x.block)))
-    (keeps : KeepsArrays (scopes_of tree) w (stored_world w i x at with_cells) lay lay i) (facts : HasFacts w) (fewer : (r : ℕ) → IsIn (referred_in_cells with_cells) r → IsIn (referred_in_cells x.cells) r)
-    (changes : (simple : List NamedCell) (values : List Word) (arrays : List NamedCell) (declared : List Made) (descriptors : List Word) →
-    CellsAre (simple_cells (scopes_of tree) (block_numbered (scopes_of tree).blocks x.block)) simple values → AreMade declared arrays (lay.rows i) descriptors → x.cells ≡ simple ++ arrays →
-    ChangedCells (simple_cells (scopes_of tree) (block_numbered (scopes_of tree).blocks x.block)) (lay.rows i) with_cells simple values (put word values far) declared descriptors)
-    (own : IsOwn (part ∷ outer) i) (words : List Word) (registers : Registers) (frame_is : SameFrame core.registers registers) (pc : ℕ) (slots : List Slot)
-    (there : CoreAt (scopes_of tree) s.stands.held code (text_in tree texts w part) (level_in tree w part) pc slots (record { below = core.below; words = words; registers = registers })) (few : length slots ≤ most_in tree w part)
-    (comes : ComesTo (scopes_of tree) (context_in tree code texts w part s.stands.frame.gives) (text_in tree texts w part) (level_in tree w part) (most_in tree w part) (resume (scopes_of tree) part.rest answer) pc slots)
-    (state : State) where
-  abbrev sc : Scopes
-  sc = scopes_of tree
+module _ (tree : PProgram) (code : Code) (texts : Texts) (fragments : FragmentsArePerformed) (kept : RestsKeepToTheirText) (order : AllIsMadeInOrder) (actor : Actor tree code texts) where
+  open actor use {w, lay, p, q, part, outer, bound, core, s}
 
-  abbrev b : ℕ
-  b = (instance_at w part.instance).block
+  module _ (unmade : all_left_to_make part.rest ≡ all_to_make part.rest) (answer : Answer) (nameless : InAnswer (IsSeen (scopes_of tree) ((instance_at w part.instance).block)) answer)
+      (i : ℕ) (x : Instance) (at : numbered w.instances i ≡ Some x) (with_cells : List NamedCell) (high : ℕ) (laid : numbered lay.places i ≡ Some (place p high)) (far k : ℕ) (place_is : k ≡ high + 2 + far)
+      (word : Option Word) (many : length with_cells ≡ length x.cells) (short : IsStored word → far < length (simple_cells (scopes_of tree) (block_numbered (scopes_of tree).blocks x.block)))
+      (keeps : KeepsArrays (scopes_of tree) w (stored_world w i x at with_cells) lay lay i) (facts : HasFacts w) (fewer : (r : ℕ) → IsIn (referred_in_cells with_cells) r → IsIn (referred_in_cells x.cells) r)
+      (changes : (simple : List NamedCell) (values : List Word) (arrays : List NamedCell) (declared : List Made) (descriptors : List Word) →
+      CellsAre (simple_cells (scopes_of tree) (block_numbered (scopes_of tree).blocks x.block)) simple values → AreMade declared arrays (lay.rows i) descriptors → x.cells ≡ simple ++ arrays →
+      ChangedCells (simple_cells (scopes_of tree) (block_numbered (scopes_of tree).blocks x.block)) (lay.rows i) with_cells simple values (put word values far) declared descriptors)
+      (own : IsOwn (part ∷ outer) i) (words : List Word) (registers : Registers) (frame_is : SameFrame core.registers registers) (pc : ℕ) (slots : List Slot)
+      (there : CoreAt (scopes_of tree) s.stands.held code (text_in tree texts w part) (level_in tree w part) pc slots (record { below = core.below; words = words; registers = registers })) (few : length slots ≤ most_in tree w part)
+      (comes : ComesTo (scopes_of tree) (context_in tree code texts w part s.stands.frame.gives) (text_in tree texts w part) (level_in tree w part) (most_in tree w part) (resume (scopes_of tree) part.rest answer) pc slots)
+      (state : State) where
+    abbrev sc : Scopes
+    sc = scopes_of tree
 
-  abbrev level : ℕ
-  level = run_level (is_evaluation part.purpose) (level_of (block_numbered sc.blocks b))
+    abbrev b : ℕ
+    b = (instance_at w part.instance).block
 
-  abbrev st : Stands tree code texts w lay p part outer core
-  st = s.stands
+    abbrev level : ℕ
+    level = run_level (is_evaluation part.purpose) (level_of (block_numbered sc.blocks b))
 
-  abbrev part' : Part
-  part' = record part { rest = resume sc part.rest answer }
+    abbrev st : Stands tree code texts w lay p part outer core
+    st = s.stands
 
-  abbrev q' : Process
-  q' = record q { todo = part' ∷ outer; state = state }
+    abbrev part' : Part
+    part' = record part { rest = resume sc part.rest answer }
 
-  abbrev stored : World
-  stored = stored_world w i x at with_cells
+    abbrev q' : Process
+    q' = record q { todo = part' ∷ outer; state = state }
 
-  abbrev w' : World
-  w' = with_process stored p q'
+    abbrev stored : World
+    stored = stored_world w i x at with_cells
 
-  -- the core after it
-  abbrev before : Core
-  before = record { below = core.below; words = words; registers = registers }
+    abbrev w' : World
+    w' = with_process stored p q'
 
-  abbrev new : Core
-  new = over (put word core.below k) before
+    -- the core after it
+    abbrev before : Core
+    before = record { below = core.below; words = words; registers = registers }
 
-  abbrev AfterStore : Type 0
-  AfterStore = Stored tree code texts w lay p i x at with_cells high laid far k place_is word many short keeps facts fewer changes part outer core.below st.frame
+    abbrev new : Core
+    new = over (put word core.below k) before
 
-  frames : AfterStore
-  frames = frame_stored tree code texts w lay p i x at with_cells high laid far k place_is word many short keeps facts fewer changes part outer core.below st.frame s.around own
+    abbrev AfterStore : Type 0
+    AfterStore = Stored tree code texts w lay p i x at with_cells high laid far k place_is word many short keeps facts fewer changes part outer core.below st.frame
 
-  block_is : b ≡ (instance_at w' part.instance).block
-  block_is = same_of w i x at with_cells (λ (z : Instance). z.block) refl part.instance
+    frames : AfterStore
+    frames = frame_stored tree code texts w lay p i x at with_cells high laid far k place_is word many short keeps facts fewer changes part outer core.below st.frame s.around own
 
-  as_high : length core.below ≡ length new.below
-  as_high = sym (length_put word core.below k)
+    block_is : b ≡ (instance_at w' part.instance).block
+    block_is = same_of w i x at with_cells (λ (z : Instance). z.block) refl part.instance
 
-  core_at : CoreAt sc st.held code (text_in tree texts w part) (level_in tree w part) pc slots new
-  core_at =
-      record {
-        segment = there.segment;
-        there = there.there;
-        spells = there.spells;
-        level_is = there.level_is;
-        place_is = there.place_is;
-        is = record { bottom = sym as_high ∙ there.is.bottom; top = omega (arith, there.is.top, as_high) };
-        mark_is = there.mark_is ∙ ap (λ (n : ℕ). newest (frame registers) n slots) as_high;
-        words_are = subst (λ (n : ℕ). SlotsAre sc st.held level (frame registers) n slots words) as_high there.words_are;
-      }
+    as_high : length core.below ≡ length new.below
+    as_high = sym (length_put word core.below k)
 
-  room' : length new.below + most_in tree w part ≤ bound
-  room' = omega (arith, s.room, as_high)
-
-  chained : IsChained sc w' lay part.instance (level_of (block_numbered sc.blocks b)) core.registers.display
-  chained up low =
-      st.chained up low
-      ∙ ap (λ (j : ℕ). numbered lay.places j) (same_ancestors w w' (λ j. same_of w i x at with_cells (λ (z : Instance). z.parent) refl j) up part.instance)
-
-  heavy : (j : ℕ) → IsAsHeavy w w' j
-  heavy j = let h : IsAsHeavy w stored j = as_heavy w i x at with_cells many j in record { block = h.block; cells = h.cells }
-
-  light' : bound + 3 ≤ weight tree w' p
-  light' =
-      subst (λ (m : ℕ). bound + 3 ≤ m)
-      (weight_of tree w p q (part ∷ outer) s.at s.todo
-      ∙ sym (same_weight tree w w' (part ∷ outer) (λ j own_part. heavy j))
-      ∙ sym (weight_of tree w' p q' (part' ∷ outer) (numbered_set w.processes p q q' s.at) refl)) s.light
-
-  -- the world with the process's part gone on has the same instances
-  module _ (on : StandOn (scopes_of tree) w (with_process (stored_world w i x at with_cells) p (record q { todo = record part { rest = resume (scopes_of tree) part.rest answer } ∷ outer; state = state })) lay lay) where
-    abbrev stay : StayBelow sc stored w' lay lay p (suc (length frames.frame.lower))
-    stay =
+    core_at : CoreAt sc st.held code (text_in tree texts w part) (level_in tree w part) pc slots new
+    core_at =
         record {
-          on = onward_from tree code texts w lay p i x at with_cells high laid far k place_is word many short keeps facts fewer changes w' refl on;
-          instances = λ j n y e mine lies low. e;
-          rows = λ j n y e mine lies low. refl;
+          segment = there.segment;
+          there = there.there;
+          spells = there.spells;
+          level_is = there.level_is;
+          place_is = there.place_is;
+          is = record { bottom = sym as_high ∙ there.is.bottom; top = omega (arith, there.is.top, as_high) };
+          mark_is = there.mark_is ∙ ap (λ (n : ℕ). newest (frame registers) n slots) as_high;
+          words_are = subst (λ (n : ℕ). SlotsAre sc st.held level (frame registers) n slots words) as_high there.words_are;
         }
 
-    frame_low : length frames.frame.lower < suc (length frames.frame.lower)
-    frame_low = omega arith
+    room' : length new.below + most_in tree w part ≤ bound
+    room' = omega (arith, s.room, as_high)
 
-    still : FrameStill tree code texts stored w' lay lay p (suc (length frames.frame.lower)) stay part outer new.below frames.frame.cells frames.frame.gives
-    still = frame_still tree code texts stored w' lay lay p (suc (length frames.frame.lower)) stay part outer new.below frames.frame frames.around frame_low
+    chained : IsChained sc w' lay part.instance (level_of (block_numbered sc.blocks b)) core.registers.display
+    chained up low =
+        st.chained up low
+        ∙ ap (λ (j : ℕ). numbered lay.places j) (same_ancestors w w' (λ j. same_of w i x at with_cells (λ (z : Instance). z.parent) refl j) up part.instance)
 
-    abbrev frame' : Frame tree code texts w' lay p part' outer new.below
-    frame' = frame_resumed tree code texts w' lay p kept order part outer new.below new.below still.frame refl unmade answer (subst (λ (m : ℕ). InAnswer (IsSeen (scopes_of tree) m) answer) block_is nameless)
+    heavy : (j : ℕ) → IsAsHeavy w w' j
+    heavy j = let h : IsAsHeavy w stored j = as_heavy w i x at with_cells many j in record { block = h.block; cells = h.cells }
 
-    -- what is known of descriptors and references holds as it did
-    known_now : AreKnown sc w' lay (IsInReach w' (part' ∷ outer)) part.instance st.held
-    known_now =
-        known_after tree code texts stored w' lay lay p (suc (length frames.frame.lower)) stay part outer new.below frames.frame frames.around frame_low st.held
-        (known_stored tree code texts w lay p i x at with_cells high laid far k place_is word many short keeps facts fewer changes (part ∷ outer) part.instance st.held st.held_are)
+    light' : bound + 3 ≤ weight tree w' p
+    light' =
+        subst (λ (m : ℕ). bound + 3 ≤ m)
+        (weight_of tree w p q (part ∷ outer) s.at s.todo
+        ∙ sym (same_weight tree w w' (part ∷ outer) (λ j own_part. heavy j))
+        ∙ sym (weight_of tree w' p q' (part' ∷ outer) (numbered_set w.processes p q q' s.at) refl)) s.light
 
-    abbrev At : ℕ → Type 0
-    At c = CoreAt sc st.held code (texts.placed (segment_of sc.blocks c)) (run_level (is_evaluation part.purpose) (level_of (block_numbered sc.blocks c))) pc slots new
+    -- the world with the process's part gone on has the same instances
+    module _ (on : StandOn (scopes_of tree) w (with_process (stored_world w i x at with_cells) p (record q { todo = record part { rest = resume (scopes_of tree) part.rest answer } ∷ outer; state = state })) lay lay) where
+      abbrev stay : StayBelow sc stored w' lay lay p (suc (length frames.frame.lower))
+      stay =
+          record {
+            on = onward_from tree code texts w lay p i x at with_cells high laid far k place_is word many short keeps facts fewer changes w' refl on;
+            instances = λ j n y e mine lies low. e;
+            rows = λ j n y e mine lies low. refl;
+          }
 
-    abbrev Comes : ℕ → Yields → Type 0
-    Comes c y =
-        ComesTo sc (in_routine y (context_of code texts sc c)) (texts.placed (segment_of sc.blocks c)) (run_level (is_evaluation part.purpose) (level_of (block_numbered sc.blocks c))) (most_around tree c) (resume sc part.rest answer) pc slots
+      frame_low : length frames.frame.lower < suc (length frames.frame.lower)
+      frame_low = omega arith
 
-    pub own_goes_along : (after : Image) → HasCore after p (over (put word core.below k) (record { below = core.below; words = words; registers = registers })) → size (record { below = core.below; words = words; registers = registers }) ≤ stack_limit →
-        CanClimb (scopes_of tree) (with_process (stored_world w i x at with_cells) p (record q { todo = record part { rest = resume (scopes_of tree) part.rest answer } ∷ outer; state = state })) →
-        AreLaid (with_process (stored_world w i x at with_cells) p (record q { todo = record part { rest = resume (scopes_of tree) part.rest answer } ∷ outer; state = state })) lay →
-        EventsStay w (with_process (stored_world w i x at with_cells) p (record q { todo = record part { rest = resume (scopes_of tree) part.rest answer } ∷ outer; state = state })) →
-        Living tree code texts (with_process (stored_world w i x at with_cells) p (record q { todo = record part { rest = resume (scopes_of tree) part.rest answer } ∷ outer; state = state })) lay after p
-        (record q { todo = record part { rest = resume (scopes_of tree) part.rest answer } ∷ outer; state = state })
-    own_goes_along after has small climb laid' events_stay =
-        living_of tree code texts w' lay after climb laid' fragments p q' part' outer bound new new (record {
-          todo = refl;
-          has = has;
-          critical = subst (λ (r : Registers). CriticalIs lay q.critical r.critical) (sym frame_is.is) s.critical;
-          task = subst (λ (r : Registers). TaskIs sc w' lay q.task r.task) (sym frame_is.is) (task_stays sc w w' lay lay events_stay (λ j f there. there) q.task core.registers.task s.task);
-          sees = ap (λ (r : Registers). place_at r.display 0) frame_is.is ∙ s.sees;
-          small = omega (arith, small, as_high);
-          begun = 0;
-          begins = steps_none sc st.held code (text_in tree texts w part) (level_in tree w part) (most_in tree w part) bound pc slots new core_at few room';
-          frame = frame';
-          around = still.around;
-          counted = ap (λ (r : Registers). r.cells) frame_is.is ∙ st.counted ∙ sym frames.cells ∙ sym (ap length still.cells_are);
-          chained = subst (λ d. IsChained sc w' lay part.instance (names_in tree w' part) d) (sym (ap (λ (r : Registers). r.display) frame_is.is))
-              (subst (λ (m : ℕ). IsChained sc w' lay part.instance (level_of (block_numbered sc.blocks m)) core.registers.display) block_is chained);
-          top = ap (λ (r : Registers). place_at r.display (level_in tree w' part)) frame_is.is
-              ∙ ap (λ (m : ℕ). place_at core.registers.display (run_level (is_evaluation part.purpose) (level_of (block_numbered sc.blocks m)))) (sym block_is)
-              ∙ st.top
-              ∙ ap (λ (m : ℕ). Some (place p m)) (sym (still_low tree code texts stored w' lay lay p (suc (length frames.frame.lower)) stay part outer new.below frames.frame still ∙ frames.lower));
-          segment_is = ap (λ (r : Registers). r.segment) frame_is.is ∙ st.segment_is ∙ ap (λ (m : ℕ). segment_of sc.blocks m) block_is;
-          pc = pc;
-          slots = slots;
-          known = st.held;
-          known_are = known_now;
-          at = subst At block_is core_at;
-          held = subst (λ (m : ℕ). length slots ≤ most_around tree m) block_is few;
-          comes = subst (λ (m : ℕ). Comes m still.frame.gives) block_is (subst (λ (y : Yields). Comes b y) (sym (still.gives_are ∙ frames.gives)) comes);
-          reaches = reaching.all refl;
-          room = subst (λ (m : ℕ). length new.below + most_around tree m ≤ bound) block_is room';
-          light = light';
-        })
+      still : FrameStill tree code texts stored w' lay lay p (suc (length frames.frame.lower)) stay part outer new.below frames.frame.cells frames.frame.gives
+      still = frame_still tree code texts stored w' lay lay p (suc (length frames.frame.lower)) stay part outer new.below frames.frame frames.around frame_low
+
+      abbrev frame' : Frame tree code texts w' lay p part' outer new.below
+      frame' = frame_resumed tree code texts w' lay p kept order part outer new.below new.below still.frame refl unmade answer (subst (λ (m : ℕ). InAnswer (IsSeen (scopes_of tree) m) answer) block_is nameless)
+
+      -- what is known of descriptors and references holds as it did
+      known_now : AreKnown sc w' lay (IsInReach w' (part' ∷ outer)) part.instance st.held
+      known_now =
+          known_after tree code texts stored w' lay lay p (suc (length frames.frame.lower)) stay part outer new.below frames.frame frames.around frame_low st.held
+          (known_stored tree code texts w lay p i x at with_cells high laid far k place_is word many short keeps facts fewer changes (part ∷ outer) part.instance st.held st.held_are)
+
+      abbrev At : ℕ → Type 0
+      At c = CoreAt sc st.held code (texts.placed (segment_of sc.blocks c)) (run_level (is_evaluation part.purpose) (level_of (block_numbered sc.blocks c))) pc slots new
+
+      abbrev Comes : ℕ → Yields → Type 0
+      Comes c y =
+          ComesTo sc (in_routine y (context_of code texts sc c)) (texts.placed (segment_of sc.blocks c)) (run_level (is_evaluation part.purpose) (level_of (block_numbered sc.blocks c))) (most_around tree c) (resume sc part.rest answer) pc slots
+
+      pub own_goes_along : (after : Image) → HasCore after p (over (put word core.below k) (record { below = core.below; words = words; registers = registers })) → size (record { below = core.below; words = words; registers = registers }) ≤ stack_limit →
+          CanClimb (scopes_of tree) (with_process (stored_world w i x at with_cells) p (record q { todo = record part { rest = resume (scopes_of tree) part.rest answer } ∷ outer; state = state })) →
+          AreLaid (with_process (stored_world w i x at with_cells) p (record q { todo = record part { rest = resume (scopes_of tree) part.rest answer } ∷ outer; state = state })) lay →
+          EventsStay w (with_process (stored_world w i x at with_cells) p (record q { todo = record part { rest = resume (scopes_of tree) part.rest answer } ∷ outer; state = state })) →
+          Living tree code texts (with_process (stored_world w i x at with_cells) p (record q { todo = record part { rest = resume (scopes_of tree) part.rest answer } ∷ outer; state = state })) lay after p
+          (record q { todo = record part { rest = resume (scopes_of tree) part.rest answer } ∷ outer; state = state })
+      own_goes_along after has small climb laid' events_stay =
+          living_of tree code texts w' lay after climb laid' fragments p q' part' outer bound new new (record {
+            todo = refl;
+            has = has;
+            critical = subst (λ (r : Registers). CriticalIs lay q.critical r.critical) (sym frame_is.is) s.critical;
+            task = subst (λ (r : Registers). TaskIs sc w' lay q.task r.task) (sym frame_is.is) (task_stays sc w w' lay lay events_stay (λ j f there. there) q.task core.registers.task s.task);
+            sees = ap (λ (r : Registers). place_at r.display 0) frame_is.is ∙ s.sees;
+            small = omega (arith, small, as_high);
+            begun = 0;
+            begins = steps_none sc st.held code (text_in tree texts w part) (level_in tree w part) (most_in tree w part) bound pc slots new core_at few room';
+            frame = frame';
+            around = still.around;
+            counted = ap (λ (r : Registers). r.cells) frame_is.is ∙ st.counted ∙ sym frames.cells ∙ sym (ap length still.cells_are);
+            chained = subst (λ d. IsChained sc w' lay part.instance (names_in tree w' part) d) (sym (ap (λ (r : Registers). r.display) frame_is.is))
+                (subst (λ (m : ℕ). IsChained sc w' lay part.instance (level_of (block_numbered sc.blocks m)) core.registers.display) block_is chained);
+            top = ap (λ (r : Registers). place_at r.display (level_in tree w' part)) frame_is.is
+                ∙ ap (λ (m : ℕ). place_at core.registers.display (run_level (is_evaluation part.purpose) (level_of (block_numbered sc.blocks m)))) (sym block_is)
+                ∙ st.top
+                ∙ ap (λ (m : ℕ). Some (place p m)) (sym (still_low tree code texts stored w' lay lay p (suc (length frames.frame.lower)) stay part outer new.below frames.frame still ∙ frames.lower));
+            segment_is = ap (λ (r : Registers). r.segment) frame_is.is ∙ st.segment_is ∙ ap (λ (m : ℕ). segment_of sc.blocks m) block_is;
+            pc = pc;
+            slots = slots;
+            known = st.held;
+            known_are = known_now;
+            at = subst At block_is core_at;
+            held = subst (λ (m : ℕ). length slots ≤ most_around tree m) block_is few;
+            comes = subst (λ (m : ℕ). Comes m still.frame.gives) block_is (subst (λ (y : Yields). Comes b y) (sym (still.gives_are ∙ frames.gives)) comes);
+            reaches = reaching.all refl;
+            room = subst (λ (m : ℕ). length new.below + most_around tree m ≤ bound) block_is room';
+            light = light';
+          })

@@ -1,24 +1,8 @@
 -- The frame of an instance that stands, from which another instance is entered: it lies in whatever stack, as low as stacks are, and its display can be rebuilt.
 use Rattle.std.proofs.Common.{◌≡◌, sym, ap, ◌∙◌, subst, ℕ, ◌<◌, ◌≤◌, length, arith}
-use Rattle.algol_tree.specs.Plain.{PProgram}
-use Rattle.algol_tree.specs.Scopes.{Scopes, scopes_of}
-use Rattle.algol_meaning.specs.World.{Instance, World}
-use Rattle.algol_standing.specs.Worlds.{IsStanding, IsWhole}
-use Rattle.algol_standing.specs.Fitting.{IsOk}
-use Rattle.b67_word.specs.declared.Place.{Place}
-use Rattle.b67_segment.specs.declared.code.Code.{Code}
-use Rattle.b67_store.specs.Store.{stack_limit}
-use Rattle.b67_table.specs.Chains.{place}
-use Rattle.b67_table.specs.Image.{Image}
-use Rattle.b67_table.specs.Limits.{most_processes}
-use Rattle.b67_templates.specs.Programs.{Texts}
-use Rattle.b67_faithful.proofs.Contradictions.{some_same}
-use Rattle.b67_frames.specs.Arrays.{Layout}
-use Rattle.b67_frames.proofs.Linked.{Linked, linked}
-use Rattle.b67_frames.proofs.OwnCells.{OwnCells, HasCells, framed_cells}
-use Rattle.b67_scenes.specs.Pictures.{PicturesBy}
-use Rattle.b67_scenes.proofs.ArrayPlaces.{number_within}
-use Rattle.b67_scenes.proofs.Finding.{Found, found_laid, two_below, find, entered_of}
+use Rattle.b67_pictures.proofs.Prelude.{PProgram, Scopes, scopes_of, Instance, World, numbered_small, IsOk, IsStanding, IsWhole, Place, Code, stack_limit, place, Image, most_processes, Texts, some_same, Linked, OwnCells, HasCells, framed_cells, Layout, Found, found_laid, two_below, find, PicturesBy}
+use Rattle.b67_frames.proofs.Linked.{linked}
+use Rattle.b67_scenes.proofs.Finding.{entered_of}
 use Rattle.b67_scenes.proofs.Worlds.{placed_of}
 
 module _ (tree : PProgram) (code : Code) (texts : Texts) (w : World) (lay : Layout) (img : Image) (by : PicturesBy tree code texts w lay img) (ok : IsOk (scopes_of tree) IsWhole w) (i : ℕ) (st : IsStanding w i) where
@@ -48,7 +32,7 @@ module _ (tree : PProgram) (code : Code) (texts : Texts) (w : World) (lay : Layo
     linked_few = few_there (find tree code texts w lay img by ok i st)
       where
         few_there : FoundThere → (l.at).stack ≤ most_processes
-        few_there f = omega (arith, ap (λ (g : Place). g.stack) (found_linked f), number_within w.processes f.number f.process f.is, by.few)
+        few_there f = omega (arith, ap (λ (g : Place). g.stack) (found_linked f), numbered_small w.processes f.number f.process f.is, by.few)
 
     pub linked_low : (l.at).at < stack_limit
     linked_low = low_there (find tree code texts w lay img by ok i st)

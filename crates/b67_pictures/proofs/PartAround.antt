@@ -1,200 +1,158 @@
 -- The part around a frame that was left goes on, with what is given.
 use Rattle.std.proofs.Common.{◌≡◌, refl, sym, ap, ◌∙◌, subst, ℕ, ◌+◌, ◌≤◌, List, ◌∷◌, length, Option, Some, arith, ◌<◌}
-use Rattle.std.specs.Prelude.{slice_get}
-use Rattle.b67_list.specs.Numbered.{numbered}
-use Rattle.algol_tree.specs.Blocks.{block_numbered}
-use Rattle.algol_tree.specs.Cells.{level_of}
-use Rattle.algol_tree.specs.Plain.{PProgram}
-use Rattle.algol_tree.specs.Scopes.{Scopes, scopes_of}
-use Rattle.algol_meaning.specs.Rest.{Answer}
-use Rattle.algol_meaning.specs.World.{Process, Part, World, instance_at, ancestor}
-use Rattle.algol_meaning.specs.Asks.{resume}
-use Rattle.algol_meaning.specs.Critical.{is_evaluation}
-use Rattle.algol_paths.specs.Blocks.{IsSeen}
-use Rattle.algol_paths.specs.Laws.{RestsKeepToTheirText, AllIsMadeInOrder}
-use Rattle.algol_paths.specs.Segments.{segment_of}
-use Rattle.b67_word.specs.declared.Place.{Place}
-use Rattle.b67_word.specs.Word.{Word}
-use Rattle.b67_control.specs.Display.{place_at}
-use Rattle.b67_segment.specs.declared.code.Code.{Code}
-use Rattle.b67_store.specs.Store.{stack_limit}
-use Rattle.b67_table.specs.Chains.{place}
-use Rattle.b67_table.specs.Image.{Image}
-use Rattle.b67_table.specs.Private.{frame, at_or}
-use Rattle.b67_templates.specs.Code.{in_routine}
-use Rattle.b67_templates.specs.Contexts.{Yields}
-use Rattle.b67_templates.specs.Programs.{Texts, context_of}
-use Rattle.b67_standing.specs.Stepping.{Slot}
-use Rattle.b67_standing.specs.Standing.{Gives, ComesTo}
-use Rattle.b67_cores.specs.Cores.{Core, size, HasCore}
-use Rattle.b67_cores.specs.Slots.{Known, newest, SlotsAre}
-use Rattle.b67_cores.specs.Stretches.{CoreAt, FragmentsArePerformed}
-use Rattle.b67_faithful.specs.Weight.{weight}
+use Rattle.b67_pictures.proofs.Prelude.{slice_get, numbered, block_numbered, level_of, PProgram, Scopes, scopes_of, resume, is_evaluation, Answer, Process, Part, World, instance_at, ancestor, IsSeen, RestsKeepToTheirText, AllIsMadeInOrder, segment_of, Word, Place, place_at, Code, stack_limit, place, Image, frame, at_or, in_routine, Yields, Texts, context_of, Gives, ComesTo, Slot, Core, size, HasCore, Known, newest, SlotsAre, CoreAt, FragmentsArePerformed, weight, IsSameBut, HasText, HaveTexts, makes, unmade, StayBelow, known_after, frame_resumed, AreKnown, IsInReach, IsChained, most_around, Frame, Waits, run_level, all_laid, steps_none, living_of, CanClimb, InnerActor, weight_of, text_in, level_in, most_in, FrameStill, frame_still, still_low, same_weight, context_in, names_in, task_stays, Living}
 use Rattle.b67_rows.proofs.LeaveRow.{without_frame}
-use Rattle.b67_rows.proofs.Parting.{IsSameBut}
-use Rattle.b67_rows.proofs.Spelled.{HasText, HaveTexts}
-use Rattle.b67_rows.proofs.Unmade.{makes, unmade}
-use Rattle.b67_frames.specs.Arrays.{Layout, AreKnown}
-use Rattle.b67_frames.specs.Frames.{IsInReach, IsChained, most_around, Frame, Waits, run_level}
-use Rattle.b67_frames.proofs.Resumed.{frame_resumed}
-use Rattle.b67_frames.proofs.Lying.{StayBelow, known_after}
-use Rattle.b67_scenes.specs.Pictures.{Living}
 use Rattle.b67_scenes.specs.Reaches as reaching
-use Rattle.b67_scenes.proofs.Ancestors.{all_laid}
-use Rattle.b67_scenes.proofs.Landing.{steps_none, living_of}
-use Rattle.b67_scenes.proofs.Paths.{CanClimb}
-use Rattle.b67_scenes.proofs.Scene.{Scene}
-use Rattle.b67_scenes.proofs.Tasks.{task_stays, events_left}
-use Rattle.b67_scenes.proofs.Stage.{weight_of}
-use Rattle.b67_scenes.proofs.Staying.{text_in, level_in, most_in, FrameStill, frame_still, still_low, same_weight, context_in, names_in}
+use Rattle.b67_scenes.proofs.Tasks.{events_left}
 use Rattle.b67_scenes.proofs.Stuffed.{known_both}
 use Rattle.b67_pictures.proofs.LeavingWords as leaving
 use Rattle.b67_pictures.proofs.LeavingWords.{IsGiven, known_given, low, height, top, hung, shown_home, nameless, words_are, same_newest, one_more, few}
 
 module _ (tree : PProgram) (code : Code) (texts : Texts) (stand : HaveTexts tree code texts) (fragments : FragmentsArePerformed) (keeps : RestsKeepToTheirText) (order : AllIsMadeInOrder)
-    (w : World) (lay : Layout) (img : Image) (p : ℕ) (q : Process) (part next : Part) (parts : List Part) (bound : ℕ) (core : Core)
-    (s : Scene tree code texts w lay img p q part (next ∷ parts) bound core)
-    (r : Answer) (given : Option Word) (g : IsGiven s.stands.frame.gives r given) (gives_it : Gives s.stands.frame.gives r)
-    (known_there : AreKnown (scopes_of tree) w lay (IsInReach w (next ∷ parts)) next.instance (known_given s.stands.frame.gives r given)) where
-  abbrev sc : Scopes
-  sc = scopes_of tree
+    (actor : InnerActor tree code texts) where
+  open actor use {w, lay, p, q, next, parts, core, s}
 
-  abbrev u : Waits tree code texts w lay p next parts s.stands.frame.lower s.stands.frame.mark s.stands.frame.control s.stands.frame.gives
-  u = s.around.0
+  module _ (r : Answer) (given : Option Word) (g : IsGiven s.stands.frame.gives r given) (gives_it : Gives s.stands.frame.gives r)
+      (known_there : AreKnown (scopes_of tree) w lay (IsInReach w (next ∷ parts)) next.instance (known_given s.stands.frame.gives r given)) where
+    abbrev sc : Scopes
+    sc = scopes_of tree
 
-  abbrev home : ℕ
-  home = length u.frame.lower
+    abbrev u : Waits tree code texts w lay p next parts s.stands.frame.lower s.stands.frame.mark s.stands.frame.control s.stands.frame.gives
+    u = s.around.0
 
-  abbrev f : ℕ
-  f = length s.stands.frame.lower
+    abbrev home : ℕ
+    home = length u.frame.lower
 
-  abbrev slots : List Slot
-  slots = leaving.slots tree code texts w lay img p q part next parts bound core s r given g
+    abbrev f : ℕ
+    f = length s.stands.frame.lower
 
-  abbrev words : List Word
-  words = leaving.words tree code texts w lay img p q part next parts bound core s r given g
+    abbrev slots : List Slot
+    slots = leaving.slots tree code texts actor r given g
 
-  abbrev held : List Known
-  held = leaving.held tree code texts w lay img p q part next parts bound core s r given g
+    abbrev words : List Word
+    words = leaving.words tree code texts actor r given g
 
-  abbrev display : List (Option Place)
-  display = leaving.display tree code texts w lay img p q part next parts bound core s
+    abbrev held : List Known
+    held = leaving.held tree code texts actor r given g
 
-  -- ---- the part, its process, and its core
+    abbrev display : List (Option Place)
+    display = leaving.display tree code texts actor
 
-  abbrev pub part' : Part
-  part' = record next { rest = resume sc next.rest r }
+    -- ---- the part, its process, and its core
 
-  abbrev pub q' : Process
-  q' = record q { todo = part' ∷ parts }
+    abbrev pub part' : Part
+    part' = record next { rest = resume sc next.rest r }
 
-  abbrev pub new : Core
-  new =
-      without_frame core u.below u.words (leaving.f' tree code texts w lay img p q part next parts bound core s)
-      (record { below = leaving.b tree code texts w lay img p q part next parts bound core s; display = display }) given
+    abbrev pub q' : Process
+    q' = record q { todo = part' ∷ parts }
 
-  frame_now : frame new.registers ≡ home
-  frame_now = ap at_or (shown_home tree code texts w lay img p q part next parts bound core s)
+    abbrev pub new : Core
+    new =
+        without_frame core u.below u.words (leaving.f' tree code texts actor)
+        (record { below = leaving.b tree code texts actor; display = display }) given
 
-  pub smaller : size new ≤ stack_limit
-  smaller =
-      omega (
-        arith,
-        height tree code texts w lay img p q part next parts bound core s,
-        top tree code texts w lay img p q part next parts bound core s,
-        one_more tree code texts w lay img p q part next parts bound core s r given g,
-        s.small,
-      )
+    frame_now : frame new.registers ≡ home
+    frame_now = ap at_or (shown_home tree code texts actor)
 
-  lowest : home < f
-  lowest = omega (arith, low tree code texts w lay img p q part next parts bound core s, height tree code texts w lay img p q part next parts bound core s)
+    pub smaller : size new ≤ stack_limit
+    smaller =
+        omega (
+          arith,
+          height tree code texts actor,
+          top tree code texts actor,
+          one_more tree code texts actor r given g,
+          s.small,
+        )
 
-  -- ---- in a world in which the instances are what they were, but for what was left
+    lowest : home < f
+    lowest = omega (arith, low tree code texts actor, height tree code texts actor)
 
-  module _ (w' : World) (climb : CanClimb (scopes_of tree) w') (as_many : length lay.places ≡ length w'.instances) (at_now : numbered w'.processes p ≡ Some q') (stay : StayBelow (scopes_of tree) w w' lay lay p f) (same_now : (j : ℕ) → IsSameBut (instance_at w' j) (instance_at w j))
-      (same_up : (up j : ℕ) → ancestor w' up j ≡ ancestor w up j) (now : Image) (has_here : HasCore now p new) where
-    still : FrameStill tree code texts w w' lay lay p f stay next parts u.below u.frame.cells u.frame.gives
-    still = frame_still tree code texts w w' lay lay p f stay next parts u.below u.frame s.around.1 lowest
+    -- ---- in a world in which the instances are what they were, but for what was left
 
-    block_now : (instance_at w next.instance).block ≡ (instance_at w' next.instance).block
-    block_now = sym (same_now next.instance).block
+    module _ (w' : World) (climb : CanClimb (scopes_of tree) w') (as_many : length lay.places ≡ length w'.instances) (at_now : numbered w'.processes p ≡ Some q') (stay : StayBelow (scopes_of tree) w w' lay lay p f) (same_now : (j : ℕ) → IsSameBut (instance_at w' j) (instance_at w j))
+        (same_up : (up j : ℕ) → ancestor w' up j ≡ ancestor w up j) (now : Image) (has_here : HasCore now p new) where
+      still : FrameStill tree code texts w w' lay lay p f stay next parts u.below u.frame.cells u.frame.gives
+      still = frame_still tree code texts w w' lay lay p f stay next parts u.below u.frame s.around.1 lowest
 
-    -- what is known of descriptors and references holds as it did
-    known_now : AreKnown sc w' lay (IsInReach w' (next ∷ parts)) next.instance held
-    known_now =
-        known_after tree code texts w w' lay lay p f stay next parts u.below u.frame s.around.1 lowest held
-        (known_both sc w lay (IsInReach w (next ∷ parts)) next.instance (known_given s.stands.frame.gives r given) u.held known_there u.held_are)
+      block_now : (instance_at w next.instance).block ≡ (instance_at w' next.instance).block
+      block_now = sym (same_now next.instance).block
 
-    text : HasText code texts (segment_of sc.blocks ((instance_at w next.instance).block))
-    text = stand ((instance_at w next.instance).block)
+      -- what is known of descriptors and references holds as it did
+      known_now : AreKnown sc w' lay (IsInReach w' (next ∷ parts)) next.instance held
+      known_now =
+          known_after tree code texts w w' lay lay p f stay next parts u.below u.frame s.around.1 lowest held
+          (known_both sc w lay (IsInReach w (next ∷ parts)) next.instance (known_given s.stands.frame.gives r given) u.held known_there u.held_are)
 
-    core_at : CoreAt sc held code (text_in tree texts w next) (level_in tree w next) u.pc slots new
-    core_at =
-        record {
-          segment = text.segment;
-          there = ap (λ (n : ℕ). slice_get code.segments n) u.segment_is ∙ text.there;
-          spells = text.spells;
-          level_is = u.level_is;
-          place_is = u.place_is;
-          is = has_here.is;
-          mark_is = same_newest tree code texts w lay img p q part next parts bound core s r given g ∙ ap (λ (n : ℕ). newest n (length u.below) slots) (sym frame_now);
-          words_are = subst (λ (n : ℕ). SlotsAre sc held (level_in tree w next) n (length u.below) slots words) (sym frame_now) (words_are tree code texts w lay img p q part next parts bound core s r given g);
-        }
+      text : HasText code texts (segment_of sc.blocks ((instance_at w next.instance).block))
+      text = stand ((instance_at w next.instance).block)
 
-    few_now : length slots ≤ most_in tree w next
-    few_now = few tree code texts w lay img p q part next parts bound core s r given g
+      core_at : CoreAt sc held code (text_in tree texts w next) (level_in tree w next) u.pc slots new
+      core_at =
+          record {
+            segment = text.segment;
+            there = ap (λ (n : ℕ). slice_get code.segments n) u.segment_is ∙ text.there;
+            spells = text.spells;
+            level_is = u.level_is;
+            place_is = u.place_is;
+            is = has_here.is;
+            mark_is = same_newest tree code texts actor r given g ∙ ap (λ (n : ℕ). newest n (length u.below) slots) (sym frame_now);
+            words_are = subst (λ (n : ℕ). SlotsAre sc held (level_in tree w next) n (length u.below) slots words) (sym frame_now) (words_are tree code texts actor r given g);
+          }
 
-    chained_now : IsChained sc w' lay next.instance (names_in tree w' next) display
-    chained_now =
-        subst (λ (j : ℕ). IsChained sc w' lay next.instance (level_of (block_numbered sc.blocks j)) display) block_now
-        (λ up h. (hung tree code texts w lay img p q part next parts bound core s).chained up h ∙ ap (λ (j : ℕ). numbered lay.places j) (sym (same_up up next.instance)))
+      few_now : length slots ≤ most_in tree w next
+      few_now = few tree code texts actor r given g
 
-    abbrev frame_there : Frame tree code texts w' lay p part' parts u.below
-    frame_there = frame_resumed tree code texts w' lay p keeps order next parts u.below u.below still.frame refl (unmade next.rest (ap makes u.waits)) r (nameless tree code texts w lay img p q part next parts bound core s r given g (IsSeen sc ((instance_at w' next.instance).block)))
+      chained_now : IsChained sc w' lay next.instance (names_in tree w' next) display
+      chained_now =
+          subst (λ (j : ℕ). IsChained sc w' lay next.instance (level_of (block_numbered sc.blocks j)) display) block_now
+          (λ up h. (hung tree code texts actor).chained up h ∙ ap (λ (j : ℕ). numbered lay.places j) (sym (same_up up next.instance)))
 
-    top_now : place_at display (level_in tree w' next) ≡ Some (place p (length still.frame.lower))
-    top_now =
-        ap (λ (j : ℕ). place_at display (run_level (is_evaluation next.purpose) (level_of (block_numbered sc.blocks j)))) (sym block_now)
-        ∙ ap (place_at display) (sym u.level_is)
-        ∙ shown_home tree code texts w lay img p q part next parts bound core s
-        ∙ ap (λ (n : ℕ). Some (place p n)) (sym (still_low tree code texts w w' lay lay p f stay next parts u.below u.frame still))
+      abbrev frame_there : Frame tree code texts w' lay p part' parts u.below
+      frame_there = frame_resumed tree code texts w' lay p keeps order next parts u.below u.below still.frame refl (unmade next.rest (ap makes u.waits)) r (nameless tree code texts actor r given g (IsSeen sc ((instance_at w' next.instance).block)))
 
-    abbrev bound' : ℕ
-    bound' = length u.below + most_in tree w next
+      top_now : place_at display (level_in tree w' next) ≡ Some (place p (length still.frame.lower))
+      top_now =
+          ap (λ (j : ℕ). place_at display (run_level (is_evaluation next.purpose) (level_of (block_numbered sc.blocks j)))) (sym block_now)
+          ∙ ap (place_at display) (sym u.level_is)
+          ∙ shown_home tree code texts actor
+          ∙ ap (λ (n : ℕ). Some (place p n)) (sym (still_low tree code texts w w' lay lay p f stay next parts u.below u.frame still))
 
-    light' : bound' + 3 ≤ weight tree w' p
-    light' =
-        subst (λ (n : ℕ). bound' + 3 ≤ n)
-        (sym (same_weight tree w w' (next ∷ parts) (λ j own. record { block = (same_now j).block; cells = ap length (same_now j).cells }))
-        ∙ sym (weight_of tree w' p q' (part' ∷ parts) at_now refl)) u.light
+      abbrev bound' : ℕ
+      bound' = length u.below + most_in tree w next
 
-    pub living_now : Living tree code texts w' lay now p q'
-    living_now =
-        living_of tree code texts w' lay now climb (all_laid w' lay climb.facts as_many) fragments p q' part' parts bound' new new (record {
-          todo = refl;
-          has = has_here;
-          critical = s.critical;
-          task = task_stays sc w w' lay lay (events_left w w' same_now) (λ j f laid. laid) q.task core.registers.task s.task;
-          sees = refl;
-          small = smaller;
-          begun = 0;
-          begins = steps_none sc held code (text_in tree texts w next) (level_in tree w next) (most_in tree w next) bound' u.pc slots new core_at few_now (omega arith);
-          frame = frame_there;
-          around = still.around;
-          counted = u.cells_are ∙ sym (ap length still.cells_are);
-          chained = chained_now;
-          top = top_now;
-          segment_is = u.segment_is ∙ ap (segment_of sc.blocks) block_now;
-          pc = u.pc;
-          slots = slots;
-          known = held;
-          known_are = known_now;
-          at = subst (λ (j : ℕ). CoreAt sc held code (texts.placed (segment_of sc.blocks j)) (run_level (is_evaluation next.purpose) (level_of (block_numbered sc.blocks j))) u.pc slots new) block_now core_at;
-          held = subst (λ (j : ℕ). length slots ≤ most_around tree j) block_now few_now;
-          comes = subst (λ (y : Yields). ComesTo sc (context_in tree code texts w' part' y) (text_in tree texts w' part') (level_in tree w' part') (most_in tree w' part') part'.rest u.pc slots) (sym still.gives_are)
-              (subst (λ (j : ℕ). ComesTo sc (in_routine u.frame.gives (context_of code texts sc j)) (texts.placed (segment_of sc.blocks j)) (run_level (is_evaluation next.purpose) (level_of (block_numbered sc.blocks j))) (most_around tree j) (resume sc next.rest r) u.pc slots) block_now
-              (u.returns r gives_it));
-          reaches = reaching.all refl;
-          room = subst (λ (j : ℕ). length u.below + most_around tree j ≤ bound') block_now (omega arith);
-          light = light';
-        })
+      light' : bound' + 3 ≤ weight tree w' p
+      light' =
+          subst (λ (n : ℕ). bound' + 3 ≤ n)
+          (sym (same_weight tree w w' (next ∷ parts) (λ j own. record { block = (same_now j).block; cells = ap length (same_now j).cells }))
+          ∙ sym (weight_of tree w' p q' (part' ∷ parts) at_now refl)) u.light
+
+      pub living_now : Living tree code texts w' lay now p q'
+      living_now =
+          living_of tree code texts w' lay now climb (all_laid w' lay climb.facts as_many) fragments p q' part' parts bound' new new (record {
+            todo = refl;
+            has = has_here;
+            critical = s.critical;
+            task = task_stays sc w w' lay lay (events_left w w' same_now) (λ j f laid. laid) q.task core.registers.task s.task;
+            sees = refl;
+            small = smaller;
+            begun = 0;
+            begins = steps_none sc held code (text_in tree texts w next) (level_in tree w next) (most_in tree w next) bound' u.pc slots new core_at few_now (omega arith);
+            frame = frame_there;
+            around = still.around;
+            counted = u.cells_are ∙ sym (ap length still.cells_are);
+            chained = chained_now;
+            top = top_now;
+            segment_is = u.segment_is ∙ ap (segment_of sc.blocks) block_now;
+            pc = u.pc;
+            slots = slots;
+            known = held;
+            known_are = known_now;
+            at = subst (λ (j : ℕ). CoreAt sc held code (texts.placed (segment_of sc.blocks j)) (run_level (is_evaluation next.purpose) (level_of (block_numbered sc.blocks j))) u.pc slots new) block_now core_at;
+            held = subst (λ (j : ℕ). length slots ≤ most_around tree j) block_now few_now;
+            comes = subst (λ (y : Yields). ComesTo sc (context_in tree code texts w' part' y) (text_in tree texts w' part') (level_in tree w' part') (most_in tree w' part') part'.rest u.pc slots) (sym still.gives_are)
+                (subst (λ (j : ℕ). ComesTo sc (in_routine u.frame.gives (context_of code texts sc j)) (texts.placed (segment_of sc.blocks j)) (run_level (is_evaluation next.purpose) (level_of (block_numbered sc.blocks j))) (most_around tree j) (resume sc next.rest r) u.pc slots) block_now
+                (u.returns r gives_it));
+            reaches = reaching.all refl;
+            room = subst (λ (j : ℕ). length u.below + most_around tree j ≤ bound') block_now (omega arith);
+            light = light';
+          })

@@ -1,73 +1,14 @@
 -- A procedure is entered.
 use Rattle.std.proofs.Common.{◌≡◌, ◌⊎◌, inl, inr, refl, sym, ap, ◌∙◌, ℕ, ◌+◌, ◌*◌, ◌≤◌, ◌<◌, List, ◌∷◌, length, Some, None, true, false, arith}
-use Rattle.b67_list.specs.Numbered.{numbered}
-use Rattle.algol_tree.specs.declared.tree.Kind.{Kind}
-use Rattle.algol_tree.specs.declared.tree.Named.{Named}
-use Rattle.algol_tree.specs.Plain.{PProgram, PBody}
-use Rattle.algol_tree.specs.Sorts.{Sort, is_variable, is_formal}
-use Rattle.algol_tree.specs.Blocks.{Block, block_numbered}
-use Rattle.algol_tree.specs.Cells.{level_of}
-use Rattle.algol_tree.specs.Scopes.{Scopes, scopes_of, use_of}
-use Rattle.algol_meaning.specs.Rest.{Answer, Given, entered}
-use Rattle.algol_meaning.specs.Value.{Cell}
-use Rattle.algol_meaning.specs.World.{Process, Part, procedure, lives, World, instance_at, ancestor}
-use Rattle.algol_meaning.specs.Asks.{Ask, nothing, enters, ask, resume}
-use Rattle.algol_meaning.specs.Choice.{choice_of, entered_procedure, given_cells}
-use Rattle.algol_meaning.specs.Settle.{block_of}
-use Rattle.algol_paths.specs.Blocks.{IsSeen, IsSeenAround, IsInner}
-use Rattle.algol_paths.specs.Laws.{RestsKeepToTheirText, AllIsMadeInOrder}
-use Rattle.algol_paths.specs.Segments.{is_procedure, segment_of}
-use Rattle.b67_word.specs.Word.{Word}
-use Rattle.b67_control.specs.declared.Pcw.{Pcw}
-use Rattle.b67_control.specs.Control.{as_irw, as_sirw, pcw_word}
-use Rattle.b67_control.proofs.ControlLaws.{as_sirw-other, as_pcw-pcw_word, kind_of-pcw_word}
-use Rattle.b67_ops.specs.declared.Couple.{Couple}
-use Rattle.b67_segment.specs.declared.code.Code.{Code}
-use Rattle.b67_scenes.specs.States.{StateIs}
-use Rattle.algol_paths.specs.Arrays.{DeclaredArray, Shape, shape_of}
-use Rattle.b67_table.specs.Image.{Image}
-use Rattle.b67_table.specs.Private.{frame}
-use Rattle.b67_templates.specs.Contexts.{Yields, yields_of, Context}
-use Rattle.b67_templates.specs.Cells.{Simple, parameter_cells, parameter_wants, procedures, Agrees, IsVariable, IsDeclaredArray, IsDeclaredEvent, IsProcedure}
-use Rattle.b67_templates.specs.Depths.{decls_depth, stmts_depth}
-use Rattle.b67_templates.specs.Fragments.{code_at}
-use Rattle.b67_templates.proofs.Few.{actuals_are_few}
-use Rattle.b67_templates.specs.Programs.{Texts, context_of, BodyAt, ProgramAt}
-use Rattle.b67_standing.specs.Laws.{BlocksStart}
-use Rattle.b67_standing.specs.Stepping.{Slot, reference, mark}
-use Rattle.b67_standing.specs.Standing.{ActionAt, Entered, Gives, pushed, ComesTo, CallsAt}
-use Rattle.b67_cores.specs.Cores.{Core}
-use Rattle.b67_cores.specs.Slots.{SlotIs}
-use Rattle.b67_cores.specs.Stretches.{BlocksBegin, FragmentsArePerformed}
-use Rattle.b67_faithful.specs.Faithful.{IsShort}
-use Rattle.b67_faithful.specs.Weight.{tokens_around}
-use Rattle.b67_templates.specs.Nested.{LiesNested, AreParameters}
-use Rattle.b67_rows.proofs.AskedEntries.{InReferred, InEntry, enters_seen, entered_in_bound}
+use Rattle.b67_pictures.proofs.Prelude.{Block, block_numbered, level_of, PProgram, PBody, Scopes, scopes_of, use_of, Sort, is_variable, is_formal, Kind, Named, Ask, nothing, enters, ask, resume, choice_of, given_cells, Answer, Given, block_of, Cell, instance_at, ancestor, DeclaredArray, Shape, shape_of, IsSeen, IsSeenAround, IsInner, RestsKeepToTheirText, AllIsMadeInOrder, is_procedure, segment_of, IsStanding, Word, as_sirw-other, as_pcw-pcw_word, kind_of-pcw_word, as_irw, as_sirw, pcw_word, Pcw, Couple, Code, get_within, frame, actuals_are_few, Simple, parameter_cells, parameter_wants, procedures, Agrees, IsVariable, IsDeclaredArray, IsDeclaredEvent, IsProcedure, Yields, yields_of, Context, decls_depth, stmts_depth, code_at, LiesNested, AreParameters, Texts, context_of, BodyAt, ProgramAt, BlocksStart, ActionAt, Entered, Gives, pushed, ComesTo, Slot, reference, mark, SlotIs, BlocksBegin, FragmentsArePerformed, IsShort, tokens_around, InReferred, enters_seen, AreFit, are_fit, fit_many, ActualsAre, length_mapped, makes, unmade, reference_read, controls_fit, AreGivenCells, given_are, simple_many, IsSeenMade, both_seen, up_complete, named_leads, event_leads, HasCells, variable_leads, named_from, LeadsTo, LeadsToEvent, LeadsToVariable, IsNamed, IsInReach, ArePlaced, block_controls, controls_count, most_around, IsComplete, Calls, part_there, scene_placed, made_or_around, AbleActor, actor_of, choice_is, text_in, level_in, context_in, most_in, names_in, Does}
+use Rattle.algol_meaning.specs.Rest.{entered}
+use Rattle.algol_meaning.specs.World.{procedure}
+use Rattle.algol_meaning.specs.Choice.{entered_procedure}
+use Rattle.b67_standing.specs.Standing.{CallsAt}
+use Rattle.b67_rows.proofs.AskedEntries.{InEntry, entered_in_bound}
 use Rattle.b67_rows.proofs.EnterProcedureRow.{procedure_leads, procedure_calls}
-use Rattle.b67_rows.proofs.GivenWords.{AreFit, are_fit, fit_many, ActualsAre}
-use Rattle.b67_rows.proofs.Numbers.{get_below}
-use Rattle.b67_rows.proofs.Segmented.{length_mapped}
-use Rattle.b67_rows.proofs.Unmade.{makes, unmade}
-use Rattle.b67_rows.proofs.Words.{reference_read}
-use Rattle.b67_frames.specs.Arrays.{Layout, named_from, LeadsTo, LeadsToEvent, LeadsToVariable, IsNamed}
-use Rattle.b67_frames.specs.Frames.{IsInReach, ArePlaced, block_controls, controls_count, most_around, IsComplete}
-use Rattle.b67_frames.proofs.ControlWords.{controls_fit}
-use Rattle.b67_frames.proofs.Formals.{AreGivenCells, given_are}
-use Rattle.b67_frames.proofs.FreshCells.{simple_many}
-use Rattle.b67_frames.proofs.OwnCells.{HasCells}
-use Rattle.b67_scenes.proofs.Led.{part_there, scene_placed}
 use Rattle.b67_pictures.proofs.ParentPlaces.{standing_cells, linked_few, linked_low}
-use Rattle.algol_standing.specs.Worlds.{IsStanding}
-use Rattle.b67_frames.proofs.NamedEvents.{event_leads}
-use Rattle.b67_frames.proofs.NamedArrays.{IsSeenMade, both_seen, up_complete, named_leads}
 use Rattle.b67_frames.proofs.Segmenting.{needs}
-use Rattle.b67_frames.proofs.VariablesGiven.{variable_leads}
-use Rattle.b67_scenes.proofs.Entries.{Calls}
-use Rattle.b67_scenes.proofs.Narrowing.{made_or_around}
-use Rattle.b67_scenes.proofs.Scene.{Scene}
-use Rattle.b67_scenes.proofs.Stage.{choice_is}
-use Rattle.b67_scenes.proofs.Staying.{text_in, level_in, context_in, most_in, names_in}
-use Rattle.b67_pictures.specs.Acting.{Does}
 use Rattle.b67_pictures.proofs.CalledProcedure.{CalledProcedure, called_procedure}
 use Rattle.b67_pictures.proofs.FrameEntering.{AreCells, Body, GoesOnBehind, entering}
 
@@ -80,221 +21,222 @@ HasRoomFor tree =
 
 module _ (tree : PProgram) (code : Code) (program : ProgramAt code tree) (nested : LiesNested tree) (short : IsShort tree code) (small : HasRoomFor tree)
     (fragments : FragmentsArePerformed) (begins_so : BlocksBegin) (starts : BlocksStart) (keeps : RestsKeepToTheirText) (order : AllIsMadeInOrder)
-    (w : World) (lay : Layout) (img : Image) (p : ℕ) (q : Process) (part : Part) (outer : List Part) (bound : ℕ) (core : Core)
-    (s : Scene tree code program.texts w lay img p q part outer bound core) (able_is : lives q.state ≡ true) (able_p : StateIs (scopes_of tree) w lay q.state (numbered img.states p))
-    (n : Named) (gs : List Given) (asks : ask part.rest ≡ enters n gs)
-    (a : ActionAt (scopes_of tree) (context_in tree code program.texts w part s.stands.frame.gives) (text_in tree program.texts w part) (level_in tree w part) (most_in tree w part) (enters n gs) s.stands.pc s.stands.slots)
-    (waits : (to : ℕ) (after : List Slot) (wanted : Yields) →
-    Entered (scopes_of tree) (context_in tree code program.texts w part s.stands.frame.gives) (text_in tree program.texts w part) (level_in tree w part) (most_in tree w part) (enters n gs) s.stands.pc s.stands.slots a to after wanted →
-    ask (resume (scopes_of tree) part.rest entered) ≡ nothing)
-    (returns : (to : ℕ) (after : List Slot) (wanted : Yields) →
-    Entered (scopes_of tree) (context_in tree code program.texts w part s.stands.frame.gives) (text_in tree program.texts w part) (level_in tree w part) (most_in tree w part) (enters n gs) s.stands.pc s.stands.slots a to after wanted →
-    (r : Answer) → Gives wanted r →
-    ComesTo (scopes_of tree) (context_in tree code program.texts w part s.stands.frame.gives) (text_in tree program.texts w part) (level_in tree w part) (most_in tree w part) (resume (scopes_of tree) (resume (scopes_of tree) part.rest entered) r) to (pushed wanted r after)) where
-  abbrev sc : Scopes
-  sc = scopes_of tree
+    (actor : AbleActor tree code program.texts) where
+  open actor use {w, lay, img, p, q, part, outer, core, s}
 
-  abbrev texts : Texts
-  texts = program.texts
+  module _ (n : Named) (gs : List Given) (asks : ask part.rest ≡ enters n gs)
+      (a : ActionAt (scopes_of tree) (context_in tree code program.texts w part s.stands.frame.gives) (text_in tree program.texts w part) (level_in tree w part) (most_in tree w part) (enters n gs) s.stands.pc s.stands.slots)
+      (waits : (to : ℕ) (after : List Slot) (wanted : Yields) →
+      Entered (scopes_of tree) (context_in tree code program.texts w part s.stands.frame.gives) (text_in tree program.texts w part) (level_in tree w part) (most_in tree w part) (enters n gs) s.stands.pc s.stands.slots a to after wanted →
+      ask (resume (scopes_of tree) part.rest entered) ≡ nothing)
+      (returns : (to : ℕ) (after : List Slot) (wanted : Yields) →
+      Entered (scopes_of tree) (context_in tree code program.texts w part s.stands.frame.gives) (text_in tree program.texts w part) (level_in tree w part) (most_in tree w part) (enters n gs) s.stands.pc s.stands.slots a to after wanted →
+      (r : Answer) → Gives wanted r →
+      ComesTo (scopes_of tree) (context_in tree code program.texts w part s.stands.frame.gives) (text_in tree program.texts w part) (level_in tree w part) (most_in tree w part) (resume (scopes_of tree) (resume (scopes_of tree) part.rest entered) r) to (pushed wanted r after)) where
+    abbrev sc : Scopes
+    sc = scopes_of tree
 
-  abbrev level : ℕ
-  level = level_in tree w part
+    abbrev texts : Texts
+    texts = program.texts
 
-  abbrev names : ℕ
-  names = names_in tree w part
+    abbrev level : ℕ
+    level = level_in tree w part
 
-  abbrev context : Context
-  context = context_in tree code texts w part s.stands.frame.gives
+    abbrev names : ℕ
+    names = names_in tree w part
 
-  abbrev block : ℕ
-  block = (instance_at w part.instance).block
+    abbrev context : Context
+    context = context_in tree code texts w part s.stands.frame.gives
 
-  abbrev callee : ℕ
-  callee = a.0
+    abbrev block : ℕ
+    block = (instance_at w part.instance).block
 
-  abbrev at : CallsAt sc (context_in tree code texts w part s.stands.frame.gives) (text_in tree texts w part) level (most_in tree w part) n gs callee s.stands.pc a.1 s.stands.slots a.2
-  at = a.3
+    abbrev callee : ℕ
+    callee = a.0
 
-  abbrev couple : Couple
-  couple = at.couple
+    abbrev at : CallsAt sc (context_in tree code texts w part s.stands.frame.gives) (text_in tree texts w part) level (most_in tree w part) n gs callee s.stands.pc a.1 s.stands.slots a.2
+    at = a.3
 
-  abbrev named : IsProcedure sc names n callee couple
-  named = at.procedure
+    abbrev couple : Couple
+    couple = at.couple
 
-  -- ---- the instance that holds the procedure
+    abbrev named : IsProcedure sc names n callee couple
+    named = at.procedure
 
-  abbrev up : ℕ
-  up = (use_of sc n).up
+    -- ---- the instance that holds the procedure
 
-  abbrev u : ℕ
-  u = (use_of sc n).block
+    abbrev up : ℕ
+    up = (use_of sc n).up
 
-  abbrev h : ℕ
-  h = ancestor w up part.instance
+    abbrev u : ℕ
+    u = (use_of sc n).block
 
-  -- the procedure is seen, and so are the arrays that are given to it
-  all_seen : InEntry (IsSeen sc block) n gs
-  all_seen = enters_seen (IsSeen sc block) n gs (IsInner sc block) (IsSeenAround sc block) (λ m (seen : IsSeenAround sc block m). seen.0) part.rest asks s.stands.frame.text
+    abbrev h : ℕ
+    h = ancestor w up part.instance
 
-  seen_there : IsSeen sc block n
-  seen_there = all_seen.0
+    -- the procedure is seen, and so are the arrays that are given to it
+    all_seen : InEntry (IsSeen sc block) n gs
+    all_seen = enters_seen (IsSeen sc block) n gs (IsInner sc block) (IsSeenAround sc block) (λ m (seen : IsSeenAround sc block m). seen.0) part.rest asks s.stands.frame.text
 
-  -- all is made there, or they are around
-  in_bound : IsComplete sc w lay part.instance ⊎ InEntry (IsSeenAround sc block) n gs
-  in_bound =
-      made_or_around tree code texts w lay img p q part outer bound core s
-      (entered_in_bound (IsSeen sc block) n gs (IsInner sc block) (IsSeenAround sc block) part.rest asks s.stands.frame.text)
-      (λ text. enters_seen (IsSeenAround sc block) n gs (λ (b : PBody). ⊥) (IsSeenAround sc block) (λ m (seen : IsSeenAround sc block m). seen) part.rest asks text)
+    seen_there : IsSeen sc block n
+    seen_there = all_seen.0
 
-  arrays_seen : InReferred (IsSeenMade tree w lay part) gs
-  arrays_seen = both_seen tree w lay part gs all_seen.1 (given_in_bound in_bound)
-    where
-      given_in_bound : IsComplete sc w lay part.instance ⊎ InEntry (IsSeenAround sc block) n gs → IsComplete sc w lay part.instance ⊎ InReferred (IsSeenAround sc block) gs
-      given_in_bound (inl whole) = inl whole
-      given_in_bound (inr around_it) = inr around_it.1
+    -- all is made there, or they are around
+    in_bound : IsComplete sc w lay part.instance ⊎ InEntry (IsSeenAround sc block) n gs
+    in_bound =
+        made_or_around tree code texts (actor_of s)
+        (entered_in_bound (IsSeen sc block) n gs (IsInner sc block) (IsSeenAround sc block) part.rest asks s.stands.frame.text)
+        (λ text. enters_seen (IsSeenAround sc block) n gs (λ (b : PBody). ⊥) (IsSeenAround sc block) (λ m (seen : IsSeenAround sc block m). seen) part.rest asks text)
 
-  -- ---- the procedure
+    arrays_seen : InReferred (IsSeenMade tree w lay part) gs
+    arrays_seen = both_seen tree w lay part gs all_seen.1 (given_in_bound in_bound)
+      where
+        given_in_bound : IsComplete sc w lay part.instance ⊎ InEntry (IsSeenAround sc block) n gs → IsComplete sc w lay part.instance ⊎ InReferred (IsSeenAround sc block) gs
+        given_in_bound (inl whole) = inl whole
+        given_in_bound (inr around_it) = inr around_it.1
 
-  called : CalledProcedure tree code program nested w lay img p q part outer bound core s n callee couple named seen_there
-  called = called_procedure tree code program nested w lay img p q part outer bound core s n callee couple named seen_there
+    -- ---- the procedure
 
-  open called use {parent, in_reach, linked, u_known, known, around_is, is_own, fits, segment_there, entry_lies, shown, level_low}
+    called : CalledProcedure tree code program nested (actor_of s) n callee couple named seen_there
+    called = called_procedure tree code program nested (actor_of s) n callee couple named seen_there
 
-  -- It has made all its arrays: no bound of an array calls a procedure of its own block.
-  complete : IsComplete sc w lay h
-  complete = up_complete sc w lay part.instance up (by_text in_bound) parent.complete
-    where
-      by_text : IsComplete sc w lay part.instance ⊎ InEntry (IsSeenAround sc block) n gs → IsComplete sc w lay part.instance ⊎ (1 ≤ up)
-      by_text (inl whole) = inl whole
-      by_text (inr around_it) = far around_it.0.1
-        where
-          far : (1 ≤ up) ⊎ (is_variable ((use_of sc n).sort) ≡ true) ⊎ (is_formal ((use_of sc n).sort) ≡ true) → IsComplete sc w lay part.instance ⊎ (1 ≤ up)
-          far (inl more) = inr more
-          far (inr (inl variable)) = absurd (let clash : false ≡ true = sym (ap is_variable named.sort_is) ∙ variable in cc)
-          far (inr (inr formal)) = absurd (let clash : false ≡ true = sym (ap is_formal named.sort_is) ∙ formal in cc)
+    open called use {parent, in_reach, linked, u_known, known, around_is, is_own, fits, segment_there, entry_lies, shown, level_low}
 
-  abbrev b : Block
-  b = block_numbered sc.blocks callee
+    -- It has made all its arrays: no bound of an array calls a procedure of its own block.
+    complete : IsComplete sc w lay h
+    complete = up_complete sc w lay part.instance up (by_text in_bound) parent.complete
+      where
+        by_text : IsComplete sc w lay part.instance ⊎ InEntry (IsSeenAround sc block) n gs → IsComplete sc w lay part.instance ⊎ (1 ≤ up)
+        by_text (inl whole) = inl whole
+        by_text (inr around_it) = far around_it.0.1
+          where
+            far : (1 ≤ up) ⊎ (is_variable ((use_of sc n).sort) ≡ true) ⊎ (is_formal ((use_of sc n).sort) ≡ true) → IsComplete sc w lay part.instance ⊎ (1 ≤ up)
+            far (inl more) = inr more
+            far (inr (inl variable)) = absurd (let clash : false ≡ true = sym (ap is_variable named.sort_is) ∙ variable in cc)
+            far (inr (inr formal)) = absurd (let clash : false ≡ true = sym (ap is_formal named.sort_is) ∙ formal in cc)
 
-  abbrev c : Pcw
-  c = code_at (segment_of sc.blocks callee) 0 (level_of b)
+    abbrev b : Block
+    b = block_numbered sc.blocks callee
 
-  -- ---- its reference
+    abbrev c : Pcw
+    c = code_at (segment_of sc.blocks callee) 0 (level_of b)
 
-  abbrev IsReference : Word → Type 0
-  IsReference y = SlotIs sc s.stands.held level (frame core.registers) (length core.below) (mark ∷ a.2) (reference couple) y
+    -- ---- its reference
 
-  reads : (y : Word) → IsReference y → as_irw y ≡ Some (record { level = couple.level; index = couple.index })
-  reads y is =
-      ap as_irw is
-      ∙ reference_read couple (omega (arith, named.level_is, level_low))
-      (omega (arith, named.index_is, get_below (procedures (block_numbered sc.blocks u).decls) named.number named.declared named.there, (nested.nested.each u u_known).few))
+    abbrev IsReference : Word → Type 0
+    IsReference y = SlotIs sc s.stands.held level (frame core.registers) (length core.below) (mark ∷ a.2) (reference couple) y
 
-  no_sirw : as_sirw (pcw_word c) ≡ None
-  no_sirw = as_sirw-other (pcw_word c) (λ k. let other = sym (kind_of-pcw_word c fits) ∙ k in cc)
+    reads : (y : Word) → IsReference y → as_irw y ≡ Some (record { level = couple.level; index = couple.index })
+    reads y is =
+        ap as_irw is
+        ∙ reference_read couple (omega (arith, named.level_is, level_low))
+        (omega (arith, named.index_is, get_within (procedures (block_numbered sc.blocks u).decls) named.number named.declared named.there, (nested.nested.each u u_known).few))
 
-  -- ---- what is given
+    no_sirw : as_sirw (pcw_word c) ≡ None
+    no_sirw = as_sirw-other (pcw_word c) (λ k. let other = sym (kind_of-pcw_word c fits) ∙ k in cc)
 
-  parameters : AreParameters sc b
-  parameters = (nested.nested.each callee known).parameters
+    -- ---- what is given
 
-  fit : AreFit sc context (parameter_wants sc callee) gs
-  fit = are_fit sc context (parameter_wants sc callee) gs at.fit
+    parameters : AreParameters sc b
+    parameters = (nested.nested.each callee known).parameters
 
-  given_many : length gs ≡ length (parameter_cells sc b)
-  given_many = fit_many sc context fit ∙ length_mapped (λ (c : Simple). c.wanted) (parameter_cells sc b)
+    fit : AreFit sc context (parameter_wants sc callee) gs
+    fit = are_fit sc context (parameter_wants sc callee) gs at.fit
 
-  abbrev calls : Calls tree code texts nested short w lay img p q part outer bound core s (parameter_wants sc callee) gs (reference couple) a.1 a.2 h callee 0
-  calls =
-      record {
-        lies = at.lies;
-        fit = fit;
-        given_few = omega (arith, given_many, simple_many sc b, (nested.nested.each callee known).few);
-        marks = refl;
-        stands = at.stands;
-        in_reach = in_reach;
-        complete = complete;
-        known = known;
-        around_is = around_is;
-        linked = linked;
-        few = linked_few tree code texts w lay img s.by s.ok h parent.stands linked;
-        low = linked_low tree code texts w lay img s.by s.ok h parent.stands linked;
-        segment = segment_there.0;
-        there = segment_there.1;
-        spells = program.spells (segment_of sc.blocks callee) segment_there.0 segment_there.1;
-        leads = λ m y is. procedure_leads code img core a.1 y m c linked.at couple.level couple.index (reads y is) (pcw_word c) shown entry_lies no_sirw (as_pcw-pcw_word c fits);
-        calls = λ y is. procedure_calls code img core a.1 y (record { entered = false; stack = 0; displacement = 0; df = 0 }) c linked.at couple.level couple.index (reads y is)
-            (pcw_word c) shown entry_lies no_sirw (as_pcw-pcw_word c fits);
-      }
+    given_many : length gs ≡ length (parameter_cells sc b)
+    given_many = fit_many sc context fit ∙ length_mapped (λ (c : Simple). c.wanted) (parameter_cells sc b)
 
-  -- ---- its code
+    abbrev calls : Calls tree code texts nested short (actor_of s) (parameter_wants sc callee) gs (reference couple) a.1 a.2 h callee 0
+    calls =
+        record {
+          lies = at.lies;
+          fit = fit;
+          given_few = omega (arith, given_many, simple_many sc b, (nested.nested.each callee known).few);
+          marks = refl;
+          stands = at.stands;
+          in_reach = in_reach;
+          complete = complete;
+          known = known;
+          around_is = around_is;
+          linked = linked;
+          few = linked_few tree code texts w lay img s.by s.ok h parent.stands linked;
+          low = linked_low tree code texts w lay img s.by s.ok h parent.stands linked;
+          segment = segment_there.0;
+          there = segment_there.1;
+          spells = program.spells (segment_of sc.blocks callee) segment_there.0 segment_there.1;
+          leads = λ m y is. procedure_leads code img core a.1 y m c linked.at couple.level couple.index (reads y is) (pcw_word c) shown entry_lies no_sirw (as_pcw-pcw_word c fits);
+          calls = λ y is. procedure_calls code img core a.1 y (record { entered = false; stack = 0; displacement = 0; df = 0 }) c linked.at couple.level couple.index (reads y is)
+              (pcw_word c) shown entry_lies no_sirw (as_pcw-pcw_word c fits);
+        }
 
-  code_there : BodyAt sc (context_of code texts sc callee) (texts.placed (segment_of sc.blocks callee)) (level_of b) b 0
-  code_there = program.bodies callee known (inr is_own)
+    -- ---- its code
 
-  room : decls_depth b.decls + stmts_depth b.stmts + controls_count sc callee + 1 ≤ 4 * tokens_around tree callee
-  room = omega (arith, small callee known (inr is_own), actuals_are_few sc b)
+    code_there : BodyAt sc (context_of code texts sc callee) (texts.placed (segment_of sc.blocks callee)) (level_of b) b 0
+    code_there = program.bodies callee known (inr is_own)
 
-  abbrev procedure_body : Body tree code texts nested short fragments begins_so keeps order w lay img p q part outer bound core s able_is able_p callee 0
-  procedure_body =
-      record {
-        ready = code_there.begin;
-        start = code_there.start;
-        ats = code_there.ats;
-        routines = (
-          code_there.routines,
-          controls_fit (texts.placed (segment_of sc.blocks callee)) (level_of b) (block_controls sc callee code_there.ats) code_there.cells.0 code_there.cells.1 code_there.cells.3,
-        );
-        items = (code_there.start, code_there.items);
-        over = code_there.over;
-        cells_at = code_there.cells;
-        comes = starts sc (context_of code texts sc callee) (texts.placed (segment_of sc.blocks callee)) (level_of b) (most_around tree callee) b code_there.start code_there.items (omega (arith, room)) (omega (arith, room));
-        small = omega (arith, room);
-      }
+    room : decls_depth b.decls + stmts_depth b.stmts + controls_count sc callee + 1 ≤ 4 * tokens_around tree callee
+    room = omega (arith, small callee known (inr is_own), actuals_are_few sc b)
 
-  abbrev behind : GoesOnBehind tree code texts nested short fragments begins_so keeps order w lay img p q part outer bound core s able_is able_p a.1 a.2 callee
-  behind = record { unmade = unmade part.rest (ap makes asks); waits = waits a.1 a.2 (yields_of b.result) (refl, refl, refl); returns = returns a.1 a.2 (yields_of b.result) (refl, refl, refl) }
+    abbrev procedure_body : Body tree code texts nested short fragments begins_so keeps order actor callee 0
+    procedure_body =
+        record {
+          ready = code_there.begin;
+          start = code_there.start;
+          ats = code_there.ats;
+          routines = (
+            code_there.routines,
+            controls_fit (texts.placed (segment_of sc.blocks callee)) (level_of b) (block_controls sc callee code_there.ats) code_there.cells.0 code_there.cells.1 code_there.cells.3,
+          );
+          items = (code_there.start, code_there.items);
+          over = code_there.over;
+          cells_at = code_there.cells;
+          comes = starts sc (context_of code texts sc callee) (texts.placed (segment_of sc.blocks callee)) (level_of b) (most_around tree callee) b code_there.start code_there.items (omega (arith, room)) (omega (arith, room));
+          small = omega (arith, room);
+        }
 
-  abbrev AreCellsThere : List Cell → List Word → Type 0
-  AreCellsThere given ws = AreCells tree code texts nested short fragments begins_so keeps order w lay img p q part outer bound core s able_is able_p callee given ws
+    abbrev behind : GoesOnBehind tree code texts nested short fragments begins_so keeps order actor a.1 a.2 callee
+    behind = record { unmade = unmade part.rest (ap makes asks); waits = waits a.1 a.2 (yields_of b.result) (refl, refl, refl); returns = returns a.1 a.2 (yields_of b.result) (refl, refl, refl) }
 
-  abbrev Reached : ℕ → Type 0
-  Reached = IsInReach w (part ∷ outer)
+    abbrev AreCellsThere : List Cell → List Word → Type 0
+    AreCellsThere given ws = AreCells tree code texts nested short fragments begins_so keeps order actor callee given ws
 
-  here_stands : IsStanding w part.instance
-  here_stands = part_there tree code texts w lay img p q part outer bound core s
+    abbrev Reached : ℕ → Type 0
+    Reached = IsInReach w (part ∷ outer)
 
-  placed : ArePlaced sc w lay
-  placed = scene_placed tree code texts w lay img p q part outer bound core s
+    here_stands : IsStanding w part.instance
+    here_stands = part_there tree code texts (actor_of s)
 
-  each : (j : ℕ) → IsStanding w j → HasCells sc w lay j
-  each j st = standing_cells tree code texts w lay img s.by s.ok j st
+    placed : ArePlaced sc w lay
+    placed = scene_placed tree code texts (actor_of s)
 
-  arrays_lead : (m : Named) → IsSeenMade tree w lay part m → (shape : Shape) (d : DeclaredArray) (y : Couple) → IsDeclaredArray sc names m d y → Agrees shape (shape_of d) → (x : Word) → IsNamed sc w lay Reached part.instance m x →
-      LeadsTo sc w lay Reached shape (named_from sc w lay part.instance m) x
-  arrays_lead m seen shape d y v agrees x h = named_leads tree w lay placed each part here_stands Reached names m seen shape d y v agrees x h
+    each : (j : ℕ) → IsStanding w j → HasCells sc w lay j
+    each j st = standing_cells tree code texts w lay img s.by s.ok j st
 
-  variables_lead : (m : Named) → IsSeenMade tree w lay part m → (kind : Kind) (y : Couple) → IsVariable sc names m kind y → (x : Word) → IsNamed sc w lay Reached part.instance m x →
-      LeadsToVariable sc w lay Reached kind (named_from sc w lay part.instance m) x
-  variables_lead m seen kind y v x h = variable_leads tree w lay placed part here_stands Reached names m seen.0 kind y v x h
+    arrays_lead : (m : Named) → IsSeenMade tree w lay part m → (shape : Shape) (d : DeclaredArray) (y : Couple) → IsDeclaredArray sc names m d y → Agrees shape (shape_of d) → (x : Word) → IsNamed sc w lay Reached part.instance m x →
+        LeadsTo sc w lay Reached shape (named_from sc w lay part.instance m) x
+    arrays_lead m seen shape d y v agrees x h = named_leads tree w lay placed each part here_stands Reached names m seen shape d y v agrees x h
 
-  events_lead : (m : Named) → IsSeenMade tree w lay part m → (y : Couple) → IsDeclaredEvent sc names m y → (x : Word) → IsNamed sc w lay Reached part.instance m x →
-      LeadsToEvent sc w lay Reached (named_from sc w lay part.instance m) x
-  events_lead m seen y v x h = event_leads tree w lay placed each part here_stands Reached names m seen y v x h
+    variables_lead : (m : Named) → IsSeenMade tree w lay part m → (kind : Kind) (y : Couple) → IsVariable sc names m kind y → (x : Word) → IsNamed sc w lay Reached part.instance m x →
+        LeadsToVariable sc w lay Reached kind (named_from sc w lay part.instance m) x
+    variables_lead m seen kind y v x h = variable_leads tree w lay placed part here_stands Reached names m seen.0 kind y v x h
 
-  -- the cells of its parameters
-  cells_there : (ws : List Word) → ActualsAre sc s.stands.held level (frame core.registers) (length core.below) (parameter_wants sc callee) gs ws → AreCellsThere (given_cells sc w p q part outer gs) ws
-  cells_there ws are =
-      let g : AreGivenCells sc context w lay p q part outer level (frame core.registers) (length core.below) Reached s.stands.held s.stands.held_are (IsSeenMade tree w lay part) arrays_lead events_lead variables_lead
-      (parameter_cells sc b) b.parameters gs ws =
-      given_are sc context w lay p q part outer level (frame core.registers) (length core.below) Reached s.stands.held s.stands.held_are (IsSeenMade tree w lay part) arrays_lead events_lead variables_lead fit
-      (parameter_cells sc b) b.parameters parameters.told refl arrays_seen ws are in
-      record { cells = g.cells; lead = g.lead }
+    events_lead : (m : Named) → IsSeenMade tree w lay part m → (y : Couple) → IsDeclaredEvent sc names m y → (x : Word) → IsNamed sc w lay Reached part.instance m x →
+        LeadsToEvent sc w lay Reached (named_from sc w lay part.instance m) x
+    events_lead m seen y v x h = event_leads tree w lay placed each part here_stands Reached names m seen y v x h
 
-  pub entering_procedure : Does tree code texts w img p
-  entering_procedure =
-      entering tree code texts nested short fragments begins_so keeps order w lay img p q part outer bound core s able_is able_p (parameter_wants sc callee) gs (reference couple) a.1 a.2 h callee 0 calls procedure refl procedure_body
-      behind (given_cells sc w p q part outer gs) cells_there
-      (choice_is sc w p q part outer s.at s.todo
-      ∙ ap (λ (k : Ask). choice_of sc w p q part outer k) asks
-      ∙ ap (λ (x : Sort). entered_procedure sc w p q part outer (block_of x) h (given_cells sc w p q part outer gs)) named.sort_is)
+    -- the cells of its parameters
+    cells_there : (ws : List Word) → ActualsAre sc s.stands.held level (frame core.registers) (length core.below) (parameter_wants sc callee) gs ws → AreCellsThere (given_cells sc w p q part outer gs) ws
+    cells_there ws are =
+        let g : AreGivenCells sc context w lay p q part outer level (frame core.registers) (length core.below) Reached s.stands.held s.stands.held_are (IsSeenMade tree w lay part) arrays_lead events_lead variables_lead
+        (parameter_cells sc b) b.parameters gs ws =
+        given_are sc context w lay p q part outer level (frame core.registers) (length core.below) Reached s.stands.held s.stands.held_are (IsSeenMade tree w lay part) arrays_lead events_lead variables_lead fit
+        (parameter_cells sc b) b.parameters parameters.told refl arrays_seen ws are in
+        record { cells = g.cells; lead = g.lead }
+
+    pub entering_procedure : Does tree code texts w img p
+    entering_procedure =
+        entering tree code texts nested short fragments begins_so keeps order actor (parameter_wants sc callee) gs (reference couple) a.1 a.2 h callee 0 calls procedure refl procedure_body
+        behind (given_cells sc w p q part outer gs) cells_there
+        (choice_is sc w p q part outer s.at s.todo
+        ∙ ap (λ (k : Ask). choice_of sc w p q part outer k) asks
+        ∙ ap (λ (x : Sort). entered_procedure sc w p q part outer (block_of x) h (given_cells sc w p q part outer gs)) named.sort_is)

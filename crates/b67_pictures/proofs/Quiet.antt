@@ -1,24 +1,11 @@
 -- Before its action a process has plain operators only; where its core is settled, its operator is its action. On the way there, or
 -- there, it may come to the stack limit.
 use Rattle.std.proofs.Common.{◌≡◌, ◌⊎◌, inl, inr, refl, sym, ◌∙◌, subst, ℕ, ◌<◌, ◌≤◌, Some, true, false, arith}
-use Rattle.b67_list.specs.Numbered.{numbered}
-use Rattle.algol_tree.specs.Plain.{PProgram}
-use Rattle.algol_tree.specs.Scopes.{scopes_of}
-use Rattle.algol_meaning.specs.World.{Process, lives, World}
-use Rattle.b67_segment.specs.declared.code.Code.{Code}
-use Rattle.b67_templates.specs.Programs.{Texts}
-use Rattle.b67_store.specs.Store.{stack_limit}
-use Rattle.b67_scenes.specs.States.{StateIs}
-use Rattle.b67_table.specs.Image.{Image}
+use Rattle.b67_pictures.proofs.Prelude.{numbered, PProgram, scopes_of, Process, lives, World, Code, stack_limit, Image, Plains, stay, go, plain, Texts, Core, HasCore, with_core, size, CoreStep, CoreSteps, onward, StepsArePerformed, StepsComeToLimit, Layout, Living, PicturesBy, StateIs, Does, gave, failed_by, stopped}
 use Rattle.b67_table.specs.Outcome.{gives}
-use Rattle.b67_table.specs.Table.{table, plain}
-use Rattle.b67_table.specs.Runs.{Plains, stay, go}
-use Rattle.b67_cores.specs.Cores.{Core, HasCore, with_core, size, CoreStep, CoreSteps, here, onward}
-use Rattle.b67_cores.specs.Stretches.{StepsArePerformed, StepsComeToLimit}
-use Rattle.b67_frames.specs.Arrays.{Layout}
-use Rattle.b67_scenes.specs.Pictures.{Living, PicturesBy}
+use Rattle.b67_table.specs.Table.{table}
+use Rattle.b67_cores.specs.Cores.{here}
 use Rattle.b67_scenes.proofs.Plainly.{steps_fit, stepped, within_or_beyond, Nearer, step_made, pictured_nearer, plain_pictured}
-use Rattle.b67_pictures.specs.Acting.{Does, gave, failed_by, stopped}
 use Rattle.b67_pictures.proofs.Releasing.{IsReleased}
 
 -- Its operator is its action, and releases whom that releases.

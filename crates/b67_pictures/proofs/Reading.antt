@@ -1,57 +1,20 @@
 -- A read of a variable, or of the variable that a parameter by name stands for.
-use Rattle.std.proofs.Common.{◌≡◌, refl, ap, ◌∙◌, ℕ, ◌+◌, List, ◌∷◌, length, Option, Some, Ok, arith, true}
-use Rattle.b67_list.specs.Numbered.{numbered}
-use Rattle.algol_tree.specs.declared.tree.Named.{Named}
-use Rattle.algol_tree.specs.Plain.{PProgram}
-use Rattle.algol_tree.specs.Scopes.{Scopes, scopes_of}
-use Rattle.algol_meaning.specs.Value.{Value, Cell}
-use Rattle.algol_meaning.specs.Rest.{Answer, value}
-use Rattle.algol_meaning.specs.World.{Process, Part, lives, World, instance_at, cell_at, value_in}
-use Rattle.b67_deeds.specs.declared.Letter.TheVariants.{Read}
-use Rattle.algol_meaning.specs.Asks.{Ask, reads, ask, resume}
-use Rattle.algol_meaning.specs.Choice.{choice_of, read_of, goes}
-use Rattle.algol_paths.specs.Blocks.{IsSeen, IsSeenAround, IsInner}
-use Rattle.algol_paths.specs.Laws.{RestsKeepToTheirText, AllIsMadeInOrder}
-use Rattle.b67_word.specs.declared.Place.{Place}
-use Rattle.b67_word.specs.Word.{Word}
+use Rattle.std.proofs.Common.{◌≡◌, refl, ap, ◌∙◌, ℕ, ◌+◌, List, ◌∷◌, length, Option, Some, Ok, arith}
+use Rattle.b67_pictures.proofs.Prelude.{Read, PProgram, Scopes, scopes_of, Named, Ask, reads, ask, resume, choice_of, read_of, goes, Answer, value, Value, Cell, instance_at, cell_at, value_in, IsSeen, IsSeenAround, IsInner, RestsKeepToTheirText, AllIsMadeInOrder, Word, Place, Code, place, couple_cell, operator_at, IsVariable, HasKind, AreNested, Texts, ActionAt, Acted, ComesTo, Slot, operand, Core, IsCore, with_core, ValueIs, CoreAt, FragmentsArePerformed, reads_seen, Reaches, reached_through, with_top, value_reached_class, action_not_plain, action_is, makes, unmade, value_tag, no_sirw, no_pcw, named_from, Found, operator_there, NameHome, ActualNamed, NameStands, for_variable, for_actual, name_stands, AbleActor, actor_of, choice_is, text_in, level_in, context_in, most_in, names_in, VariableHome, Does}
 use Rattle.b67_ops.specs.declared.Operator.TheVariants as ops
-use Rattle.b67_segment.specs.declared.code.Code.{Code}
-use Rattle.b67_templates.specs.Fragments.{HasKind}
-use Rattle.b67_templates.specs.Cells.{IsVariable, IsFormalName}
-use Rattle.b67_templates.specs.Programs.{Texts}
-use Rattle.b67_table.specs.Chains.{place}
+use Rattle.b67_templates.specs.Cells.{IsFormalName}
 use Rattle.b67_table.specs.declared.Cell as cells
-use Rattle.b67_table.specs.References.{cell_in, couple_cell}
-use Rattle.b67_scenes.specs.States.{StateIs}
-use Rattle.b67_table.specs.Image.{Image}
+use Rattle.b67_table.specs.References.{cell_in}
 use Rattle.b67_table.specs.Effect as effects
 use Rattle.b67_table.specs.Outcome as outcomes
-use Rattle.b67_table.specs.Table.{operator_at}
-use Rattle.b67_standing.specs.Stepping.{Slot, operand}
-use Rattle.b67_standing.specs.Standing.{ActionAt, Acted, ComesTo}
-use Rattle.b67_cores.specs.Cores.{Core, IsCore, with_core}
-use Rattle.b67_cores.specs.Stretches.{CoreAt, FragmentsArePerformed}
-use Rattle.b67_rows.proofs.Asked.{reads_seen}
-use Rattle.b67_rows.proofs.Rows.{action_not_plain, action_is}
-use Rattle.b67_frames.specs.Arrays.{Layout, named_from}
-use Rattle.b67_scenes.proofs.Finding.{Found}
-use Rattle.b67_scenes.proofs.Homes.{operator_there, named_at, Home, home}
-use Rattle.b67_scenes.proofs.Scene.{Scene}
-use Rattle.b67_scenes.proofs.Stage.{choice_is}
-use Rattle.b67_scenes.proofs.Staying.{text_in, level_in, context_in, most_in, names_in}
-use Rattle.b67_pictures.specs.Acting.{Does}
+use Rattle.b67_scenes.proofs.Homes.{named_at, Home, home}
 use Rattle.b67_pictures.proofs.InFrame.{does_in_frame}
-use Rattle.b67_cores.specs.Slots.{ValueIs}
-use Rattle.b67_templates.specs.Nested.{AreNested}
-use Rattle.b67_rows.proofs.Reaching.{Reaches, reached_there, reached_through}
-use Rattle.b67_rows.proofs.ReachingRows.{with_top, value_reached_class, value_read_raw, value_read_letter}
-use Rattle.b67_rows.proofs.Words.{value_tag, no_sirw, no_pcw}
-use Rattle.b67_rows.proofs.Unmade.{makes, unmade}
-use Rattle.b67_scenes.proofs.NameHomes.{NameHome, ActualNamed, NameStands, for_variable, for_actual, name_stands}
-use Rattle.b67_scenes.proofs.VariableHomes.{VariableHome}
+use Rattle.b67_rows.proofs.Reaching.{reached_there}
+use Rattle.b67_rows.proofs.ReachingRows.{value_read_raw, value_read_letter}
 
-module _ (tree : PProgram) (code : Code) (texts : Texts) (fragments : FragmentsArePerformed) (keeps : RestsKeepToTheirText) (order : AllIsMadeInOrder) (w : World) (lay : Layout) (img : Image)
-    (p : ℕ) (q : Process) (part : Part) (outer : List Part) (bound : ℕ) (core : Core) (s : Scene tree code texts w lay img p q part outer bound core) (able_is : lives q.state ≡ true) (able_p : StateIs (scopes_of tree) w lay q.state (numbered img.states p)) where
+module _ (tree : PProgram) (code : Code) (texts : Texts) (fragments : FragmentsArePerformed) (keeps : RestsKeepToTheirText) (order : AllIsMadeInOrder) (actor : AbleActor tree code texts) where
+  open actor use {w, lay, img, p, q, part, outer, core, s}
+
   abbrev sc : Scopes
   sc = scopes_of tree
 
@@ -100,7 +63,7 @@ module _ (tree : PProgram) (code : Code) (texts : Texts) (fragments : FragmentsA
 
       read_does : Does tree code texts w img p
       read_does =
-          does_in_frame tree code texts fragments keeps order w lay img p q part outer bound core s able_is able_p (unmade part.rest (ap makes asks)) (value v) tt w.output new refl (record { is = refl }) s.stands.held s.stands.held_are a.1 (operand v ∷ s.stands.slots)
+          does_in_frame tree code texts fragments keeps order actor (unmade part.rest (ap makes asks)) (value v) tt w.output new refl (record { is = refl }) s.stands.held s.stands.held_are a.1 (operand v ∷ s.stands.slots)
           core_at (omega (arith, a.3)) (answered (value v) a.1 (operand v ∷ s.stands.slots) (refl, refl, fits)) Read
           (action_not_plain code img p core s.has (ops.Valc a.2.0) a.1 there (value_reached_class code img p core s.has a.2.0 a.1 there from to shown x reaches))
           (value_read_raw code img p core s.has a.2.0 a.1 there from to shown x reaches tag (no_pcw x tag)
@@ -114,32 +77,32 @@ module _ (tree : PProgram) (code : Code) (texts : Texts) (fragments : FragmentsA
     -- ---- a variable
 
     abbrev IsHome : Type 0
-    IsHome = Home tree code texts w lay img p q part outer bound core s n a.0 a.2.0
+    IsHome = Home tree code texts (actor_of s) n a.0 a.2.0
 
     variable_read : IsHome → Does tree code texts w img p
     variable_read f =
-        let there : Found tree code texts w lay img (named_at tree code texts w lay img p q part outer bound core s n).instance = f.at.seen_there.found in
+        let there : Found tree code texts w lay img (named_at tree code texts (actor_of s) n).instance = f.at.seen_there.found in
         let from : cells.Cell = record { frame = place there.number (length there.lies.frame.lower); index = a.2.0.index } in
         read_does from from (ap (λ (o : Option Place). cell_in o a.2.0.index) f.shown) f.at.word
         (reached_there img.stacks from f.at.word f.lies (no_sirw f.at.word (value_tag f.at.value f.at.word f.at.word_is)))
         f.at.value f.at.word_is f.at.fits (ap (λ (c : Cell). read_of sc w p q part outer c) f.at.cell_is)
 
     pub reading : IsVariable sc (names_in tree w part) n a.0 a.2.0 → Does tree code texts w img p
-    reading v = variable_read (home tree code texts w lay img p q part outer bound core s n a.0 a.2.0 seen v)
+    reading v = variable_read (home tree code texts (actor_of s) n a.0 a.2.0 seen v)
 
     -- ---- a parameter by name
 
     module _ (nested : AreNested (scopes_of tree)) where
       abbrev IsNameHome : Type 0
-      IsNameHome = NameHome tree code texts nested w lay img p q part outer bound core s n a.0 a.2.0
+      IsNameHome = NameHome tree code texts nested (actor_of s) n a.0 a.2.0
 
       abbrev IsActualNamed : Type 0
-      IsActualNamed = ActualNamed tree code texts nested w lay img p q part outer bound core s n a.0 a.2.0
+      IsActualNamed = ActualNamed tree code texts nested (actor_of s) n a.0 a.2.0
 
       -- its cell has a reference to a variable
       name_read : IsNameHome → Does tree code texts w img p
       name_read f =
-          let v : VariableHome tree code texts w lay img p q part outer bound core s f.r a.0 f.denotes.found = f.named.home in
+          let v : VariableHome tree code texts (actor_of s) f.r a.0 f.denotes.found = f.named.home in
           let there : Found tree code texts w lay img f.r.instance = v.seen_there.found in
           let at : ℕ = length there.lies.frame.lower in
           let from : cells.Cell = record { frame = f.home.at; index = a.2.0.index } in
@@ -152,8 +115,8 @@ module _ (tree : PProgram) (code : Code) (texts : Texts) (fragments : FragmentsA
 
       -- that variable is read, or the actual is evaluated that the cell names
       pub reading_name : (IsActualNamed → Does tree code texts w img p) → IsFormalName sc (names_in tree w part) n a.0 a.2.0 → Does tree code texts w img p
-      reading_name evaluated v = by_name (name_stands tree code texts nested w lay img p q part outer bound core s n a.0 a.2.0 seen v)
+      reading_name evaluated v = by_name (name_stands tree code texts nested (actor_of s) n a.0 a.2.0 seen v)
         where
-          by_name : NameStands tree code texts nested w lay img p q part outer bound core s n a.0 a.2.0 → Does tree code texts w img p
+          by_name : NameStands tree code texts nested (actor_of s) n a.0 a.2.0 → Does tree code texts w img p
           by_name (for_variable f) = name_read f
           by_name (for_actual f) = evaluated f

@@ -1,69 +1,18 @@
 -- The read of a procedure's result, at its end.
-use Rattle.algol_meaning.specs.Critical.{is_evaluation}
 use Rattle.std.proofs.Common.{◌≡◌, refl, sym, ap, ◌∙◌, subst, ℕ, suc, ◌+◌, List, [], ◌∷◌, ◌++◌, length, Option, Some, None, Bool, true, false, Ok, arith}
-use Rattle.std.specs.Prelude.{if◌then◌else◌, ◌&&◌, ◌==◌, slice_get}
-use Rattle.std.proofs.lemmas.Bool.Decides.{nat_tests}
-use Rattle.b67_list.specs.Numbered.{numbered}
-use Rattle.algol_tree.specs.declared.tree.Kind.{Kind}
-use Rattle.algol_tree.specs.Sorts.{same_name}
-use Rattle.algol_tree.specs.Blocks.{Block, block_numbered}
-use Rattle.algol_tree.specs.Plain.{PProgram}
-use Rattle.algol_tree.specs.Scopes.{Scopes, scopes_of}
-use Rattle.algol_meaning.specs.Value.{Cell, simple}
-use Rattle.algol_meaning.specs.Rest.{Answer, value}
-use Rattle.algol_meaning.specs.World.{NamedCell, Instance, Process, Part, lives, World, instance_at, or_no_instance, cell_at, cell_in, value_in}
-use Rattle.b67_deeds.specs.declared.Letter.TheVariants.{Read}
-use Rattle.algol_meaning.specs.Asks.{Ask, reads_result, ask, resume}
-use Rattle.algol_meaning.specs.Choice.{choice_of, goes}
-use Rattle.algol_paths.specs.Laws.{RestsKeepToTheirText, AllIsMadeInOrder}
-use Rattle.b67_word.specs.Word.{Word}
+use Rattle.b67_pictures.proofs.Prelude.{if◌then◌else◌, slice_get, Read, Block, block_numbered, PProgram, Scopes, scopes_of, same_name, Kind, Ask, reads_result, ask, resume, choice_of, goes, is_evaluation, Answer, value, Cell, simple, NamedCell, Instance, instance_at, or_no_instance, cell_at, cell_in, value_in, RestsKeepToTheirText, AllIsMadeInOrder, Word, Code, word_at, place, display_at, operator_at, Simple, parameter_cells, result_of, variables, simple_cells, yields_of, AreNested, Texts, ActionAt, Acted, ComesTo, Slot, operand, Core, IsCore, with_core, CoreAt, FragmentsArePerformed, with_top, action_not_plain, action_is, get-front, get-behind, makes, unmade, value_tag, no_sirw, no_pcw, result_given, begins_core, owned_frame, asks_as_own, frame_gives, Owned, operator_there, shown_frame, AbleActor, actor_of, choice_is, text_in, level_in, context_in, most_in, Does}
+use Rattle.algol_meaning.proofs.Naming.{same_name-itself}
 use Rattle.b67_ops.specs.declared.Operator.TheVariants as ops
-use Rattle.b67_segment.specs.declared.code.Code.{Code}
-use Rattle.b67_store.specs.Store.{word_at}
-use Rattle.b67_table.specs.Chains.{place}
-use Rattle.b67_scenes.specs.States.{StateIs}
-use Rattle.b67_table.specs.Image.{Image}
 use Rattle.b67_table.specs.Effect as effects
 use Rattle.b67_table.specs.Outcome as outcomes
-use Rattle.b67_table.specs.Private.{display_at}
-use Rattle.b67_table.specs.Table.{operator_at}
 use Rattle.b67_templates.specs.Contexts as yielding
-use Rattle.b67_templates.specs.Contexts.{yields_of}
 use Rattle.b67_templates.specs.Cells as wants
-use Rattle.b67_templates.specs.Cells.{Simple, parameter_cells, result_of, variables, simple_cells, Found, found_from}
+use Rattle.b67_templates.specs.Cells.{Found, found_from}
 use Rattle.b67_templates.specs.Code.{ResultAt}
-use Rattle.b67_templates.specs.Programs.{Texts}
-use Rattle.b67_templates.specs.Nested.{AreNested}
-use Rattle.b67_standing.specs.Stepping.{Slot, operand}
-use Rattle.b67_standing.specs.Standing.{ActionAt, Acted, ComesTo}
-use Rattle.b67_cores.specs.Cores.{Core, IsCore, with_core}
-use Rattle.b67_cores.specs.Stretches.{CoreAt, FragmentsArePerformed}
-use Rattle.b67_rows.proofs.Rows.{action_not_plain, action_is}
-use Rattle.b67_rows.proofs.StackWords.{get-front, get-behind}
-use Rattle.b67_rows.proofs.Yielding.{result_given}
-use Rattle.b67_rows.proofs.ReachingRows.{with_top}
 use Rattle.b67_rows.proofs.ValueRow.{reads_value, value_raw, value_class}
-use Rattle.b67_rows.proofs.Words.{value_tag, no_sirw, no_pcw}
-use Rattle.b67_rows.proofs.Unmade.{makes, unmade}
-use Rattle.b67_frames.specs.Arrays.{Layout}
 use Rattle.b67_frames.proofs.FreshCells.{cells_joined}
-use Rattle.b67_frames.proofs.Linked.{begins_core}
 use Rattle.b67_frames.proofs.Variables.{Cell_of, variable_cell, cell_front, Holds_value, value_of_cell}
-use Rattle.b67_frames.proofs.Lying.{owned_frame, asks_as_own, frame_gives}
-use Rattle.b67_frames.specs.Frames.{Owned}
-use Rattle.b67_scenes.proofs.Homes.{operator_there}
-use Rattle.b67_scenes.proofs.Scene.{Scene, shown_frame}
-use Rattle.b67_scenes.proofs.Stage.{choice_is}
-use Rattle.b67_scenes.proofs.Staying.{text_in, level_in, context_in, most_in}
-use Rattle.b67_pictures.specs.Acting.{Does}
 use Rattle.b67_pictures.proofs.InFrame.{does_in_frame}
-
-itself : (n : ℕ) → (n == n) ≡ true
-itself n = grind (arith, nat_tests)
-
-same_itself : (name : List ℕ) → same_name name name ≡ true
-same_itself [] = refl
-same_itself (x ∷ xs) = ap (λ (t : Bool). t && same_name xs xs) (itself x) ∙ same_itself xs
 
 -- what is not found among the first cells is found after them
 found_behind : (from : ℕ) (ss others : List Simple) (name : List ℕ) (f : Found) → found_from from ss name ≡ None → found_from (from + length ss) others name ≡ Some f → found_from from (ss ++ others) name ≡ Some f
@@ -84,136 +33,137 @@ result_found sc b kind apart typed =
     ∙ found_behind 0 (parameter_cells sc b) (result_of b.result b.name ++ variables b.decls) b.name (record { number = far; cell = record { name = b.name; wanted = wants.value kind } }) apart
     (ap (λ (n : ℕ). found_from n (result_of b.result b.name ++ variables b.decls) b.name) (let same : 0 + far ≡ far = omega arith in same)
     ∙ ap (λ (o : Option Kind). found_from far (result_of o b.name ++ variables b.decls) b.name) typed
-    ∙ ap (λ (t : Bool). if t then Some (record { number = far; cell = record { name = b.name; wanted = wants.value kind } }) else found_from (far + 1) (variables b.decls) b.name) (same_itself b.name))
+    ∙ ap (λ (t : Bool). if t then Some (record { number = far; cell = record { name = b.name; wanted = wants.value kind } }) else found_from (far + 1) (variables b.decls) b.name) (same_name-itself b.name))
 
-module _ (tree : PProgram) (code : Code) (texts : Texts) (nested : AreNested (scopes_of tree)) (fragments : FragmentsArePerformed) (keeps : RestsKeepToTheirText) (order : AllIsMadeInOrder) (w : World) (lay : Layout) (img : Image)
-    (p : ℕ) (q : Process) (part : Part) (outer : List Part) (bound : ℕ) (core : Core) (s : Scene tree code texts w lay img p q part outer bound core) (able_is : lives q.state ≡ true) (able_p : StateIs (scopes_of tree) w lay q.state (numbered img.states p))
-    (name : List ℕ) (asks : ask part.rest ≡ reads_result name)
-    (a : ActionAt (scopes_of tree) (context_in tree code texts w part s.stands.frame.gives) (text_in tree texts w part) (level_in tree w part) (most_in tree w part) (reads_result name) s.stands.pc s.stands.slots)
-    (answered : (r : Answer) (at : ℕ) (after : List Slot) →
-    Acted (scopes_of tree) (context_in tree code texts w part s.stands.frame.gives) (text_in tree texts w part) (level_in tree w part) (most_in tree w part) (reads_result name) s.stands.pc s.stands.slots a r at after →
-    ComesTo (scopes_of tree) (context_in tree code texts w part s.stands.frame.gives) (text_in tree texts w part) (level_in tree w part) (most_in tree w part) (resume (scopes_of tree) part.rest r) at after) where
-  abbrev sc : Scopes
-  sc = scopes_of tree
+module _ (tree : PProgram) (code : Code) (texts : Texts) (nested : AreNested (scopes_of tree)) (fragments : FragmentsArePerformed) (keeps : RestsKeepToTheirText) (order : AllIsMadeInOrder) (actor : AbleActor tree code texts) where
+  open actor use {w, lay, img, p, q, part, outer, core, s}
 
-  -- the part has its frame's instance for its own
-  pub owns : is_evaluation part.purpose ≡ false
-  owns = asks_as_own tree code texts w lay p part outer core.below s.stands.frame (reads_result name) asks (λ e. e)
+  module _ (name : List ℕ) (asks : ask part.rest ≡ reads_result name)
+      (a : ActionAt (scopes_of tree) (context_in tree code texts w part s.stands.frame.gives) (text_in tree texts w part) (level_in tree w part) (most_in tree w part) (reads_result name) s.stands.pc s.stands.slots)
+      (answered : (r : Answer) (at : ℕ) (after : List Slot) →
+      Acted (scopes_of tree) (context_in tree code texts w part s.stands.frame.gives) (text_in tree texts w part) (level_in tree w part) (most_in tree w part) (reads_result name) s.stands.pc s.stands.slots a r at after →
+      ComesTo (scopes_of tree) (context_in tree code texts w part s.stands.frame.gives) (text_in tree texts w part) (level_in tree w part) (most_in tree w part) (resume (scopes_of tree) part.rest r) at after) where
+    abbrev sc : Scopes
+    sc = scopes_of tree
 
-  abbrev own_frame : Owned tree code texts w lay p part outer (length s.stands.frame.lower) s.stands.frame.mark s.stands.frame.control s.stands.frame.cells
-  own_frame = owned_frame tree code texts w lay p part outer core.below s.stands.frame owns
+    -- the part has its frame's instance for its own
+    pub owns : is_evaluation part.purpose ≡ false
+    owns = asks_as_own tree code texts w lay p part outer core.below s.stands.frame (reads_result name) asks (λ e. e)
 
-  abbrev at : ResultAt sc (context_in tree code texts w part s.stands.frame.gives) (text_in tree texts w part) (level_in tree w part) name s.stands.pc
-  at = a.0
+    abbrev own_frame : Owned tree code texts w lay p part outer (length s.stands.frame.lower) s.stands.frame.mark s.stands.frame.control s.stands.frame.cells
+    own_frame = owned_frame tree code texts w lay p part outer core.below s.stands.frame owns
 
-  abbrev next : ℕ
-  next = at.valued
+    abbrev at : ResultAt sc (context_in tree code texts w part s.stands.frame.gives) (text_in tree texts w part) (level_in tree w part) name s.stands.pc
+    at = a.0
 
-  there : operator_at code core.registers ≡ Ok (ops.Valc at.couple, next)
-  there = operator_there sc s.stands.held code (text_in tree texts w part) (level_in tree w part) s.stands.pc s.stands.slots core (ops.Valc at.couple) next s.stands.there at.read
+    abbrev next : ℕ
+    next = at.valued
 
-  -- ---- its cell
+    there : operator_at code core.registers ≡ Ok (ops.Valc at.couple, next)
+    there = operator_there sc s.stands.held code (text_in tree texts w part) (level_in tree w part) s.stands.pc s.stands.slots core (ops.Valc at.couple) next s.stands.there at.read
 
-  abbrev own : Instance
-  own = own_frame.framed.instance
+    -- ---- its cell
 
-  own_is : instance_at w part.instance ≡ own
-  own_is = ap or_no_instance own_frame.framed.is
+    abbrev own : Instance
+    own = own_frame.framed.instance
 
-  abbrev b : Block
-  b = block_numbered sc.blocks own.block
+    own_is : instance_at w part.instance ≡ own
+    own_is = ap or_no_instance own_frame.framed.is
 
-  typed : b.result ≡ Some at.kind
-  typed = result_given b.result at.kind (subst (λ (x : Instance). yields_of (block_numbered sc.blocks x.block).result ≡ yielding.value at.kind) own_is (sym (frame_gives tree code texts w lay p part outer core.below s.stands.frame owns) ∙ at.is))
+    abbrev b : Block
+    b = block_numbered sc.blocks own.block
 
-  named : b.name ≡ name
-  named = subst (λ (x : Instance). (block_numbered sc.blocks x.block).name ≡ name) own_is at.named
+    typed : b.result ≡ Some at.kind
+    typed = result_given b.result at.kind (subst (λ (x : Instance). yields_of (block_numbered sc.blocks x.block).result ≡ yielding.value at.kind) own_is (sym (frame_gives tree code texts w lay p part outer core.below s.stands.frame owns) ∙ at.is))
 
-  apart : found_from 0 (parameter_cells sc b) b.name ≡ None
-  apart = (nested.each own.block own_frame.framed.known).parameters.apart at.kind typed
+    named : b.name ≡ name
+    named = subst (λ (x : Instance). (block_numbered sc.blocks x.block).name ≡ name) own_is at.named
 
-  index_is : at.couple.index ≡ 2 + length (parameter_cells sc b)
-  index_is = at.index_is ∙ ap (λ (x : Instance). 2 + length (parameter_cells sc (block_numbered sc.blocks x.block))) own_is
+    apart : found_from 0 (parameter_cells sc b) b.name ≡ None
+    apart = (nested.each own.block own_frame.framed.known).parameters.apart at.kind typed
 
-  abbrev found : Found
-  found = record { number = length (parameter_cells sc b); cell = record { name = b.name; wanted = wants.value at.kind } }
+    index_is : at.couple.index ≡ 2 + length (parameter_cells sc b)
+    index_is = at.index_is ∙ ap (λ (x : Instance). 2 + length (parameter_cells sc (block_numbered sc.blocks x.block))) own_is
 
-  abbrev first_cells : List NamedCell
-  first_cells = own_frame.framed.simple
+    abbrev found : Found
+    found = record { number = length (parameter_cells sc b); cell = record { name = b.name; wanted = wants.value at.kind } }
 
-  abbrev Cell_there : Type 0
-  Cell_there = Cell_of found 0 b.name first_cells own_frame.framed.values
+    abbrev first_cells : List NamedCell
+    first_cells = own_frame.framed.simple
 
-  c : Cell_there
-  c = variable_cell (simple_cells sc b) first_cells own_frame.framed.values 0 b.name found own_frame.framed.simple_are (result_found sc b at.kind apart typed)
+    abbrev Cell_there : Type 0
+    Cell_there = Cell_of found 0 b.name first_cells own_frame.framed.values
 
-  module _ (c : Cell_there) where
-    held : Holds_value at.kind (cell_in first_cells b.name) c.word
-    held = value_of_cell at.kind (cell_in first_cells b.name) c.word c.is
+    c : Cell_there
+    c = variable_cell (simple_cells sc b) first_cells own_frame.framed.values 0 b.name found own_frame.framed.simple_are (result_found sc b at.kind apart typed)
 
-    module _ (held : Holds_value at.kind (cell_in first_cells b.name) c.word) where
-      tag : c.word.tag ≡ 0
-      tag = value_tag held.value c.word held.word
+    module _ (c : Cell_there) where
+      held : Holds_value at.kind (cell_in first_cells b.name) c.word
+      held = value_of_cell at.kind (cell_in first_cells b.name) c.word c.is
 
-      abbrev base : ℕ
-      base = length s.stands.frame.lower
+      module _ (held : Holds_value at.kind (cell_in first_cells b.name) c.word) where
+        tag : c.word.tag ≡ 0
+        tag = value_tag held.value c.word held.word
 
-      cells_lie : slice_get s.stands.frame.cells c.far ≡ Some c.word
-      cells_lie = ap (λ (ws : List Word). slice_get ws c.far) own_frame.framed.cells_is ∙ get-front own_frame.framed.values _ c.far c.word c.lies
+        abbrev base : ℕ
+        base = length s.stands.frame.lower
 
-      below_lies : slice_get core.below (base + at.couple.index) ≡ Some c.word
-      below_lies =
-          ap (λ (ws : List Word). slice_get ws (base + at.couple.index)) s.stands.frame.words_are
-          ∙ get-behind s.stands.frame.lower (s.stands.frame.mark ∷ s.stands.frame.control ∷ s.stands.frame.cells) (suc (suc c.far)) (base + at.couple.index) (omega (arith, index_is, c.number))
-          ∙ cells_lie
+        cells_lie : slice_get s.stands.frame.cells c.far ≡ Some c.word
+        cells_lie = ap (λ (ws : List Word). slice_get ws c.far) own_frame.framed.cells_is ∙ get-front own_frame.framed.values _ c.far c.word c.lies
 
-      lies : word_at img.stacks (record { stack = p; at = base + at.couple.index }) ≡ Some c.word
-      lies = begins_core img p core s.has (base + at.couple.index) c.word below_lies
+        below_lies : slice_get core.below (base + at.couple.index) ≡ Some c.word
+        below_lies =
+            ap (λ (ws : List Word). slice_get ws (base + at.couple.index)) s.stands.frame.words_are
+            ∙ get-behind s.stands.frame.lower (s.stands.frame.mark ∷ s.stands.frame.control ∷ s.stands.frame.cells) (suc (suc c.far)) (base + at.couple.index) (omega (arith, index_is, c.number))
+            ∙ cells_lie
 
-      shown : display_at core.registers at.couple.level ≡ Some (place p base)
-      shown = ap (λ (k : ℕ). display_at core.registers k) (at.level_is ∙ sym s.stands.there.level_is) ∙ shown_frame tree code texts w lay img p q part outer bound core s
+        lies : word_at img.stacks (record { stack = p; at = base + at.couple.index }) ≡ Some c.word
+        lies = begins_core img p core s.has (base + at.couple.index) c.word below_lies
 
-      abbrev new : Core
-      new = with_top core c.word next
+        shown : display_at core.registers at.couple.level ≡ Some (place p base)
+        shown = ap (λ (k : ℕ). display_at core.registers k) (at.level_is ∙ sym s.stands.there.level_is) ∙ shown_frame tree code texts (actor_of s)
 
-      is_new : IsCore new
-      is_new = record { bottom = s.has.is.bottom; top = omega (arith, s.has.is.top) }
+        abbrev new : Core
+        new = with_top core c.word next
 
-      core_at : CoreAt sc s.stands.held code (text_in tree texts w part) (level_in tree w part) next (operand held.value ∷ s.stands.slots) new
-      core_at =
-          record {
-            segment = s.stands.there.segment;
-            there = s.stands.there.there;
-            spells = s.stands.there.spells;
-            level_is = s.stands.there.level_is;
-            place_is = refl;
-            is = is_new;
-            mark_is = s.stands.there.mark_is;
-            words_are = (held.word, s.stands.there.words_are);
-          }
+        is_new : IsCore new
+        is_new = record { bottom = s.has.is.bottom; top = omega (arith, s.has.is.top) }
 
-      -- it lies before the arrays
-      cell_here : cell_in own.cells b.name ≡ cell_in first_cells b.name
-      cell_here =
-          ap (λ (cells : List NamedCell). cell_in cells b.name) own_frame.framed.has
-          ∙ cell_front (simple_cells sc b) first_cells own_frame.framed.arrays own_frame.framed.values 0 b.name found own_frame.framed.simple_are (result_found sc b at.kind apart typed)
+        core_at : CoreAt sc s.stands.held code (text_in tree texts w part) (level_in tree w part) next (operand held.value ∷ s.stands.slots) new
+        core_at =
+            record {
+              segment = s.stands.there.segment;
+              there = s.stands.there.there;
+              spells = s.stands.there.spells;
+              level_is = s.stands.there.level_is;
+              place_is = refl;
+              is = is_new;
+              mark_is = s.stands.there.mark_is;
+              words_are = (held.word, s.stands.there.words_are);
+            }
 
-      cell_is : cell_at w (record { instance = part.instance; name = name }) ≡ simple held.value
-      cell_is = ap (λ (x : Instance). cell_in x.cells name) own_is ∙ ap (cell_in own.cells) (sym named) ∙ cell_here ∙ held.is
+        -- it lies before the arrays
+        cell_here : cell_in own.cells b.name ≡ cell_in first_cells b.name
+        cell_here =
+            ap (λ (cells : List NamedCell). cell_in cells b.name) own_frame.framed.has
+            ∙ cell_front (simple_cells sc b) first_cells own_frame.framed.arrays own_frame.framed.values 0 b.name found own_frame.framed.simple_are (result_found sc b at.kind apart typed)
 
-      pub result_read : Does tree code texts w img p
-      result_read =
-          does_in_frame tree code texts fragments keeps order w lay img p q part outer bound core s able_is able_p (unmade part.rest (ap makes asks)) (value held.value) tt w.output new refl (record { is = refl }) s.stands.held s.stands.held_are next (operand held.value ∷ s.stands.slots)
-          core_at (omega (arith, ap length a.1, a.2)) (answered (value held.value) next (operand held.value ∷ s.stands.slots) (refl, refl, held.kind)) Read
-          (action_not_plain code img p core s.has (ops.Valc at.couple) next there
-          (value_class code img p core s.has at.couple next there (place p base) shown c.word lies tag (no_sirw c.word tag) (no_pcw c.word tag)))
-          (value_raw code img p core s.has at.couple next there (place p base) shown c.word lies tag (no_sirw c.word tag) (no_pcw c.word tag)
-          ∙ ap (λ (o : List (List ℕ)). effects.gives (record (with_core img p new) { output = o })) s.by.output)
-          (choice_is sc w p q part outer s.at s.todo
-          ∙ ap (λ (k : Ask). choice_of sc w p q part outer k) asks
-          ∙ ap (λ (x : Cell). goes sc w p q part outer Read w (value (value_in x))) cell_is)
-          (λ t. action_is code img p core s.has (ops.Valc at.couple) next there (outcomes.gives (record (with_core img p new) { output = w.output })) t
-          ∙ (reads_value code img p core s.has at.couple next there (place p base) shown c.word lies tag (no_sirw c.word tag) (no_pcw c.word tag)))
+        cell_is : cell_at w (record { instance = part.instance; name = name }) ≡ simple held.value
+        cell_is = ap (λ (x : Instance). cell_in x.cells name) own_is ∙ ap (cell_in own.cells) (sym named) ∙ cell_here ∙ held.is
 
-  pub reading_result : Does tree code texts w img p
-  reading_result = result_read c (held c)
+        pub result_read : Does tree code texts w img p
+        result_read =
+            does_in_frame tree code texts fragments keeps order actor (unmade part.rest (ap makes asks)) (value held.value) tt w.output new refl (record { is = refl }) s.stands.held s.stands.held_are next (operand held.value ∷ s.stands.slots)
+            core_at (omega (arith, ap length a.1, a.2)) (answered (value held.value) next (operand held.value ∷ s.stands.slots) (refl, refl, held.kind)) Read
+            (action_not_plain code img p core s.has (ops.Valc at.couple) next there
+            (value_class code img p core s.has at.couple next there (place p base) shown c.word lies tag (no_sirw c.word tag) (no_pcw c.word tag)))
+            (value_raw code img p core s.has at.couple next there (place p base) shown c.word lies tag (no_sirw c.word tag) (no_pcw c.word tag)
+            ∙ ap (λ (o : List (List ℕ)). effects.gives (record (with_core img p new) { output = o })) s.by.output)
+            (choice_is sc w p q part outer s.at s.todo
+            ∙ ap (λ (k : Ask). choice_of sc w p q part outer k) asks
+            ∙ ap (λ (x : Cell). goes sc w p q part outer Read w (value (value_in x))) cell_is)
+            (λ t. action_is code img p core s.has (ops.Valc at.couple) next there (outcomes.gives (record (with_core img p new) { output = w.output })) t
+            ∙ (reads_value code img p core s.has at.couple next there (place p base) shown c.word lies tag (no_sirw c.word tag) (no_pcw c.word tag)))
+
+    pub reading_result : Does tree code texts w img p
+    reading_result = result_read c (held c)

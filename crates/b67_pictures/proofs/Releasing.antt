@@ -1,29 +1,11 @@
 -- Whom the operator of an action releases: whom the action of the source releases.
 use Rattle.std.proofs.Common.{◌≡◌, ◌⊎◌, inl, inr, refl, sym, ap, ◌∙◌, subst, ℕ, [], Option, Some, None, false}
-use Rattle.b67_list.specs.Numbered.{numbered}
-use Rattle.b67_num.specs.declared.FaultKind.{FaultKind}
-use Rattle.algol_tree.specs.Plain.{PProgram}
-use Rattle.algol_tree.specs.Scopes.{scopes_of}
-use Rattle.b67_deeds.specs.declared.Letter.{Letter}
-use Rattle.b67_deeds.specs.declared.Letter.TheVariants.{End}
-use Rattle.algol_meaning.specs.Choice.{choice}
-use Rattle.algol_meaning.specs.Value.{Reference}
-use Rattle.algol_meaning.specs.World.{World}
-use Rattle.b67_control.specs.declared.Registers.{Registers}
-use Rattle.b67_segment.specs.declared.code.Code.{Code}
-use Rattle.b67_templates.specs.Programs.{Texts}
-use Rattle.b67_table.specs.Image.{Image}
-use Rattle.b67_table.specs.Outcome.{Outcome, faults, limit}
+use Rattle.b67_pictures.proofs.Prelude.{numbered, FaultKind, Letter, End, PProgram, scopes_of, choice, Reference, World, Registers, Code, Image, Outcome, faults, limit, letter, registers_releases, released_by, releases, Texts, ReleasesNone, some_same, Does, gave, failed_by, stopped}
 use Rattle.b67_table.specs.Table.{table}
-use Rattle.b67_deeds.specs.declared.Letter.{Letter}
 use Rattle.b67_deeds.specs.declared.Letter.TheVariants as letters
-use Rattle.b67_letters.specs.Letters.{letter}
-use Rattle.b67_letters.specs.Releases.{registers_releases, released_by, releases}
 use Rattle.b67_letters.specs.Laws.{may_release}
 use Rattle.b67_letters.proofs.Mute.{few_operators_release}
-use Rattle.b67_faithful.proofs.Choices.{is_releasing, EndsIdle, ReleasesNone}
-use Rattle.b67_faithful.proofs.Contradictions.{some_same}
-use Rattle.b67_pictures.specs.Acting.{Does, gave, failed_by, stopped}
+use Rattle.b67_faithful.proofs.Choices.{is_releasing, EndsIdle}
 
 -- where the operator does not come to the stack limit
 abbrev pub IsReleased : PProgram → Code → World → Image → ℕ → Type 0

@@ -1,269 +1,221 @@
 -- A parameter by name is resolved. Of one that stands for a variable, the reference to the variable's cell comes in place of that to the parameter's.
 -- An actual that is not subscripted has no place: that is a fault.
 use Rattle.std.proofs.Common.{◌≡◌, inl, refl, sym, ap, ◌∙◌, subst, ℕ, ◌+◌, ◌≤◌, List, [], ◌∷◌, length, Option, Some, None, Bool, true, false, Ok, arith}
-use Rattle.std.specs.Prelude.{if◌then◌else◌}
-use Rattle.b67_list.specs.Numbered.{numbered}
-use Rattle.algol_tree.specs.declared.tree.Kind.{Kind}
-use Rattle.algol_tree.specs.declared.tree.Named.{Named}
-use Rattle.algol_tree.specs.Plain.{PProgram}
-use Rattle.algol_tree.specs.Scopes.{Scopes, scopes_of}
-use Rattle.algol_meaning.specs.Value.{Cell}
+use Rattle.b67_pictures.proofs.Prelude.{if◌then◌else◌, NotAVariable, Fault, PProgram, Scopes, scopes_of, Kind, Named, Ask, resolves, ask, resume, located_of, Choice, choice, choice_of, resolved_of, is_subscripted, opens, fails, Answer, settle_actual_place, Cell, name_place, World, instance_at, IsSeen, IsSeenAround, IsInner, RestsKeepToTheirText, AllIsMadeInOrder, Word, Place, as_pcw-pcw_word, as_irw, as_sirw, pcw_word, Irw, Pcw, Couple, Placed, Code, place, failed, frame, display_at, cell_word, irw_or_sirw, cell_of, operator_at, AreNested, Texts, ActionAt, Acted, ComesTo, Slot, reference as reference_slot, descriptor, variable, Core, with_core, Known, newest, CoreAt, FragmentsArePerformed, array_asked, array_seen, place_reached_class, Reaches, reached_through, action_not_plain, fault_not_plain, action_is, Top, top_slot, with_other, makes, unmade, value_tag, no_sirw, no_pcw, pcw_refers_nothing, reference_read, LeadsToVariable, IsInReach, routine_of, Found, operator_there, NameCellHome, NameHome, ActualNamed, NameStands, for_variable, for_actual, name_stands, AbleActor, Actor, actor_of, faults_so, choice_is, faulted, text_in, level_in, context_in, most_in, VariableHome, Pictures, Does, failed_by}
 use Rattle.algol_meaning.specs.Rest as rests
-use Rattle.algol_meaning.specs.Rest.{Answer, place as given_place}
-use Rattle.algol_meaning.specs.World.{Process, Part, lives, name_place, World, instance_at}
-use Rattle.b67_deeds.specs.declared.Letter.TheVariants.{Resolve, Fault}
-use Rattle.algol_meaning.specs.Asks.{Ask, resolves, ask, resume, located_of}
-use Rattle.algol_meaning.specs.Settle.{settle_actual_place}
-use Rattle.algol_meaning.specs.Choice.{Choice, choice, choice_of, resolved_of, is_subscripted, opens, fails}
-use Rattle.algol_paths.specs.Blocks.{IsSeen, IsSeenAround, IsInner}
-use Rattle.algol_paths.specs.Laws.{RestsKeepToTheirText, AllIsMadeInOrder}
-use Rattle.b67_num.specs.declared.FaultKind.TheVariants.{NotAVariable}
-use Rattle.b67_word.specs.declared.Place.{Place}
-use Rattle.b67_word.specs.Word.{Word}
-use Rattle.b67_control.specs.declared.Irw.{Irw}
-use Rattle.b67_control.specs.declared.Pcw.{Pcw}
-use Rattle.b67_control.specs.Control.{as_irw, as_sirw, pcw_word}
-use Rattle.b67_control.proofs.ControlLaws.{as_pcw-pcw_word}
-use Rattle.b67_ops.specs.declared.Couple.{Couple}
+use Rattle.algol_meaning.specs.Rest.{place as given_place}
+use Rattle.b67_deeds.specs.declared.Letter.TheVariants.{Resolve}
 use Rattle.b67_ops.specs.declared.Operator.TheVariants as ops
 use Rattle.b67_ops.specs.declared.PlainKind.TheVariants as kinds
-use Rattle.b67_segment.specs.Operators.{Placed}
-use Rattle.b67_segment.specs.declared.code.Code.{Code}
-use Rattle.b67_table.specs.Chains.{place}
 use Rattle.b67_table.specs.declared.Cell as cells
-use Rattle.b67_scenes.specs.States.{StateIs}
 use Rattle.b67_table.specs.Effect as effects
-use Rattle.b67_table.specs.Image.{Image}
 use Rattle.b67_table.specs.Outcome as outcomes
-use Rattle.b67_table.specs.Private.{frame, display_at}
-use Rattle.b67_table.specs.References.{cell_in, cell_word, irw_or_sirw, cell_of}
-use Rattle.b67_table.specs.Ending.{failed}
-use Rattle.b67_table.specs.Table.{table, operator_at}
-use Rattle.b67_templates.specs.Programs.{Texts}
-use Rattle.b67_standing.specs.Stepping.{Slot, reference as reference_slot, descriptor, variable}
-use Rattle.b67_standing.specs.Standing.{ActionAt, Acted, ComesTo, ResolvesAt}
-use Rattle.b67_cores.specs.Cores.{Core, with_core}
-use Rattle.b67_cores.specs.Slots.{Known, newest}
-use Rattle.b67_cores.specs.Stretches.{CoreAt, FragmentsArePerformed}
-use Rattle.b67_templates.specs.Nested.{AreNested}
-use Rattle.b67_rows.proofs.AskedElements.{array_asked, array_seen}
-use Rattle.b67_rows.proofs.PlaceRow.{place_reached_class, place_left_raw, place_left_letter, no_place_raw}
-use Rattle.b67_rows.proofs.Reaching.{Reaches, reached_through}
-use Rattle.b67_rows.proofs.Rows.{action_not_plain, fault_not_plain, action_is}
-use Rattle.b67_rows.proofs.Slotted.{Top, top_slot}
-use Rattle.b67_rows.proofs.TopRow.{with_other}
-use Rattle.b67_rows.proofs.Unmade.{makes, unmade}
-use Rattle.b67_rows.proofs.Words.{value_tag, no_sirw, no_pcw, pcw_refers_nothing, reference_read}
-use Rattle.b67_frames.specs.Arrays.{Layout, LeadsToVariable}
-use Rattle.b67_frames.specs.Frames.{IsInReach}
-use Rattle.b67_scenes.specs.Pictures.{Pictures}
-use Rattle.b67_scenes.proofs.Finding.{Found}
-use Rattle.b67_scenes.proofs.Homes.{operator_there}
-use Rattle.b67_scenes.proofs.NameHomes.{NameCellHome, NameHome, ActualNamed, NameStands, for_variable, for_actual, name_stands}
-use Rattle.b67_scenes.proofs.ActualHomes.{routine_of, same_place}
-use Rattle.b67_scenes.proofs.Scene.{Scene}
-use Rattle.b67_scenes.proofs.Stage.{faults_so, choice_is, faulted}
-use Rattle.b67_scenes.proofs.Staying.{text_in, level_in, context_in, most_in}
-use Rattle.b67_scenes.proofs.VariableHomes.{VariableHome}
-use Rattle.b67_pictures.specs.Acting.{Does, failed_by}
+use Rattle.b67_table.specs.References.{cell_in}
+use Rattle.b67_table.specs.Table.{table}
+use Rattle.b67_standing.specs.Standing.{ResolvesAt}
+use Rattle.b67_rows.proofs.PlaceRow.{place_left_raw, place_left_letter, no_place_raw}
+use Rattle.b67_scenes.proofs.ActualHomes.{same_place}
 use Rattle.b67_pictures.proofs.Indexing.{more_known}
 use Rattle.b67_pictures.proofs.InFrame.{does_in_frame}
 
 -- ---- what a process finds that stands at EVAL
 
-module _ (tree : PProgram) (code : Code) (texts : Texts) (nested : AreNested (scopes_of tree)) (w : World) (lay : Layout) (img : Image)
-    (p : ℕ) (q : Process) (part : Part) (outer : List Part) (bound : ℕ) (core : Core) (s : Scene tree code texts w lay img p q part outer bound core)
-    (n : Named) (asks : ask part.rest ≡ resolves n) (kind : Kind) (next : ℕ) (below : List Slot)
-    (found : ResolvesAt (scopes_of tree) (context_in tree code texts w part s.stands.frame.gives) (text_in tree texts w part) (level_in tree w part) (most_in tree w part) n kind s.stands.pc next s.stands.slots below) where
-  abbrev block : ℕ
-  block = (instance_at w part.instance).block
+module _ (tree : PProgram) (code : Code) (texts : Texts) (nested : AreNested (scopes_of tree)) (actor : Actor tree code texts) where
+  open actor use {w, part, core, s}
 
-  -- what the parameter stands for
-  pub resolved_name : NameStands tree code texts nested w lay img p q part outer bound core s n kind found.couple
-  resolved_name =
-      let sc : Scopes = scopes_of tree in
-      let seen : IsSeen sc block n = (array_seen (IsSeen sc block) n (IsInner sc block) (IsSeenAround sc block) (λ (around_it : IsSeenAround sc block n). around_it.0) part.rest (ap array_asked asks) s.stands.frame.text).seen in
-      name_stands tree code texts nested w lay img p q part outer bound core s n kind found.couple seen found.is_formal
+  module _ (n : Named) (asks : ask part.rest ≡ resolves n) (kind : Kind) (next : ℕ) (below : List Slot)
+      (found : ResolvesAt (scopes_of tree) (context_in tree code texts w part s.stands.frame.gives) (text_in tree texts w part) (level_in tree w part) (most_in tree w part) n kind s.stands.pc next s.stands.slots below) where
+    abbrev block : ℕ
+    block = (instance_at w part.instance).block
 
-  -- on top the reference to its cell
-  pub record FindsName : Type 0 where
-    pub top : Top (scopes_of tree) s.stands.held (level_in tree w part) (frame core.registers) (length core.below) (reference_slot found.couple) below core.words
-    pub names : as_irw top.word ≡ Some (record { level = found.couple.level; index = found.couple.index })
+    -- what the parameter stands for
+    pub resolved_name : NameStands tree code texts nested actor n kind found.couple
+    resolved_name =
+        let sc : Scopes = scopes_of tree in
+        let seen : IsSeen sc block n = (array_seen (IsSeen sc block) n (IsInner sc block) (IsSeenAround sc block) (λ (around_it : IsSeenAround sc block n). around_it.0) part.rest (ap array_asked asks) s.stands.frame.text).seen in
+        name_stands tree code texts nested actor n kind found.couple seen found.is_formal
 
-  pub finds_name : NameCellHome tree code texts nested w lay img p q part outer bound core s n kind found.couple → FindsName
-  finds_name home =
-      let t : Top (scopes_of tree) s.stands.held (level_in tree w part) (frame core.registers) (length core.below) (reference_slot found.couple) below core.words =
-      top_slot (scopes_of tree) s.stands.held (level_in tree w part) (frame core.registers) (length core.below) s.stands.slots (reference_slot found.couple) below core.words s.stands.there.words_are found.lies in
-      record { top = t; names = ap as_irw t.slot_is ∙ reference_read found.couple home.fits.0 home.fits.1 }
+    -- on top the reference to its cell
+    pub record FindsName : Type 0 where
+      pub top : Top (scopes_of tree) s.stands.held (level_in tree w part) (frame core.registers) (length core.below) (reference_slot found.couple) below core.words
+      pub names : as_irw top.word ≡ Some (record { level = found.couple.level; index = found.couple.index })
+
+    pub finds_name : NameCellHome tree code texts nested actor n kind found.couple → FindsName
+    finds_name home =
+        let t : Top (scopes_of tree) s.stands.held (level_in tree w part) (frame core.registers) (length core.below) (reference_slot found.couple) below core.words =
+        top_slot (scopes_of tree) s.stands.held (level_in tree w part) (frame core.registers) (length core.below) s.stands.slots (reference_slot found.couple) below core.words s.stands.there.words_are found.lies in
+        record { top = t; names = ap as_irw t.slot_is ∙ reference_read found.couple home.fits.0 home.fits.1 }
 
 -- ---- the action
 
 module _ (tree : PProgram) (code : Code) (texts : Texts) (nested : AreNested (scopes_of tree)) (fragments : FragmentsArePerformed) (keeps : RestsKeepToTheirText) (order : AllIsMadeInOrder)
-    (w : World) (lay : Layout) (img : Image) (p : ℕ) (q : Process) (part : Part) (outer : List Part) (bound : ℕ) (core : Core) (s : Scene tree code texts w lay img p q part outer bound core)
-    (able_is : lives q.state ≡ true) (able_p : StateIs (scopes_of tree) w lay q.state (numbered img.states p)) (n : Named) (asks : ask part.rest ≡ resolves n)
-    (a : ActionAt (scopes_of tree) (context_in tree code texts w part s.stands.frame.gives) (text_in tree texts w part) (level_in tree w part) (most_in tree w part) (resolves n) s.stands.pc s.stands.slots)
-    (answered : (r : Answer) (at : ℕ) (after : List Slot) →
-    Acted (scopes_of tree) (context_in tree code texts w part s.stands.frame.gives) (text_in tree texts w part) (level_in tree w part) (most_in tree w part) (resolves n) s.stands.pc s.stands.slots a r at after →
-    ComesTo (scopes_of tree) (context_in tree code texts w part s.stands.frame.gives) (text_in tree texts w part) (level_in tree w part) (most_in tree w part) (resume (scopes_of tree) part.rest r) at after) where
-  abbrev sc : Scopes
-  sc = scopes_of tree
+    (actor : AbleActor tree code texts) where
+  open actor use {w, lay, img, p, q, part, outer, core, s}
 
-  abbrev level : ℕ
-  level = level_in tree w part
+  module _ (n : Named) (asks : ask part.rest ≡ resolves n)
+      (a : ActionAt (scopes_of tree) (context_in tree code texts w part s.stands.frame.gives) (text_in tree texts w part) (level_in tree w part) (most_in tree w part) (resolves n) s.stands.pc s.stands.slots)
+      (answered : (r : Answer) (at : ℕ) (after : List Slot) →
+      Acted (scopes_of tree) (context_in tree code texts w part s.stands.frame.gives) (text_in tree texts w part) (level_in tree w part) (most_in tree w part) (resolves n) s.stands.pc s.stands.slots a r at after →
+      ComesTo (scopes_of tree) (context_in tree code texts w part s.stands.frame.gives) (text_in tree texts w part) (level_in tree w part) (most_in tree w part) (resume (scopes_of tree) part.rest r) at after) where
+    abbrev sc : Scopes
+    sc = scopes_of tree
 
-  abbrev text : List Placed
-  text = text_in tree texts w part
+    abbrev level : ℕ
+    level = level_in tree w part
 
-  abbrev kind : Kind
-  kind = a.0
+    abbrev text : List Placed
+    text = text_in tree texts w part
 
-  abbrev next : ℕ
-  next = a.1
+    abbrev kind : Kind
+    kind = a.0
 
-  abbrev below : List Slot
-  below = a.2
+    abbrev next : ℕ
+    next = a.1
 
-  abbrev couple : Couple
-  couple = a.3.couple
+    abbrev below : List Slot
+    below = a.2
 
-  there : operator_at code core.registers ≡ Ok (ops.Plain kinds.Eval, next)
-  there = operator_there sc s.stands.held code text level s.stands.pc s.stands.slots core (ops.Plain kinds.Eval) next s.stands.there a.3.stands
+    abbrev couple : Couple
+    couple = a.3.couple
 
-  abbrev Finds : Type 0
-  Finds = FindsName tree code texts nested w lay img p q part outer bound core s n asks kind next below a.3
+    there : operator_at code core.registers ≡ Ok (ops.Plain kinds.Eval, next)
+    there = operator_there sc s.stands.held code text level s.stands.pc s.stands.slots core (ops.Plain kinds.Eval) next s.stands.there a.3.stands
 
-  -- the cell that the reference on top names
-  named_on_top : (f : Finds) (at : Place) → display_at core.registers couple.level ≡ Some at → cell_of core.registers f.top.word ≡ Some (record { frame = at; index = couple.index })
-  named_on_top f at shown =
-      ap (λ (o : Option Irw). irw_or_sirw core.registers o (as_sirw f.top.word)) f.names
-      ∙ ap (λ (o : Option Place). cell_in o couple.index) shown
+    abbrev Finds : Type 0
+    Finds = FindsName tree code texts nested (actor_of s) n asks kind next below a.3
 
-  -- ---- of a variable
+    -- the cell that the reference on top names
+    named_on_top : (f : Finds) (at : Place) → display_at core.registers couple.level ≡ Some at → cell_of core.registers f.top.word ≡ Some (record { frame = at; index = couple.index })
+    named_on_top f at shown =
+        ap (λ (o : Option Irw). irw_or_sirw core.registers o (as_sirw f.top.word)) f.names
+        ∙ ap (λ (o : Option Place). cell_in o couple.index) shown
 
-  module _ (h : NameHome tree code texts nested w lay img p q part outer bound core s n kind couple) (f : Finds) where
-    abbrev v : VariableHome tree code texts w lay img p q part outer bound core s h.r kind h.denotes.found
-    v = h.named.home
+    -- ---- of a variable
 
-    abbrev found_there : Found tree code texts w lay img h.r.instance
-    found_there = v.seen_there.found
+    module _ (h : NameHome tree code texts nested (actor_of s) n kind couple) (f : Finds) where
+      abbrev v : VariableHome tree code texts (actor_of s) h.r kind h.denotes.found
+      v = h.named.home
 
-    abbrev at : ℕ
-    at = length found_there.lies.frame.lower
+      abbrev found_there : Found tree code texts w lay img h.r.instance
+      found_there = v.seen_there.found
 
-    abbrev from : cells.Cell
-    from = record { frame = h.home.at; index = couple.index }
+      abbrev at : ℕ
+      at = length found_there.lies.frame.lower
 
-    abbrev to : cells.Cell
-    to = record { frame = place found_there.number at; index = 2 + v.number }
+      abbrev from : cells.Cell
+      from = record { frame = h.home.at; index = couple.index }
 
-    named : cell_of core.registers f.top.word ≡ Some from
-    named = named_on_top f h.home.at h.home.shown
+      abbrev to : cells.Cell
+      to = record { frame = place found_there.number at; index = 2 + v.number }
 
-    tag : v.word.tag ≡ 0
-    tag = value_tag v.value v.word v.word_is
+      named : cell_of core.registers f.top.word ≡ Some from
+      named = named_on_top f h.home.at h.home.shown
 
-    reaches : Reaches img.stacks from v.word to
-    reaches =
-        reached_through img.stacks from h.home.word (record { stack = found_there.number; displacement = at; index = 2 + v.number }) v.word h.home.lies h.named.reads v.word_lies (no_sirw v.word tag)
+      tag : v.word.tag ≡ 0
+      tag = value_tag v.value v.word v.word_is
 
-    leads : LeadsToVariable sc w lay (IsInReach w (part ∷ outer)) kind h.r (cell_word to)
-    leads = subst (λ (x : Word). LeadsToVariable sc w lay (IsInReach w (part ∷ outer)) kind h.r x) h.named.word_is h.denotes
+      reaches : Reaches img.stacks from v.word to
+      reaches =
+          reached_through img.stacks from h.home.word (record { stack = found_there.number; displacement = at; index = 2 + v.number }) v.word h.home.lies h.named.reads v.word_lies (no_sirw v.word tag)
 
-    abbrev one : Known
-    one = record { held = variable h.r kind; word = cell_word to }
+      leads : LeadsToVariable sc w lay (IsInReach w (part ∷ outer)) kind h.r (cell_word to)
+      leads = subst (λ (x : Word). LeadsToVariable sc w lay (IsInReach w (part ∷ outer)) kind h.r x) h.named.word_is h.denotes
 
-    abbrev new : Core
-    new = with_other core (cell_word to) f.top.words_below next
+      abbrev one : Known
+      one = record { held = variable h.r kind; word = cell_word to }
 
-    core_at : CoreAt sc (one ∷ s.stands.held) code text level next (descriptor (variable h.r kind) ∷ below) new
-    core_at =
-        record {
-          segment = s.stands.there.segment;
-          there = s.stands.there.there;
-          spells = s.stands.there.spells;
-          level_is = s.stands.there.level_is;
-          place_is = refl;
-          is = record { bottom = s.has.is.bottom; top = omega (arith, s.has.is.top, ap length f.top.is) };
-          mark_is = s.stands.there.mark_is ∙ ap (newest (frame core.registers) (length core.below)) a.3.lies;
-          words_are = (inl (refl, refl), more_known s.stands.held one sc level (frame core.registers) (length core.below) below f.top.words_below f.top.are);
-        }
+      abbrev new : Core
+      new = with_other core (cell_word to) f.top.words_below next
 
-    few : length (descriptor (variable h.r kind) ∷ below) ≤ most_in tree w part
-    few = omega (arith, ap length a.3.lies, s.stands.few)
+      core_at : CoreAt sc (one ∷ s.stands.held) code text level next (descriptor (variable h.r kind) ∷ below) new
+      core_at =
+          record {
+            segment = s.stands.there.segment;
+            there = s.stands.there.there;
+            spells = s.stands.there.spells;
+            level_is = s.stands.there.level_is;
+            place_is = refl;
+            is = record { bottom = s.has.is.bottom; top = omega (arith, s.has.is.top, ap length f.top.is) };
+            mark_is = s.stands.there.mark_is ∙ ap (newest (frame core.registers) (length core.below)) a.3.lies;
+            words_are = (inl (refl, refl), more_known s.stands.held one sc level (frame core.registers) (length core.below) below f.top.words_below f.top.are);
+          }
 
-    resolving_does : Does tree code texts w img p
-    resolving_does =
-        does_in_frame tree code texts fragments keeps order w lay img p q part outer bound core s able_is able_p (unmade part.rest (ap makes asks)) (given_place (rests.there h.r)) tt w.output new refl (record { is = refl })
-        (one ∷ s.stands.held) (leads, s.stands.held_are) next (descriptor (variable h.r kind) ∷ below) core_at few
-        (answered (given_place (rests.there h.r)) next (descriptor (variable h.r kind) ∷ below) (refl, refl)) Resolve
-        (action_not_plain code img p core s.has (ops.Plain kinds.Eval) next there
-        (place_reached_class code img p core s.has next there f.top.word f.top.words_below f.top.is from to named v.word reaches))
-        (place_left_raw code img p core s.has next there f.top.word f.top.words_below f.top.is from to named v.word reaches tag (no_pcw v.word tag)
-        ∙ ap (λ (o : List (List ℕ)). effects.gives (record (with_core img p new) { output = o })) s.by.output)
-        (choice_is sc w p q part outer s.at s.todo
-        ∙ ap (λ (k : Ask). choice_of sc w p q part outer k) asks
-        ∙ ap (λ (c : Cell). resolved_of sc w p q part outer n c) h.cell_is)
-        (λ t. action_is code img p core s.has (ops.Plain kinds.Eval) next there (outcomes.gives (record (with_core img p new) { output = w.output })) t
-        ∙ (place_left_letter code img p core s.has next there f.top.word f.top.words_below f.top.is from to named v.word reaches (no_pcw v.word tag)))
+      few : length (descriptor (variable h.r kind) ∷ below) ≤ most_in tree w part
+      few = omega (arith, ap length a.3.lies, s.stands.few)
 
-  -- ---- of an actual
+      resolving_does : Does tree code texts w img p
+      resolving_does =
+          does_in_frame tree code texts fragments keeps order actor (unmade part.rest (ap makes asks)) (given_place (rests.there h.r)) tt w.output new refl (record { is = refl })
+          (one ∷ s.stands.held) (leads, s.stands.held_are) next (descriptor (variable h.r kind) ∷ below) core_at few
+          (answered (given_place (rests.there h.r)) next (descriptor (variable h.r kind) ∷ below) (refl, refl)) Resolve
+          (action_not_plain code img p core s.has (ops.Plain kinds.Eval) next there
+          (place_reached_class code img p core s.has next there f.top.word f.top.words_below f.top.is from to named v.word reaches))
+          (place_left_raw code img p core s.has next there f.top.word f.top.words_below f.top.is from to named v.word reaches tag (no_pcw v.word tag)
+          ∙ ap (λ (o : List (List ℕ)). effects.gives (record (with_core img p new) { output = o })) s.by.output)
+          (choice_is sc w p q part outer s.at s.todo
+          ∙ ap (λ (k : Ask). choice_of sc w p q part outer k) asks
+          ∙ ap (λ (c : Cell). resolved_of sc w p q part outer n c) h.cell_is)
+          (λ t. action_is code img p core s.has (ops.Plain kinds.Eval) next there (outcomes.gives (record (with_core img p new) { output = w.output })) t
+          ∙ (place_left_letter code img p core s.has next there f.top.word f.top.words_below f.top.is from to named v.word reaches (no_pcw v.word tag)))
 
-  abbrev IsActualNamed : Type 0
-  IsActualNamed = ActualNamed tree code texts nested w lay img p q part outer bound core s n kind couple
+    -- ---- of an actual
 
-  module _ (h : IsActualNamed) (f : Finds) (no_place : is_subscripted h.a.actual ≡ false) where
-    abbrev actual_there : Found tree code texts w lay img h.a.instance
-    actual_there = h.actual.seen_there.found
+    abbrev IsActualNamed : Type 0
+    IsActualNamed = ActualNamed tree code texts nested (actor_of s) n kind couple
 
-    abbrev high : ℕ
-    high = length actual_there.lies.frame.lower
+    module _ (h : IsActualNamed) (f : Finds) (no_place : is_subscripted h.a.actual ≡ false) where
+      abbrev actual_there : Found tree code texts w lay img h.a.instance
+      actual_there = h.actual.seen_there.found
 
-    abbrev control : Pcw
-    control = routine_of sc ((instance_at w h.a.instance).block) h.a.actual h.actual.at
+      abbrev high : ℕ
+      high = length actual_there.lies.frame.lower
 
-    abbrev first : cells.Cell
-    first = record { frame = h.home.at; index = couple.index }
+      abbrev control : Pcw
+      control = routine_of sc ((instance_at w h.a.instance).block) h.a.actual h.actual.at
 
-    abbrev second : cells.Cell
-    second = record { frame = place actual_there.number high; index = h.denotes.couple.index }
+      abbrev first : cells.Cell
+      first = record { frame = h.home.at; index = couple.index }
 
-    control_reached : Reaches img.stacks first (pcw_word control) second
-    control_reached =
-        reached_through img.stacks first h.home.word (record { stack = actual_there.number; displacement = high; index = h.denotes.couple.index }) (pcw_word control) h.home.lies h.actual.reads h.actual.control_lies
-        (pcw_refers_nothing control)
+      abbrev second : cells.Cell
+      second = record { frame = place actual_there.number high; index = h.denotes.couple.index }
 
-    table_is : table code img p ≡ outcomes.faults NotAVariable
-    table_is =
-        faults_so code img p NotAVariable
-        (no_place_raw code img p core s.has next there f.top.word f.top.words_below f.top.is first second (named_on_top f h.home.at h.home.shown) (pcw_word control) control_reached control
-        (as_pcw-pcw_word control h.actual.fits) (sym (same_place h.a.actual) ∙ no_place))
+      control_reached : Reaches img.stacks first (pcw_word control) second
+      control_reached =
+          reached_through img.stacks first h.home.word (record { stack = actual_there.number; displacement = high; index = h.denotes.couple.index }) (pcw_word control) h.home.lies h.actual.reads h.actual.control_lies
+          (pcw_refers_nothing control)
 
-    abbrev failed_world : World
-    failed_world = record w { fault = Some (record { kind = NotAVariable; process = p }) }
+      table_is : table code img p ≡ outcomes.faults NotAVariable
+      table_is =
+          faults_so code img p NotAVariable
+          (no_place_raw code img p core s.has next there f.top.word f.top.words_below f.top.is first second (named_on_top f h.home.at h.home.shown) (pcw_word control) control_reached control
+          (as_pcw-pcw_word control h.actual.fits) (sym (same_place h.a.actual) ∙ no_place))
 
-    chosen : choice sc w p ≡ record { action = Fault; world = failed_world; released = []; started = None }
-    chosen =
-        choice_is sc w p q part outer s.at s.todo
-        ∙ ap (λ (k : Ask). choice_of sc w p q part outer k) asks
-        ∙ ap (λ (c : Cell). resolved_of sc w p q part outer n c) h.cell_is
-        ∙ ap
-        (λ (t : Bool). if t then opens sc w p q part outer w (record { instance = h.a.instance; purpose = name_place; rest = located_of (settle_actual_place sc h.a.actual) })
-        else fails sc w p q part outer NotAVariable) no_place
+      abbrev failed_world : World
+      failed_world = record w { fault = Some (record { kind = NotAVariable; process = p }) }
 
-    no_variable : Does tree code texts w img p
-    no_variable =
-        failed_by NotAVariable (fault_not_plain code img p core s.has (ops.Plain kinds.Eval) next there NotAVariable table_is) table_is
-        (action_is code img p core s.has (ops.Plain kinds.Eval) next there (outcomes.faults NotAVariable) table_is ∙ ap (λ (c : Choice). Some c.action) (sym chosen))
-        (subst (λ (c : Choice). Pictures tree code texts c.world (failed img p NotAVariable)) (sym chosen) (lay, faulted tree code texts w lay img s.by p q s.at s.ok NotAVariable))
+      chosen : choice sc w p ≡ record { action = Fault; world = failed_world; released = []; started = None }
+      chosen =
+          choice_is sc w p q part outer s.at s.todo
+          ∙ ap (λ (k : Ask). choice_of sc w p q part outer k) asks
+          ∙ ap (λ (c : Cell). resolved_of sc w p q part outer n c) h.cell_is
+          ∙ ap
+          (λ (t : Bool). if t then opens sc w p q part outer w (record { instance = h.a.instance; purpose = name_place; rest = located_of (settle_actual_place sc h.a.actual) })
+          else fails sc w p q part outer NotAVariable) no_place
 
-  -- a variable's cell is found, or an element's by the code of the actual, where that is subscripted
-  pub resolving : ((h : IsActualNamed) → is_subscripted h.a.actual ≡ true → Does tree code texts w img p) → Does tree code texts w img p
-  resolving evaluated = by_name (resolved_name tree code texts nested w lay img p q part outer bound core s n asks kind next below a.3)
-    where
-      by_place : (h : IsActualNamed) (t : Bool) → is_subscripted h.a.actual ≡ t → Does tree code texts w img p
-      by_place h true e = evaluated h e
-      by_place h false e = no_variable h (finds_name tree code texts nested w lay img p q part outer bound core s n asks kind next below a.3 h.home) e
+      no_variable : Does tree code texts w img p
+      no_variable =
+          failed_by NotAVariable (fault_not_plain code img p core s.has (ops.Plain kinds.Eval) next there NotAVariable table_is) table_is
+          (action_is code img p core s.has (ops.Plain kinds.Eval) next there (outcomes.faults NotAVariable) table_is ∙ ap (λ (c : Choice). Some c.action) (sym chosen))
+          (subst (λ (c : Choice). Pictures tree code texts c.world (failed img p NotAVariable)) (sym chosen) (lay, faulted tree code texts w lay img s.by p q s.at s.ok NotAVariable))
 
-      by_name : NameStands tree code texts nested w lay img p q part outer bound core s n kind couple → Does tree code texts w img p
-      by_name (for_variable h) = resolving_does h (finds_name tree code texts nested w lay img p q part outer bound core s n asks kind next below a.3 h.home)
-      by_name (for_actual h) = by_place h (is_subscripted h.a.actual) refl
+    -- a variable's cell is found, or an element's by the code of the actual, where that is subscripted
+    pub resolving : ((h : IsActualNamed) → is_subscripted h.a.actual ≡ true → Does tree code texts w img p) → Does tree code texts w img p
+    resolving evaluated = by_name (resolved_name tree code texts nested (actor_of s) n asks kind next below a.3)
+      where
+        by_place : (h : IsActualNamed) (t : Bool) → is_subscripted h.a.actual ≡ t → Does tree code texts w img p
+        by_place h true e = evaluated h e
+        by_place h false e = no_variable h (finds_name tree code texts nested (actor_of s) n asks kind next below a.3 h.home) e
+
+        by_name : NameStands tree code texts nested (actor_of s) n kind couple → Does tree code texts w img p
+        by_name (for_variable h) = resolving_does h (finds_name tree code texts nested (actor_of s) n asks kind next below a.3 h.home)
+        by_name (for_actual h) = by_place h (is_subscripted h.a.actual) refl

@@ -1,32 +1,11 @@
 -- Two references lead to one event exactly where the two events lie at one place: so lists of events are searched alike in a world and in its image.
 use Rattle.std.proofs.Common.{◌≡◌, refl, sym, ap, ◌∙◌, subst, ℕ, ◌+◌, List, [], ◌∷◌, Option, Some, Bool, true, false, eqb}
-use Rattle.std.specs.Prelude.{if◌then◌else◌, slice_get, ◌||◌}
-use Rattle.std.proofs.lemmas.Bool.{eqb-true, eq-eqb, and_parts, and_from}
-use Rattle.algol_tree.specs.Blocks.{block_numbered}
-use Rattle.algol_tree.specs.Plain.{PProgram}
-use Rattle.algol_tree.specs.Scopes.{Scopes, scopes_of}
-use Rattle.algol_tree.specs.Sorts.{same_name}
-use Rattle.algol_meaning.specs.Value.{Reference}
-use Rattle.algol_meaning.specs.World.{World, instance_at}
+use Rattle.b67_pictures.proofs.Prelude.{eqb-true, eq-eqb, if◌then◌else◌, slice_get, ◌||◌, block_numbered, PProgram, Scopes, scopes_of, same_name, same_reference, Reference, World, instance_at, Place, Code, same_place-true, same_place-self, same_place, place, Image, made_of, made_base, Texts, some_same, HasFacts, Layout, HasEvent, IsEventAt, PicturesBy, ListIs}
+use Rattle.std.proofs.lemmas.Bool.{and_parts, and_from}
 use Rattle.algol_meaning.specs.Events as meant
-use Rattle.algol_meaning.specs.Events.{same_reference}
 use Rattle.algol_laws.proofs.Cells.{same_name_is, same_name_refl}
-use Rattle.b67_word.specs.declared.Place.{Place}
 use Rattle.b67_events.specs.Events as kernel
-use Rattle.b67_events.specs.Events.{same_place}
-use Rattle.b67_events.proofs.Listed.{same_place-true, same_place-self}
-use Rattle.b67_segment.specs.declared.code.Code.{Code}
-use Rattle.b67_table.specs.Chains.{place}
-use Rattle.b67_table.specs.Image.{Image}
-use Rattle.b67_templates.specs.Cells.{made_of, made_base, FoundMade, made_name}
-use Rattle.b67_templates.specs.Programs.{Texts}
-use Rattle.b67_faithful.proofs.Contradictions.{some_same}
-use Rattle.b67_frames.specs.Arrays.{Layout}
-use Rattle.b67_frames.specs.Events.{HasEvent}
-use Rattle.b67_frames.proofs.Facts.{HasFacts}
-use Rattle.b67_scenes.specs.Depending.{IsEventAt}
-use Rattle.b67_scenes.specs.Pictures.{PicturesBy}
-use Rattle.b67_scenes.specs.Waiting.{ListIs}
+use Rattle.b67_templates.specs.Cells.{FoundMade, made_name}
 use Rattle.b67_pictures.proofs.EventMoving.{IsOwned, has_here, declares_here, cell_here}
 
 -- each of these instances is one of a process that lives

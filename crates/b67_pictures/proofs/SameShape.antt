@@ -1,28 +1,12 @@
 -- Worlds that differ in the states and the woken numbers of their processes, and in what their events are: what stands in the one stands in the
 -- other, and the same paths lead from it.
 use Rattle.std.proofs.Common.{◌≡◌, refl, sym, ap, ◌∙◌, subst, inl, inr, ℕ, zero, suc, ◌+◌, ◌≤◌, List, [], ◌∷◌, ◌++◌, Option, Some, None, Bool, true, false}
-use Rattle.std.specs.Prelude.{slice_get, slice_set, map, if◌then◌else◌}
-use Rattle.b67_list.specs.Numbered.{numbered, set_numbered}
-use Rattle.b67_deeds.specs.Events.{EventState}
-use Rattle.b67_deeds.specs.Listed.{IsListed}
-use Rattle.algol_tree.specs.Blocks.{block_numbered}
-use Rattle.algol_tree.specs.Cells.{level_of}
-use Rattle.algol_tree.specs.Scopes.{Scopes}
-use Rattle.algol_tree.specs.Sorts.{same_name}
-use Rattle.algol_meaning.specs.Value.{Reference, Cell, simple, event, array, named, reference}
-use Rattle.algol_meaning.specs.World.{NamedCell, Instance, Part, Process, State, able, lives, World, instance_at, or_no_instance, ancestor, cell_in, cell_at, cells_with, set_able, set_all_able}
-use Rattle.algol_meaning.specs.Critical.{referred_in, own_instances}
-use Rattle.algol_meaning.specs.Events.{set_event}
-use Rattle.algol_standing.specs.Skeleton.{Stack, Home, Skeleton, IsIn, Stands, OnPath}
-use Rattle.algol_standing.specs.Worlds.{referred_in_cells, parent_in, held_by, IsAmong, IsStanding, IsOnPath, home_of, stack_of, skeleton}
-use Rattle.algol_standing.specs.Lows.{LeadsLow, CellLow, CellsLow, InstanceLow, PartLow, WorldLow, IsLow}
-use Rattle.b67_ops.specs.declared.TheConstants.{OUTER_LEVEL}
-use Rattle.b67_faithful.proofs.Contradictions.{some_same, none_some}
-use Rattle.b67_frames.proofs.Facts.{HasFacts, IsStandingOrNone}
-use Rattle.b67_scenes.proofs.Freeing.{LivesIn, lives_then}
-use Rattle.b67_scenes.proofs.Paths.{CanClimb}
-use Rattle.b67_scenes.proofs.Stage.{process_is}
-use Rattle.b67_scenes.proofs.Tasks.{EventsStay}
+use Rattle.b67_pictures.proofs.Prelude.{slice_get, slice_set, map, if◌then◌else◌, numbered, set_numbered, EventState, IsListed, block_numbered, level_of, Scopes, same_name, referred_in, own_instances, set_event, Reference, Cell, simple, event, array, named, NamedCell, Instance, Part, Process, State, able, lives, World, instance_at, or_no_instance, ancestor, cell_in, cell_at, cells_with, set_able, set_all_able, CellLow, CellsLow, InstanceLow, WorldLow, IsLow, Stack, Home, IsIn, referred_in_cells, IsAmong, IsStanding, IsOnPath, stack_of, skeleton, OUTER_LEVEL, some_same, none_some, HasFacts, IsStandingOrNone, LivesIn, CanClimb, process_is, EventsStay}
+use Rattle.algol_meaning.specs.Value.{reference}
+use Rattle.algol_standing.specs.Skeleton.{Skeleton, Stands, OnPath}
+use Rattle.algol_standing.specs.Worlds.{parent_in, held_by, home_of}
+use Rattle.algol_standing.specs.Lows.{LeadsLow, PartLow}
+use Rattle.b67_scenes.proofs.Freeing.{lives_then}
 use Rattle.b67_pictures.proofs.Alone.{IsAfter}
 
 -- ---- processes

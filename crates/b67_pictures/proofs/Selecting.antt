@@ -1,59 +1,25 @@
 -- CASE: the choice of a statement.
 use Rattle.std.proofs.Common.{◌≡◌, refl, sym, ap, ◌∙◌, subst, ℕ, zero, suc, ◌+◌, ◌*◌, ◌<◌, ◌≤◌, List, [], ◌∷◌, length, Some, None, Ok, Bool, true, false, All, arith, length-append, ℤ, ◌⊎◌, inl, inr}
-use Rattle.std.specs.Prelude.{pos, negsuc, slice_get, if◌then◌else◌, ◌&&◌, int_le, int_lt, nat_lt}
+use Rattle.b67_pictures.proofs.Prelude.{recursion_from_All, pos, slice_get, if◌then◌else◌, ◌&&◌, PProgram, PStmts, Scopes, scopes_of, Ask, selects, ask, resume, Choice, choice, choice_of, goes, fails, Answer, done, Value, number, truth, whole_of, RestsKeepToTheirText, AllIsMadeInOrder, Operator, Placed, Spells, Code, Segment, failed, segment_limit, end_of_code, operator_at, stmts_count, HasKind, Texts, AreNumbers, ActionAt, Acted, ComesTo, Slot, Core, with_core, FragmentsArePerformed, below_is, without_call, enter_class, action_not_plain, action_is, fault_not_plain, not_below, makes, unmade, wholes_of, IsCall, call, operator_there, AbleActor, actor_of, choice_is, faults_so, faulted, text_in, level_in, context_in, most_in, Pictures, Does, failed_by}
+use Rattle.std.specs.Prelude.{negsuc, int_le, int_lt}
 use Rattle.std.specs.List.{AllByRecursion}
 use Rattle.std.proofs.lemmas.Int.{ints}
-use Rattle.std.proofs.lemmas.Bool.Decides.{nat_tests}
-use Rattle.std.proofs.lemmas.List.Elements.{recursion_from_All}
-use Rattle.b67_list.specs.Numbered.{numbered}
 use Rattle.b67_num.specs.declared.FaultKind.TheVariants.{CaseIndex}
 use Rattle.algol_tree.specs.declared.tree.Kind.TheVariants as types
 use Rattle.algol_tree.specs.Plain as tree
-use Rattle.algol_tree.specs.Plain.{PProgram, PStmts}
-use Rattle.algol_tree.specs.Scopes.{Scopes, scopes_of}
-use Rattle.algol_meaning.specs.Rest.{Answer, done}
-use Rattle.algol_meaning.specs.Value.{Value, number, truth, whole_of}
-use Rattle.algol_meaning.specs.World.{Process, Part, lives, World}
 use Rattle.b67_deeds.specs.declared.Letter.TheVariants as act
-use Rattle.algol_meaning.specs.Asks.{Ask, selects, ask, resume}
-use Rattle.algol_meaning.specs.Choice.{Choice, choice, choice_of, nth_exists, goes, fails}
-use Rattle.b67_ops.specs.declared.Operator.{Operator}
+use Rattle.algol_meaning.specs.Choice.{nth_exists}
 use Rattle.b67_ops.specs.declared.Operator.TheVariants as ops
 use Rattle.b67_ops.specs.declared.PlainKind.TheVariants as kinds
 use Rattle.b67_ops.specs.declared.intrinsic.Intrinsic.TheVariants.{Select}
-use Rattle.b67_segment.specs.Operators.{Placed, text, StandsAmong}
-use Rattle.b67_segment.specs.Syllables.{Spells}
-use Rattle.b67_segment.specs.declared.code.Code.{Code}
-use Rattle.b67_segment.specs.declared.code.Segment.{Segment}
+use Rattle.b67_segment.specs.Operators.{text, StandsAmong}
 use Rattle.b67_segment.proofs.Fetches.{length-syllables}
 use Rattle.b67_segment.proofs.Texts.{text-append}
-use Rattle.b67_scenes.specs.States.{StateIs}
 use Rattle.b67_table.specs.Effect as effects
-use Rattle.b67_table.specs.Ending.{failed}
-use Rattle.b67_table.specs.Image.{Image}
 use Rattle.b67_table.specs.Intrinsics.{case_in}
-use Rattle.b67_table.specs.Limits.{segment_limit, end_of_code}
 use Rattle.b67_table.specs.Outcome as outcomes
-use Rattle.b67_table.specs.Table.{table, operator_at}
-use Rattle.b67_templates.specs.Code.{stmts_count}
-use Rattle.b67_templates.specs.Fragments.{HasKind}
-use Rattle.b67_templates.specs.Programs.{Texts}
-use Rattle.b67_standing.specs.Stepping.{Slot}
-use Rattle.b67_standing.specs.Standing.{AreNumbers, ActionAt, Acted, ComesTo}
-use Rattle.b67_cores.specs.Cores.{Core, with_core}
-use Rattle.b67_cores.specs.Stretches.{FragmentsArePerformed}
-use Rattle.algol_paths.specs.Laws.{RestsKeepToTheirText, AllIsMadeInOrder}
-use Rattle.b67_rows.proofs.Rows.{action_not_plain, action_is, fault_not_plain}
-use Rattle.b67_rows.proofs.IntrinsicRows.{without_call, enter_class, select_raw, select_faults}
-use Rattle.b67_rows.proofs.Unmade.{makes, unmade}
-use Rattle.b67_frames.specs.Arrays.{Layout}
-use Rattle.b67_scenes.specs.Pictures.{Pictures}
-use Rattle.b67_scenes.proofs.Calling.{wholes_of, IsCall, call}
-use Rattle.b67_scenes.proofs.Homes.{operator_there}
-use Rattle.b67_scenes.proofs.Stage.{choice_is, faults_so, faulted}
-use Rattle.b67_scenes.proofs.Scene.{Scene}
-use Rattle.b67_scenes.proofs.Staying.{text_in, level_in, context_in, most_in}
-use Rattle.b67_pictures.specs.Acting.{Does, failed_by}
+use Rattle.b67_table.specs.Table.{table}
+use Rattle.b67_rows.proofs.IntrinsicRows.{select_raw, select_faults}
 use Rattle.b67_pictures.proofs.InFrame.{does_in_frame}
 
 -- ---- places of a segment
@@ -99,12 +65,6 @@ within_low i n h = grind (arith, ints)
 within_high : (i n : ℕ) → n ≤ i → within (pos i) n ≡ false
 within_high i n h = grind (arith, ints)
 
-nat_low : (i n : ℕ) → i < n → nat_lt i n ≡ true
-nat_low i n h = grind (arith, nat_tests)
-
-nat_high : (i n : ℕ) → n ≤ i → nat_lt i n ≡ false
-nat_high i n h = grind (arith, nat_tests)
-
 -- a number is that of a statement, or of none, for the source and for the machine
 data IsCase (z : ℤ) (ss : PStmts) : Type 0 where
   one_of : (i : ℕ) → z ≡ pos i → i < stmts_count ss → nth_exists z ss ≡ true → case_in z (pos (stmts_count ss)) ≡ Some i → IsCase z ss
@@ -125,8 +85,8 @@ case_of (pos i) ss = by_order (below_or_not i (stmts_count ss))
   where
     by_order : (i < stmts_count ss) ⊎ (stmts_count ss ≤ i) → IsCase (pos i) ss
     by_order (inl h) =
-        one_of i refl h (exists_is (pos i) ss ∙ within_low i (stmts_count ss) h) (ap (λ (b : Bool). if b then Some i else None) (nat_low i (stmts_count ss) h))
-    by_order (inr h) = none_of (exists_is (pos i) ss ∙ within_high i (stmts_count ss) h) (ap (λ (b : Bool). if b then Some i else None) (nat_high i (stmts_count ss) h))
+        one_of i refl h (exists_is (pos i) ss ∙ within_low i (stmts_count ss) h) (ap (λ (b : Bool). if b then Some i else None) (below_is i (stmts_count ss) h))
+    by_order (inr h) = none_of (exists_is (pos i) ss ∙ within_high i (stmts_count ss) h) (ap (λ (b : Bool). if b then Some i else None) (not_below i (stmts_count ss) h))
 
 number_is : (v : Value) (z : ℤ) → HasKind types.Number v → whole_of v ≡ z → v ≡ number z
 number_is (number y) z fits e = ap number e
@@ -135,68 +95,69 @@ number_is (truth b) z fits e = absurd fits
 -- ---- the action
 
 module _ (tree : PProgram) (code : Code) (texts : Texts) (fragments : FragmentsArePerformed) (keeps : RestsKeepToTheirText) (order : AllIsMadeInOrder)
-    (short : All (λ (o : Segment). length o.words ≤ segment_limit) code.segments) (w : World) (lay : Layout) (img : Image)
-    (p : ℕ) (q : Process) (part : Part) (outer : List Part) (bound : ℕ) (core : Core) (s : Scene tree code texts w lay img p q part outer bound core) (able_is : lives q.state ≡ true) (able_p : StateIs (scopes_of tree) w lay q.state (numbered img.states p))
-    (v : Value) (ss : PStmts) (asks : ask part.rest ≡ selects v ss) (a : ActionAt (scopes_of tree) (context_in tree code texts w part s.stands.frame.gives) (text_in tree texts w part) (level_in tree w part) (most_in tree w part) (selects v ss) s.stands.pc s.stands.slots)
-    (answered : (r : Answer) (at : ℕ) (left : List Slot) → Acted (scopes_of tree) (context_in tree code texts w part s.stands.frame.gives) (text_in tree texts w part) (level_in tree w part) (most_in tree w part) (selects v ss) s.stands.pc s.stands.slots a r at left →
-    ComesTo (scopes_of tree) (context_in tree code texts w part s.stands.frame.gives) (text_in tree texts w part) (level_in tree w part) (most_in tree w part) (resume (scopes_of tree) part.rest r) at left) where
-  abbrev sc : Scopes
-  sc = scopes_of tree
+    (short : All (λ (o : Segment). length o.words ≤ segment_limit) code.segments) (actor : AbleActor tree code texts) where
+  open actor use {w, lay, img, p, q, part, outer, core, s}
 
-  -- the arguments are the number, how many statements there are, and where their table is
-  abbrev given : List Value
-  given = v ∷ number (pos (stmts_count ss)) ∷ number (pos a.0) ∷ []
+  module _ (v : Value) (ss : PStmts) (asks : ask part.rest ≡ selects v ss) (a : ActionAt (scopes_of tree) (context_in tree code texts w part s.stands.frame.gives) (text_in tree texts w part) (level_in tree w part) (most_in tree w part) (selects v ss) s.stands.pc s.stands.slots)
+      (answered : (r : Answer) (at : ℕ) (left : List Slot) → Acted (scopes_of tree) (context_in tree code texts w part s.stands.frame.gives) (text_in tree texts w part) (level_in tree w part) (most_in tree w part) (selects v ss) s.stands.pc s.stands.slots a r at left →
+      ComesTo (scopes_of tree) (context_in tree code texts w part s.stands.frame.gives) (text_in tree texts w part) (level_in tree w part) (most_in tree w part) (resume (scopes_of tree) part.rest r) at left) where
+    abbrev sc : Scopes
+    sc = scopes_of tree
 
-  given_fit : AreNumbers given
-  given_fit = (a.2.fits, (a.2.many, (a.2.place, tt)))
+    -- the arguments are the number, how many statements there are, and where their table is
+    abbrev given : List Value
+    given = v ∷ number (pos (stmts_count ss)) ∷ number (pos a.0) ∷ []
 
-  there : operator_at code core.registers ≡ Ok (ops.Plain kinds.Entr, a.0)
-  there = operator_there sc s.stands.held code (text_in tree texts w part) (level_in tree w part) s.stands.pc s.stands.slots core (ops.Plain kinds.Entr) a.0 s.stands.there a.2.stands
+    given_fit : AreNumbers given
+    given_fit = (a.2.fits, (a.2.many, (a.2.place, tt)))
 
-  abbrev Called : Type 0
-  Called = IsCall tree code texts w lay img p q part outer bound core s Select given a.1 given_fit a.2.lies
+    there : operator_at code core.registers ≡ Ok (ops.Plain kinds.Entr, a.0)
+    there = operator_there sc s.stands.held code (text_in tree texts w part) (level_in tree w part) s.stands.pc s.stands.slots core (ops.Plain kinds.Entr) a.0 s.stands.there a.2.stands
 
-  -- the branch of a statement stands in the segment
-  table_within : (i : ℕ) → i < stmts_count ss → a.0 + 3 * i ≤ end_of_code
-  table_within i h =
-      within_segment (text_in tree texts w part) (a.0 + 3 * i) (level_in tree w part) _ _ s.stands.there.segment (a.3 i h).2.stands s.stands.there.spells
-      (segment_short code.segments core.registers.segment s.stands.there.segment (recursion_from_All (λ (o : Segment). length o.words ≤ segment_limit) code.segments short) s.stands.there.there)
+    abbrev Called : Type 0
+    Called = IsCall tree code texts (actor_of s) Select given a.1 given_fit a.2.lies
 
-  module _ (c : Called) where
-    abbrev new : ℕ → Core
-    new i = without_call core c.others c.calls.m.df (a.0 + 3 * i)
+    -- the branch of a statement stands in the segment
+    table_within : (i : ℕ) → i < stmts_count ss → a.0 + 3 * i ≤ end_of_code
+    table_within i h =
+        within_segment (text_in tree texts w part) (a.0 + 3 * i) (level_in tree w part) _ _ s.stands.there.segment (a.3 i h).2.stands s.stands.there.spells
+        (segment_short code.segments core.registers.segment s.stands.there.segment (recursion_from_All (λ (o : Segment). length o.words ≤ segment_limit) code.segments short) s.stands.there.there)
 
-    goes_to_case : (i : ℕ) → whole_of v ≡ pos i → i < stmts_count ss → nth_exists (whole_of v) ss ≡ true → case_in (whole_of v) (pos (stmts_count ss)) ≡ Some i → Does tree code texts w img p
-    goes_to_case i is h exists inside =
-        does_in_frame tree code texts fragments keeps order w lay img p q part outer bound core s able_is able_p (unmade part.rest (ap makes asks)) done tt w.output (new i) refl (record { is = refl }) s.stands.held s.stands.held_are (a.0 + 3 * i) a.1
-        (c.after_at (a.0 + 3 * i)) c.few
-        (answered done (a.0 + 3 * i) a.1 (i, number_is v (pos i) a.2.fits is, h, refl, refl)) act.Select
-        (action_not_plain code img p core s.has (ops.Plain kinds.Entr) a.0 there
-        (enter_class code img p core s.has a.0 there Select c.arguments c.reference c.marked c.others c.calls))
-        (select_raw code img p core s.has a.0 there Select c.arguments c.reference c.marked c.others c.calls (wholes_of given) c.wholes (whole_of v) (pos (stmts_count ss)) (pos a.0) refl refl
-        i a.0 inside refl (table_within i h)
-        ∙ ap (λ (o : List (List ℕ)). effects.gives (record (with_core img p (new i)) { output = o })) s.by.output)
-        (choice_is sc w p q part outer s.at s.todo
-        ∙ ap (λ (k : Ask). choice_of sc w p q part outer k) asks
-        ∙ ap (λ (b : Bool). if b then (goes sc w p q part outer act.Select w done) else fails sc w p q part outer CaseIndex) exists)
-        (λ t. action_is code img p core s.has (ops.Plain kinds.Entr) a.0 there (outcomes.gives (record (with_core img p (new i)) { output = w.output })) t ∙ c.action)
+    module _ (c : Called) where
+      abbrev new : ℕ → Core
+      new i = without_call core c.others c.calls.m.df (a.0 + 3 * i)
 
-    goes_nowhere : nth_exists (whole_of v) ss ≡ false → case_in (whole_of v) (pos (stmts_count ss)) ≡ None → Does tree code texts w img p
-    goes_nowhere exists inside =
-        let table_is : table code img p ≡ outcomes.faults CaseIndex =
-        faults_so code img p CaseIndex
-        (select_faults code img p core s.has a.0 there Select c.arguments c.reference c.marked c.others c.calls (wholes_of given) c.wholes (whole_of v) (pos (stmts_count ss)) (pos a.0) refl refl inside) in
-        let chosen : choice sc w p ≡ fails sc w p q part outer CaseIndex =
-        choice_is sc w p q part outer s.at s.todo
-        ∙ ap (λ (k : Ask). choice_of sc w p q part outer k) asks
-        ∙ ap (λ (b : Bool). if b then (goes sc w p q part outer act.Select w done) else fails sc w p q part outer CaseIndex) exists in
-        failed_by CaseIndex (fault_not_plain code img p core s.has (ops.Plain kinds.Entr) a.0 there CaseIndex table_is) table_is
-        (action_is code img p core s.has (ops.Plain kinds.Entr) a.0 there (outcomes.faults CaseIndex) table_is ∙ ap (λ (o : Choice). Some o.action) (sym chosen))
-        (subst (λ (o : Choice). Pictures tree code texts o.world (failed img p CaseIndex)) (sym chosen) (lay, faulted tree code texts w lay img s.by p q s.at s.ok CaseIndex))
+      goes_to_case : (i : ℕ) → whole_of v ≡ pos i → i < stmts_count ss → nth_exists (whole_of v) ss ≡ true → case_in (whole_of v) (pos (stmts_count ss)) ≡ Some i → Does tree code texts w img p
+      goes_to_case i is h exists inside =
+          does_in_frame tree code texts fragments keeps order actor (unmade part.rest (ap makes asks)) done tt w.output (new i) refl (record { is = refl }) s.stands.held s.stands.held_are (a.0 + 3 * i) a.1
+          (c.after_at (a.0 + 3 * i)) c.few
+          (answered done (a.0 + 3 * i) a.1 (i, number_is v (pos i) a.2.fits is, h, refl, refl)) act.Select
+          (action_not_plain code img p core s.has (ops.Plain kinds.Entr) a.0 there
+          (enter_class code img p core s.has a.0 there Select c.arguments c.reference c.marked c.others c.calls))
+          (select_raw code img p core s.has a.0 there Select c.arguments c.reference c.marked c.others c.calls (wholes_of given) c.wholes (whole_of v) (pos (stmts_count ss)) (pos a.0) refl refl
+          i a.0 inside refl (table_within i h)
+          ∙ ap (λ (o : List (List ℕ)). effects.gives (record (with_core img p (new i)) { output = o })) s.by.output)
+          (choice_is sc w p q part outer s.at s.todo
+          ∙ ap (λ (k : Ask). choice_of sc w p q part outer k) asks
+          ∙ ap (λ (b : Bool). if b then (goes sc w p q part outer act.Select w done) else fails sc w p q part outer CaseIndex) exists)
+          (λ t. action_is code img p core s.has (ops.Plain kinds.Entr) a.0 there (outcomes.gives (record (with_core img p (new i)) { output = w.output })) t ∙ c.action)
 
-    by_case : IsCase (whole_of v) ss → Does tree code texts w img p
-    by_case (one_of i is h exists inside) = goes_to_case i is h exists inside
-    by_case (none_of exists inside) = goes_nowhere exists inside
+      goes_nowhere : nth_exists (whole_of v) ss ≡ false → case_in (whole_of v) (pos (stmts_count ss)) ≡ None → Does tree code texts w img p
+      goes_nowhere exists inside =
+          let table_is : table code img p ≡ outcomes.faults CaseIndex =
+          faults_so code img p CaseIndex
+          (select_faults code img p core s.has a.0 there Select c.arguments c.reference c.marked c.others c.calls (wholes_of given) c.wholes (whole_of v) (pos (stmts_count ss)) (pos a.0) refl refl inside) in
+          let chosen : choice sc w p ≡ fails sc w p q part outer CaseIndex =
+          choice_is sc w p q part outer s.at s.todo
+          ∙ ap (λ (k : Ask). choice_of sc w p q part outer k) asks
+          ∙ ap (λ (b : Bool). if b then (goes sc w p q part outer act.Select w done) else fails sc w p q part outer CaseIndex) exists in
+          failed_by CaseIndex (fault_not_plain code img p core s.has (ops.Plain kinds.Entr) a.0 there CaseIndex table_is) table_is
+          (action_is code img p core s.has (ops.Plain kinds.Entr) a.0 there (outcomes.faults CaseIndex) table_is ∙ ap (λ (o : Choice). Some o.action) (sym chosen))
+          (subst (λ (o : Choice). Pictures tree code texts o.world (failed img p CaseIndex)) (sym chosen) (lay, faulted tree code texts w lay img s.by p q s.at s.ok CaseIndex))
 
-  pub selecting : Does tree code texts w img p
-  selecting = by_case (call tree code texts w lay img p q part outer bound core s Select given a.1 given_fit a.2.lies) (case_of (whole_of v) ss)
+      by_case : IsCase (whole_of v) ss → Does tree code texts w img p
+      by_case (one_of i is h exists inside) = goes_to_case i is h exists inside
+      by_case (none_of exists inside) = goes_nowhere exists inside
+
+    pub selecting : Does tree code texts w img p
+    selecting = by_case (call tree code texts (actor_of s) Select given a.1 given_fit a.2.lies) (case_of (whole_of v) ss)

@@ -1,37 +1,11 @@
 -- Where a process stands at its action, its operator is that action, and releases whom that releases.
 use Rattle.b67_deeds.specs.Deeds as deeds
 use Rattle.std.proofs.Common.{◌≡◌, refl, sym, ◌∙◌, subst, ℕ, List, [], ◌∷◌, Option, Some, None, true}
-use Rattle.b67_list.specs.Numbered.{numbered}
-use Rattle.b67_deeds.specs.declared.EventAct.{EventAct}
-use Rattle.algol_tree.specs.declared.tree.Named.{Named}
-use Rattle.algol_tree.specs.Plain.{PProgram}
-use Rattle.algol_tree.specs.Scopes.{scopes_of}
-use Rattle.algol_meaning.specs.Asks.{Ask, nothing, reads, reads_element, indexes, fails, enters, passes, resolves, reads_result, leaves, stores, selects, turns, goes_to, enters_block, starts, writes, makes_arrays, makes_event, ask, resume, event_deed}
-use Rattle.algol_meaning.specs.Choice.{Choice, choice, choice_of}
-use Rattle.algol_meaning.specs.Rest.{Answer}
-use Rattle.algol_meaning.specs.Value.{Reference}
-use Rattle.algol_meaning.specs.World.{Process, Part, lives, World}
-use Rattle.algol_paths.specs.Laws.{RestsKeepToTheirText, AllIsMadeInOrder}
-use Rattle.b67_segment.specs.declared.code.Code.{Code}
-use Rattle.b67_table.specs.Image.{Image}
-use Rattle.b67_templates.specs.Programs.{Texts}
-use Rattle.b67_letters.specs.Releases.{releases}
-use Rattle.b67_standing.specs.Stepping.{Slot}
-use Rattle.b67_standing.specs.Standing.{ActionAt, Acted, ComesTo, GoesOn}
-use Rattle.b67_standing.specs.Laws.{RestsGoOn}
-use Rattle.b67_cores.specs.Cores.{Core}
-use Rattle.b67_cores.specs.Stretches.{FragmentsArePerformed}
-use Rattle.b67_faithful.proofs.Choices.{ReleasesNone, NoEvent, NoTask, frees}
-use Rattle.b67_templates.specs.Nested.{LiesNested}
-use Rattle.b67_frames.specs.Arrays.{Layout}
-use Rattle.b67_scenes.specs.Depending.{TaskIs}
-use Rattle.b67_scenes.specs.States.{StateIs}
-use Rattle.b67_scenes.proofs.Scene.{Scene}
-use Rattle.b67_scenes.proofs.Stage.{choice_is}
-use Rattle.b67_scenes.proofs.Staying.{text_in, level_in, context_in, most_in}
-use Rattle.b67_pictures.specs.Acting.{Does}
+use Rattle.b67_pictures.proofs.Prelude.{EventAct, PProgram, scopes_of, Named, Ask, nothing, reads, reads_element, indexes, enters, passes, resolves, reads_result, leaves, stores, selects, turns, goes_to, enters_block, starts, writes, makes_arrays, makes_event, ask, event_deed, Choice, choice, choice_of, Answer, Reference, Process, Part, lives, World, RestsKeepToTheirText, AllIsMadeInOrder, Code, Image, releases, LiesNested, Texts, RestsGoOn, GoesOn, Core, FragmentsArePerformed, ReleasesNone, Layout, Scene, AbleActor, OutmostActor, actor_of, choice_is, text_in, level_in, context_in, most_in, TaskIs, Does, outmost_actor}
+use Rattle.algol_meaning.specs.Asks.{fails}
+use Rattle.b67_faithful.proofs.Choices.{NoEvent, NoTask, frees}
 use Rattle.b67_pictures.proofs.Dispatching.{OthersAreDone, scene_does}
-use Rattle.b67_pictures.proofs.Evaluating.{ActualsAreEntered}
+use Rattle.b67_pictures.proofs.Evaluating.{ActualsAreEntered, At, AnswersAfter}
 use Rattle.b67_pictures.proofs.Quiet.{Settled}
 use Rattle.b67_pictures.proofs.Releasing.{IsReleased, none_released}
 
@@ -67,20 +41,14 @@ event_or_not task outer (makes_event n) = of_none tt tt
 -- each operator of an action on an event releases whom that releases
 abbrev pub AreFreed : PProgram → Code → Texts → Type 0
 AreFreed tree code texts =
-    (x : EventAct) (ns : List Named) (w : World) (lay : Layout) (img : Image) (p : ℕ) (q : Process) (part : Part) (outer : List Part) (bound : ℕ) (core : Core) (s : Scene tree code texts w lay img p q part outer bound core) →
-    lives q.state ≡ true → StateIs (scopes_of tree) w lay q.state (numbered img.states p) → ask part.rest ≡ event_deed (deeds.acts x) ns →
-    (a : ActionAt (scopes_of tree) (context_in tree code texts w part s.stands.frame.gives) (text_in tree texts w part) (level_in tree w part) (most_in tree w part) (event_deed (deeds.acts x) ns) s.stands.pc s.stands.slots) →
-    ((r : Answer) (at : ℕ) (left : List Slot) →
-    Acted (scopes_of tree) (context_in tree code texts w part s.stands.frame.gives) (text_in tree texts w part) (level_in tree w part) (most_in tree w part) (event_deed (deeds.acts x) ns) s.stands.pc s.stands.slots a r at left →
-    ComesTo (scopes_of tree) (context_in tree code texts w part s.stands.frame.gives) (text_in tree texts w part) (level_in tree w part) (most_in tree w part) (resume (scopes_of tree) part.rest r) at left) →
-    releases code img p ≡ (choice (scopes_of tree) w p).released
+    (x : EventAct) (ns : List Named) (actor : AbleActor tree code texts) → ask actor.part.rest ≡ event_deed (deeds.acts x) ns → (a : At tree code texts (actor_of actor.s) (event_deed (deeds.acts x) ns)) →
+    AnswersAfter tree code texts (actor_of actor.s) (event_deed (deeds.acts x) ns) a → releases code actor.img actor.p ≡ (choice (scopes_of tree) actor.w actor.p).released
 
 -- so does the end of each process that has a task
 abbrev pub EndsAreFreed : PProgram → Code → Texts → Type 0
 EndsAreFreed tree code texts =
-    (w : World) (lay : Layout) (img : Image) (p : ℕ) (q : Process) (part : Part) (bound : ℕ) (core : Core) (s : Scene tree code texts w lay img p q part [] bound core) → lives q.state ≡ true →
-    (task : Reference) → q.task ≡ Some task → (r : Answer) → ask part.rest ≡ leaves r →
-    ActionAt (scopes_of tree) (context_in tree code texts w part s.stands.frame.gives) (text_in tree texts w part) (level_in tree w part) (most_in tree w part) (leaves r) s.stands.pc s.stands.slots → IsReleased tree code w img p
+    (actor : OutmostActor tree code texts) → lives actor.q.state ≡ true → (task : Reference) → actor.q.task ≡ Some task → (r : Answer) → ask actor.part.rest ≡ leaves r →
+    At tree code texts (actor_of actor.s) (leaves r) → IsReleased tree code actor.w actor.img actor.p
 
 module _ (tree : PProgram) (code : Code) (texts : Texts) (w : World) (lay : Layout) (img : Image) (p : ℕ) (q : Process) (part : Part) (bound : ℕ) (core : Core) (does : Does tree code texts w img p) where
   -- whoever does not act on an event, and does not end a process that has a task, releases nobody
@@ -92,31 +60,27 @@ module _ (tree : PProgram) (code : Code) (texts : Texts) (w : World) (lay : Layo
       (subst (λ (y : Ask). ReleasesNone q.task (choice_of (scopes_of tree) w p q part outer y)) (sym e) (frees (scopes_of tree) w p q part outer k calm idle))) does
 
   leaving_frees : EndsAreFreed tree code texts → lives q.state ≡ true → (outer : List Part) (s : Scene tree code texts w lay img p q part outer bound core) (r : Answer) → ask part.rest ≡ leaves r →
-      ActionAt (scopes_of tree) (context_in tree code texts w part s.stands.frame.gives) (text_in tree texts w part) (level_in tree w part) (most_in tree w part) (leaves r) s.stands.pc s.stands.slots → IsReleased tree code w img p
+      At tree code texts (actor_of s) (leaves r) → IsReleased tree code w img p
   leaving_frees ends alive (next ∷ parts) s r e a = calmly (next ∷ parts) s (leaves r) e tt (λ (clash : next ∷ parts ≡ []). cc)
   leaving_frees ends alive [] s r e a = by_task q.task refl
     where
       by_task : (t : Option Reference) → q.task ≡ t → IsReleased tree code w img p
       by_task None none = calmly [] s (leaves r) e tt (λ last. none)
-      by_task (Some task) has = ends w lay img p q part bound core s alive task has r e a
+      by_task (Some task) has = ends (outmost_actor s) alive task has r e a
 
 module _ (tree : PProgram) (code : Code) (texts : Texts) (lies : LiesNested tree) (actuals : ActualsAreEntered tree code texts) (fragments : FragmentsArePerformed) (keeps : RestsKeepToTheirText) (order : AllIsMadeInOrder) (rests : RestsGoOn)
-    (others : OthersAreDone tree code texts) (freed : AreFreed tree code texts) (ends : EndsAreFreed tree code texts) (w : World) (lay : Layout) (img : Image)
-    (p : ℕ) (q : Process) (part : Part) (outer : List Part) (bound : ℕ) (core : Core) (s : Scene tree code texts w lay img p q part outer bound core) (able_is : lives q.state ≡ true) (able_p : StateIs (scopes_of tree) w lay q.state (numbered img.states p)) where
+    (others : OthersAreDone tree code texts) (freed : AreFreed tree code texts) (ends : EndsAreFreed tree code texts) (actor : AbleActor tree code texts) where
+  open actor use {w, lay, img, p, q, part, outer, bound, core, s, able_is, able_p}
+
   abbrev IsThere : Ask → Type 0
-  IsThere k =
-      (a : ActionAt (scopes_of tree) (context_in tree code texts w part s.stands.frame.gives) (text_in tree texts w part) (level_in tree w part) (most_in tree w part) k s.stands.pc s.stands.slots) →
-      ((r : Answer) (at : ℕ) (left : List Slot) →
-      Acted (scopes_of tree) (context_in tree code texts w part s.stands.frame.gives) (text_in tree texts w part) (level_in tree w part) (most_in tree w part) k s.stands.pc s.stands.slots a r at left →
-      ComesTo (scopes_of tree) (context_in tree code texts w part s.stands.frame.gives) (text_in tree texts w part) (level_in tree w part) (most_in tree w part) (resume (scopes_of tree) part.rest r) at left) →
-      IsReleased tree code w img p
+  IsThere k = (a : At tree code texts (actor_of s) k) → AnswersAfter tree code texts (actor_of s) k a → IsReleased tree code w img p
 
   done_there : Does tree code texts w img p
-  done_there = scene_does tree code texts lies actuals fragments keeps order rests others w lay img p q part outer bound core s able_is able_p
+  done_there = scene_does tree code texts lies actuals fragments keeps order rests others actor
 
   by_ask : (k : Ask) → ask part.rest ≡ k → IsOfEvent q.task outer k → IsThere k
   by_ask k e (of_event x ns is) =
-      subst IsThere (sym is) (λ a answered no_limit. freed x ns w lay img p q part outer bound core s able_is able_p (e ∙ is) a answered)
+      subst IsThere (sym is) (λ a answered no_limit. freed x ns actor (e ∙ is) a answered)
   by_ask k e (of_leaving r is) = subst IsThere (sym is) (λ a answered. leaving_frees tree code texts w lay img p q part bound core done_there ends able_is outer s r (e ∙ is) a)
   by_ask k e (of_none calm idle) = λ a answered. calmly tree code texts w lay img p q part bound core done_there outer s k e calm idle
 

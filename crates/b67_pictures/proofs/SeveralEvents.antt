@@ -1,27 +1,9 @@
 -- Several events are told in the image as in the world.
 use Rattle.std.proofs.Common.{◌≡◌, refl, sym, ap, ◌∙◌, ℕ, ◌+◌, List, [], ◌∷◌, Option, Some, Bool}
-use Rattle.std.specs.Prelude.{if◌then◌else◌}
+use Rattle.b67_pictures.proofs.Prelude.{if◌then◌else◌, answers, EventState, PProgram, scopes_of, event_at, Reference, World, event_in, IsOk, IsWhole, Place, Code, Event, Image, Texts, HasFacts, Layout, PicturesBy, ListIs}
 use Rattle.b67_deeds.specs.declared.EventTest.TheVariants as test
-use Rattle.b67_deeds.specs.Events.{EventState}
-use Rattle.b67_deeds.specs.Deeds.{answers}
-use Rattle.algol_tree.specs.Plain.{PProgram}
-use Rattle.algol_tree.specs.Scopes.{scopes_of}
-use Rattle.algol_meaning.specs.Value.{Reference}
-use Rattle.algol_meaning.specs.World.{World, event_in}
 use Rattle.algol_meaning.specs.Events as meant
-use Rattle.algol_meaning.specs.Events.{event_at}
-use Rattle.algol_standing.specs.Worlds.{IsWhole}
-use Rattle.algol_standing.specs.Fitting.{IsOk}
-use Rattle.b67_word.specs.declared.Place.{Place}
 use Rattle.b67_events.specs.Events as kernel
-use Rattle.b67_events.specs.Events.{Event}
-use Rattle.b67_segment.specs.declared.code.Code.{Code}
-use Rattle.b67_table.specs.Image.{Image}
-use Rattle.b67_templates.specs.Programs.{Texts}
-use Rattle.b67_frames.specs.Arrays.{Layout}
-use Rattle.b67_frames.proofs.Facts.{HasFacts}
-use Rattle.b67_scenes.specs.Pictures.{PicturesBy}
-use Rattle.b67_scenes.specs.Waiting.{ListIs}
 use Rattle.b67_scenes.proofs.SeveralHomes.{AllStanding}
 use Rattle.b67_pictures.proofs.EventMoving.{means_here, open_here}
 use Rattle.b67_pictures.proofs.SameEvents.{AllOwned}

@@ -1,47 +1,27 @@
 -- Images that picture worlds go with the source through every operator.
-use Rattle.std.proofs.Common.{◌≡◌, refl, ap, subst, ℕ, ◌<◌, ◌≤◌, length, Option, Some, None, arith, true}
-use Rattle.b67_list.specs.Numbered.{numbered}
-use Rattle.b67_num.specs.declared.FaultKind.{FaultKind}
-use Rattle.algol_tree.specs.Plain.{PProgram}
-use Rattle.algol_tree.specs.Scopes.{scopes_of}
-use Rattle.algol_meaning.specs.World.{Process, World, is_able, process_at}
-use Rattle.algol_meaning.specs.Choice.{choice}
+use Rattle.std.proofs.Common.{◌≡◌, refl, ap, subst, ℕ, ◌<◌, ◌≤◌, List, length, Option, Some, None, arith, true}
+use Rattle.b67_pictures.proofs.Prelude.{numbered, FaultKind, PProgram, scopes_of, choice, Process, World, is_able, process_at, first_world_stands, IsOk, IsWhole, Place, Registers, Code, stack_limit, failed, Image, is_live, Outcome, faults, limit, Plains, Acts, Lives, OperatorTouches, IsPrivate, Texts, StepsArePerformed, StepsComeToLimit, true_false, HasFormats, IsShort, Faithful, AreFew, weight, numbered_beyond, Layout, Pictured, living, dead, PicturesBy, Pictures, MayAct, Does, gave, failed_by, stopped, IsListable}
 use Rattle.algol_meaning.specs.Run.{start, may_go}
 use Rattle.algol_calls.specs.Texts.{AreTexts, HasOuterBlock}
-use Rattle.algol_standing.specs.Worlds.{IsWhole}
-use Rattle.algol_standing.specs.Fitting.{IsOk}
 use Rattle.algol_standing.proofs.LowLaws.{others_keep_low, making_is_low}
-use Rattle.algol_standing.proofs.Worlds.{first_world_stands, choices_keep_worlds}
-use Rattle.b67_word.specs.declared.Place.{Place}
-use Rattle.b67_control.specs.declared.Registers.{Registers}
-use Rattle.b67_segment.specs.declared.code.Code.{Code}
-use Rattle.b67_templates.specs.Programs.{Texts}
+use Rattle.algol_standing.proofs.Worlds.{choices_keep_worlds}
 use Rattle.b67_table.specs.declared.InterruptKind.{InterruptKind}
-use Rattle.b67_table.specs.Outcome.{Outcome, gives, faults, interrupts, limit}
-use Rattle.b67_table.specs.Image.{Image, is_live}
-use Rattle.b67_store.specs.Store.{stack_limit}
+use Rattle.b67_table.specs.Outcome.{gives, interrupts}
 use Rattle.b67_table.specs.Table.{table}
 use Rattle.b67_table.specs.Beginning.{first_image}
-use Rattle.b67_table.specs.Ending.{failed, may_act}
-use Rattle.b67_table.specs.Runs.{Plains, Acts}
+use Rattle.b67_table.specs.Ending.{may_act}
 use Rattle.b67_table.specs.Runs as runs
-use Rattle.b67_table.specs.Touches.{IsPrivate}
-use Rattle.b67_table.specs.Sound.{Lives, OperatorTouches}
-use Rattle.b67_cores.specs.Stretches.{StepsArePerformed, StepsComeToLimit}
-use Rattle.b67_listing.specs.Listings.{IsListable}
 use Rattle.b67_faithful.proofs.Choices.{processes_stay}
 use Rattle.b67_faithful.specs.Agreement.{Shows}
-use Rattle.b67_faithful.specs.Faithful.{HasFormats, HasSegments, IsShort, Faithful}
-use Rattle.b67_faithful.specs.Weight.{weight}
-use Rattle.b67_faithful.specs.Simulation.{AreFew, Acted, Comes, acts, stops, Simulates}
-use Rattle.b67_faithful.proofs.Contradictions.{true_false, gives_same, faults_same, gives_faults}
+use Rattle.b67_faithful.specs.Faithful.{HasSegments}
+use Rattle.b67_faithful.specs.Simulation.{Acted, Comes, acts, stops, Simulates}
+use Rattle.b67_faithful.proofs.Contradictions.{gives_same, faults_same, gives_faults}
 use Rattle.b67_faithful.proofs.Counting.{simulations_are_faithful}
+use Rattle.b67_faithful.proofs.Following.{related, tails_through}
 use Rattle.b67_faithful.proofs.Ways.{may_lead}
-use Rattle.b67_rows.proofs.Numbers.{numbered_beyond}
-use Rattle.b67_frames.specs.Arrays.{Layout}
-use Rattle.b67_scenes.specs.Pictures.{Pictured, living, dead, PicturesBy, Pictures}
+use Rattle.b67_settling.specs.Local.{NobodyDepends, StacksStayOwn}
+use Rattle.b67_table.specs.Runs.{TableRun}
 use Rattle.b67_scenes.proofs.Showing.{able_acts, no_limit, IsAble, able_one, able_alike, ends_alike, is_light}
-use Rattle.b67_pictures.specs.Acting.{MayAct, Does, gave, failed_by, stopped}
 use Rattle.b67_pictures.proofs.Quiet.{SettledAct, through_plain, Operates, plainly, acting, operates, Settles, settles}
 
 -- ---- an outcome is one
@@ -69,6 +49,12 @@ PicturesSome tree code texts w img = Pictures tree code texts w img × (1 ≤ le
 abbrev pub StandApart : PProgram → Code → Texts → Type 0
 StandApart tree code texts =
     (w : World) (lay : Layout) (a : Image) → PicturesBy tree code texts w lay a → IsOk (scopes_of tree) IsWhole w → (p q : ℕ) (x : Place) (r : Registers) → OperatorTouches code a p x → Lives a q r → IsPrivate r x → p ≡ q
+
+-- nor the stack of another process on which nobody depends
+abbrev pub StacksApart : PProgram → Code → Texts → Type 0
+StacksApart tree code texts =
+    (w : World) (lay : Layout) (a : Image) → PicturesBy tree code texts w lay a → IsOk (scopes_of tree) IsWhole w → (p q : ℕ) (r : Registers) (x : Place) → Lives a p r
+    → NobodyDepends a r.stack → OperatorTouches code a q x → x.stack ≡ r.stack → q ≡ p
 
 -- the plain operators of a process of a pictured image are few
 abbrev pub OperatorsAreFew : PProgram → Code → Texts → Type 0
@@ -201,3 +187,15 @@ module _ (tree : PProgram) (code : Code) (texts : Texts) (performed : StepsArePe
     -- so the code is faithful to the source
     pub code_is_faithful : HasSegments tree code → HasFormats tree code → IsShort tree code → IsListable code → Faithful tree code
     code_is_faithful = simulations_are_faithful tree code (PicturesSome tree code texts) simulation
+
+    -- each image to which a run leads pictures some world
+    pub pictured : (schedule tails : List ℕ) (img : Image) → TableRun code schedule tails img → (world : World) × PicturesSome tree code texts world img
+    pictured schedule tails img run =
+        let before = related tree code (PicturesSome tree code texts) simulation run.runs in
+        (before.world, tails_through tree code (PicturesSome tree code texts) simulation before.world before.pictures run.after)
+
+    -- so stacks stay own
+    pub stacks_stay : StacksApart tree code texts → StacksStayOwn code
+    stacks_stay stacks schedule tails img run p q r x lives nobody touches same =
+        let pic = pictured schedule tails img run in
+        stacks pic.0 pic.1.0.0 img pic.1.0.1 pic.1.2 p q r x lives nobody touches same

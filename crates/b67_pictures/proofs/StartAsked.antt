@@ -1,11 +1,8 @@
 -- Who starts a process has nothing to make.
-use Rattle.std.proofs.Common.{◌≡◌, refl, List, [], ◌∷◌, Option}
-use Rattle.algol_tree.specs.declared.tree.Named.{Named}
-use Rattle.algol_meaning.specs.Rest.{Given, valued, passed, refers, names, Hole, read, element, index, tests, broken, enter, inside, subscript, argument, left, right, negated, inverted, condition, Actuals, pass, in_value, Rest, arrays, event, bounding}
-use Rattle.algol_meaning.specs.Asks.{starts, ask, ask_hole, ask_actuals}
-use Rattle.algol_paths.specs.Arrays.{all_to_make}
-use Rattle.algol_paths.specs.Texts.{InGivens}
-use Rattle.b67_rows.proofs.AskedEntries.{InReferred}
+use Rattle.std.proofs.Common.{◌≡◌, refl, List, [], Option}
+use Rattle.b67_pictures.proofs.Prelude.{Named, starts, ask, Given, Rest, all_to_make}
+use Rattle.algol_meaning.specs.Rest.{Hole, read, element, index, tests, broken, enter, inside, subscript, argument, left, right, negated, inverted, condition, Actuals, pass, in_value, arrays, event, bounding}
+use Rattle.algol_meaning.specs.Asks.{ask_hole, ask_actuals}
 
 -- an expression starts none
 mutual
@@ -34,11 +31,3 @@ none_to_make n gs task (arrays kind ns pairs vs k) e = cc
 none_to_make n gs task (event m k) e = cc
 none_to_make n gs task (bounding kind ns pairs vs h ps k) e = absurd (hole_starts n gs task h e)
 none_to_make n gs task r e = refl
-
--- of each name that is given P holds
-pub all_referred : (P : Named → Type 0) (gs : List Given) → InGivens P gs → InReferred P gs
-all_referred P [] is = tt
-all_referred P (refers n ∷ gs) is = (is.0, all_referred P gs is.1)
-all_referred P (valued v ∷ gs) is = all_referred P gs is
-all_referred P (passed c ∷ gs) is = all_referred P gs is
-all_referred P (names e ∷ gs) is = all_referred P gs is.1

@@ -1,31 +1,12 @@
 -- A process that starts another leaves the others alone: on the newest instance of another process nobody depends who did not.
-use Rattle.std.proofs.Common.{◌≡◌, ◌≢◌, inl, refl, sym, ap, ◌∙◌, subst, ℕ, ◌+◌, List, [], ◌∷◌, ◌++◌, length, Option, Some, true, false, arith}
-use Rattle.std.specs.Prelude.{Bool, ◌==◌, ◌&&◌, ◌||◌, slice_get}
-use Rattle.std.proofs.lemmas.Bool.Decides.{nat_tests}
-use Rattle.b67_list.specs.Numbered.{numbered, set_numbered}
-use Rattle.algol_tree.specs.Scopes.{Scopes}
-use Rattle.algol_meaning.specs.World.{Instance, Process, lives, World, or_no_instance}
-use Rattle.algol_meaning.specs.Critical.{is_this, some_depends, own_instances}
-use Rattle.algol_standing.specs.Skeleton.{Home, IsIn}
-use Rattle.algol_standing.specs.Worlds.{stack_of, skeleton, IsOnPath, IsStanding, IsWhole}
-use Rattle.algol_standing.specs.Fitting.{IsOk}
+use Rattle.std.proofs.Common.{◌≡◌, ◌≢◌, inl, refl, sym, ap, ◌∙◌, subst, ℕ, ◌+◌, List, [], ◌∷◌, ◌++◌, length, Option, Some, true, false}
+use Rattle.b67_pictures.proofs.Prelude.{◌&&◌, ◌||◌, slice_get, numbered, set_numbered, Scopes, is_this, some_depends, own_instances, Instance, Process, lives, World, or_no_instance, stack_forth, IsOk, Home, IsIn, stack_of, skeleton, IsOnPath, IsStanding, IsWhole, place, numbered_before, HasFacts, facts_of, KeepsArrays, keeps_same, StandOn, Layout, AreLaid, LeavesAlone, started_world, started_layout, rows_before}
+use Rattle.std.specs.Prelude.{Bool}
 use Rattle.algol_standing.proofs.Lists.{some_same}
-use Rattle.algol_standing.proofs.Pairs.{stack_forth}
 use Rattle.algol_standing.proofs.Standing.{home_stands}
-use Rattle.b67_table.specs.Chains.{place}
-use Rattle.b67_frames.specs.Arrays.{Layout}
-use Rattle.b67_frames.proofs.Facts.{HasFacts, facts_of}
-use Rattle.b67_frames.proofs.Knowing.{KeepsArrays, keeps_same}
-use Rattle.b67_frames.proofs.Onward.{StandOn}
-use Rattle.b67_rows.proofs.Growing.{numbered_before}
-use Rattle.b67_scenes.proofs.Ancestors.{AreLaid}
-use Rattle.b67_scenes.proofs.Kept.{LeavesAlone}
-use Rattle.b67_scenes.proofs.StartingProcess.{started_world, started_layout, rows_before}
+use Rattle.b67_frames.proofs.ArraysKept.{is_other as other_is}
 use Rattle.b67_scenes.proofs.Unseen.{newest_alone}
 use Rattle.b67_pictures.proofs.Alone.{IsAfter, free_still, dependent_but, stands_on}
-
-other_is : (m n : ℕ) → m ≢ n → (m == n) ≡ false
-other_is m n h = grind (arith, nat_tests)
 
 -- who does not depend on it, with one more who does not
 pub none_depends : (qs : List Process) (new : Process) (i c : ℕ) → new.critical ≡ Some c → c ≢ i → some_depends qs i ≡ false → some_depends (qs ++ new ∷ []) i ≡ false

@@ -1,35 +1,22 @@
 -- STOD on a cell of another stack than the process's own, which the reference under the top names.
 use Rattle.std.proofs.Common.{◌≡◌, ◌≢◌, refl, ap, ◌∙◌, ℕ, ◌+◌, ◌-◌, List, [], ◌∷◌, ◌++◌, take, Option, Some, None, Bool, false, Ok, arith}
-use Rattle.std.specs.Prelude.{if◌then◌else◌, ◌==◌, reverse, slice_set}
-use Rattle.b67_word.specs.declared.Place.{Place}
-use Rattle.b67_word.specs.Word.{Word}
-use Rattle.b67_control.specs.declared.Registers.{Registers}
-use Rattle.b67_control.specs.declared.Descriptor.{Descriptor}
-use Rattle.b67_table.specs.Arrays.{as_indexed}
+use Rattle.b67_pictures.proofs.Prelude.{if◌then◌else◌, ◌==◌, reverse, slice_set, Store, ElementStore, Word, Place, Descriptor, Registers, Code, Stacks, words_or, words_of, word_at, with_word, as_indexed, gives, Image, with_stacks, ◌>->◌, valid, seen, floor, Program, asked, see, answer, ◌>>=◌, cell_of, cell_place, reached_in, operator_at, Reached, told_by, element_or_not, stored_letter, operator_letter, Core, HasCore, with_core, stack_other, without_two, most_is}
 use Rattle.b67_ops.specs.declared.Operator.TheVariants as ops
 use Rattle.b67_ops.specs.declared.PlainKind.TheVariants as kinds
-use Rattle.b67_segment.specs.declared.code.Code.{Code}
-use Rattle.b67_store.specs.Store.{Stacks, words_or, words_of, word_at, with_stack, with_word, with_cut}
+use Rattle.b67_store.specs.Store.{with_stack, with_cut}
 use Rattle.b67_table.specs.declared.Cell.{Cell}
 use Rattle.b67_table.specs.declared.Class.TheVariants as classes
-use Rattle.b67_table.specs.declared.Reached.{Reached}
 use Rattle.b67_table.specs.declared.InterruptKind.TheVariants.{StackUnderflow}
-use Rattle.b67_table.specs.Effect.{Effect, gives}
-use Rattle.b67_table.specs.Image.{Image, with_stacks, with_registers}
-use Rattle.b67_table.specs.Look.{Look, found, stops, ◌>->◌, valid, seen}
-use Rattle.b67_table.specs.Program.{Program, does, effect_of, asked, see, answer, ◌>>=◌, save}
-use Rattle.b67_table.specs.Private.{floor}
-use Rattle.b67_table.specs.References.{Two, cell_of, cell_place, reached_in, named, from_top, operand_in, invalid}
+use Rattle.b67_table.specs.Effect.{Effect}
+use Rattle.b67_table.specs.Image.{with_registers}
+use Rattle.b67_table.specs.Look.{Look, found, stops}
+use Rattle.b67_table.specs.Program.{does, effect_of, save}
+use Rattle.b67_table.specs.References.{Two, named, from_top, operand_in, invalid}
 use Rattle.b67_table.specs.Rows.{row, store, store_by, stored}
-use Rattle.b67_table.specs.Table.{raw, operator_at, class_at}
-use Rattle.b67_deeds.specs.declared.Letter.TheVariants.{Store, ElementStore}
-use Rattle.b67_letters.specs.Letters.{told_by, element_or_not, stored_letter, operator_letter}
-use Rattle.b67_cores.specs.Cores.{Core, HasCore, with_core}
-use Rattle.b67_rows.proofs.Cored.{stack_other}
-use Rattle.b67_rows.proofs.IndexRows.{without_two}
+use Rattle.b67_table.specs.Table.{raw, class_at}
 use Rattle.b67_rows.proofs.Rows.{raw_is}
 use Rattle.b67_rows.proofs.StackWords.{cut-stack}
-use Rattle.b67_rows.proofs.StoreRow.{most_is, words_whole, words_long, top_word, under_word}
+use Rattle.b67_rows.proofs.StoreRow.{words_whole, words_long, top_word, under_word}
 
 module _ (code : Code) (img : Image) (p : ℕ) (core : Core) (has : HasCore img p core) (next : ℕ) (at : operator_at code core.registers ≡ Ok (ops.Plain kinds.Stod, next))
     (x y old : Word) (words : List Word) (top : core.words ≡ x ∷ y ∷ words) (frame : Place) (index : ℕ) (names : cell_of core.registers y ≡ Some (record { frame = frame; index = index })) (plain_word : as_indexed y ≡ None)

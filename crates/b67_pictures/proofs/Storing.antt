@@ -1,117 +1,79 @@
 -- A store into a variable that the part names.
-use Rattle.std.proofs.Common.{◌≡◌, refl, ap, ◌∙◌, ℕ, ◌+◌, ◌<◌, ◌^◌, List, ◌∷◌, length, Option, Some, Ok, true}
-use Rattle.b67_list.specs.Numbered.{numbered}
-use Rattle.algol_tree.specs.declared.tree.Named.{Named}
-use Rattle.algol_tree.specs.Blocks.{block_numbered}
-use Rattle.algol_tree.specs.Cells.{level_of}
-use Rattle.algol_tree.specs.Plain.{PProgram}
-use Rattle.algol_tree.specs.Scopes.{Scopes, scopes_of, use_of}
-use Rattle.algol_meaning.specs.Value.{Value}
-use Rattle.algol_meaning.specs.Rest.{Answer, done, own}
-use Rattle.algol_meaning.specs.World.{Process, Part, lives, World, instance_at, ancestor}
-use Rattle.algol_meaning.specs.Asks.{stores, ask, resume}
-use Rattle.algol_paths.specs.Blocks.{IsSeen, IsSeenAround, IsInner}
-use Rattle.algol_paths.specs.Laws.{RestsKeepToTheirText, AllIsMadeInOrder}
-use Rattle.algol_paths.specs.Segments.{segment_of}
-use Rattle.b67_word.specs.Word.{Word}
-use Rattle.b67_word.specs.declared.Place.{Place}
-use Rattle.b67_control.specs.declared.Irw.{Irw}
-use Rattle.b67_control.specs.Control.{as_irw, as_sirw}
-use Rattle.b67_table.specs.References.{cell_in, irw_or_sirw, cell_of}
-use Rattle.b67_ops.specs.declared.Couple.{Couple}
+use Rattle.std.proofs.Common.{◌≡◌, refl, ap, ◌∙◌, ℕ, ◌+◌, ◌<◌, ◌^◌, List, ◌∷◌, length, Option, Some, Ok}
+use Rattle.b67_pictures.proofs.Prelude.{block_numbered, level_of, PProgram, Scopes, scopes_of, use_of, Named, stores, ask, resume, is_evaluation, Answer, done, own, Value, instance_at, ancestor, IsSeen, IsSeenAround, IsInner, RestsKeepToTheirText, AllIsMadeInOrder, segment_of, Word, Place, as_irw, as_sirw, Irw, Couple, Placed, Code, as_indexed, place, frame, irw_or_sirw, cell_of, operator_at, Texts, ActionAt, Acted, ComesTo, Slot, operand, reference, ValueIs, SlotsAre, FragmentsArePerformed, stores_seen, Top, top_slot, reference_read, Stands, run_level, operator_there, AbleActor, actor_of, text_in, level_in, context_in, most_in, Does}
+use Rattle.b67_table.specs.References.{cell_in}
 use Rattle.b67_ops.specs.declared.Operator.TheVariants as ops
 use Rattle.b67_ops.specs.declared.PlainKind.TheVariants as kinds
-use Rattle.b67_segment.specs.Operators.{Placed}
-use Rattle.b67_segment.specs.declared.code.Code.{Code}
-use Rattle.b67_scenes.specs.States.{StateIs}
-use Rattle.b67_table.specs.Arrays.{as_indexed}
-use Rattle.b67_table.specs.Chains.{place}
-use Rattle.b67_table.specs.Image.{Image}
-use Rattle.b67_table.specs.Private.{frame}
 use Rattle.b67_table.specs.PrivateRows as rows
-use Rattle.b67_table.specs.Table.{operator_at}
-use Rattle.b67_templates.specs.Programs.{Texts}
-use Rattle.b67_standing.specs.Stepping.{Slot, operand, reference}
-use Rattle.b67_standing.specs.Standing.{ActionAt, Acted, ComesTo}
-use Rattle.b67_cores.specs.Cores.{Core}
-use Rattle.b67_cores.specs.Slots.{ValueIs, SlotsAre}
-use Rattle.b67_cores.specs.Stretches.{FragmentsArePerformed}
-use Rattle.b67_rows.proofs.Asked.{stores_seen}
-use Rattle.b67_rows.proofs.Slotted.{Top, top_slot}
-use Rattle.b67_rows.proofs.Words.{reference_read, reference_unindexed}
-use Rattle.b67_frames.specs.Arrays.{Layout}
-use Rattle.b67_frames.specs.Frames.{Stands, run_level}
-use Rattle.b67_scenes.proofs.Homes.{operator_there, Home, home}
-use Rattle.b67_scenes.proofs.Scene.{Scene}
-use Rattle.b67_scenes.proofs.Staying.{text_in, level_in, context_in, most_in}
-use Rattle.b67_pictures.specs.Acting.{Does}
+use Rattle.b67_rows.proofs.Words.{reference_unindexed}
+use Rattle.b67_scenes.proofs.Homes.{Home, home}
 use Rattle.b67_pictures.proofs.StoringVariable.{variable_stored}
-use Rattle.algol_meaning.specs.Critical.{is_evaluation}
 
 -- the two topmost words, one after another
 pub two_words : (words left : List Word) (x y : Word) (rest : List Word) → words ≡ x ∷ left → left ≡ y ∷ rest → words ≡ x ∷ y ∷ rest
 two_words words left x y rest e f = e ∙ ap (λ (ws : List Word). x ∷ ws) f
 
-module _ (tree : PProgram) (code : Code) (texts : Texts) (fragments : FragmentsArePerformed) (kept : RestsKeepToTheirText) (order : AllIsMadeInOrder) (w : World) (lay : Layout) (img : Image)
-    (p : ℕ) (q : Process) (part : Part) (outer : List Part) (bound : ℕ) (core : Core) (s : Scene tree code texts w lay img p q part outer bound core)
-    (able_is : lives q.state ≡ true) (able_p : StateIs (scopes_of tree) w lay q.state (numbered img.states p)) (n : Named) (v : Value) (asks : ask part.rest ≡ stores (own n) v)
-    (a : ActionAt (scopes_of tree) (context_in tree code texts w part s.stands.frame.gives) (text_in tree texts w part) (level_in tree w part) (most_in tree w part) (stores (own n) v) s.stands.pc s.stands.slots)
-    (answered : (r : Answer) (at : ℕ) (left : List Slot) →
-    Acted (scopes_of tree) (context_in tree code texts w part s.stands.frame.gives) (text_in tree texts w part) (level_in tree w part) (most_in tree w part) (stores (own n) v) s.stands.pc s.stands.slots a r at left →
-    ComesTo (scopes_of tree) (context_in tree code texts w part s.stands.frame.gives) (text_in tree texts w part) (level_in tree w part) (most_in tree w part) (resume (scopes_of tree) part.rest r) at left) where
-  abbrev sc : Scopes
-  sc = scopes_of tree
+module _ (tree : PProgram) (code : Code) (texts : Texts) (fragments : FragmentsArePerformed) (kept : RestsKeepToTheirText) (order : AllIsMadeInOrder) (actor : AbleActor tree code texts) where
+  open actor use {w, lay, img, p, part, outer, core, s}
 
-  abbrev b : ℕ
-  b = (instance_at w part.instance).block
+  module _ (n : Named) (v : Value) (asks : ask part.rest ≡ stores (own n) v)
+      (a : ActionAt (scopes_of tree) (context_in tree code texts w part s.stands.frame.gives) (text_in tree texts w part) (level_in tree w part) (most_in tree w part) (stores (own n) v) s.stands.pc s.stands.slots)
+      (answered : (r : Answer) (at : ℕ) (left : List Slot) →
+      Acted (scopes_of tree) (context_in tree code texts w part s.stands.frame.gives) (text_in tree texts w part) (level_in tree w part) (most_in tree w part) (stores (own n) v) s.stands.pc s.stands.slots a r at left →
+      ComesTo (scopes_of tree) (context_in tree code texts w part s.stands.frame.gives) (text_in tree texts w part) (level_in tree w part) (most_in tree w part) (resume (scopes_of tree) part.rest r) at left) where
+    abbrev sc : Scopes
+    sc = scopes_of tree
 
-  abbrev level : ℕ
-  level = run_level (is_evaluation part.purpose) (level_of (block_numbered sc.blocks b))
+    abbrev b : ℕ
+    b = (instance_at w part.instance).block
 
-  abbrev text : List Placed
-  text = texts.placed (segment_of sc.blocks b)
+    abbrev level : ℕ
+    level = run_level (is_evaluation part.purpose) (level_of (block_numbered sc.blocks b))
 
-  abbrev couple : Couple
-  couple = a.2.couple
+    abbrev text : List Placed
+    text = texts.placed (segment_of sc.blocks b)
 
-  abbrev st : Stands tree code texts w lay p part outer core
-  st = s.stands
+    abbrev couple : Couple
+    couple = a.2.couple
 
-  abbrev i : ℕ
-  i = ancestor w ((use_of sc n).up) part.instance
+    abbrev st : Stands tree code texts w lay p part outer core
+    st = s.stands
 
-  there : operator_at code core.registers ≡ Ok (ops.Plain kinds.Stod, a.0)
-  there = operator_there sc st.held code text level st.pc st.slots core (ops.Plain kinds.Stod) a.0 st.there a.2.stands
+    abbrev i : ℕ
+    i = ancestor w ((use_of sc n).up) part.instance
 
-  abbrev IsHome : Type 0
-  IsHome = Home tree code texts w lay img p q part outer bound core s n a.2.kind couple
+    there : operator_at code core.registers ≡ Ok (ops.Plain kinds.Stod, a.0)
+    there = operator_there sc st.held code text level st.pc st.slots core (ops.Plain kinds.Stod) a.0 st.there a.2.stands
 
-  found : IsHome
-  found = home tree code texts w lay img p q part outer bound core s n a.2.kind couple (stores_seen (IsSeen sc b) n (IsInner sc b) (IsSeenAround sc b) (λ (seen : IsSeenAround sc b n). seen.0) part.rest v asks st.frame.text) a.2.variable
+    abbrev IsHome : Type 0
+    IsHome = Home tree code texts (actor_of s) n a.2.kind couple
 
-  module _ (f : IsHome) (low : couple.level < 32) (little : couple.index < 2 ^ 14) (x y : Word) (words : List Word) (top : core.words ≡ x ∷ y ∷ words) (x_is : ValueIs v x) (y_is : y ≡ rows.reference couple)
-      (left_are : SlotsAre sc st.held level (frame core.registers) (length core.below) a.1 words) where
-    reads : as_irw y ≡ Some (record { level = couple.level; index = couple.index })
-    reads = ap as_irw y_is ∙ reference_read couple low little
+    found : IsHome
+    found = home tree code texts (actor_of s) n a.2.kind couple (stores_seen (IsSeen sc b) n (IsInner sc b) (IsSeenAround sc b) (λ (seen : IsSeenAround sc b n). seen.0) part.rest v asks st.frame.text) a.2.variable
 
-    -- so the reference names its cell
-    named : cell_of core.registers y ≡ Some (record { frame = place f.at.seen_there.found.number (length f.at.seen_there.found.lies.frame.lower); index = 2 + f.at.number })
-    named =
-        ap (λ (o : Option Irw). irw_or_sirw core.registers o (as_sirw y)) reads
-        ∙ ap (λ (o : Option Place). cell_in o couple.index) f.shown
-        ∙ ap (λ (k : ℕ). Some (record { frame = place f.at.seen_there.found.number (length f.at.seen_there.found.lies.frame.lower); index = k })) f.index
+    module _ (f : IsHome) (low : couple.level < 32) (little : couple.index < 2 ^ 14) (x y : Word) (words : List Word) (top : core.words ≡ x ∷ y ∷ words) (x_is : ValueIs v x) (y_is : y ≡ rows.reference couple)
+        (left_are : SlotsAre sc st.held level (frame core.registers) (length core.below) a.1 words) where
+      reads : as_irw y ≡ Some (record { level = couple.level; index = couple.index })
+      reads = ap as_irw y_is ∙ reference_read couple low little
 
-    does : Does tree code texts w img p
-    does =
-        variable_stored tree code texts fragments kept order w lay img p q part outer bound core s able_is able_p (record { instance = i; name = n.name }) a.2.kind f.found f.at (own n) v a.2.fits asks refl a.0 a.1
-        (answered done a.0 a.1 (refl, refl)) there (reference couple) a.2.lies refl x y words top x_is named (ap as_indexed y_is ∙ reference_unindexed couple low little) left_are
+      -- so the reference names its cell
+      named : cell_of core.registers y ≡ Some (record { frame = place f.at.seen_there.found.number (length f.at.seen_there.found.lies.frame.lower); index = 2 + f.at.number })
+      named =
+          ap (λ (o : Option Irw). irw_or_sirw core.registers o (as_sirw y)) reads
+          ∙ ap (λ (o : Option Place). cell_in o couple.index) f.shown
+          ∙ ap (λ (k : ℕ). Some (record { frame = place f.at.seen_there.found.number (length f.at.seen_there.found.lies.frame.lower); index = k })) f.index
 
-  pub storing : a.2.couple.level < 32 → a.2.couple.index < 2 ^ 14 → Does tree code texts w img p
-  storing low little =
-      let first : Top sc st.held level (frame core.registers) (length core.below) (operand v) (reference couple ∷ a.1) core.words =
-      top_slot sc st.held level (frame core.registers) (length core.below) st.slots (operand v) (reference couple ∷ a.1) core.words st.there.words_are a.2.lies in
-      let second : Top sc st.held level (frame core.registers) (length core.below) (reference couple) a.1 first.words_below =
-      top_slot sc st.held level (frame core.registers) (length core.below) (reference couple ∷ a.1) (reference couple) a.1 first.words_below first.are refl in
-      let top : core.words ≡ first.word ∷ second.word ∷ second.words_below =
-      two_words core.words first.words_below first.word second.word second.words_below first.is second.is in
-      does found low little first.word second.word second.words_below top first.slot_is second.slot_is second.are
+      does : Does tree code texts w img p
+      does =
+          variable_stored tree code texts fragments kept order actor (record { instance = i; name = n.name }) a.2.kind f.found f.at (own n) v a.2.fits asks refl a.0 a.1
+          (answered done a.0 a.1 (refl, refl)) there (reference couple) a.2.lies refl x y words top x_is named (ap as_indexed y_is ∙ reference_unindexed couple low little) left_are
+
+    pub storing : a.2.couple.level < 32 → a.2.couple.index < 2 ^ 14 → Does tree code texts w img p
+    storing low little =
+        let first : Top sc st.held level (frame core.registers) (length core.below) (operand v) (reference couple ∷ a.1) core.words =
+        top_slot sc st.held level (frame core.registers) (length core.below) st.slots (operand v) (reference couple ∷ a.1) core.words st.there.words_are a.2.lies in
+        let second : Top sc st.held level (frame core.registers) (length core.below) (reference couple) a.1 first.words_below =
+        top_slot sc st.held level (frame core.registers) (length core.below) (reference couple ∷ a.1) (reference couple) a.1 first.words_below first.are refl in
+        let top : core.words ≡ first.word ∷ second.word ∷ second.words_below =
+        two_words core.words first.words_below first.word second.word second.words_below first.is second.is in
+        does found low little first.word second.word second.words_below top first.slot_is second.slot_is second.are

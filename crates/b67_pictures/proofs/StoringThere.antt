@@ -1,47 +1,11 @@
 -- A store into the variable to whose cell the reference under the top leads.
-use Rattle.std.proofs.Common.{◌≡◌, refl, sym, ap, ◌∙◌, ℕ, ◌+◌, List, ◌∷◌, length, Option, Some, None, Ok, true}
-use Rattle.b67_list.specs.Numbered.{numbered}
-use Rattle.algol_tree.specs.declared.tree.Kind.{Kind}
-use Rattle.algol_tree.specs.Plain.{PProgram}
-use Rattle.algol_tree.specs.Scopes.{Scopes, scopes_of}
-use Rattle.algol_meaning.specs.Value.{Value, Reference}
-use Rattle.algol_meaning.specs.Rest.{Answer, done, there}
-use Rattle.algol_meaning.specs.World.{Part, Process, lives, World}
-use Rattle.algol_meaning.specs.Asks.{stores, ask, resume}
-use Rattle.algol_paths.specs.Laws.{RestsKeepToTheirText, AllIsMadeInOrder}
-use Rattle.b67_word.specs.declared.Place.{Place}
-use Rattle.b67_word.specs.Word.{Word}
-use Rattle.b67_control.specs.declared.Irw.{Irw}
-use Rattle.b67_control.specs.declared.Sirw.{Sirw}
-use Rattle.b67_control.specs.Control.{as_irw, as_sirw}
-use Rattle.b67_control.proofs.ControlLaws.{irw_laws, sirw_laws}
+use Rattle.std.proofs.Common.{◌≡◌, refl, sym, ap, ◌∙◌, ℕ, ◌+◌, List, ◌∷◌, length, Option, Some, None, Ok}
+use Rattle.b67_pictures.proofs.Prelude.{PProgram, Scopes, scopes_of, Kind, stores, ask, resume, Answer, done, there, Value, Reference, RestsKeepToTheirText, AllIsMadeInOrder, Word, Place, irw_laws, sirw_laws, as_irw, as_sirw, Irw, Sirw, Code, as_indexed, place, frame, irw_or_sirw, cell_of, operator_at, AreNested, Texts, ActionAt, Acted, ComesTo, Slot, operand, descriptor, variable, FragmentsArePerformed, Top, top_slot, known_is, LeadsToVariable, IsInReach, operator_there, names_variable, AbleActor, Actor, actor_of, text_in, level_in, context_in, most_in, VariableHome, Does}
 use Rattle.b67_ops.specs.declared.Operator.TheVariants as ops
 use Rattle.b67_ops.specs.declared.PlainKind.TheVariants as kinds
-use Rattle.b67_segment.specs.declared.code.Code.{Code}
-use Rattle.b67_scenes.specs.States.{StateIs}
-use Rattle.b67_table.specs.Arrays.{as_indexed, indexed_in}
-use Rattle.b67_table.specs.Chains.{place}
-use Rattle.b67_table.specs.Image.{Image}
-use Rattle.b67_table.specs.Private.{frame}
-use Rattle.b67_table.specs.References.{irw_or_sirw, cell_of}
-use Rattle.b67_table.specs.Table.{operator_at}
-use Rattle.b67_templates.specs.Programs.{Texts}
-use Rattle.b67_standing.specs.Stepping.{Slot, operand, descriptor, variable}
-use Rattle.b67_standing.specs.Standing.{ActionAt, Acted, ComesTo}
-use Rattle.b67_cores.specs.Cores.{Core}
-use Rattle.b67_cores.specs.Stretches.{FragmentsArePerformed}
-use Rattle.b67_templates.specs.Nested.{AreNested}
-use Rattle.b67_rows.proofs.Slotted.{Top, top_slot}
+use Rattle.b67_table.specs.Arrays.{indexed_in}
 use Rattle.b67_rows.proofs.Words.{cell_describes_nothing}
-use Rattle.b67_frames.specs.Arrays.{Layout, LeadsToVariable}
-use Rattle.b67_frames.specs.Frames.{IsInReach}
-use Rattle.b67_frames.proofs.Knowing.{known_is}
-use Rattle.b67_scenes.proofs.Homes.{operator_there}
-use Rattle.b67_scenes.proofs.NamedVariables.{NamesVariable, names_variable}
-use Rattle.b67_scenes.proofs.Scene.{Scene}
-use Rattle.b67_scenes.proofs.Staying.{text_in, level_in, context_in, most_in}
-use Rattle.b67_scenes.proofs.VariableHomes.{VariableHome}
-use Rattle.b67_pictures.specs.Acting.{Does}
+use Rattle.b67_scenes.proofs.NamedVariables.{NamesVariable}
 use Rattle.b67_pictures.proofs.Storing.{two_words}
 use Rattle.b67_pictures.proofs.StoringVariable.{variable_stored}
 
@@ -51,8 +15,9 @@ no_other_reference w s e = irw_laws.other w (λ k. let is = sym (sirw_laws.kind 
 
 -- ---- what a process finds under the top
 
-module _ (tree : PProgram) (code : Code) (texts : Texts) (nested : AreNested (scopes_of tree)) (w : World) (lay : Layout) (img : Image)
-    (p : ℕ) (q : Process) (part : Part) (outer : List Part) (bound : ℕ) (core : Core) (s : Scene tree code texts w lay img p q part outer bound core) where
+module _ (tree : PProgram) (code : Code) (texts : Texts) (nested : AreNested (scopes_of tree)) (actor : Actor tree code texts) where
+  open actor use {w, lay, part, outer, core, s}
+
   abbrev sc : Scopes
   sc = scopes_of tree
 
@@ -61,7 +26,7 @@ module _ (tree : PProgram) (code : Code) (texts : Texts) (nested : AreNested (sc
     pub first : Top sc s.stands.held (level_in tree w part) (frame core.registers) (length core.below) (operand v) (descriptor (variable r kind) ∷ below) core.words
     pub second : Top sc s.stands.held (level_in tree w part) (frame core.registers) (length core.below) (descriptor (variable r kind)) below first.words_below
     pub leads : LeadsToVariable sc w lay (IsInReach w (part ∷ outer)) kind r second.word
-    pub named : NamesVariable tree code texts nested w lay img p q part outer bound core s r kind second.word leads
+    pub named : NamesVariable tree code texts nested actor r kind second.word leads
 
   pub finds_variable : (r : Reference) (kind : Kind) (v : Value) (below : List Slot) → s.stands.slots ≡ operand v ∷ descriptor (variable r kind) ∷ below → FindsVariable r kind v below
   finds_variable r kind v below lies =
@@ -72,31 +37,33 @@ module _ (tree : PProgram) (code : Code) (texts : Texts) (nested : AreNested (sc
       top_slot sc s.stands.held (level_in tree w part) (frame core.registers) (length core.below) under (descriptor (variable r kind)) below first.words_below first.are refl in
       let leads : LeadsToVariable sc w lay (IsInReach w (part ∷ outer)) kind r second.word =
       known_is sc w lay (IsInReach w (part ∷ outer)) part.instance s.stands.held s.stands.held_are (variable r kind) second.word second.slot_is in
-      record { first = first; second = second; leads = leads; named = names_variable tree code texts nested w lay img p q part outer bound core s r kind second.word leads }
+      record { first = first; second = second; leads = leads; named = names_variable tree code texts nested actor r kind second.word leads }
 
 -- ---- the action
 
 module _ (tree : PProgram) (code : Code) (texts : Texts) (nested : AreNested (scopes_of tree)) (fragments : FragmentsArePerformed) (keeps : RestsKeepToTheirText) (order : AllIsMadeInOrder)
-    (w : World) (lay : Layout) (img : Image) (p : ℕ) (q : Process) (part : Part) (outer : List Part) (bound : ℕ) (core : Core) (s : Scene tree code texts w lay img p q part outer bound core)
-    (able_is : lives q.state ≡ true) (able_p : StateIs (scopes_of tree) w lay q.state (numbered img.states p)) (r : Reference) (v : Value) (asks : ask part.rest ≡ stores (there r) v)
-    (a : ActionAt (scopes_of tree) (context_in tree code texts w part s.stands.frame.gives) (text_in tree texts w part) (level_in tree w part) (most_in tree w part) (stores (there r) v) s.stands.pc s.stands.slots)
-    (answered : (x : Answer) (at : ℕ) (left : List Slot) →
-    Acted (scopes_of tree) (context_in tree code texts w part s.stands.frame.gives) (text_in tree texts w part) (level_in tree w part) (most_in tree w part) (stores (there r) v) s.stands.pc s.stands.slots a x at left →
-    ComesTo (scopes_of tree) (context_in tree code texts w part s.stands.frame.gives) (text_in tree texts w part) (level_in tree w part) (most_in tree w part) (resume (scopes_of tree) part.rest x) at left) where
-  at_store : operator_at code core.registers ≡ Ok (ops.Plain kinds.Stod, a.0)
-  at_store = operator_there (scopes_of tree) s.stands.held code (text_in tree texts w part) (level_in tree w part) s.stands.pc s.stands.slots core (ops.Plain kinds.Stod) a.0 s.stands.there a.2.stands
+    (actor : AbleActor tree code texts) where
+  open actor use {w, img, p, part, core, s}
 
-  does : FindsVariable tree code texts nested w lay img p q part outer bound core s r a.2.kind v a.1 → Does tree code texts w img p
-  does f =
-      let h : VariableHome tree code texts w lay img p q part outer bound core s r a.2.kind f.leads.found = f.named.home in
-      let at_frame : Place = place h.seen_there.found.number (length h.seen_there.found.lies.frame.lower) in
-      let names : cell_of core.registers f.second.word ≡ Some (record { frame = at_frame; index = 2 + h.number }) =
-      ap (λ (o : Option Irw). irw_or_sirw core.registers o (as_sirw f.second.word)) (no_other_reference f.second.word _ f.named.reads)
-      ∙ ap (λ (o : Option Sirw). irw_or_sirw core.registers None o) f.named.reads in
-      let plain_word : as_indexed f.second.word ≡ None = ap as_indexed f.leads.word_is ∙ ap indexed_in (cell_describes_nothing _) in
-      variable_stored tree code texts fragments keeps order w lay img p q part outer bound core s able_is able_p r a.2.kind f.leads.found h (there r) v a.2.fits asks refl a.0 a.1
-      (answered done a.0 a.1 (refl, refl)) at_store (descriptor (variable r a.2.kind)) a.2.lies refl f.first.word f.second.word f.second.words_below
-      (two_words core.words f.first.words_below f.first.word f.second.word f.second.words_below f.first.is f.second.is) f.first.slot_is names plain_word f.second.are
+  module _ (r : Reference) (v : Value) (asks : ask part.rest ≡ stores (there r) v)
+      (a : ActionAt (scopes_of tree) (context_in tree code texts w part s.stands.frame.gives) (text_in tree texts w part) (level_in tree w part) (most_in tree w part) (stores (there r) v) s.stands.pc s.stands.slots)
+      (answered : (x : Answer) (at : ℕ) (left : List Slot) →
+      Acted (scopes_of tree) (context_in tree code texts w part s.stands.frame.gives) (text_in tree texts w part) (level_in tree w part) (most_in tree w part) (stores (there r) v) s.stands.pc s.stands.slots a x at left →
+      ComesTo (scopes_of tree) (context_in tree code texts w part s.stands.frame.gives) (text_in tree texts w part) (level_in tree w part) (most_in tree w part) (resume (scopes_of tree) part.rest x) at left) where
+    at_store : operator_at code core.registers ≡ Ok (ops.Plain kinds.Stod, a.0)
+    at_store = operator_there (scopes_of tree) s.stands.held code (text_in tree texts w part) (level_in tree w part) s.stands.pc s.stands.slots core (ops.Plain kinds.Stod) a.0 s.stands.there a.2.stands
 
-  pub storing_there : Does tree code texts w img p
-  storing_there = does (finds_variable tree code texts nested w lay img p q part outer bound core s r a.2.kind v a.1 a.2.lies)
+    does : FindsVariable tree code texts nested (actor_of s) r a.2.kind v a.1 → Does tree code texts w img p
+    does f =
+        let h : VariableHome tree code texts (actor_of s) r a.2.kind f.leads.found = f.named.home in
+        let at_frame : Place = place h.seen_there.found.number (length h.seen_there.found.lies.frame.lower) in
+        let names : cell_of core.registers f.second.word ≡ Some (record { frame = at_frame; index = 2 + h.number }) =
+        ap (λ (o : Option Irw). irw_or_sirw core.registers o (as_sirw f.second.word)) (no_other_reference f.second.word _ f.named.reads)
+        ∙ ap (λ (o : Option Sirw). irw_or_sirw core.registers None o) f.named.reads in
+        let plain_word : as_indexed f.second.word ≡ None = ap as_indexed f.leads.word_is ∙ ap indexed_in (cell_describes_nothing _) in
+        variable_stored tree code texts fragments keeps order actor r a.2.kind f.leads.found h (there r) v a.2.fits asks refl a.0 a.1
+        (answered done a.0 a.1 (refl, refl)) at_store (descriptor (variable r a.2.kind)) a.2.lies refl f.first.word f.second.word f.second.words_below
+        (two_words core.words f.first.words_below f.first.word f.second.word f.second.words_below f.first.is f.second.is) f.first.slot_is names plain_word f.second.are
+
+    pub storing_there : Does tree code texts w img p
+    storing_there = does (finds_variable tree code texts nested (actor_of s) r a.2.kind v a.1 a.2.lies)

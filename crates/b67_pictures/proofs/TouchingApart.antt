@@ -1,82 +1,31 @@
 -- No operator of a pictured image reads or writes a word in the private part of another process.
-use Rattle.algol_meaning.specs.Critical.{is_evaluation}
-use Rattle.std.proofs.Common.{◌≡◌, refl, sym, ap, ◌∙◌, subst, ℕ, ◌+◌, ◌-◌, ◌<◌, List, [], ◌∷◌, length, Some, None, Bool, true, false, arith, ◌^◌, ◌++◌}
-use Rattle.std.specs.Prelude.{if◌then◌else◌, nat_le, pos}
-use Rattle.b67_list.specs.Numbered.{numbered}
-use Rattle.algol_tree.specs.declared.token.Spot.{Spot}
-use Rattle.algol_tree.specs.declared.tree.Kind.{Kind}
-use Rattle.algol_tree.specs.declared.tree.Named.{Named}
-use Rattle.algol_tree.specs.declared.tree.PhraseText.{PhraseText}
+use Rattle.std.proofs.Common.{◌≡◌, ◌⊎◌, inl, inr, refl, sym, ap, ◌∙◌, subst, ℕ, ◌+◌, ◌-◌, ◌<◌, ◌≤◌, List, [], ◌∷◌, length, Some, None, Bool, true, false, arith, ◌^◌, ◌++◌}
+use Rattle.b67_pictures.proofs.Prelude.{if◌then◌else◌, pos, numbered, PProgram, PStmts, PDecls, Scopes, scopes_of, Spot, Kind, Named, PhraseText, Ask, nothing, reads, reads_element, indexes, enters, passes, resolves, reads_result, leaves, stores, selects, turns, goes_to, enters_block, starts, writes, makes_arrays, makes_event, ask, event_deed, is_evaluation, own, there, element_of, Given, done, value, cell, Value, Reference, number, Process, Part, World, instance_at, IsSeen, IsSeenAround, IsInner, IsOk, IsWhole, Word, Place, as_pcw-pcw_word, as_sirw-other, irw_laws, as_irw, as_sirw, as_pcw, pcw_word, Pcw, Registers, Brun, Couple, Operator, Intrinsic, Placed, Code, word_at, place, Image, display_at, frame, level_below, Lives, OperatorTouches, IsPrivate, Wanted, parameter_wants, IsRead, of_variable, of_formal, stmts_count, Context, Has, operator_for, code_at, AreNested, Texts, RestsGoOn, ActionAt, GoesOn, given_slots, operands, Slot, control, intrinsic, mark, operand, reference, slots_length, Core, HasCore, CoreStep, CoreSteps, onward, newest, SlotIs, SlotsAre, some_same, none_some, reads_seen, stores_seen, enters_seen, AreFit, none_wanted, are_fit, Taken, Top, top_slot, cell_named, StandsNear, no_sirw, reference_read, result_given, asks_as_own, frame_gives, runs_low, runs_deep, under_top, over_top, call_names, procedure_fits, Layout, Found, NameCellHome, NameStands, LeadsOn, leads_on, name_stands, Scene, scene_of, shown_frame, actor_of, text_in, level_in, context_in, most_in, names_in, IsEntry, Names, procedure_there, by_names, narrow_of, Living, PicturesBy}
+use Rattle.std.specs.Prelude.{nat_le}
 use Rattle.algol_tree.specs.Plain as tree_forms
-use Rattle.algol_tree.specs.Plain.{PProgram, PStmts, PDecls}
-use Rattle.algol_tree.specs.Scopes.{Scopes, scopes_of}
-use Rattle.algol_meaning.specs.Value.{Value, Reference, number}
-use Rattle.algol_meaning.specs.Rest.{Place as FoundPlace, own, there, element_of, Given, done, value, cell, place as at_place, entered}
-use Rattle.algol_meaning.specs.World.{Process, Part, World, instance_at}
-use Rattle.algol_meaning.specs.Asks.{Ask, nothing, reads, reads_element, indexes, fails, enters, passes, resolves, reads_result, leaves, stores, selects, turns, goes_to, enters_block, starts, writes, makes_arrays, makes_event, ask, event_deed}
-use Rattle.algol_paths.specs.Blocks.{IsSeen, IsSeenAround, IsInner}
-use Rattle.algol_standing.specs.Worlds.{IsWhole}
-use Rattle.algol_standing.specs.Fitting.{IsOk}
-use Rattle.b67_word.specs.declared.Place.{Place}
-use Rattle.b67_word.specs.Word.{Word}
-use Rattle.b67_control.specs.declared.Pcw.{Pcw}
-use Rattle.b67_control.specs.declared.Registers.{Registers}
-use Rattle.b67_control.specs.Control.{as_irw, as_sirw, as_pcw, pcw_word}
-use Rattle.b67_control.proofs.ControlLaws.{as_pcw-pcw_word, as_sirw-other, irw_laws}
-use Rattle.b67_ops.specs.declared.Couple.{Couple}
-use Rattle.b67_ops.specs.declared.Operator.{Operator}
+use Rattle.algol_meaning.specs.Rest.{Place as FoundPlace, place as at_place, entered}
+use Rattle.algol_meaning.specs.Asks.{fails}
 use Rattle.b67_ops.specs.declared.Operator.TheVariants as ops
 use Rattle.b67_ops.specs.declared.PlainKind.TheVariants as kinds
-use Rattle.b67_ops.specs.declared.BranchKind.TheVariants.{Brun}
-use Rattle.b67_ops.specs.declared.intrinsic.Intrinsic.{Intrinsic}
 use Rattle.b67_ops.specs.declared.intrinsic.Intrinsic.TheVariants as names
-use Rattle.b67_segment.specs.Operators.{Placed}
-use Rattle.b67_segment.specs.declared.code.Code.{Code}
-use Rattle.b67_store.specs.Store.{word_at}
-use Rattle.b67_table.specs.Chains.{place}
-use Rattle.b67_table.specs.Image.{Image}
-use Rattle.b67_table.specs.Private.{display_at, frame}
-use Rattle.b67_table.specs.Rows.{level_below}
-use Rattle.b67_table.specs.Sound.{Lives, OperatorTouches}
-use Rattle.b67_table.specs.Touches.{IsPrivate}
-use Rattle.b67_templates.specs.Cells.{Wanted, parameter_wants, IsRead, of_variable, of_formal}
-use Rattle.b67_templates.specs.Code.{stmts_count}
-use Rattle.b67_templates.specs.Contexts.{Context}
-use Rattle.b67_templates.specs.Fragments.{Has, operator_for, code_at}
-use Rattle.b67_templates.specs.Programs.{Texts}
-use Rattle.b67_standing.specs.Laws.{RestsGoOn}
-use Rattle.b67_standing.specs.Standing.{ActionAt, GoesOn, given_slots, operands}
-use Rattle.b67_standing.specs.Stepping.{Slot, control, intrinsic, mark, operand, reference}
-use Rattle.b67_cores.specs.Cores.{Core, HasCore, CoreStep, CoreSteps, here, onward}
-use Rattle.b67_cores.specs.Slots.{newest, SlotIs, SlotsAre}
-use Rattle.b67_cores.proofs.Moving.{slots_length}
-use Rattle.b67_faithful.proofs.Contradictions.{some_same, none_some}
-use Rattle.b67_templates.specs.Nested.{AreNested}
+use Rattle.b67_cores.specs.Cores.{here}
 use Rattle.b67_footprints.specs.Laws.{LeadsBelow}
 use Rattle.b67_footprints.proofs.Apart.{others_stay_private}
-use Rattle.b67_rows.proofs.GivenWords.{AreFit, none_wanted, are_fit, Taken, taken_words}
-use Rattle.b67_rows.proofs.Asked.{reads_seen, stores_seen}
-use Rattle.b67_rows.proofs.AskedEntries.{enters_seen}
-use Rattle.b67_rows.proofs.Slotted.{Top, top_slot}
-use Rattle.b67_rows.proofs.Yielding.{result_given}
-use Rattle.b67_rows.proofs.Words.{no_sirw, reference_read}
+use Rattle.b67_rows.proofs.GivenWords.{taken_words}
+use Rattle.b67_rows.proofs.Words.{pcw_kind}
 use Rattle.b67_rows.proofs.Touching.{NearFrame, own_frame, NamesNear}
-use Rattle.b67_rows.proofs.TouchingOperators.{StandsNear, privately, near_reaches, operator_private}
-use Rattle.b67_rows.proofs.TouchingNames.{value_names, value_names_through, through_named, none_named, branch_names, cell_named, refers_named, no_kind, block_names, entry_names}
-use Rattle.b67_frames.specs.Arrays.{Layout}
-use Rattle.b67_frames.proofs.TouchingCalls.{under_top, over_top, call_names}
-use Rattle.b67_frames.proofs.TouchingWords.{couple_fits, procedure_fits, pcw_kind}
-use Rattle.b67_frames.proofs.Lying.{asks_as_own, frame_gives, runs_low, runs_deep}
-use Rattle.b67_scenes.specs.Pictures.{Living, PicturesBy}
-use Rattle.b67_scenes.proofs.Finding.{Found, frame_near, place_near}
-use Rattle.b67_scenes.proofs.NameHomes.{NameCellHome, NameStands, LeadsOn, home_of_name, leads_on, name_stands}
-use Rattle.b67_scenes.proofs.Scene.{Scene, scene_of, shown_frame}
-use Rattle.b67_scenes.proofs.Worlds.{narrow_of}
-use Rattle.b67_scenes.proofs.Staying.{text_in, level_in, context_in, most_in, names_in}
+use Rattle.b67_rows.proofs.TouchingOperators.{privately, near_reaches, operator_private}
+use Rattle.b67_rows.proofs.TouchingNames.{value_names, value_names_through, through_named, none_named, branch_names, refers_named, no_kind, block_names, entry_names}
+use Rattle.b67_frames.proofs.TouchingWords.{couple_fits}
+use Rattle.b67_settling.specs.Local.{NobodyDepends}
+use Rattle.b67_rows.proofs.Touching.{IsNearStack}
+use Rattle.b67_rows.proofs.TouchingOperators.{stands_touches}
+use Rattle.b67_scenes.proofs.Finding.{frame_near, place_near}
+use Rattle.b67_scenes.proofs.NameHomes.{home_of_name}
 use Rattle.b67_scenes.proofs.TouchingOthers.{LivesThere, lives_there, own_stacks}
-use Rattle.b67_scenes.proofs.TouchingCells.{IsOperand, IsEntry, Names, variable_there, result_there, procedure_there}
+use Rattle.b67_scenes.proofs.TouchingCells.{IsOperand, variable_there, result_there}
 use Rattle.b67_scenes.proofs.TouchingEvents.{event_made_near, deed_near}
-use Rattle.b67_scenes.proofs.TouchingScene.{by_names, by_class}
+use Rattle.b67_scenes.proofs.TouchingScene.{by_class}
 use Rattle.b67_pictures.proofs.Resolving.{FindsName, finds_name, resolved_name}
 use Rattle.b67_pictures.proofs.StoringThere.{FindsVariable, finds_variable}
 use Rattle.b67_pictures.proofs.TouchingStarts.{starts_near}
@@ -115,13 +64,13 @@ module _ (tree : PProgram) (code : Code) (texts : Texts) (nested : AreNested (sc
 
     -- an operand, or the control word of a procedure, in a cell that a couple names
     abbrev InCell : Couple → (Word → Type 0) → Type 0
-    InCell couple Is = Names tree code texts nested w lay img p q part outer bound core s couple Is
+    InCell couple Is = Names tree code texts nested (actor_of s) couple Is
 
     known : named_level < 32
     known = omega (arith, runs_low tree code texts w lay p part outer core.below s.stands.frame, runs_deep (is_evaluation part.purpose) named_level)
 
     by_op : (op : Operator) (next : ℕ) → Has text level s.stands.pc op next → NamesNear p img op r → Comes
-    by_op = by_names tree code texts nested w lay img p q part outer bound core s
+    by_op = by_names tree code texts nested (actor_of s)
 
     -- ---- cells
 
@@ -135,20 +84,20 @@ module _ (tree : PProgram) (code : Code) (texts : Texts) (nested : AreNested (sc
     -- ---- actions
 
     abbrev IsNamedThere : Named → Kind → Couple → Type 0
-    IsNamedThere n kind couple = NameStands tree code texts nested w lay img p q part outer bound core s n kind couple
+    IsNamedThere n kind couple = NameStands tree code texts nested (actor_of s) n kind couple
 
     -- the cell of a parameter by name, and the cell to which its word refers
-    abbrev CellOf : (n : Named) (kind : Kind) (couple : Couple) → IsNamedThere n kind couple → NameCellHome tree code texts nested w lay img p q part outer bound core s n kind couple
-    CellOf n kind couple x = home_of_name tree code texts nested w lay img p q part outer bound core s n kind couple x
+    abbrev CellOf : (n : Named) (kind : Kind) (couple : Couple) → IsNamedThere n kind couple → NameCellHome tree code texts nested (actor_of s) n kind couple
+    CellOf n kind couple x = home_of_name tree code texts nested (actor_of s) n kind couple x
 
-    way : (n : Named) (kind : Kind) (couple : Couple) (x : IsNamedThere n kind couple) → LeadsOn tree code texts nested w lay img p q part outer bound core s (CellOf n kind couple x).word
-    way n kind couple x = leads_on tree code texts nested w lay img p q part outer bound core s n kind couple x
+    way : (n : Named) (kind : Kind) (couple : Couple) (x : IsNamedThere n kind couple) → LeadsOn tree code texts nested (actor_of s) (CellOf n kind couple x).word
+    way n kind couple x = leads_on tree code texts nested (actor_of s) n kind couple x
 
     -- it leads to one that is near
     name_near : (n : Named) (kind : Kind) (couple : Couple) (next : ℕ) → Has text level s.stands.pc (ops.Valc couple) next → IsNamedThere n kind couple → Comes
     name_near n kind couple next has_it x =
-        let h : NameCellHome tree code texts nested w lay img p q part outer bound core s n kind couple = CellOf n kind couple x in
-        let t : LeadsOn tree code texts nested w lay img p q part outer bound core s (CellOf n kind couple x).word = way n kind couple x in
+        let h : NameCellHome tree code texts nested (actor_of s) n kind couple = CellOf n kind couple x in
+        let t : LeadsOn tree code texts nested (actor_of s) (CellOf n kind couple x).word = way n kind couple x in
         by_op (ops.Valc couple) next has_it
         (value_names_through p img r couple h.at h.shown h.near h.word h.lies
         (record { stack = (t.at).stack; displacement = (t.at).at; index = t.index }) t.refers t.near t.reached t.lies t.no_further)
@@ -159,14 +108,14 @@ module _ (tree : PProgram) (code : Code) (texts : Texts) (nested : AreNested (sc
         by_read seen a.2.1
       where
         by_read : IsSeen sc block n → IsRead sc named_level n a.0 a.2.0 → Comes
-        by_read seen (of_variable v) = operand_near a.2.0 a.1 a.2.2 (variable_there tree code texts nested w lay img p q part outer bound core s n a.0 a.2.0 seen v)
-        by_read seen (of_formal v) = name_near n a.0 a.2.0 a.1 a.2.2 (name_stands tree code texts nested w lay img p q part outer bound core s n a.0 a.2.0 seen v)
+        by_read seen (of_variable v) = operand_near a.2.0 a.1 a.2.2 (variable_there tree code texts nested (actor_of s) n a.0 a.2.0 seen v)
+        by_read seen (of_formal v) = name_near n a.0 a.2.0 a.1 a.2.2 (name_stands tree code texts nested (actor_of s) n a.0 a.2.0 seen v)
 
     result_near : (name : List ℕ) → ask part.rest ≡ reads_result name → At (reads_result name) → Comes
     result_near name e a =
         let owns : is_evaluation part.purpose ≡ false = asks_as_own tree code texts w lay p part outer core.below s.stands.frame (reads_result name) e (λ k. k) in
         operand_near a.0.couple a.0.valued a.0.read
-        (result_there tree code texts nested w lay img p q part outer bound core s owns a.0.kind (result_given _ a.0.kind (sym (frame_gives tree code texts w lay p part outer core.below s.stands.frame owns) ∙ a.0.is))
+        (result_there tree code texts nested (actor_of s) owns a.0.kind (result_given _ a.0.kind (sym (frame_gives tree code texts w lay p part outer core.below s.stands.frame owns) ∙ a.0.is))
         a.0.couple a.0.level_is a.0.index_is)
 
     stored_near : (n : Named) (v : Value) → ask part.rest ≡ stores (own n) v → At (stores (own n) v) → Comes
@@ -179,7 +128,7 @@ module _ (tree : PProgram) (code : Code) (texts : Texts) (nested : AreNested (sc
         top_slot sc s.stands.held level (frame r) (length core.below) (reference couple ∷ a.1) (reference couple) a.1 first.words_below first.are refl in
         let fits : (couple.level < 32) × (couple.index < 2 ^ 14) = couple_fits sc nested named_level n a.2.kind couple a.2.variable known in
         let top : core.words ≡ (first.word ∷ []) ++ second.word ∷ second.words_below = first.is ∙ ap (λ (ws : List Word). first.word ∷ ws) second.is in
-        let c : InCell couple IsOperand = variable_there tree code texts nested w lay img p q part outer bound core s n a.2.kind couple seen a.2.variable in
+        let c : InCell couple IsOperand = variable_there tree code texts nested (actor_of s) n a.2.kind couple seen a.2.variable in
         by_op (ops.Plain kinds.Stod) a.0 a.2.stands
         (cell_named p img r kinds.Stod (λ f. cc) (r.s - 2) (λ m f. f) second.word
         (under_top img p core s.has (first.word ∷ []) second.word second.words_below top (r.s - 2) (omega (arith, s.has.is.top, ap length top))) (λ follows. follows)
@@ -187,10 +136,10 @@ module _ (tree : PProgram) (code : Code) (texts : Texts) (nested : AreNested (sc
 
     resolved_near : (n : Named) → ask part.rest ≡ resolves n → At (resolves n) → Comes
     resolved_near n e a =
-        let x : IsNamedThere n a.0 a.3.couple = resolved_name tree code texts nested w lay img p q part outer bound core s n e a.0 a.1 a.2 a.3 in
-        let h : NameCellHome tree code texts nested w lay img p q part outer bound core s n a.0 a.3.couple = CellOf n a.0 a.3.couple x in
-        let t : LeadsOn tree code texts nested w lay img p q part outer bound core s (CellOf n a.0 a.3.couple x).word = way n a.0 a.3.couple x in
-        let f : FindsName tree code texts nested w lay img p q part outer bound core s n e a.0 a.1 a.2 a.3 = finds_name tree code texts nested w lay img p q part outer bound core s n e a.0 a.1 a.2 a.3 h in
+        let x : IsNamedThere n a.0 a.3.couple = resolved_name tree code texts nested (actor_of s) n e a.0 a.1 a.2 a.3 in
+        let h : NameCellHome tree code texts nested (actor_of s) n a.0 a.3.couple = CellOf n a.0 a.3.couple x in
+        let t : LeadsOn tree code texts nested (actor_of s) (CellOf n a.0 a.3.couple x).word = way n a.0 a.3.couple x in
+        let f : FindsName tree code texts nested (actor_of s) n e a.0 a.1 a.2 a.3 = finds_name tree code texts nested (actor_of s) n e a.0 a.1 a.2 a.3 h in
         by_op (ops.Plain kinds.Eval) a.1 a.3.stands
         (through_named p img r kinds.Eval (λ g. cc) (r.s - 1) (λ m g. g) f.top.word (over_top img p core s.has f.top.word f.top.words_below f.top.is)
         (record { level = a.3.couple.level; index = a.3.couple.index }) h.at h.word (record { stack = (t.at).stack; displacement = (t.at).at; index = t.index }) t.reached f.names h.shown
@@ -198,16 +147,18 @@ module _ (tree : PProgram) (code : Code) (texts : Texts) (nested : AreNested (sc
 
     there_near : (x : Reference) (v : Value) → At (stores (there x) v) → Comes
     there_near x v a =
-        let f : FindsVariable tree code texts nested w lay img p q part outer bound core s x a.2.kind v a.1 =
-        finds_variable tree code texts nested w lay img p q part outer bound core s x a.2.kind v a.1 a.2.lies in
+        let f : FindsVariable tree code texts nested (actor_of s) x a.2.kind v a.1 =
+        finds_variable tree code texts nested (actor_of s) x a.2.kind v a.1 a.2.lies in
         let top : core.words ≡ (f.first.word ∷ []) ++ f.second.word ∷ f.second.words_below = f.first.is ∙ ap (λ (ws : List Word). f.first.word ∷ ws) f.second.is in
         let found : Found tree code texts w lay img x.instance = f.named.home.seen_there.found in
         let high : ℕ = length found.lies.frame.lower in
         by_op (ops.Plain kinds.Stod) a.0 a.2.stands
         (refers_named p img r kinds.Stod (λ g. cc) (r.s - 2) (λ m g. g) f.second.word
         (under_top img p core s.has (f.first.word ∷ []) f.second.word f.second.words_below top (r.s - 2) (omega (arith, s.has.is.top, ap length top))) (λ follows. follows)
-        (record { stack = found.number; displacement = high; index = 2 + f.named.home.number }) f.named.reads
-        (frame_near tree code texts w lay img x.instance found p, place_near tree code texts w lay img x.instance found p (high + (2 + f.named.home.number)) f.named.home.below))
+        (record { stack = found.number; displacement = high; index = 2 + f.named.home.number }) f.named.reads (
+          frame_near tree code texts w lay img x.instance found p f.named.home.seen_there.near,
+          place_near tree code texts w lay img x.instance found p (high + (2 + f.named.home.number)) f.named.home.seen_there.near f.named.home.below,
+        ))
 
     left_near : At (leaves done) → Comes
     left_near a = by_op (ops.Plain kinds.Exit) a.0 a.2 (none_named p img r kinds.Exit (λ e. cc) (λ n takes. takes))
@@ -255,7 +206,7 @@ module _ (tree : PProgram) (code : Code) (texts : Texts) (nested : AreNested (sc
 
         by_test : (b : Bool) → (if b then display_at r (level + 1 - 1) else None) ≡ Some h → NearFrame p img h
         by_test true f =
-            shown_near (length s.stands.frame.lower) (level + 1 - 1) (ap (λ (l : ℕ). display_at r l) same ∙ shown_frame tree code texts w lay img p q part outer bound core s) h f
+            shown_near (length s.stands.frame.lower) (level + 1 - 1) (ap (λ (l : ℕ). display_at r l) same ∙ shown_frame tree code texts (actor_of s)) h f
         by_test false f = none_some f
 
     block_near : (spot : Spot) (ds : PDecls) (ss : PStmts) → At (enters_block (tree_forms.body spot ds ss)) → Comes
@@ -274,7 +225,7 @@ module _ (tree : PProgram) (code : Code) (texts : Texts) (nested : AreNested (sc
         let couple : Couple = a.3.couple in
         let fits : (couple.level < 32) × (couple.index < 2 ^ 14) = procedure_fits sc nested named_level n a.0 couple a.3.procedure known in
         let above = above_mark (parameter_wants sc a.0) gs (are_fit sc context (parameter_wants sc a.0) gs a.3.fit) (reference couple) a.2 a.3.lies refl in
-        let c : InCell couple IsEntry = procedure_there tree code texts nested w lay img p q part outer bound core s n a.0 couple seen a.3.procedure in
+        let c : InCell couple IsEntry = procedure_there tree code texts nested (actor_of s) n a.0 couple seen a.3.procedure in
         by_op (ops.Plain kinds.Entr) a.1 a.3.stands
         (entry_names p img r above.0 above.2 (record { level = couple.level; index = couple.index }) (ap as_irw above.1 ∙ reference_read couple fits.0 fits.1) c.home c.shown c.near
         c.word c.lies c.is.no_sirw (λ kind n u d after there names. no_kind p img r above.0 above.2 c.word c.is.control c.is.reads c.is.no_intrinsic kind))
@@ -282,7 +233,7 @@ module _ (tree : PProgram) (code : Code) (texts : Texts) (nested : AreNested (sc
     by_ask : (k : Ask) → ask part.rest ≡ k → At k → Comes
     by_ask (reads n) e a = read_near n e a
     by_ask (fails fault) e a =
-        by_class tree code texts nested w lay img p q part outer bound core s (ops.Plain (operator_for a.0)) a.3 a.5.stands (operator_private a.0 r.place)
+        by_class tree code texts nested (actor_of s) (ops.Plain (operator_for a.0)) a.3 a.5.stands (operator_private a.0 r.place)
     by_ask (stores (own n) v) e a = stored_near n v e a
     by_ask turns e a =
         by_op (ops.Branch Brun a.0) a.1 a.2.stands (branch_names p img r Brun a.0)
@@ -297,17 +248,17 @@ module _ (tree : PProgram) (code : Code) (texts : Texts) (nested : AreNested (sc
     by_ask (leaves (at_place y)) e a = giving_near y a
     by_ask (leaves entered) e a = absurd a
     by_ask (stores (there y) v) e a = there_near y v a
-    by_ask (stores (element_of y ks) v) e a = element_stored_near tree code texts nested w lay img p q part outer bound core s y ks v a
+    by_ask (stores (element_of y ks) v) e a = element_stored_near tree code texts nested (actor_of s) y ks v a
     by_ask nothing e a = absurd a
-    by_ask (reads_element n ks v) e a = element_read_near tree code texts nested w lay img p q part outer bound core s n ks v e a
-    by_ask (indexes n ks v) e a = indexed_near tree code texts nested w lay img p q part outer bound core s n ks v e a
-    by_ask (passes n) e a = passed_near tree code texts nested w lay img p q part outer bound core s n e a
+    by_ask (reads_element n ks v) e a = element_read_near tree code texts nested (actor_of s) n ks v e a
+    by_ask (indexes n ks v) e a = indexed_near tree code texts nested (actor_of s) n ks v e a
+    by_ask (passes n) e a = passed_near tree code texts nested (actor_of s) n e a
     by_ask (resolves n) e a = resolved_near n e a
     by_ask (goes_to n) e a = gone_near n a
-    by_ask (starts n gs task) e a = starts_near tree code texts nested w lay img p q part outer bound core s n gs task e a
-    by_ask (event_deed y ns) e a = deed_near tree code texts nested w lay img p q part outer bound core s y ns e a
-    by_ask (makes_arrays kind ns pairs vs) e a = made_near tree code texts nested w lay img p q part outer bound core s kind ns pairs vs a
-    by_ask (makes_event n) e a = event_made_near tree code texts nested w lay img p q part outer bound core s n a
+    by_ask (starts n gs task) e a = starts_near tree code texts nested (actor_of s) n gs task e a
+    by_ask (event_deed y ns) e a = deed_near tree code texts nested (actor_of s) y ns e a
+    by_ask (makes_arrays kind ns pairs vs) e a = made_near tree code texts nested (actor_of s) kind ns pairs vs a
+    by_ask (makes_event n) e a = event_made_near tree code texts nested (actor_of s) n a
 
     pub standing_near : Comes
     standing_near =
@@ -339,6 +290,28 @@ module _ (tree : PProgram) (code : Code) (texts : Texts) (nested : AreNested (sc
         let t : LivesThere tree code texts w lay img by p o = lives_there tree code texts w lay img by p o lives in
         near_reaches code p img o (own_stacks tree code texts w lay img by)
         (subst (λ (k : Registers). StandsNear code p img k) (sym t.has) (operator_near p t.process t.is t.living_is)) op next stands is_action
+
+    -- an operator of a process touches no other's stack on which nobody depends
+    touches_own : (p q : ℕ) (r : Registers) (x : Place) → Lives img p r → NobodyDepends img r.stack → OperatorTouches code img q x → x.stack ≡ r.stack → q ≡ p
+    touches_own p q r x lives nobody t same =
+        let other : LivesThere tree code texts w lay img by q t.registers = lives_there tree code texts w lay img by q t.registers t.lives in
+        by_stack (stands_touches code q img other.living_is.core.registers (own_stacks tree code texts w lay img by) (operator_near q other.process other.is other.living_is) x t other.has)
+      where
+        own : (r.stack ≡ p) × (p ≤ img.started)
+        own = own_stacks tree code texts w lay img by p r lives
+
+        by_stack : (IsNearStack q img x.stack ⊎ (x.stack ≡ 0)) ⊎ (x.stack ≡ img.started + 1) → q ≡ p
+        by_stack (inl (inl (inl mine))) = sym mine ∙ same ∙ own.0
+        by_stack (inl (inl (inr d))) = absurd (nobody d.by d.registers d.frame d.has d.critical (d.lies ∙ same))
+        by_stack (inl (inr none)) =
+            let zero_is : p ≡ 0 = sym own.0 ∙ sym same ∙ none in none_some (ap (λ (n : ℕ). numbered img.regs n) (sym zero_is) ∙ lives.is)
+        by_stack (inr new) = absurd (omega (arith, own.1, sym own.0 ∙ sym same ∙ new))
+
+-- no operator of a pictured image touches the stack of another process on which nobody depends
+pub stacks_apart : (tree : PProgram) (code : Code) (texts : Texts) → AreNested (scopes_of tree) → RestsGoOn →
+    (w : World) (lay : Layout) (a : Image) → PicturesBy tree code texts w lay a → IsOk (scopes_of tree) IsWhole w → (p q : ℕ) (r : Registers) (x : Place) → Lives a p r → NobodyDepends a r.stack
+    → OperatorTouches code a q x → x.stack ≡ r.stack → q ≡ p
+stacks_apart tree code texts nested rests w lay a by ok p q r x lives nobody touches same = touches_own tree code texts nested rests w lay a by ok p q r x lives nobody touches same
 
 -- no operator of a pictured image reads or writes a word in the private part of another process
 pub processes_apart : (tree : PProgram) (code : Code) (texts : Texts) → AreNested (scopes_of tree) → RestsGoOn →

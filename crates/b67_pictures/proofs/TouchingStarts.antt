@@ -1,98 +1,39 @@
 -- What the start of a process reaches: the cells that its words name are near, and lead no further.
 use Rattle.std.proofs.Common.{◌≡◌, ◌⊎◌, inl, inr, refl, sym, ap, ◌∙◌, subst, ℕ, ◌+◌, ◌<◌, ◌≤◌, ◌^◌, List, [], ◌∷◌, ◌++◌, length, Option, Some, None, true, false, arith, lit<, append_assoc}
-use Rattle.std.specs.Prelude.{slice_get, reverse, pos}
-use Rattle.std.proofs.lemmas.List.{reverse-reverse}
-use Rattle.algol_tree.specs.declared.tree.Named.{Named}
-use Rattle.algol_tree.specs.Plain.{PProgram}
-use Rattle.algol_tree.specs.Scopes.{Scopes, scopes_of, use_of}
-use Rattle.algol_tree.specs.Sorts.{is_variable, is_formal}
-use Rattle.algol_meaning.specs.Asks.{Ask, starts, ask}
-use Rattle.algol_meaning.specs.Rest.{Given}
+use Rattle.b67_pictures.proofs.Prelude.{reverse-reverse, slice_get, reverse, pos, PProgram, Scopes, scopes_of, use_of, is_variable, is_formal, Named, Ask, starts, ask, is_evaluation, Given, Reference, Cell, number, Bounds, Part, instance_at, DeclaredArray, Shape, IsSeen, IsSeenAround, InGivens, InName, InRest, CellLow, IsLow, IsStanding, IsAmong, IsNoBlock, Word, Place, as_sirw-other, irw_laws, sirw_laws, as_irw, as_sirw, event_word, Descriptor, Irw, Sirw, Couple, Start, Code, words_or, word_at, place, display_at, frame, cell_place, cell_word, irw_or_sirw, cell_of, Wanted, IsDeclaredArray, parameter_wants, Context, AreNested, Texts, ActionAt, StartsAt, IsTask, start_begun, Slot, reference, intrinsic, mark, passed as passed_held, slots_length, newest, SlotIs, some_same, none_some, AreFit, none_wanted, are_fit, Taken, ActualsAre, words_are, Top, top_slot, NearCell, StandsNear, no_sirw, value_tag, event_refers_nothing, reference_read, known_is, runs_low, runs_deep, named_leads, event_leads, HasCells, under_top, procedure_fits, variable_leads, Allotted, LeadsTo, LeadsToEvent, Denotes, named_from, IsComplete, IsInReach, ArePlaced, array_index, cell_there, scene_placed, part_there, LeadsOn, Actor, Seen, text_in, level_in, names_in, context_in, most_in, IsEntry, Names, procedure_there, by_names}
 use Rattle.algol_meaning.specs.Value as cells
-use Rattle.algol_meaning.specs.Value.{Reference, Cell, number}
-use Rattle.algol_meaning.specs.World.{Process, Part, World, instance_at}
-use Rattle.algol_paths.specs.Arrays.{DeclaredArray, Shape}
-use Rattle.algol_paths.specs.Blocks.{IsSeen, IsSeenAround}
-use Rattle.algol_paths.specs.Texts.{InGivens, InName, InRest}
-use Rattle.algol_standing.specs.Worlds.{held_in_rest, held_in_givens, IsStanding, IsAmong, IsNoBlock}
-use Rattle.algol_standing.specs.Lows.{CellLow, AllLow, IsLow}
+use Rattle.algol_standing.specs.Worlds.{held_in_rest, held_in_givens}
+use Rattle.algol_standing.specs.Lows.{AllLow}
 use Rattle.algol_standing.proofs.Asking.{AskHolds, rest_asks}
 use Rattle.algol_standing.proofs.Holding.{AreAll}
-use Rattle.b67_word.specs.declared.Place.{Place}
-use Rattle.b67_word.specs.Word.{Word}
-use Rattle.b67_control.specs.Kind as kind
-use Rattle.b67_control.specs.Kind.{kind_of}
-use Rattle.b67_control.specs.declared.Descriptor.{Descriptor}
-use Rattle.b67_control.specs.declared.Irw.{Irw}
-use Rattle.b67_control.specs.declared.Sirw.{Sirw}
-use Rattle.b67_control.specs.Control.{as_irw, as_sirw, event_word, descriptor_word}
-use Rattle.b67_control.proofs.ControlLaws.{as_sirw-other, irw_laws, sirw_laws}
-use Rattle.b67_ops.specs.declared.Couple.{Couple}
+use Rattle.b67_control.specs.Control.{descriptor_word}
 use Rattle.b67_ops.specs.declared.Operator.TheVariants as ops
 use Rattle.b67_ops.specs.declared.PlainKind.TheVariants as kinds
-use Rattle.b67_ops.specs.declared.intrinsic.Intrinsic.TheVariants.{Start}
 use Rattle.b67_ops.specs.Intrinsics.{number_of, couple_of_intrinsic}
-use Rattle.b67_segment.specs.declared.code.Code.{Code}
-use Rattle.b67_store.specs.Store.{words_or, word_at}
 use Rattle.b67_table.specs.declared.Cell.{Cell as MachineCell}
 use Rattle.b67_table.specs.Beginning.{intrinsic_pcw}
-use Rattle.b67_table.specs.Chains.{place}
-use Rattle.b67_table.specs.Image.{Image}
-use Rattle.b67_table.specs.Private.{display_at, frame}
-use Rattle.b67_table.specs.References.{cell_place, cell_word, irw_or_sirw, sirw_cell, cell_of}
+use Rattle.b67_table.specs.References.{sirw_cell}
 use Rattle.b67_templates.specs.Cells as wants
-use Rattle.b67_templates.specs.Cells.{Wanted, Agrees, IsDeclaredArray, parameter_wants}
-use Rattle.b67_templates.specs.Contexts.{Context}
-use Rattle.b67_templates.specs.Programs.{Texts}
-use Rattle.b67_standing.specs.Stepping.{Slot, reference, intrinsic, mark, cell_named, passed as passed_held, actual as actual_held}
-use Rattle.b67_standing.specs.Standing.{ActionAt, StartsAt, IsTask, start_begun}
-use Rattle.b67_cores.specs.Cores.{Core}
-use Rattle.b67_cores.specs.Slots.{newest, SlotIs}
-use Rattle.b67_cores.proofs.Moving.{slots_length}
-use Rattle.b67_faithful.proofs.Contradictions.{some_same, none_some}
-use Rattle.b67_templates.specs.Nested.{AreNested}
+use Rattle.b67_standing.specs.Stepping.{cell_named, actual as actual_held}
 use Rattle.b67_footprints.proofs.Lists.{Each, each_turned, each_both}
-use Rattle.b67_rows.proofs.GivenWords.{AreFit, none_wanted, a_value, a_name, a_cell, an_event_name, an_event_cell, a_variable, an_actual, a_name_cell, are_fit, Taken, ActualsAre}
-use Rattle.b67_rows.proofs.Rows.{words_are}
-use Rattle.b67_rows.proofs.Slotted.{Top, top_slot}
-use Rattle.b67_rows.proofs.Touching.{NearCell, system_cell}
+use Rattle.b67_rows.proofs.GivenWords.{a_value, a_name, a_cell, an_event_name, an_event_cell, a_variable, an_actual, a_name_cell}
+use Rattle.b67_rows.proofs.Touching.{system_cell}
 use Rattle.b67_rows.proofs.TouchingNames.{one_word, one_cell, entry_names_above}
-use Rattle.b67_rows.proofs.TouchingOperators.{StandsNear}
-use Rattle.b67_rows.proofs.Words.{no_sirw, value_tag, event_refers_nothing, reference_read}
-use Rattle.b67_frames.specs.Arrays.{Allotted, Layout, DescriptorIs, LeadsTo, LeadsToEvent, Denotes, named_from}
-use Rattle.b67_frames.specs.Frames.{IsComplete, IsInReach, ArePlaced}
-use Rattle.b67_frames.proofs.Knowing.{known_is}
-use Rattle.b67_frames.proofs.NamedArrays.{named_leads}
-use Rattle.b67_frames.proofs.NamedEvents.{far_event, event_leads}
-use Rattle.b67_frames.proofs.OwnCells.{HasCells}
-use Rattle.b67_frames.proofs.TouchingCalls.{above_others, lies_there, no_further, under_top}
-use Rattle.b67_frames.proofs.TouchingWords.{numbers_small, tag_operand, procedure_fits}
-use Rattle.b67_frames.proofs.VariablesGiven.{variable_leads}
-use Rattle.b67_frames.proofs.Lying.{runs_low, runs_deep}
-use Rattle.algol_meaning.specs.Value.{Bounds}
-use Rattle.algol_meaning.specs.Critical.{is_evaluation}
-use Rattle.b67_scenes.proofs.ArrayPlaces.{array_index, ArrayPlace, array_place, place_read}
-use Rattle.b67_scenes.proofs.EventHomes.{DirectEvent, direct_event, cell_there, found_formal, there_now, refers_there, word_there, near_there}
-use Rattle.b67_scenes.proofs.Led.{IsLed, declared_led, scene_placed, part_there}
-use Rattle.b67_scenes.proofs.NameHomes.{LeadsOn, variable_on, actual_on}
-use Rattle.b67_scenes.proofs.Scene.{Scene}
-use Rattle.b67_scenes.proofs.Sights.{Seen, seen}
+use Rattle.b67_rows.proofs.Words.{tag_zero}
+use Rattle.b67_frames.specs.Arrays.{DescriptorIs}
+use Rattle.b67_frames.proofs.NamedEvents.{far_event}
+use Rattle.b67_frames.proofs.TouchingCalls.{above_others, lies_there, pcw_no_sirw}
+use Rattle.b67_frames.proofs.TouchingWords.{numbers_small, descriptor_tag, tag_descriptor}
+use Rattle.b67_scenes.proofs.ArrayPlaces.{ArrayPlace, array_place, place_read}
+use Rattle.b67_scenes.proofs.EventHomes.{DirectEvent, direct_event, found_formal, there_now, refers_there, word_there, near_there}
+use Rattle.b67_scenes.proofs.Led.{IsLed, declared_led}
+use Rattle.b67_scenes.proofs.NameHomes.{variable_on, actual_on}
+use Rattle.b67_scenes.proofs.Sights.{seen}
 use Rattle.b67_scenes.proofs.StartCalling as calling
 use Rattle.b67_scenes.proofs.StartSeen.{AreNamedThere, start_seen, start_around, start_made}
-use Rattle.b67_scenes.proofs.Staying.{text_in, level_in, names_in, context_in, most_in}
-use Rattle.b67_scenes.proofs.TouchingCells.{IsEntry, Names, procedure_there}
-use Rattle.b67_scenes.proofs.TouchingScene.{by_names}
 use Rattle.b67_pictures.proofs.ParentPlaces.{standing_cells}
 
 -- ---- words
-
-tag_descriptor : (w : Word) → w.tag ≡ 5 → kind_of w ≡ kind.descriptor
-unfolding kind_of
-tag_descriptor w e = rw e refl
-
-descriptor_tag : (d : Descriptor) → (descriptor_word d).tag ≡ 5
-unfolding descriptor_word
-descriptor_tag d = refl
 
 -- a descriptor refers to nothing
 descriptor_refers_nothing : (d : Descriptor) → as_sirw (descriptor_word d) ≡ None
@@ -116,8 +57,9 @@ all_hold : (sc : Scopes) (b i : ℕ) (cs : List Cell) → AllLow sc b i cs → A
 all_hold sc b i [] low = tt
 all_hold sc b i (c ∷ cs) low = (low.0, all_hold sc b i cs low.1)
 
-module _ (tree : PProgram) (code : Code) (texts : Texts) (nested : AreNested (scopes_of tree)) (w : World) (lay : Layout) (img : Image)
-    (p : ℕ) (q : Process) (part : Part) (outer : List Part) (bound : ℕ) (core : Core) (s : Scene tree code texts w lay img p q part outer bound core) where
+module _ (tree : PProgram) (code : Code) (texts : Texts) (nested : AreNested (scopes_of tree)) (actor : Actor tree code texts) where
+  open actor use {w, lay, img, p, q, part, outer, core, s}
+
   abbrev sc : Scopes
   sc = scopes_of tree
 
@@ -143,24 +85,24 @@ module _ (tree : PProgram) (code : Code) (texts : Texts) (nested : AreNested (sc
   Reached = IsInReach w (part ∷ outer)
 
   abbrev Led : Reference → Type 0
-  Led r = IsLed tree code texts w lay img p q part outer bound core s r
+  Led r = IsLed tree code texts actor r
 
   abbrev Leads : Word → Type 0
-  Leads x = LeadsOn tree code texts nested w lay img p q part outer bound core s x
+  Leads x = LeadsOn tree code texts nested actor x
 
   -- ---- references to arrays and to events
 
   array_on : (shape : Shape) (r : Reference) (x : Word) → LeadsTo sc w lay Reached shape r x → Led r → Leads x
   array_on shape r x leads led =
-      let h : ArrayPlace tree code texts w lay img p q part outer bound core s r.instance r.name leads.declared leads.cell leads.allotted leads.array =
-      array_place tree code texts w lay img p q part outer bound core s nested r.instance r.name led leads.declared leads.cell leads.allotted leads.array in
-      let index : ℕ = array_index tree code texts w lay img p q part outer bound core s r.instance leads.array.number in
+      let h : ArrayPlace tree code texts actor r.instance r.name leads.declared leads.cell leads.allotted leads.array =
+      array_place tree code texts actor nested r.instance r.name led leads.declared leads.cell leads.allotted leads.array in
+      let index : ℕ = array_index tree code texts actor r.instance leads.array.number in
       record {
         at = h.at;
         index = index;
         refers =
             ap as_sirw (leads.word_is ∙ ap (λ (f : Place). cell_word (record { frame = f; index = index })) (some_same (sym leads.laid ∙ h.laid)))
-            ∙ place_read tree code texts w lay img p q part outer bound core s nested r.instance r.name leads.declared leads.cell leads.allotted leads.array h;
+            ∙ place_read tree code texts actor nested r.instance r.name leads.declared leads.cell leads.allotted leads.array h;
         near = h.near;
         reached = h.word;
         lies = h.lies;
@@ -169,16 +111,16 @@ module _ (tree : PProgram) (code : Code) (texts : Texts) (nested : AreNested (sc
 
   event_on : (r : Reference) (x : Word) → LeadsToEvent sc w lay Reached r x → Led r → Leads x
   event_on r x leads led =
-      let l : Seen tree code texts w lay img p q part outer bound core s r.instance = seen tree code texts w lay img p q part outer bound core s r.instance leads.own in
-      let found = found_formal tree code texts nested w lay img p q part outer bound core s r x leads l in
-      let there = there_now tree code texts nested w lay img p q part outer bound core s r x leads l in
+      let l : Seen tree code texts actor r.instance = seen tree code texts actor r.instance leads.own in
+      let found = found_formal tree code texts nested actor r x leads l in
+      let there = there_now tree code texts nested actor r x leads l in
       record {
         at = place l.found.number (length l.found.lies.frame.lower);
-        index = (cell_there tree code texts nested w lay img p q part outer bound core s l leads.made.number).index;
-        refers = refers_there tree code texts nested w lay img p q part outer bound core s r x leads l led;
-        near = near_there tree code texts nested w lay img p q part outer bound core s r led l leads.made.number found there;
+        index = (cell_there tree code texts nested actor l leads.made.number).index;
+        refers = refers_there tree code texts nested actor r x leads l led;
+        near = near_there tree code texts nested actor r led l leads.made.number found there;
         reached = event_word (record {});
-        lies = word_there tree code texts nested w lay img p q part outer bound core s r led l leads.made.number found there;
+        lies = word_there tree code texts nested actor r led l leads.made.number found there;
         no_further = event_refers_nothing;
       }
 
@@ -211,7 +153,7 @@ module _ (tree : PProgram) (code : Code) (texts : Texts) (nested : AreNested (sc
   operand_ends x tag d e =
       none_some
       (sym
-      (ap (λ (o : Option Irw). irw_or_sirw core.registers o (as_sirw x)) (irw_laws.other x (λ k. let is = sym (tag_operand x tag) ∙ k in cc))
+      (ap (λ (o : Option Irw). irw_or_sirw core.registers o (as_sirw x)) (irw_laws.other x (λ k. let is = sym (tag_zero x tag) ∙ k in cc))
       ∙ ap (λ (o : Option Sirw). irw_or_sirw core.registers None o) (no_sirw x tag))
       ∙ e)
 
@@ -219,13 +161,13 @@ module _ (tree : PProgram) (code : Code) (texts : Texts) (nested : AreNested (sc
   named_ends x i f reads shown ends d e = subst Ends (sym (one_cell p img core.registers x i f reads shown d e)) ends
 
   placed : ArePlaced sc w lay
-  placed = scene_placed tree code texts w lay img p q part outer bound core s
+  placed = scene_placed tree code texts actor
 
   each : (j : ℕ) → IsStanding w j → HasCells sc w lay j
   each j st = standing_cells tree code texts w lay img s.by s.ok j st
 
   here_stands : IsStanding w part.instance
-  here_stands = part_there tree code texts w lay img p q part outer bound core s
+  here_stands = part_there tree code texts actor
 
   abbrev Narrow : Type 0
   Narrow = InRest (IsSeenAround sc block) IsNoBlock (IsSeenAround sc block) part.rest
@@ -262,7 +204,7 @@ module _ (tree : PProgram) (code : Code) (texts : Texts) (nested : AreNested (sc
     led_ends x
         (array_on shape (named_from sc w lay part.instance n) x
         (named_leads tree w lay placed each part here_stands Reached names n (is.0, first_made made) shape d c v agrees x (known_is sc w lay Reached part.instance s.stands.held s.stands.held_are (cell_named n) x are.0))
-        (declared_led tree code texts w lay img p q part outer bound core s n is.0 (λ text. far_array sc names n d c v (keeps text).0.1))),
+        (declared_led tree code texts actor n is.0 (λ text. far_array sc names n d c v (keeps text).0.1))),
     given_ends rest is.1 (then_made made) (λ text. (keeps text).1) lows ws are.1,
   )
   given_ends (a_cell shape r rest) is made keeps lows [] are = absurd are
@@ -274,7 +216,7 @@ module _ (tree : PProgram) (code : Code) (texts : Texts) (nested : AreNested (sc
     led_ends x
         (event_on (named_from sc w lay part.instance n) x
         (event_leads tree w lay placed each part here_stands Reached names n (is.0, first_made made) c v x (known_is sc w lay Reached part.instance s.stands.held s.stands.held_are (cell_named n) x are.0))
-        (declared_led tree code texts w lay img p q part outer bound core s n is.0 (λ text. far_event sc names n c v (keeps text).0.1))),
+        (declared_led tree code texts actor n is.0 (λ text. far_event sc names n c v (keeps text).0.1))),
     given_ends rest is.1 (then_made made) (λ text. (keeps text).1) lows ws are.1,
   )
   given_ends (an_event_cell r rest) is made keeps lows [] are = absurd are
@@ -284,14 +226,14 @@ module _ (tree : PProgram) (code : Code) (texts : Texts) (nested : AreNested (sc
   given_ends (a_variable kind n c v rest) is made keeps lows [] are = absurd are
   given_ends (a_variable kind n c v rest) is made keeps lows (x ∷ ws) are = (
     led_ends x
-        (variable_on tree code texts nested w lay img p q part outer bound core s (named_from sc w lay part.instance n) kind x
+        (variable_on tree code texts nested actor (named_from sc w lay part.instance n) kind x
         (variable_leads tree w lay placed part here_stands Reached names n is.0 kind c v x (known_is sc w lay Reached part.instance s.stands.held s.stands.held_are (cell_named n) x are.0))),
     given_ends rest is.1 (then_made made) (λ text. (keeps text).1) lows ws are.1,
   )
   given_ends (an_actual kind e c v rest) is made keeps lows [] are = absurd are
   given_ends (an_actual kind e c v rest) is made keeps lows (x ∷ ws) are = (
     led_ends x
-        (actual_on tree code texts nested w lay img p q part outer bound core s part.instance e kind x
+        (actual_on tree code texts nested actor part.instance e kind x
         (known_is sc w lay Reached part.instance s.stands.held s.stands.held_are (actual_held e kind) x are.0)),
     given_ends rest is.1 (then_made made) (λ text. (keeps text).1) lows ws are.1,
   )
@@ -300,8 +242,8 @@ module _ (tree : PProgram) (code : Code) (texts : Texts) (nested : AreNested (sc
       (by_cell c (known_is sc w lay Reached part.instance s.stands.held s.stands.held_are (passed_held (wants.by_name kind) c) x are.0), given_ends rest is made keeps (λ i low. (lows i low).1) ws are.1)
     where
       by_cell : (d : Cell) → Denotes sc w lay Reached (wants.by_name kind) d x → NamesEnds x
-      by_cell (cells.reference r) leads = led_ends x (variable_on tree code texts nested w lay img p q part outer bound core s r kind x leads)
-      by_cell (cells.named a) leads = led_ends x (actual_on tree code texts nested w lay img p q part outer bound core s a.instance a.actual kind x leads)
+      by_cell (cells.reference r) leads = led_ends x (variable_on tree code texts nested actor r kind x leads)
+      by_cell (cells.named a) leads = led_ends x (actual_on tree code texts nested actor a.instance a.actual kind x leads)
       by_cell (cells.simple v) leads = absurd leads
       by_cell (cells.event d) leads = absurd leads
       by_cell (cells.array d) leads = absurd leads
@@ -317,25 +259,25 @@ module _ (tree : PProgram) (code : Code) (texts : Texts) (nested : AreNested (sc
     at = a.3
 
     abbrev given : Taken sc s.stands.held level own base (parameter_wants sc callee) gs (start_begun at.couple at.tasked a.2) core.words
-    given = calling.given tree code texts w lay img p q part outer bound core s n gs task callee a.1 a.2 at
+    given = calling.given tree code texts actor n gs task callee a.1 a.2 at
 
     abbrev task_top : Top sc s.stands.held level own base at.tasked (reference at.couple ∷ intrinsic Start ∷ mark ∷ a.2) given.others
-    task_top = calling.task_there tree code texts w lay img p q part outer bound core s n gs task callee a.1 a.2 at
+    task_top = calling.task_there tree code texts actor n gs task callee a.1 a.2 at
 
     abbrev procedure_top : Top sc s.stands.held level own base (reference at.couple) (intrinsic Start ∷ mark ∷ a.2) task_top.words_below
-    procedure_top = calling.procedure_there tree code texts w lay img p q part outer bound core s n gs task callee a.1 a.2 at
+    procedure_top = calling.procedure_there tree code texts actor n gs task callee a.1 a.2 at
 
     start_top : Top sc s.stands.held level own base (intrinsic Start) (mark ∷ a.2) procedure_top.words_below
     start_top = top_slot sc s.stands.held level own base (intrinsic Start ∷ mark ∷ a.2) (intrinsic Start) (mark ∷ a.2) procedure_top.words_below procedure_top.are refl
 
     all_seen : AreNamedThere (IsSeen sc block) n gs task
-    all_seen = start_seen tree code texts w lay img p q part outer bound core s n gs task asks
+    all_seen = start_seen tree code texts actor n gs task asks
 
     made : IsComplete sc w lay part.instance ⊎ AreNamedThere (IsSeenAround sc block) n gs task
-    made = start_made tree code texts w lay img p q part outer bound core s n gs task asks
+    made = start_made tree code texts actor n gs task asks
 
     around : Narrow → AreNamedThere (IsSeenAround sc block) n gs task
-    around text = start_around tree code texts w lay img p q part outer bound core s n gs task asks text
+    around text = start_around tree code texts actor n gs task asks text
 
     lows : AllHeld (held_in_givens gs)
     lows i is_low =
@@ -362,8 +304,8 @@ module _ (tree : PProgram) (code : Code) (texts : Texts) (nested : AreNested (sc
     procedure_ends : NamesEnds procedure_top.word
     procedure_ends =
         let fits : (at.couple.level < 32) × (at.couple.index < 2 ^ 14) = procedure_fits sc nested names n callee at.couple at.procedure known in
-        let c : Names tree code texts nested w lay img p q part outer bound core s at.couple IsEntry =
-        procedure_there tree code texts nested w lay img p q part outer bound core s n callee at.couple all_seen.0 at.procedure in
+        let c : Names tree code texts nested actor at.couple IsEntry =
+        procedure_there tree code texts nested actor n callee at.couple all_seen.0 at.procedure in
         named_ends procedure_top.word (record { level = at.couple.level; index = at.couple.index }) c.home (ap as_irw procedure_top.slot_is ∙ reference_read at.couple fits.0 fits.1) c.shown
         (record { near = c.near; word = c.word; lies = c.lies; none = c.is.no_sirw })
 
@@ -384,7 +326,7 @@ module _ (tree : PProgram) (code : Code) (texts : Texts) (nested : AreNested (sc
             (x : Word) → SlotThere slot x → NamesEnds x
         by_task None slot is there in_bound keeps x slot_is = operand_ends x (value_tag (number (pos 0)) x (subst (λ (t : Slot). SlotThere t x) is slot_is))
         by_task (Some m) slot is there in_bound keeps x slot_is =
-            let e : DirectEvent tree code texts nested w lay img p q part outer bound core s is.0 = direct_event tree code texts nested w lay img p q part outer bound core s m is.0 there in_bound keeps is.1 in
+            let e : DirectEvent tree code texts nested actor is.0 = direct_event tree code texts nested actor m is.0 there in_bound keeps is.1 in
             named_ends x (record { level = is.0.level; index = is.0.index }) e.cell.frame
             (ap as_irw (subst (λ (t : Slot). SlotThere t x) is.2 slot_is) ∙ reference_read is.0 e.fits.0 e.fits.1) e.shown
             (subst (λ (k : ℕ). Ends (record { frame = e.cell.frame; index = k })) (sym e.index_is) (record { near = e.near; word = event_word (record {}); lies = e.lies; none = event_refers_nothing }))
@@ -409,12 +351,12 @@ module _ (tree : PProgram) (code : Code) (texts : Texts) (nested : AreNested (sc
         let f : core.registers.f ≡ base + length a.2 =
         s.stands.there.mark_is ∙ ap (newest own base) at.lies ∙ given.mark_is ∙ calling.task_plain sc context task at.tasked at.task_is own base (reference at.couple ∷ intrinsic Start ∷ mark ∷ a.2) in
         let many : length start_top.words_below ≡ length (mark ∷ a.2) = slots_length sc s.stands.held level own base (mark ∷ a.2) start_top.words_below start_top.are in
-        by_names tree code texts nested w lay img p q part outer bound core s (ops.Plain kinds.Entr) a.1 at.stands
+        by_names tree code texts nested actor (ops.Plain kinds.Entr) a.1 at.stands
         (entry_names_above p img core.registers start_top.word
         (under_top img p core s.has arguments start_top.word start_top.words_below whole (core.registers.f + 1) (omega (arith, f, many)))
         (record { level = 0; index = number_of Start }) (ap as_irw start_top.slot_is ∙ reference_read (couple_of_intrinsic Start) (lit< tt) (numbers_small Start)) (place 0 0) s.sees
         (system_cell p img (record { frame = place 0 0; index = number_of Start }) refl) (intrinsic_pcw (number_of Start))
-        (ap (λ (o : Option (List Word)). slice_get (words_or o) (0 + number_of Start)) s.by.system ∙ lies_there Start) (no_further Start) Ends
+        (ap (λ (o : Option (List Word)). slice_get (words_or o) (0 + number_of Start)) s.by.system ∙ lies_there Start) (pcw_no_sirw Start) Ends
         (λ k u d after lies e.
         above_others NamesEnds core.below arguments (start_top.word ∷ start_top.words_below) all_end k u (omega (arith, f, many, after))
         (ap (λ (ws : List Word). slice_get ws k) (sym (words_are img p core s.has ∙ ap (λ (ws : List Word). core.below ++ reverse ws) whole)) ∙ lies) d e)

@@ -1,40 +1,16 @@
 -- The turn of a loop, and the choice of a case.
-use Rattle.std.proofs.Common.{◌≡◌, refl, ap, ◌∙◌, ℕ, ◌≤◌, List, Ok, arith, true}
-use Rattle.b67_list.specs.Numbered.{numbered}
-use Rattle.algol_tree.specs.Plain.{PProgram}
-use Rattle.algol_tree.specs.Scopes.{Scopes, scopes_of}
-use Rattle.algol_meaning.specs.Rest.{Answer, done}
-use Rattle.algol_meaning.specs.World.{Process, Part, lives, World}
+use Rattle.std.proofs.Common.{◌≡◌, refl, ap, ◌∙◌, ℕ, ◌≤◌, List, Ok, arith}
+use Rattle.b67_pictures.proofs.Prelude.{PProgram, Scopes, scopes_of, Ask, turns, ask, resume, choice_of, Answer, done, RestsKeepToTheirText, AllIsMadeInOrder, Brun, Code, operator_at, Texts, ActionAt, Acted, ComesTo, Slot, Core, with_core, CoreAt, FragmentsArePerformed, action_not_plain, action_is, makes, unmade, operator_there, AbleActor, choice_is, text_in, level_in, context_in, most_in, Does}
 use Rattle.b67_deeds.specs.declared.Letter.TheVariants.{Turn}
-use Rattle.algol_meaning.specs.Asks.{Ask, turns, ask, resume}
-use Rattle.algol_meaning.specs.Choice.{choice_of}
 use Rattle.b67_ops.specs.declared.Operator.TheVariants as ops
-use Rattle.b67_ops.specs.declared.BranchKind.TheVariants.{Brun}
-use Rattle.b67_segment.specs.declared.code.Code.{Code}
-use Rattle.b67_templates.specs.Programs.{Texts}
-use Rattle.b67_scenes.specs.States.{StateIs}
-use Rattle.b67_table.specs.Image.{Image}
 use Rattle.b67_table.specs.Effect as effects
 use Rattle.b67_table.specs.Outcome as outcomes
-use Rattle.b67_table.specs.Table.{operator_at}
-use Rattle.b67_standing.specs.Stepping.{Slot}
-use Rattle.b67_standing.specs.Standing.{ActionAt, Acted, ComesTo}
-use Rattle.b67_cores.specs.Cores.{Core, with_core}
-use Rattle.b67_cores.specs.Stretches.{CoreAt, FragmentsArePerformed}
-use Rattle.algol_paths.specs.Laws.{RestsKeepToTheirText, AllIsMadeInOrder}
-use Rattle.b67_rows.proofs.Rows.{action_not_plain, action_is}
 use Rattle.b67_rows.proofs.TurnRow.{at_place, turns_back, turn_raw, turn_class}
-use Rattle.b67_rows.proofs.Unmade.{makes, unmade}
-use Rattle.b67_frames.specs.Arrays.{Layout}
-use Rattle.b67_scenes.proofs.Homes.{operator_there}
-use Rattle.b67_scenes.proofs.Stage.{choice_is}
-use Rattle.b67_scenes.proofs.Scene.{Scene}
-use Rattle.b67_scenes.proofs.Staying.{text_in, level_in, context_in, most_in}
-use Rattle.b67_pictures.specs.Acting.{Does}
 use Rattle.b67_pictures.proofs.InFrame.{does_in_frame}
 
-module _ (tree : PProgram) (code : Code) (texts : Texts) (fragments : FragmentsArePerformed) (keeps : RestsKeepToTheirText) (order : AllIsMadeInOrder) (w : World) (lay : Layout) (img : Image)
-    (p : ℕ) (q : Process) (part : Part) (outer : List Part) (bound : ℕ) (core : Core) (s : Scene tree code texts w lay img p q part outer bound core) (able_is : lives q.state ≡ true) (able_p : StateIs (scopes_of tree) w lay q.state (numbered img.states p)) where
+module _ (tree : PProgram) (code : Code) (texts : Texts) (fragments : FragmentsArePerformed) (keeps : RestsKeepToTheirText) (order : AllIsMadeInOrder) (actor : AbleActor tree code texts) where
+  open actor use {w, img, p, q, part, outer, core, s}
+
   abbrev sc : Scopes
   sc = scopes_of tree
 
@@ -65,7 +41,7 @@ module _ (tree : PProgram) (code : Code) (texts : Texts) (fragments : FragmentsA
 
     pub turning : Does tree code texts w img p
     turning =
-        does_in_frame tree code texts fragments keeps order w lay img p q part outer bound core s able_is able_p (unmade part.rest (ap makes asks)) done tt w.output new refl (record { is = refl }) s.stands.held s.stands.held_are a.0 s.stands.slots core_at s.stands.few
+        does_in_frame tree code texts fragments keeps order actor (unmade part.rest (ap makes asks)) done tt w.output new refl (record { is = refl }) s.stands.held s.stands.held_are a.0 s.stands.slots core_at s.stands.few
         (answered done a.0 s.stands.slots (refl, refl)) Turn
         (action_not_plain code img p core s.has (ops.Branch Brun a.0) a.1 there (turn_class code img p core s.has a.0 a.1 there back))
         (turn_raw code img p core s.has a.0 a.1 there back ∙ ap (λ (o : List (List ℕ)). effects.gives (record (with_core img p new) { output = o })) s.by.output)

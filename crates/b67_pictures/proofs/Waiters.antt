@@ -1,45 +1,17 @@
 -- Who waits for an event: it lives, its events stand, and it stands among those who wait for them only.
-use Rattle.std.proofs.Common.{◌≡◌, ◌≢◌, refl, sym, ap, ◌∙◌, subst, ℕ, List, [], ◌∷◌, Option, Some, Bool, true, false}
-use Rattle.std.specs.Prelude.{◌||◌}
-use Rattle.b67_list.specs.Numbered.{numbered}
-use Rattle.b67_deeds.specs.Listed.{IsListed}
-use Rattle.algol_tree.specs.Plain.{PProgram}
-use Rattle.algol_tree.specs.Scopes.{Scopes, scopes_of}
-use Rattle.algol_meaning.specs.Value.{Reference}
-use Rattle.algol_meaning.specs.World.{Part, Process, State, able, waits_for, waits_any, procures, ended, lives, World, process_at}
-use Rattle.algol_meaning.specs.Events.{list_in, is_among as is_among_these, same_reference}
-use Rattle.algol_meaning.specs.Critical.{own_instances}
-use Rattle.algol_standing.specs.Skeleton.{IsIn}
-use Rattle.algol_standing.specs.Worlds.{IsStanding, IsWhole, Awaits, IsAwaited, HasHead, stack_of, skeleton, newest_own, IsOnPath}
-use Rattle.algol_standing.specs.Fitting.{IsOk}
+use Rattle.std.proofs.Common.{◌≡◌, ◌≢◌, refl, sym, ap, ◌∙◌, subst, ℕ, List, [], ◌∷◌, Option, Some, Bool, true}
+use Rattle.b67_pictures.proofs.Prelude.{◌||◌, numbered, IsListed, PProgram, Scopes, scopes_of, own_instances, list_in, same_reference, Reference, Part, Process, State, able, waits_for, waits_any, procures, ended, lives, World, process_at, stack_forth, IsOk, IsIn, IsStanding, IsWhole, Awaits, stack_of, skeleton, newest_own, IsOnPath, Place, Code, waiters_at, is_among, list_of, Image, AwaitsAt, ProcessState, WaitsFor, WaitsAny, Procures, Texts, true_false, Layout, LivesIn, lives_waiting, process_is, own_listed, IsEventAt, Pictured, living, dead, PicturesBy, StateIs}
+use Rattle.algol_meaning.specs.Events.{is_among as is_among_these}
+use Rattle.algol_standing.specs.Worlds.{IsAwaited, HasHead}
 use Rattle.algol_standing.proofs.Awaiting.{awaits_lives}
 use Rattle.algol_standing.proofs.EventCells.{same_self, among_first}
 use Rattle.algol_standing.proofs.Fine.{newest_stands, newest_inside}
-use Rattle.algol_standing.proofs.Pairs.{stack_forth}
 use Rattle.algol_standing.proofs.Standing.{stands_path}
-use Rattle.b67_word.specs.declared.Place.{Place}
-use Rattle.b67_events.specs.Events.{waiters_at, is_among, list_of}
-use Rattle.b67_segment.specs.declared.code.Code.{Code}
-use Rattle.b67_table.specs.declared.ProcessState.{ProcessState}
-use Rattle.b67_table.specs.declared.ProcessState.TheVariants.{WaitsFor, WaitsAny, Procures}
-use Rattle.b67_table.specs.Image.{Image}
-use Rattle.b67_table.specs.Valid.{AwaitsAt}
-use Rattle.b67_templates.specs.Programs.{Texts}
-use Rattle.b67_frames.specs.Arrays.{Layout}
-use Rattle.b67_scenes.specs.Depending.{IsEventAt}
-use Rattle.b67_scenes.specs.Pictures.{Pictured, living, dead, PicturesBy}
-use Rattle.b67_scenes.specs.States.{StateIs}
-use Rattle.b67_scenes.proofs.Freeing.{LivesIn, lives_waiting}
-use Rattle.b67_scenes.proofs.Stage.{process_is}
-use Rattle.b67_scenes.proofs.Worlds.{IsInStack, own_listed, in_stack}
+use Rattle.b67_scenes.proofs.Worlds.{IsInStack, in_stack}
 use Rattle.b67_scenes.proofs.Waiting.{none_listed}
-use Rattle.b67_faithful.proofs.Contradictions.{true_false}
+use Rattle.b67_rows.proofs.PassRow.{or_true}
 use Rattle.b67_pictures.proofs.EventMoving.{IsOwned}
 use Rattle.b67_pictures.proofs.SameEvents.{AllOwned, one_place}
-
-or_true : (b : Bool) → (b || true) ≡ true
-or_true true = refl
-or_true false = refl
 
 among_later : (r : Reference) (rs : List Reference) (s : Reference) → is_among_these rs s ≡ true → is_among_these (r ∷ rs) s ≡ true
 among_later r rs s e = ap (λ (b : Bool). same_reference r s || b) e ∙ or_true (same_reference r s)

@@ -1,15 +1,9 @@
 -- Events of the kernel that are changed one after the other are changed as all at once.
 use Rattle.std.proofs.Common.{◌≡◌, ◌⊎◌, inl, inr, refl, sym, ap, ◌∙◌, subst, ℕ, List, [], ◌∷◌, Option, Some, None, Bool, true, false}
-use Rattle.std.specs.Prelude.{if◌then◌else◌, ◌==◌, ◌||◌, not, filter, map}
-use Rattle.std.specs.Option.{option_map}
-use Rattle.std.proofs.lemmas.Bool.{eqb-true, eq-eqb}
-use Rattle.b67_deeds.specs.Events.{EventState, left_by, joined}
-use Rattle.b67_deeds.specs.Listed.{IsListed}
+use Rattle.b67_pictures.proofs.Prelude.{eqb-true, eq-eqb, option_map, if◌then◌else◌, ◌==◌, ◌||◌, map, EventState, left_by, joined, IsListed, Place, one_event, same_place-true, same_place-self, Event, same_place, waiters_at, is_among, changed, with_state}
+use Rattle.std.specs.Prelude.{not, filter}
 use Rattle.b67_deeds.proofs.Lists.{listed_either}
-use Rattle.b67_word.specs.declared.Place.{Place}
-use Rattle.b67_events.specs.Events.{Event, same_place, event_at, state_of, waiters_at, is_among, changed, with_state, joined_all}
-use Rattle.b67_events.proofs.EventLaws.{one_event}
-use Rattle.b67_events.proofs.Listed.{same_place-true, same_place-self}
+use Rattle.b67_events.specs.Events.{event_at, state_of, joined_all}
 
 -- ---- one event
 

@@ -1,15 +1,9 @@
 -- An image with another word at a place of the stack of a process: that process has it in its core, and the others have their cores.
-use Rattle.std.proofs.Common.{◌≡◌, ◌≢◌, refl, sym, ap, ◌∙◌, ℕ, zero, suc, ◌<◌, List, [], ◌∷◌, length, Option, Some, None, arith}
-use Rattle.std.specs.Prelude.{slice_set, reverse}
-use Rattle.b67_list.specs.Numbered.{numbered}
-use Rattle.b67_word.specs.declared.Place.{Place}
-use Rattle.b67_word.specs.Word.{Word}
-use Rattle.b67_store.specs.Store.{Stacks, stack_at, words_or, with_stack, with_word}
-use Rattle.b67_table.specs.Chains.{place}
-use Rattle.b67_table.specs.Image.{Image, with_stacks, is_live}
-use Rattle.b67_cores.specs.Cores.{Core, over, HasCore, stack_of}
-use Rattle.b67_rows.proofs.Cored.{stack_other}
-use Rattle.b67_scenes.proofs.StoringFrames.{IsStored, put, length_put, put_first}
+use Rattle.std.proofs.Common.{◌≡◌, ◌≢◌, refl, sym, ap, ◌∙◌, ℕ, ◌<◌, List, length, Option, Some, None, arith}
+use Rattle.b67_pictures.proofs.Prelude.{slice_set, reverse, numbered, Word, Place, stack_at, words_or, with_word, place, Image, with_stacks, is_live, Core, over, HasCore, stack_other, IsStored, put, length_put}
+use Rattle.b67_cores.specs.Cores.{stack_of}
+use Rattle.b67_rows.proofs.Cored.{stack_set}
+use Rattle.b67_scenes.proofs.StoringFrames.{put_first}
 
 -- the image with the word there, if there is one
 abbrev pub put_word : Option Word → Image → Place → Image
@@ -27,11 +21,6 @@ pub record IsOnlyStored (img later : Image) : Type 0 where
   pub output : later.output ≡ img.output
   pub fault : later.fault ≡ img.fault
   pub started : later.started ≡ img.started
-
-stack_set : (stacks : Stacks) (n : ℕ) (ws vs : List Word) → stack_at stacks n ≡ Some ws → stack_at (with_stack stacks n vs) n ≡ Some vs
-stack_set [] n ws vs e = cc
-stack_set (z ∷ zs) zero ws vs e = refl
-stack_set (z ∷ zs) (suc n) ws vs e = stack_set zs n ws vs e
 
 module _ (img : Image) (n k : ℕ) where
   -- the stack has it

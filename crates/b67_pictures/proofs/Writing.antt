@@ -1,51 +1,21 @@
 -- WRITE: a line of the output.
 use Rattle.std.proofs.Common.{◌≡◌, refl, sym, ap, ◌∙◌, subst, ℕ, List, [], ◌∷◌, ◌++◌, length, Option, Some, Ok, Bool, true, false, arith}
-use Rattle.std.specs.Prelude.{pos, replicate, if◌then◌else◌, ◌==◌}
+use Rattle.b67_pictures.proofs.Prelude.{pos, replicate, if◌then◌else◌, ◌==◌, PProgram, Scopes, scopes_of, PhraseText, Ask, writes, ask, resume, choice_of, Answer, done, Value, number, whole_of, instance_at, RestsKeepToTheirText, AllIsMadeInOrder, Placed, Code, operator_at, in_routine, Yields, Texts, context_of, ActionAt, Acted, ComesTo, Slot, Core, with_core, FragmentsArePerformed, without_call, enter_class, action_not_plain, action_is, makes, unmade, wholes_of, IsCall, call, operator_there, AbleActor, actor_of, choice_is, text_in, level_in, context_in, most_in, Does}
 use Rattle.b67_list.specs.Lines.{justified}
-use Rattle.b67_list.specs.Numbered.{numbered}
-use Rattle.algol_tree.specs.declared.tree.PhraseText.{PhraseText}
-use Rattle.algol_tree.specs.Plain.{PProgram}
-use Rattle.algol_tree.specs.Scopes.{Scopes, scopes_of}
 use Rattle.algol_tree.specs.Spelling.{value_of}
 use Rattle.algol_meaning.specs.Lines.{line_of, number_first}
-use Rattle.algol_meaning.specs.Rest.{Answer, done}
-use Rattle.algol_meaning.specs.Value.{Value, number, whole_of}
-use Rattle.algol_meaning.specs.World.{Process, Part, lives, World, instance_at}
 use Rattle.b67_deeds.specs.declared.Letter.TheVariants.{Line}
-use Rattle.algol_meaning.specs.Asks.{Ask, writes, ask, resume}
-use Rattle.algol_meaning.specs.Choice.{choice_of}
 use Rattle.b67_ops.specs.declared.Operator.TheVariants as ops
 use Rattle.b67_ops.specs.declared.PlainKind.TheVariants as kinds
 use Rattle.b67_ops.specs.declared.intrinsic.Intrinsic.TheVariants.{Write}
-use Rattle.b67_segment.specs.Operators.{Placed}
-use Rattle.b67_segment.specs.declared.code.Code.{Code}
 use Rattle.b67_segment.specs.declared.code.Format.{Format}
 use Rattle.b67_segment.specs.declared.code.Phrase.{Phrase}
 use Rattle.b67_segment.specs.declared.code.Phrase.TheVariants as parts
-use Rattle.b67_scenes.specs.States.{StateIs}
 use Rattle.b67_table.specs.Effect as effects
-use Rattle.b67_table.specs.Image.{Image}
 use Rattle.b67_table.specs.Lines.{before, format_line, line_by, line_for}
 use Rattle.b67_table.specs.Outcome as outcomes
-use Rattle.b67_table.specs.Table.{operator_at}
-use Rattle.b67_templates.specs.Contexts.{Yields}
-use Rattle.b67_templates.specs.Code.{IsPart, text, word, AreParts, numbers_in, FormatIs, in_routine}
-use Rattle.b67_templates.specs.Programs.{Texts, context_of}
-use Rattle.b67_standing.specs.Stepping.{Slot}
-use Rattle.b67_standing.specs.Standing.{ActionAt, Acted, ComesTo}
-use Rattle.b67_cores.specs.Cores.{Core, with_core}
-use Rattle.b67_cores.specs.Stretches.{FragmentsArePerformed}
-use Rattle.algol_paths.specs.Laws.{RestsKeepToTheirText, AllIsMadeInOrder}
-use Rattle.b67_rows.proofs.Rows.{action_not_plain, action_is}
-use Rattle.b67_rows.proofs.IntrinsicRows.{without_call, enter_class, write_raw}
-use Rattle.b67_rows.proofs.Unmade.{makes, unmade}
-use Rattle.b67_frames.specs.Arrays.{Layout}
-use Rattle.b67_scenes.proofs.Calling.{wholes_of, IsCall, call}
-use Rattle.b67_scenes.proofs.Homes.{operator_there}
-use Rattle.b67_scenes.proofs.Stage.{choice_is}
-use Rattle.b67_scenes.proofs.Scene.{Scene}
-use Rattle.b67_scenes.proofs.Staying.{text_in, level_in, context_in, most_in}
-use Rattle.b67_pictures.specs.Acting.{Does}
+use Rattle.b67_templates.specs.Code.{IsPart, text, word, AreParts, numbers_in, FormatIs}
+use Rattle.b67_rows.proofs.IntrinsicRows.{write_raw}
 use Rattle.b67_pictures.proofs.InFrame.{does_in_frame}
 
 -- ---- the line
@@ -83,42 +53,43 @@ line_is sc code texts j gives ps level format ts vs f =
 
 -- ---- the action
 
-module _ (tree : PProgram) (code : Code) (texts : Texts) (fragments : FragmentsArePerformed) (keeps : RestsKeepToTheirText) (order : AllIsMadeInOrder) (w : World) (lay : Layout) (img : Image)
-    (p : ℕ) (q : Process) (part : Part) (outer : List Part) (bound : ℕ) (core : Core) (s : Scene tree code texts w lay img p q part outer bound core) (able_is : lives q.state ≡ true) (able_p : StateIs (scopes_of tree) w lay q.state (numbered img.states p))
-    (ts : List PhraseText) (vs : List Value) (asks : ask part.rest ≡ writes ts vs) (a : ActionAt (scopes_of tree) (context_in tree code texts w part s.stands.frame.gives) (text_in tree texts w part) (level_in tree w part) (most_in tree w part) (writes ts vs) s.stands.pc s.stands.slots)
-    (answered : (r : Answer) (at : ℕ) (left : List Slot) → Acted (scopes_of tree) (context_in tree code texts w part s.stands.frame.gives) (text_in tree texts w part) (level_in tree w part) (most_in tree w part) (writes ts vs) s.stands.pc s.stands.slots a r at left →
-    ComesTo (scopes_of tree) (context_in tree code texts w part s.stands.frame.gives) (text_in tree texts w part) (level_in tree w part) (most_in tree w part) (resume (scopes_of tree) part.rest r) at left) where
-  abbrev sc : Scopes
-  sc = scopes_of tree
+module _ (tree : PProgram) (code : Code) (texts : Texts) (fragments : FragmentsArePerformed) (keeps : RestsKeepToTheirText) (order : AllIsMadeInOrder) (actor : AbleActor tree code texts) where
+  open actor use {w, img, p, q, part, outer, core, s}
 
-  -- the arguments are the number of the format and the items
-  abbrev given : List Value
-  given = number (pos a.2.format) ∷ vs
+  module _ (ts : List PhraseText) (vs : List Value) (asks : ask part.rest ≡ writes ts vs) (a : ActionAt (scopes_of tree) (context_in tree code texts w part s.stands.frame.gives) (text_in tree texts w part) (level_in tree w part) (most_in tree w part) (writes ts vs) s.stands.pc s.stands.slots)
+      (answered : (r : Answer) (at : ℕ) (left : List Slot) → Acted (scopes_of tree) (context_in tree code texts w part s.stands.frame.gives) (text_in tree texts w part) (level_in tree w part) (most_in tree w part) (writes ts vs) s.stands.pc s.stands.slots a r at left →
+      ComesTo (scopes_of tree) (context_in tree code texts w part s.stands.frame.gives) (text_in tree texts w part) (level_in tree w part) (most_in tree w part) (resume (scopes_of tree) part.rest r) at left) where
+    abbrev sc : Scopes
+    sc = scopes_of tree
 
-  there : operator_at code core.registers ≡ Ok (ops.Plain kinds.Entr, a.0)
-  there = operator_there sc s.stands.held code (text_in tree texts w part) (level_in tree w part) s.stands.pc s.stands.slots core (ops.Plain kinds.Entr) a.0 s.stands.there a.2.stands
+    -- the arguments are the number of the format and the items
+    abbrev given : List Value
+    given = number (pos a.2.format) ∷ vs
 
-  abbrev Called : Type 0
-  Called = IsCall tree code texts w lay img p q part outer bound core s Write given a.1 (a.2.whole, a.2.fits) a.2.lies
+    there : operator_at code core.registers ≡ Ok (ops.Plain kinds.Entr, a.0)
+    there = operator_there sc s.stands.held code (text_in tree texts w part) (level_in tree w part) s.stands.pc s.stands.slots core (ops.Plain kinds.Entr) a.0 s.stands.there a.2.stands
 
-  module _ (c : Called) where
-    abbrev new : Core
-    new = without_call core c.others c.calls.m.df a.0
+    abbrev Called : Type 0
+    Called = IsCall tree code texts (actor_of s) Write given a.1 (a.2.whole, a.2.fits) a.2.lies
 
-    abbrev out : List (List ℕ)
-    out = w.output ++ line_of ts vs ∷ []
+    module _ (c : Called) where
+      abbrev new : Core
+      new = without_call core c.others c.calls.m.df a.0
 
-    does : Does tree code texts w img p
-    does =
-        does_in_frame tree code texts fragments keeps order w lay img p q part outer bound core s able_is able_p (unmade part.rest (ap makes asks)) done tt out new refl (record { is = refl }) s.stands.held s.stands.held_are a.0 a.1 (c.after_at a.0) c.few
-        (answered done a.0 a.1 (refl, refl)) Line
-        (action_not_plain code img p core s.has (ops.Plain kinds.Entr) a.0 there
-        (enter_class code img p core s.has a.0 there Write c.arguments c.reference c.marked c.others c.calls))
-        (write_raw code img p core s.has a.0 there Write c.arguments c.reference c.marked c.others c.calls (wholes_of given) c.wholes refl (line_of ts vs)
-        (line_is sc code texts ((instance_at w part.instance).block) s.stands.frame.gives (text_in tree texts w part) (level_in tree w part) a.2.format ts vs a.2.is)
-        ∙ ap (λ (o : List (List ℕ)). effects.gives (record (with_core img p new) { output = o ++ line_of ts vs ∷ [] })) s.by.output)
-        (choice_is sc w p q part outer s.at s.todo ∙ ap (λ (k : Ask). choice_of sc w p q part outer k) asks)
-        (λ t. action_is code img p core s.has (ops.Plain kinds.Entr) a.0 there (outcomes.gives (record (with_core img p new) { output = out })) t ∙ c.action)
+      abbrev out : List (List ℕ)
+      out = w.output ++ line_of ts vs ∷ []
 
-  pub writing : Does tree code texts w img p
-  writing = does (call tree code texts w lay img p q part outer bound core s Write given a.1 (a.2.whole, a.2.fits) a.2.lies)
+      does : Does tree code texts w img p
+      does =
+          does_in_frame tree code texts fragments keeps order actor (unmade part.rest (ap makes asks)) done tt out new refl (record { is = refl }) s.stands.held s.stands.held_are a.0 a.1 (c.after_at a.0) c.few
+          (answered done a.0 a.1 (refl, refl)) Line
+          (action_not_plain code img p core s.has (ops.Plain kinds.Entr) a.0 there
+          (enter_class code img p core s.has a.0 there Write c.arguments c.reference c.marked c.others c.calls))
+          (write_raw code img p core s.has a.0 there Write c.arguments c.reference c.marked c.others c.calls (wholes_of given) c.wholes refl (line_of ts vs)
+          (line_is sc code texts ((instance_at w part.instance).block) s.stands.frame.gives (text_in tree texts w part) (level_in tree w part) a.2.format ts vs a.2.is)
+          ∙ ap (λ (o : List (List ℕ)). effects.gives (record (with_core img p new) { output = o ++ line_of ts vs ∷ [] })) s.by.output)
+          (choice_is sc w p q part outer s.at s.todo ∙ ap (λ (k : Ask). choice_of sc w p q part outer k) asks)
+          (λ t. action_is code img p core s.has (ops.Plain kinds.Entr) a.0 there (outcomes.gives (record (with_core img p new) { output = out })) t ∙ c.action)
+
+    pub writing : Does tree code texts w img p
+    writing = does (call tree code texts (actor_of s) Write given a.1 (a.2.whole, a.2.fits) a.2.lies)

@@ -2,7 +2,7 @@
 //! another, on the scenes of `b67_scenes`, and the law that this makes of it.
 #![tactic(auto)]
 
-ghost use Rattle.b67_pictures.specs.Programs.{NestedProgramsAreFaithful};
+ghost use Rattle.b67_pictures.specs.Programs.{NestedProgramsAreFaithful, NestedStacksStayOwn};
 
 /// Law: wherever the code of a program stands whose blocks lie in one another, as those of an accepted one, whose procedures
 /// have names, and whose names are seen and calls fit, and is short and can be listed, it is faithful to the program. Every run of it under
@@ -11,4 +11,9 @@ ghost use Rattle.b67_pictures.specs.Programs.{NestedProgramsAreFaithful};
 /// has syllables. Every legal schedule of the program has a run, or comes to the stack limit.
 pub fn nested_programs_are_faithful()
     ensures { NestedProgramsAreFaithful }
+{}
+
+/// Law: and the stacks of its processes stay own: no operator of another process touches one on which nobody depends.
+pub fn nested_stacks_stay_own()
+    ensures { NestedStacksStayOwn }
 {}

@@ -1,39 +1,12 @@
 -- Accidental entry: the code of an actual is entered where VALC or EVAL reaches its control word. Its frame lies above the words of the part
 -- that waits, and has no cells; a selector lies on it where the code may give a place.
 use Rattle.std.proofs.Common.{◌≡◌, refl, sym, ap, ◌∙◌, ℕ, ◌+◌, ◌-◌, ◌<◌, List, [], ◌∷◌, ◌++◌, length, take, Option, Some, Bool, true, false, Ok, arith, append_assoc, length-append}
-use Rattle.std.specs.Prelude.{if◌then◌else◌, nat_lt, reverse}
-use Rattle.b67_word.specs.declared.Place.{Place}
-use Rattle.b67_word.specs.Word.{Word}
-use Rattle.b67_control.specs.declared.Registers.{Registers}
-use Rattle.b67_control.specs.declared.Pcw.{Pcw}
-use Rattle.b67_control.specs.declared.Rcw.{Rcw}
-use Rattle.b67_control.specs.Control.{as_pcw, as_rcw}
-use Rattle.b67_control.specs.Display.{place_at}
-use Rattle.b67_ops.specs.declared.Couple.{Couple}
+use Rattle.b67_rows.proofs.Prelude.{if◌then◌else◌, nat_lt, reverse, Place, Word, Registers, Pcw, Rcw, as_pcw, as_rcw, place_at, Couple, Code, Stacks, word_at, with_stack, with_cut, Cell, Entry, BadCode, Effect, gives, Image, with_stacks, with_registers, end_of_code, control_word, entered_mark, if_fits, is_home, if_home, entered, accidental, Look, found, stops, ◌>->◌, read_as, seen, place, linked, pushed, Program, Change, done, changed, effect_of, asked, see, answer, fault, ◌>>=◌, cut, registers, NotAVariable, frame, at_or, couple_cell, cell_of, invalid, value_or_entry, cell_or_entry, operator_at, Read, Resolve, Enter, entered_or, operator_letter, then_seen, see_found, Core, IsCore, HasCore, with_core, stack_of}
 use Rattle.b67_ops.specs.declared.Operator.TheVariants as ops
 use Rattle.b67_ops.specs.declared.PlainKind.TheVariants as kinds
-use Rattle.b67_segment.specs.declared.code.Code.{Code}
-use Rattle.b67_store.specs.Store.{Stacks, word_at, with_stack, with_cut}
-use Rattle.b67_table.specs.declared.Cell.{Cell}
-use Rattle.b67_table.specs.declared.Entry.{Entry}
-use Rattle.b67_table.specs.declared.InterruptKind.TheVariants.{BadCode}
-use Rattle.b67_table.specs.Effect.{Effect, gives}
-use Rattle.b67_table.specs.Image.{Image, with_stacks, with_registers}
-use Rattle.b67_table.specs.Limits.{end_of_code}
-use Rattle.b67_table.specs.Linkage.{control_word, entered_mark, if_fits, is_home, if_home, entering, entered, selected, accidental}
-use Rattle.b67_table.specs.Look.{Look, found, stops, ◌>->◌, read_as, seen}
-use Rattle.b67_table.specs.Chains.{place, linked}
-use Rattle.b67_table.specs.Moves.{pushed}
-use Rattle.b67_table.specs.Program.{Program, Change, done, changed, effect_of, asked, see, answer, fault, ◌>>=◌, cut, push, registers}
-use Rattle.b67_num.specs.declared.FaultKind.TheVariants.{NotAVariable}
-use Rattle.b67_table.specs.Private.{frame, at_or}
-use Rattle.b67_table.specs.References.{couple_cell, cell_of, invalid}
-use Rattle.b67_table.specs.Rows.{value_or_entry, cell_or_entry}
-use Rattle.b67_table.specs.Table.{raw, operator_at}
-use Rattle.b67_deeds.specs.declared.Letter.TheVariants.{Read, Resolve, Enter}
-use Rattle.b67_letters.specs.Letters.{entered_or, operator_letter}
-use Rattle.b67_letters.proofs.Looks.{then_seen, see_found}
-use Rattle.b67_cores.specs.Cores.{Core, IsCore, HasCore, with_core, stack_of}
+use Rattle.b67_table.specs.Linkage.{entering, selected}
+use Rattle.b67_table.specs.Program.{push}
+use Rattle.b67_table.specs.Table.{raw}
 use Rattle.b67_rows.proofs.EnterRow.{below_is}
 use Rattle.b67_rows.proofs.EntryRow.{lower_of}
 use Rattle.b67_rows.proofs.Reaching.{Reaches}

@@ -1,11 +1,7 @@
 -- The words of values that lie one on another.
 use Rattle.std.proofs.Common.{◌≡◌, refl, sym, ap, ◌∙◌, ℕ, List, [], ◌∷◌, ◌++◌, append_assoc}
-use Rattle.algol_tree.specs.Scopes.{Scopes}
-use Rattle.algol_meaning.specs.Value.{Value}
-use Rattle.b67_word.specs.Word.{Word}
-use Rattle.b67_standing.specs.Stepping.{Slot, operand}
+use Rattle.b67_rows.proofs.Prelude.{Scopes, Value, Word, Slot, operand, Known, newest, SlotsAre}
 use Rattle.b67_standing.specs.Standing.{operands}
-use Rattle.b67_cores.specs.Slots.{Known, newest, SlotsAre}
 use Rattle.b67_footprints.proofs.Lists.{Each, each_both}
 use Rattle.b67_rows.proofs.Slotted.{Top, top_slot}
 use Rattle.b67_rows.proofs.Words.{value_tag}

@@ -1,27 +1,13 @@
 -- The actuals of a block keep to its text. So does what a part has still to do that evaluates one of them.
-use Rattle.std.specs.List.{AllByRecursion}
-use Rattle.algol_tree.specs.declared.tree.EventName.{EventName}
 use Rattle.std.proofs.Common.{◌≡◌, refl, subst, ℕ, zero, suc, List, [], ◌∷◌, ◌++◌, Some, Bool, true, false, append_assoc, map}
-use Rattle.std.specs.Prelude.{if◌then◌else◌, is_some, slice_get}
-use Rattle.algol_tree.specs.declared.tree.Kind.{Kind}
-use Rattle.algol_tree.specs.declared.tree.Named.{Named}
-use Rattle.algol_tree.specs.Blocks.{Block, block_numbered}
+use Rattle.b67_rows.proofs.Prelude.{AllByRecursion, EventName, if◌then◌else◌, is_some, slice_get, Kind, Named, Block, block_numbered, PExpr, PExprs, PPair, PStmt, PStmts, PDecls, PBody, Scopes, use_of, procedure_in, Item, event_items, decls_items, items, ending, IsSeen, IsSeenAround, IsInner, KeepsToText, InStmt, InStmts, InItems, InDeclared, Couple, Wanted, value, by_name, array, other, Actual, own_actual, wants_of, actuals_in, actuals_among, actuals_given, actuals_in_pairs, actuals_in_decls, actuals_in_stmt, actuals_in_stmts, actuals_of, IsOwnActual, true_false, some_same, none_some, IsText}
 use Rattle.algol_tree.specs.Plain as tree
-use Rattle.algol_tree.specs.Plain.{PExpr, PExprs, PPair, PStmt, PStmts, PDecls, PBody}
-use Rattle.algol_tree.specs.Scopes.{Scopes, use_of}
-use Rattle.algol_tree.specs.Sorts.{procedure_in}
 use Rattle.algol_meaning.specs.Asks.{evaluated_of, located_of}
-use Rattle.algol_meaning.specs.Rest.{Half, val, busy, HalfPlace, at, aims, Item}
+use Rattle.algol_meaning.specs.Rest.{Half, val, busy, HalfPlace, at, aims}
 use Rattle.algol_meaning.specs.Settle.{settle, settle_place, settle_actual_place}
-use Rattle.algol_meaning.specs.Statements.{event_items, decls_items, items, ending}
-use Rattle.algol_paths.specs.Blocks.{IsSeen, IsSeenAround, IsInner}
-use Rattle.algol_paths.specs.Laws.{KeepsToText}
-use Rattle.algol_paths.specs.Texts.{InExpr, InExprs, InPairs, InStmt, InStmts, InItems, InDeclared}
+use Rattle.algol_paths.specs.Texts.{InExpr, InExprs, InPairs}
 use Rattle.algol_paths.proofs.Expressions.{InHalf, InHalfPlace, settle_in, settle_place_in}
-use Rattle.b67_ops.specs.declared.Couple.{Couple}
-use Rattle.b67_templates.specs.Cells.{Wanted, value, by_name, array, event, other, Actual, own_actual, wants_of, actuals_in, actuals_among, actuals_given, actuals_in_pairs, actuals_in_decls, actuals_in_stmt, actuals_in_stmts, actuals_of, has_place, IsOwnActual}
-use Rattle.b67_faithful.proofs.Contradictions.{true_false, some_same, none_some}
-use Rattle.b67_templates.specs.Nested.{IsText}
+use Rattle.b67_templates.specs.Cells.{event, has_place}
 
 -- ---- names of which more holds
 

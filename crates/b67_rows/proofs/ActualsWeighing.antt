@@ -1,17 +1,9 @@
 -- The code of an actual needs no more words than two for each token of the text in which the actual stands. So they have room above the
 -- control words of that block.
 use Rattle.std.proofs.Common.{◌≡◌, subst, ℕ, zero, suc, ◌+◌, ◌*◌, ◌≤◌, ◌++◌, Bool, true, false, List, [], ◌∷◌, length, Some, arith}
-use Rattle.std.specs.Prelude.{if◌then◌else◌, is_some, slice_get}
-use Rattle.algol_tree.specs.Blocks.{Block}
-use Rattle.algol_tree.specs.Counts.{expr_tokens, exprs_tokens, pairs_tokens, stmt_tokens, stmts_tokens, decls_tokens}
+use Rattle.b67_rows.proofs.Prelude.{if◌then◌else◌, is_some, slice_get, Block, expr_tokens, exprs_tokens, pairs_tokens, stmt_tokens, stmts_tokens, decls_tokens, PExpr, PExprs, PPair, PStmt, PStmts, PDecls, Scopes, use_of, procedure_in, arguments_in_decls, arguments_in_stmt, arguments_in_stmts, Wanted, value, by_name, array, other, Actual, procedures, own_actual, wants_of, actuals_in, actuals_among, actuals_given, actuals_in_pairs, actuals_in_decls, actuals_in_stmt, actuals_in_stmts, actuals_of, depth, some_same, none_some}
 use Rattle.algol_tree.specs.Plain as tree
-use Rattle.algol_tree.specs.Plain.{PExpr, PExprs, PPair, PStmt, PStmts, PDecls}
-use Rattle.algol_tree.specs.Scopes.{Scopes, use_of}
-use Rattle.algol_tree.specs.Sorts.{procedure_in}
-use Rattle.b67_templates.specs.Arguments.{arguments_in_decls, arguments_in_stmt, arguments_in_stmts}
-use Rattle.b67_templates.specs.Cells.{Wanted, value, by_name, array, event, other, Actual, procedures, own_actual, wants_of, actuals_in, actuals_among, actuals_given, actuals_in_pairs, actuals_in_decls, actuals_in_stmt, actuals_in_stmts, actuals_of}
-use Rattle.b67_templates.specs.Depths.{depth}
-use Rattle.b67_faithful.proofs.Contradictions.{some_same, none_some}
+use Rattle.b67_templates.specs.Cells.{event}
 use Rattle.b67_rows.proofs.Weighing.{depth_small, arguments_small, among_small, given_small, bounds_arguments}
 
 -- ---- lists of actuals

@@ -1,12 +1,9 @@
 -- The procedure that a head enters is seen from the text of its part, and so are the arrays that it gives to it; a block that it enters
 -- stands in that.
 use Rattle.std.proofs.Common.{◌≡◌, ◌⊎◌, inl, inr, refl, List, [], ◌∷◌, subst}
-use Rattle.algol_tree.specs.declared.tree.Named.{Named}
-use Rattle.algol_tree.specs.Plain.{PBody, body}
-use Rattle.algol_meaning.specs.Rest.{Given, valued, passed, refers, names, Hole, read, element, index, tests, broken, enter, inside, subscript, argument, left, right, negated, inverted, condition, Actuals, pass, in_value, Aim, resolve, place_index, inside_place, place_subscript, Rest, over, reading, giving, giving_place, store, select, turning, going, entering_block, entering, starting, acting, line, arrays, event, within, dropping, evaluating, locating, aiming, storing, choosing, looping, checking, counting, differing, stepping, selecting, calling, preparing, writing, bounding}
-use Rattle.algol_meaning.specs.Asks.{enters, enters_block, ask, ask_hole, ask_actuals, ask_aim}
-use Rattle.algol_paths.specs.Arrays.{all_to_make}
-use Rattle.algol_paths.specs.Texts.{InGivens, InHole, InActuals, InAim, InRest}
+use Rattle.b67_rows.proofs.Prelude.{Named, PBody, Given, valued, passed, refers, names, Hole, read, element, index, tests, broken, enter, inside, subscript, argument, left, right, negated, inverted, condition, Actuals, pass, in_value, Aim, resolve, place_index, inside_place, place_subscript, Rest, over, reading, giving, giving_place, store, select, turning, going, entering_block, entering, starting, acting, line, arrays, event, within, dropping, evaluating, locating, aiming, storing, choosing, looping, checking, counting, differing, stepping, selecting, calling, preparing, writing, bounding, enters, enters_block, ask, ask_hole, ask_actuals, ask_aim, all_to_make, InHole, InActuals, InAim, InRest}
+use Rattle.algol_tree.specs.Plain.{body}
+use Rattle.algol_paths.specs.Texts.{InGivens}
 
 -- Of each name of an array that is given P holds.
 abbrev pub InReferred : (Named → Type 0) → List Given → Type 0
@@ -16,12 +13,12 @@ InReferred P (valued v ∷ gs) = InReferred P gs
 InReferred P (passed c ∷ gs) = InReferred P gs
 InReferred P (names e ∷ gs) = InReferred P gs
 
-referred : (P : Named → Type 0) (gs : List Given) → InGivens P gs → InReferred P gs
-referred P [] is = tt
-referred P (refers n ∷ gs) is = (is.0, referred P gs is.1)
-referred P (valued v ∷ gs) is = referred P gs is
-referred P (passed c ∷ gs) is = referred P gs is
-referred P (names e ∷ gs) is = referred P gs is.1
+pub all_referred : (P : Named → Type 0) (gs : List Given) → InGivens P gs → InReferred P gs
+all_referred P [] is = tt
+all_referred P (refers n ∷ gs) is = (is.0, all_referred P gs is.1)
+all_referred P (valued v ∷ gs) is = all_referred P gs is
+all_referred P (passed c ∷ gs) is = all_referred P gs is
+all_referred P (names e ∷ gs) is = all_referred P gs is.1
 
 wider : (P R : Named → Type 0) → ((n : Named) → R n → P n) → (gs : List Given) → InReferred R gs → InReferred P gs
 wider P R narrower [] is = tt
@@ -39,7 +36,7 @@ module _ (P : Named → Type 0) (n : Named) (gs : List Given) where
   same_entry m hs e is given =
       let same : m ≡ n = cc in
       let same_given : hs ≡ gs = cc in
-      (subst P same is, subst (λ (xs : List Given). InReferred P xs) same_given (referred P hs given))
+      (subst P same is, subst (λ (xs : List Given). InReferred P xs) same_given (all_referred P hs given))
 
   mutual
     hole_enters : (h : Hole) → ask_hole h ≡ enters n gs → InHole P h → InEntry

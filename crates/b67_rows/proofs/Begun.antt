@@ -1,19 +1,13 @@
 -- An image with a process more: what it has, and that all others have what they had.
-use Rattle.std.proofs.Common.{◌≡◌, ◌≢◌, refl, sym, ap, ◌∙◌, ℕ, zero, suc, ◌+◌, ◌≤◌, List, [], ◌∷◌, ◌++◌, length, Option, Some, None, true, arith, append-nil}
-use Rattle.std.specs.Prelude.{slice_get}
-use Rattle.b67_list.specs.Numbered.{numbered, set_numbered}
-use Rattle.b67_word.specs.declared.Place.{Place}
-use Rattle.b67_word.specs.Word.{Word}
-use Rattle.b67_control.specs.declared.Registers.{Registers}
-use Rattle.b67_store.specs.Store.{Stacks, stack_at, words_or, word_at, opened_at}
-use Rattle.b67_store.proofs.StoreLaws.{opened_here, opened_others}
-use Rattle.b67_table.specs.Image.{Image, is_live}
-use Rattle.b67_table.specs.declared.ProcessState.{ProcessState}
+use Rattle.std.proofs.Common.{◌≡◌, ◌≢◌, refl, sym, ap, ◌∙◌, ℕ, zero, suc, ◌+◌, ◌≤◌, List, [], ◌∷◌, ◌++◌, length, Some, arith, append-nil}
+use Rattle.b67_rows.proofs.Prelude.{slice_get, numbered, set_numbered, Word, Registers, Stacks, stack_at, opened_others, Image, get_within, Core, IsCore, HasCore, stack_of, with_core}
+use Rattle.b67_store.specs.Store.{opened_at}
+use Rattle.b67_store.proofs.StoreLaws.{opened_here}
+use Rattle.b67_table.specs.Image.{is_live}
 use Rattle.b67_table.specs.declared.ProcessState.TheVariants.{Able}
 use Rattle.b67_table.proofs.Stacks.{open_set_other}
-use Rattle.b67_cores.specs.Cores.{Core, IsCore, HasCore, stack_of, with_core}
+use Rattle.b67_table.proofs.EventKept.{within_of}
 use Rattle.b67_rows.proofs.Growing.{numbered_last}
-use Rattle.b67_rows.proofs.Numbers.{get_below}
 use Rattle.b67_rows.proofs.StackWords.{set-front}
 
 -- ---- one more at the end of a list
@@ -30,14 +24,7 @@ numbered_else xs x (suc k) h = get_others xs x k (λ e. h (omega (arith, e)))
 
 pub numbered_few : {A : Type 0} (xs : List A) (n : ℕ) (x : A) → numbered xs n ≡ Some x → (1 ≤ n) × (n ≤ length xs)
 numbered_few xs zero x e = cc
-numbered_few xs (suc k) x e = (omega arith, let low = get_below xs k x e in omega (arith, low))
-
-live_few : (states : List ProcessState) (n : ℕ) → is_live (numbered states n) ≡ true → (1 ≤ n) × (n ≤ length states)
-live_few states n live = by (numbered states n) refl
-  where
-    by : (o : Option ProcessState) → numbered states n ≡ o → (1 ≤ n) × (n ≤ length states)
-    by None e = let dead = sym (ap is_live e) ∙ live in cc
-    by (Some state) e = numbered_few states n state e
+numbered_few xs (suc k) x e = (omega arith, let low = get_within xs k x e in omega (arith, low))
 
 pub set_numbered_front : {A : Type 0} (xs ys : List A) (n : ℕ) (x y : A) → numbered xs n ≡ Some y → set_numbered (xs ++ ys) n x ≡ set_numbered xs n x ++ ys
 set_numbered_front xs ys zero x y e = cc
@@ -86,9 +73,6 @@ module _ (img : Image) (r : Registers) (words : List Word) (next : r.stack ≡ l
   pub other_stack : (n : ℕ) → n ≢ r.stack → stack_at (with_process img r words).stacks n ≡ stack_at img.stacks n
   other_stack n h = opened_others img.stacks r.stack n words h
 
-  pub other_word : (at : Place) → at.stack ≢ r.stack → word_at (with_process img r words).stacks at ≡ word_at img.stacks at
-  other_word at h = ap (λ (o : Option (List Word)). slice_get (words_or o) at.at) (other_stack at.stack h)
-
   pub other_state : (q : ℕ) → q ≢ r.stack → numbered (with_process img r words).states q ≡ numbered img.states q
   other_state q h = numbered_else img.states Able q (λ e. h (e ∙ sym next))
 
@@ -104,7 +88,7 @@ module _ (img : Image) (r : Registers) (words : List Word) (next : r.stack ≡ l
       }
     where
       apart : q ≢ r.stack
-      apart e = absurd (omega (arith, e, next, (live_few img.states q has.live).1))
+      apart e = absurd (omega (arith, e, next, (within_of img.states q has.live).1))
 
   -- and the system's stack
   pub system_kept : stack_at (with_process img r words).stacks 0 ≡ stack_at img.stacks 0

@@ -1,30 +1,24 @@
 -- An operator whose operands have no result.
 use Rattle.std.proofs.Common.{◌≡◌, refl, ap, ◌∙◌, ℕ, ◌+◌, ◌-◌, ◌<◌, List, ◌∷◌, length, Some, Result, Ok, Err, arith, ℤ}
-use Rattle.algol_tree.specs.declared.tree.Op.{Op}
+use Rattle.b67_rows.proofs.Prelude.{Op, Value, number, truth, Word, Registers, Code, Effect, gives, faults, Image, floor, Row, private_part, operator_at, by_row, HasKind, operator_for, Core, HasCore, ValueIs}
 use Rattle.algol_tree.specs.declared.tree.Op.TheVariants as operators
 use Rattle.algol_tree.specs.declared.tree.Kind.TheVariants as types
 use Rattle.algol_tree.specs.Types.{taken_by}
-use Rattle.algol_meaning.specs.Value.{Value, number, truth}
 use Rattle.algol_meaning.specs.Value as values
 use Rattle.algol_meaning.specs.Operators.{result_of, numeric}
 use Rattle.b67_num.specs.declared.Calculation.{Calculation}
 use Rattle.b67_num.specs.declared.Calculation.TheVariants.{Sum, Difference, Product, WholeQuotient, TruncatedQuotient, Remainder}
 use Rattle.b67_num.specs.declared.NumFault.{NumFault}
 use Rattle.b67_num.specs.Whole.{calculated, fault_of}
-use Rattle.b67_word.specs.Word.{Word, operand, as_whole}
-use Rattle.b67_control.specs.declared.Registers.{Registers}
+use Rattle.b67_word.specs.Word.{operand, as_whole}
 use Rattle.b67_ops.specs.declared.Operator.TheVariants as ops
-use Rattle.b67_segment.specs.declared.code.Code.{Code}
 use Rattle.b67_table.specs.declared.Private.{Private}
-use Rattle.b67_table.specs.Effect.{Effect, gives, faults, ◌>>=◌}
-use Rattle.b67_table.specs.Image.{Image, with_effect}
-use Rattle.b67_table.specs.Private.{floor, pop, whole_of, whole_or}
+use Rattle.b67_table.specs.Effect.{◌>>=◌}
+use Rattle.b67_table.specs.Image.{with_effect}
+use Rattle.b67_table.specs.Private.{pop, whole_of, whole_or}
 use Rattle.b67_table.specs.PrivateRows.{arithmetic, onward, pointed, result_or_fault}
-use Rattle.b67_table.specs.Rows.{Row, row, private_part, plain_row}
-use Rattle.b67_table.specs.Table.{raw, operator_at, by_row}
-use Rattle.b67_templates.specs.Fragments.{HasKind, operator_for}
-use Rattle.b67_cores.specs.Cores.{Core, HasCore}
-use Rattle.b67_cores.specs.Slots.{ValueIs}
+use Rattle.b67_table.specs.Rows.{row, plain_row}
+use Rattle.b67_table.specs.Table.{raw}
 use Rattle.b67_cores.proofs.PartRows.{part, then_is, pop_is}
 use Rattle.b67_cores.proofs.Taking.{number_read}
 use Rattle.b67_cores.proofs.Performing.{private_is}

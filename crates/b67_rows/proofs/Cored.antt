@@ -1,15 +1,9 @@
 -- An image with another core of a process.
 use Rattle.std.proofs.Common.{◌≡◌, ◌≢◌, refl, sym, ap, ◌∙◌, ℕ, zero, suc, List, [], ◌∷◌, Some}
-use Rattle.b67_list.specs.Numbered.{numbered}
-use Rattle.algol_meaning.specs.World.{Process, World}
-use Rattle.b67_word.specs.Word.{Word}
-use Rattle.b67_store.specs.Store.{Stacks, stack_at, with_stack}
-use Rattle.b67_table.specs.Image.{Image}
-use Rattle.b67_cores.specs.Cores.{Core, IsCore, HasCore, with_core, stack_of}
-use Rattle.b67_faithful.proofs.Contradictions.{none_some}
+use Rattle.b67_rows.proofs.Prelude.{numbered, Process, World, Word, Stacks, stack_at, with_stack, Image, Core, IsCore, HasCore, with_core, stack_of, none_some}
 use Rattle.b67_rows.proofs.Numbers.{numbered_set, numbered_other}
 
-stack_set : (stacks : Stacks) (n : ℕ) (ws vs : List Word) → stack_at stacks n ≡ Some ws → stack_at (with_stack stacks n vs) n ≡ Some vs
+pub stack_set : (stacks : Stacks) (n : ℕ) (ws vs : List Word) → stack_at stacks n ≡ Some ws → stack_at (with_stack stacks n vs) n ≡ Some vs
 stack_set [] n ws vs e = cc
 stack_set (z ∷ zs) zero ws vs e = refl
 stack_set (z ∷ zs) (suc n) ws vs e = stack_set zs n ws vs e

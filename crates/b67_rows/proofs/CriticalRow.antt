@@ -1,17 +1,10 @@
 -- On which frame a process depends that is started: the first of those that it refers to, on the path down from the frame of its starter.
 use Rattle.std.proofs.Common.{◌≡◌, ◌⊎◌, inl, inr, refl, sym, ap, ◌∙◌, ℕ, zero, suc, ◌+◌, ◌<◌, ◌≤◌, List, [], ◌∷◌, Option, Some, Bool, true, false, Ok, arith}
-use Rattle.std.specs.Prelude.{if◌then◌else◌, ◌||◌, nat_eq}
-use Rattle.std.proofs.lemmas.Bool.Decides.{nat_tests}
-use Rattle.b67_word.specs.declared.Place.{Place}
+use Rattle.b67_rows.proofs.Prelude.{if◌then◌else◌, ◌||◌, nat_eq, nat_tests, Place, frame_below, gives, Image, critical_of, seen, Test, answer, asked, ◌>>=◌, see, on_path, see_found}
 use Rattle.b67_events.specs.Events.{same_place}
 use Rattle.b67_events.proofs.Listed.{same_place-true, same_place-self}
-use Rattle.b67_table.specs.Chains.{frame_below}
-use Rattle.b67_table.specs.Effect.{gives}
-use Rattle.b67_table.specs.Image.{Image, critical_of}
-use Rattle.b67_table.specs.Look.{seen}
-use Rattle.b67_table.specs.Program.{Test, answer, critical, asked, ◌>>=◌, see}
-use Rattle.b67_table.specs.Starting.{is_among, down, or_none, on_path}
-use Rattle.b67_letters.proofs.Looks.{see_found}
+use Rattle.b67_table.specs.Program.{critical}
+use Rattle.b67_table.specs.Starting.{is_among, down, or_none}
 use Rattle.b67_rows.proofs.LeaveRow.{not_zero}
 
 -- ---- among places

@@ -1,25 +1,7 @@
 -- Words of a stack that are read as descriptors, or as whole numbers.
-use Rattle.std.proofs.Common.{◌≡◌, refl, sym, ap, ◌∙◌, ℕ, ◌+◌, Some, None, Bool, true, false, ℤ}
-use Rattle.b67_word.specs.declared.Place.{Place}
-use Rattle.b67_word.specs.Word.{Word, as_whole}
-use Rattle.b67_word.proofs.WordLaws.{as_whole-operand}
-use Rattle.b67_control.specs.declared.Descriptor.{Descriptor}
-use Rattle.b67_control.specs.declared.Irw.{Irw}
-use Rattle.b67_control.specs.declared.Registers.{Registers}
-use Rattle.b67_control.specs.declared.Sirw.{Sirw}
-use Rattle.b67_control.specs.Control.{as_irw, as_sirw, as_descriptor}
-use Rattle.b67_control.proofs.ControlLaws.{irw_laws, as_sirw-other, descriptor_laws}
-use Rattle.b67_store.specs.Store.{word_at}
-use Rattle.b67_table.specs.Arrays.{is_array}
-use Rattle.b67_table.specs.Chains.{place}
-use Rattle.b67_table.specs.Image.{Image}
-use Rattle.b67_table.specs.Private.{display_at}
-use Rattle.b67_table.specs.References.{cell_place, sirw_cell}
-use Rattle.b67_cores.specs.Slots.{IsNumber}
+use Rattle.std.proofs.Common.{◌≡◌, refl, sym, ◌∙◌, ℕ, ◌+◌, Some, None, Bool, true, false}
+use Rattle.b67_rows.proofs.Prelude.{Place, Word, Descriptor, Irw, Registers, Sirw, as_irw, as_sirw, as_descriptor, irw_laws, as_sirw-other, descriptor_laws, word_at, is_array, place, Image, display_at, cell_place, sirw_cell}
 use Rattle.b67_rows.proofs.Touching.{NearCell}
-
-pub whole_read : (z : ℤ) (w : Word) → IsNumber z w → as_whole w ≡ Some z
-whole_read z w i = ap as_whole i.is ∙ as_whole-operand z i.whole
 
 -- a descriptor is no reference
 pub record IsDescriptor (w : Word) (d : Descriptor) : Type 0 where

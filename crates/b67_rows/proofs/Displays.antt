@@ -1,15 +1,9 @@
 -- The links from a frame down to the system's stack, and the display that is made along them.
 use Rattle.std.proofs.Common.{◌≡◌, refl, ap, ◌∙◌, ℕ, zero, suc, ◌+◌, ◌-◌, ◌≤◌, List, [], ◌∷◌, length, Option, Some, None, Bool, true, Ok, arith}
-use Rattle.std.specs.Prelude.{if◌then◌else◌, ◌==◌, slice_get, slice_index_or, replicate}
-use Rattle.std.proofs.lemmas.Bool.Decides.{nat_tests}
-use Rattle.b67_word.specs.declared.Place.{Place}
-use Rattle.b67_control.specs.declared.Mscw.{Mscw}
-use Rattle.b67_control.specs.declared.Rcw.{Rcw}
-use Rattle.b67_control.specs.Control.{as_mscw, as_rcw}
-use Rattle.b67_control.specs.Display.{levels, place_at}
-use Rattle.b67_store.specs.Store.{Stacks, word_at}
-use Rattle.b67_table.specs.Look.{Look, found, ◌>->◌, chained, read_as, seen}
-use Rattle.b67_table.specs.Chains.{place, broken, mark_at, control_at, link_of, if_own, links, linked, rebuilt}
+use Rattle.b67_rows.proofs.Prelude.{if◌then◌else◌, ◌==◌, slice_get, nat_tests, Place, Mscw, Rcw, as_mscw, as_rcw, place_at, Stacks, word_at, Look, found, ◌>->◌, chained, read_as, seen, place, mark_at, control_at, link_of, linked, rebuilt}
+use Rattle.std.specs.Prelude.{slice_index_or, replicate}
+use Rattle.b67_control.specs.Display.{levels}
+use Rattle.b67_table.specs.Chains.{broken, if_own, links}
 use Rattle.b67_rows.proofs.StoreRow.{most_is}
 
 pub same_is : (m n : ℕ) → m ≡ n → (m == n) ≡ true

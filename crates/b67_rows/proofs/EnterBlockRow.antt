@@ -1,22 +1,6 @@
 -- ENTR on the control word of a block: its home is the frame of the level below.
 use Rattle.std.proofs.Common.{◌≡◌, ap, ◌∙◌, ℕ, Option, Some, None, Ok}
-use Rattle.b67_word.specs.declared.Place.{Place}
-use Rattle.b67_word.specs.Word.{Word}
-use Rattle.b67_control.specs.declared.Registers.{Registers}
-use Rattle.b67_control.specs.declared.Irw.{Irw}
-use Rattle.b67_control.specs.declared.Mscw.{Mscw}
-use Rattle.b67_control.specs.declared.Pcw.{Pcw}
-use Rattle.b67_control.specs.declared.Sirw.{Sirw}
-use Rattle.b67_control.specs.Control.{as_irw, as_sirw, as_pcw}
-use Rattle.b67_segment.specs.declared.code.Code.{Code}
-use Rattle.b67_table.specs.Effect.{Effect}
-use Rattle.b67_table.specs.Image.{Image}
-use Rattle.b67_table.specs.Look.{valid, seen}
-use Rattle.b67_table.specs.Program.{Program, effect_of, asked, see, ◌>>=◌}
-use Rattle.b67_table.specs.References.{irw_or_sirw, cell_of}
-use Rattle.b67_table.specs.Rows.{enter_by, enter_procedure, level_below}
-use Rattle.b67_cores.specs.Cores.{Core}
-use Rattle.b67_letters.specs.Letters.{called_by}
+use Rattle.b67_rows.proofs.Prelude.{Place, Word, Registers, Irw, Mscw, Pcw, Sirw, as_irw, as_sirw, as_pcw, Code, Effect, Image, valid, seen, Program, effect_of, asked, see, ◌>>=◌, irw_or_sirw, cell_of, enter_by, enter_procedure, level_below, Core, called_by}
 use Rattle.b67_rows.proofs.EntryRow.{Leads}
 
 module _ (code : Code) (img : Image) (core : Core) (next : ℕ) (control : Word) (m : Mscw) (c : Pcw) (home : Place) (no_irw : as_irw control ≡ None) where

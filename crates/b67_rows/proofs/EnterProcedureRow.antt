@@ -1,26 +1,6 @@
 -- ENTR on the reference of a procedure's control word: its home is the frame in which that word lies.
 use Rattle.std.proofs.Common.{◌≡◌, ap, ◌∙◌, ℕ, ◌+◌, Option, Some, None, Ok}
-use Rattle.b67_word.specs.declared.Place.{Place}
-use Rattle.b67_word.specs.Word.{Word}
-use Rattle.b67_control.specs.declared.Registers.{Registers}
-use Rattle.b67_control.specs.declared.Irw.{Irw}
-use Rattle.b67_control.specs.declared.Mscw.{Mscw}
-use Rattle.b67_control.specs.declared.Pcw.{Pcw}
-use Rattle.b67_control.specs.declared.Sirw.{Sirw}
-use Rattle.b67_control.specs.Control.{as_irw, as_sirw, as_pcw}
-use Rattle.b67_segment.specs.declared.code.Code.{Code}
-use Rattle.b67_store.specs.Store.{word_at}
-use Rattle.b67_table.specs.declared.Cell.{Cell}
-use Rattle.b67_table.specs.declared.Reached.{Reached}
-use Rattle.b67_table.specs.Effect.{Effect}
-use Rattle.b67_table.specs.Image.{Image}
-use Rattle.b67_table.specs.Look.{◌>->◌, valid, seen}
-use Rattle.b67_table.specs.Private.{display_at}
-use Rattle.b67_table.specs.Program.{Program, effect_of, asked, see, ◌>>=◌}
-use Rattle.b67_table.specs.References.{cell_in, cell_of, irw_or_sirw, reached_in, one_sirw}
-use Rattle.b67_table.specs.Rows.{enter_by, enter_procedure}
-use Rattle.b67_cores.specs.Cores.{Core}
-use Rattle.b67_letters.specs.Letters.{called_by}
+use Rattle.b67_rows.proofs.Prelude.{Place, Word, Registers, Irw, Mscw, Pcw, Sirw, as_irw, as_sirw, as_pcw, Code, word_at, Cell, Reached, Effect, Image, ◌>->◌, valid, seen, display_at, Program, effect_of, asked, see, ◌>>=◌, cell_in, cell_of, irw_or_sirw, reached_in, one_sirw, enter_by, enter_procedure, Core, called_by}
 use Rattle.b67_rows.proofs.EntryRow.{Leads}
 
 module _ (code : Code) (img : Image) (core : Core) (next : ℕ) (reference : Word) (m : Mscw) (c : Pcw) (home : Place) (level index : ℕ)

@@ -1,34 +1,9 @@
 -- ENTR on an intrinsic: the intrinsic is given the words above its reference, the first one first.
 use Rattle.std.proofs.Common.{length-append, ◌≡◌, sym, ap, ◌∙◌, ℕ, ◌+◌, ◌-◌, ◌<◌, List, [], ◌∷◌, ◌++◌, length, take, drop, Option, Some, None, Bool, true, false, Ok, arith, append_assoc}
-use Rattle.std.specs.Prelude.{if◌then◌else◌, nat_lt, ◌&&◌, slice_get, reverse}
-use Rattle.std.proofs.lemmas.Bool.Decides.{nat_tests}
-use Rattle.std.proofs.lemmas.List.{length-reverse}
-use Rattle.b67_word.specs.declared.Place.{Place}
-use Rattle.b67_word.specs.Word.{Word}
-use Rattle.b67_control.specs.declared.Registers.{Registers}
-use Rattle.b67_control.specs.declared.Irw.{Irw}
-use Rattle.b67_control.specs.declared.Mscw.{Mscw}
-use Rattle.b67_control.specs.declared.Pcw.{Pcw}
-use Rattle.b67_control.specs.declared.Sirw.{Sirw}
-use Rattle.b67_control.specs.Control.{as_irw, as_sirw, as_mscw, as_pcw}
+use Rattle.b67_rows.proofs.Prelude.{if◌then◌else◌, nat_lt, ◌&&◌, slice_get, reverse, nat_tests, length-reverse, Place, Word, Registers, Irw, Mscw, Pcw, Sirw, as_irw, as_sirw, as_mscw, as_pcw, Code, words_of, word_at, Cell, Reached, intrinsic_numbered, Effect, Image, Look, found, at, ◌>->◌, valid, place, Program, Change, does, effect_of, asked, see, ◌>>=◌, display_at, floor, cell_in, irw_or_sirw, reached_in, one_sirw, invalid, intrinsic, intrinsic_row, enter_by, enter_procedure, not_entered, operator_at, Core, HasCore}
 use Rattle.b67_ops.specs.declared.Operator.TheVariants as ops
 use Rattle.b67_ops.specs.declared.PlainKind.TheVariants as kinds
-use Rattle.b67_segment.specs.declared.code.Code.{Code}
-use Rattle.b67_store.specs.Store.{words_of, word_at}
-use Rattle.b67_table.specs.declared.Cell.{Cell}
-use Rattle.b67_table.specs.declared.Reached.{Reached}
-use Rattle.b67_table.specs.Names.{intrinsic_numbered}
-use Rattle.b67_table.specs.Effect.{Effect}
-use Rattle.b67_table.specs.Image.{Image}
-use Rattle.b67_table.specs.Look.{Look, found, at, ◌>->◌, valid}
-use Rattle.b67_table.specs.Chains.{place}
-use Rattle.b67_table.specs.Program.{Program, Change, does, effect_of, asked, see, ◌>>=◌}
-use Rattle.b67_table.specs.Private.{display_at, floor}
-use Rattle.b67_table.specs.References.{cell_in, irw_or_sirw, reached_in, one_sirw, invalid}
-use Rattle.b67_table.specs.Intrinsics.{intrinsic, intrinsic_row}
-use Rattle.b67_table.specs.Rows.{enter, enter_by, enter_procedure, not_entered}
-use Rattle.b67_table.specs.Table.{operator_at}
-use Rattle.b67_cores.specs.Cores.{Core, HasCore}
+use Rattle.b67_table.specs.Rows.{enter}
 use Rattle.b67_rows.proofs.Rows.{words_are}
 use Rattle.b67_rows.proofs.StackWords.{word-under, stack-over, drop-seam, take-all, length-stack}
 use Rattle.b67_rows.proofs.StoreRow.{most_is}

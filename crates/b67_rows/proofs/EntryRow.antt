@@ -1,49 +1,20 @@
 -- ENTR on a word that leads to a procedure or a block: a frame is made of the mark under it and of the word itself.
 use Rattle.std.proofs.Common.{◌≡◌, refl, sym, ap, ◌∙◌, ℕ, zero, suc, ◌+◌, ◌-◌, ◌<◌, ◌≤◌, List, [], ◌∷◌, ◌++◌, length, Option, Some, Bool, true, false, Result, Ok, arith, append_assoc, append-nil, length-append}
-use Rattle.std.specs.Prelude.{if◌then◌else◌, nat_lt, nat_le, ◌&&◌, slice_get, slice_set, reverse}
-use Rattle.b67_word.specs.declared.Place.{Place}
-use Rattle.b67_word.specs.Word.{Word}
-use Rattle.b67_control.specs.declared.Registers.{Registers}
-use Rattle.b67_control.specs.declared.Mscw.{Mscw}
-use Rattle.b67_control.specs.declared.Pcw.{Pcw}
-use Rattle.b67_control.specs.declared.Rcw.{Rcw}
-use Rattle.b67_control.specs.Control.{as_irw, as_sirw, as_mscw, as_rcw}
-use Rattle.b67_control.specs.Display.{place_at}
+use Rattle.b67_rows.proofs.Prelude.{if◌then◌else◌, nat_lt, nat_le, ◌&&◌, slice_get, slice_set, reverse, Place, Word, Registers, Mscw, Pcw, Rcw, as_irw, as_sirw, as_mscw, as_rcw, place_at, Code, Stacks, words_of, word_at, with_stack, with_word, Entry, InterruptKind, BadCode, Effect, gives, Image, with_stacks, with_registers, end_of_code, most_cells, control_word, entered_mark, if_fits, is_home, if_home, entered, Look, found, stops, at, ◌>->◌, valid, read_as, seen, place, linked, Program, Change, done, does, effect_of, asked, see, answer, ◌>>=◌, save, registers, floor, frame, at_or, irw_or_sirw, cell_of, invalid, intrinsic_numbered, intrinsic, enter_by, enter_procedure, not_entered, table, operator_at, Core, IsCore, HasCore, with_core, stack_of, Enter, told_by, called_by, letter, then_seen, see_found, reverse-append, length-reverse}
 use Rattle.b67_ops.specs.declared.Operator.TheVariants as ops
 use Rattle.b67_ops.specs.declared.PlainKind.TheVariants as kinds
-use Rattle.b67_segment.specs.declared.code.Code.{Code}
-use Rattle.b67_store.specs.Store.{Stacks, words_of, word_at, with_stack, with_word}
 use Rattle.b67_table.specs.declared.Class.TheVariants as classes
-use Rattle.b67_table.specs.declared.Entry.{Entry}
-use Rattle.b67_table.specs.declared.InterruptKind.{InterruptKind}
-use Rattle.b67_table.specs.declared.InterruptKind.TheVariants.{BadCode}
-use Rattle.b67_table.specs.Effect.{Effect, gives}
 use Rattle.b67_table.specs.Outcome as outcomes
-use Rattle.b67_table.specs.Image.{Image, woken_number, with_stacks, with_registers}
-use Rattle.b67_table.specs.Limits.{end_of_code, most_cells}
-use Rattle.b67_table.specs.Linkage.{control_word, entered_mark, if_fits, is_home, if_home, entering, entered, entry}
-use Rattle.b67_table.specs.Look.{Look, found, stops, at, ◌>->◌, valid, read_as, seen}
-use Rattle.b67_table.specs.Chains.{place, linked}
-use Rattle.b67_table.specs.Program.{Program, Change, done, does, effect_of, asked, see, answer, ◌>>=◌, save, registers}
-use Rattle.b67_table.specs.Private.{floor, frame, at_or}
-use Rattle.b67_table.specs.References.{irw_or_sirw, cell_of, invalid}
-use Rattle.b67_table.specs.Names.{intrinsic_numbered}
-use Rattle.b67_table.specs.Intrinsics.{intrinsic}
-use Rattle.b67_table.specs.Rows.{row, enter, enter_by, enter_procedure, not_entered}
-use Rattle.b67_table.specs.Table.{raw, table, operator_at, class_at}
+use Rattle.b67_table.specs.Image.{woken_number}
+use Rattle.b67_table.specs.Linkage.{entering, entry}
+use Rattle.b67_table.specs.Rows.{row, enter}
+use Rattle.b67_table.specs.Table.{raw, class_at}
 use Rattle.b67_deeds.specs.declared.Letter.TheVariants as act
-use Rattle.b67_cores.specs.Cores.{Core, IsCore, HasCore, with_core, stack_of}
-use Rattle.b67_deeds.specs.declared.Letter.TheVariants.{Enter}
-use Rattle.b67_letters.specs.Letters.{told_by, intrinsic_letter, called_letter, called_by, letter}
-use Rattle.b67_letters.proofs.Looks.{then_seen, see_found}
+use Rattle.b67_letters.specs.Letters.{intrinsic_letter, called_letter}
 use Rattle.b67_rows.proofs.Rows.{raw_is, words_are, action_is}
 use Rattle.b67_rows.proofs.StackWords.{word-under, stack-over, length-stack, words-set, set-set}
 use Rattle.b67_rows.proofs.StoreRow.{most_is}
-use Rattle.std.proofs.lemmas.Bool.Decides.{nat_tests}
-use Rattle.std.proofs.lemmas.List.{reverse-append, length-reverse}
-
-fewer_is : (m n : ℕ) → m < n → nat_lt m n ≡ true
-fewer_is m n h = grind (arith, nat_tests)
+use Rattle.b67_rows.proofs.EnterRow.{below_is}
 
 -- another word after so many
 set-over : (front back : List Word) (k n : ℕ) (x : Word) → n ≡ length front + k → slice_set (front ++ back) n x ≡ front ++ slice_set back k x
@@ -139,7 +110,7 @@ module _ (code : Code) (img : Image) (p : ℕ) (core : Core) (has : HasCore img 
 
   entering_seen : seen img.stacks (entering r next (nat_le (r.s - (r.f + 2)) most_cells) r.f c (Some home)) ≡ Ok entry_of
   entering_seen =
-      ap (λ (b : Bool). seen img.stacks (if b then if_fits (nat_le (r.s - (r.f + 2)) most_cells) (if_home (Some home) c.level linking) else stops BadCode)) (fewer_is next end_of_code e.returns)
+      ap (λ (b : Bool). seen img.stacks (if b then if_fits (nat_le (r.s - (r.f + 2)) most_cells) (if_home (Some home) c.level linking) else stops BadCode)) (below_is next end_of_code e.returns)
       ∙ ap (λ (n : ℕ). seen img.stacks (if_fits (nat_le n most_cells) (if_home (Some home) c.level linking))) taken
       ∙ ap (λ (b : Bool). seen img.stacks (if_fits b (if_home (Some home) c.level linking))) (most_is (length arguments) most_cells e.few)
       ∙ ap (λ (o : Option Rcw). seen img.stacks (if_fits (is_home o c.level) (linking home))) e.outer_reads
@@ -190,7 +161,7 @@ module _ (code : Code) (img : Image) (p : ℕ) (core : Core) (has : HasCore img 
       ap (λ (b : Bool). tested (see (if b && nat_lt (r.f + 1) r.s then at (place r.stack r.f) (λ (w : Option Word). valid w >-> on_word) else invalid) >>= on_mark))
       (most_is (floor r) r.f (omega (arith, e.mark_at, has.is.bottom)))
       ∙ ap (λ (b : Bool). tested (see (if b then at (place r.stack r.f) (λ (w : Option Word). valid w >-> on_word) else invalid) >>= on_mark))
-      (fewer_is (r.f + 1) r.s (omega (arith, e.mark_at, long)))
+      (below_is (r.f + 1) r.s (omega (arith, e.mark_at, long)))
       ∙ ap (λ (o : Option Word). tested (see (valid o >-> on_word) >>= on_mark)) mark_word
       ∙ ap (λ (o : Option Mscw). tested (see (valid o >-> not_entered) >>= on_mark)) e.reads_mark
       ∙ ap (λ (b : Bool). tested (see (if b then invalid else found m) >>= on_mark)) e.unentered

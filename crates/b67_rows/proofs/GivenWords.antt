@@ -1,24 +1,15 @@
 -- The words of the actuals of a call: values, and references to the cells of arrays, of events, of variables and of other actuals.
 use Rattle.std.proofs.Common.{◌≡◌, refl, sym, ap, ◌∙◌, subst, ℕ, suc, ◌+◌, List, [], ◌∷◌, ◌++◌, length, arith, append_assoc, length-append}
-use Rattle.std.specs.Prelude.{reverse}
-use Rattle.std.proofs.lemmas.List.{reverse-append}
-use Rattle.algol_tree.specs.declared.tree.Kind.{Kind}
-use Rattle.algol_tree.specs.declared.tree.Named.{Named}
-use Rattle.algol_tree.specs.Plain.{PExpr}
-use Rattle.algol_tree.specs.Scopes.{Scopes}
-use Rattle.algol_meaning.specs.Value.{Value, Reference, Cell}
+use Rattle.b67_rows.proofs.Prelude.{reverse, reverse-append, Kind, Named, PExpr, Scopes, Value, Given, valued, passed, refers, names, Word, Couple, HasKind, Wanted, IsOwnActual, Slot, Known, newest, ValueIs, SlotIs, SlotsAre}
+use Rattle.algol_meaning.specs.Value.{Reference, Cell}
 use Rattle.algol_meaning.specs.Value as cells
-use Rattle.algol_meaning.specs.Rest.{Given, valued, passed, refers, names}
 use Rattle.algol_paths.specs.Arrays.{DeclaredArray, Shape, shape_of}
-use Rattle.b67_word.specs.Word.{Word}
-use Rattle.b67_ops.specs.declared.Couple.{Couple}
 use Rattle.b67_templates.specs.Contexts.{Context}
-use Rattle.b67_templates.specs.Fragments.{HasKind}
 use Rattle.b67_templates.specs.Cells as wants
-use Rattle.b67_templates.specs.Cells.{Wanted, Agrees, IsVariable, IsDeclaredArray, IsDeclaredEvent, IsOwnActual}
-use Rattle.b67_standing.specs.Stepping.{Slot, cell_named, actual as actual_held, passed as passed_held}
+use Rattle.b67_templates.specs.Cells.{Agrees, IsVariable, IsDeclaredArray, IsDeclaredEvent}
+use Rattle.b67_standing.specs.Stepping.{cell_named, actual as actual_held, passed as passed_held}
 use Rattle.b67_standing.specs.Standing.{given_slot, given_slots, IsPassed, AreGiven}
-use Rattle.b67_cores.specs.Slots.{Known, newest, ValueIs, IsKnown, SlotIs, SlotsAre}
+use Rattle.b67_cores.specs.Slots.{IsKnown}
 use Rattle.b67_rows.proofs.Slotted.{Top, top_slot}
 
 -- ---- actuals that are what is wanted

@@ -1,18 +1,10 @@
 -- The world in which an instance is made, and where the code after an entry ends.
 use Rattle.std.proofs.Common.{slice_get, ◌≡◌, ◌≢◌, sym, ap, ◌∙◌, ℕ, zero, suc, ◌+◌, ◌*◌, ◌≤◌, List, [], ◌∷◌, ◌++◌, length, Option, Some, None, arith, length-append}
-use Rattle.b67_list.specs.Numbered.{numbered}
-use Rattle.algol_tree.specs.declared.tree.Kind.{Kind}
-use Rattle.algol_tree.specs.Blocks.{Block}
-use Rattle.algol_meaning.specs.Statements.{items, items_of, decls_items, ending}
-use Rattle.b67_ops.specs.declared.Operator.{Operator}
+use Rattle.b67_rows.proofs.Prelude.{numbered, Kind, Block, items, items_of, decls_items, ending, Operator, Spells, Segment, none_some}
 use Rattle.b67_ops.specs.Spelling.{spelling}
 use Rattle.b67_segment.specs.Operators.{Placed, text, size, width, StandsAmong}
-use Rattle.b67_segment.specs.Syllables.{Spells}
-use Rattle.b67_segment.specs.declared.code.Segment.{Segment}
 use Rattle.b67_segment.proofs.Fetches.{length-syllables}
 use Rattle.b67_segment.proofs.Texts.{text-append}
-use Rattle.b67_faithful.proofs.Contradictions.{none_some}
-use Rattle.b67_rows.proofs.Numbers.{get_below}
 use Rattle.b67_rows.proofs.StackWords.{get-seam, get-front}
 
 -- ---- one more in a list by number
@@ -35,11 +27,6 @@ numbered_earlier {A = A} xs x (suc k) y other e = before xs k (λ s. other (omeg
     before [] (suc k) apart e = e
     before (z ∷ zs) zero apart e = e
     before (z ∷ zs) (suc k) apart e = before zs k (λ s. apart (omega (arith, s))) e
-
--- numbers are no higher than there are items
-pub numbered_low : {A : Type 0} (xs : List A) (n : ℕ) (x : A) → numbered xs n ≡ Some x → n ≤ length xs
-numbered_low xs zero x e = none_some e
-numbered_low xs (suc k) x e = omega (arith, get_below xs k x e)
 
 -- ---- code
 

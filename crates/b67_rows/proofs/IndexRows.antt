@@ -1,39 +1,21 @@
 -- NXLV, NXLN and INDX on the descriptor of an array, and STOD on that of an element.
 use Rattle.std.proofs.Common.{◌≡◌, refl, sym, ap, ◌∙◌, ℕ, ◌+◌, ◌-◌, List, [], ◌∷◌, ◌++◌, length, take, Option, Some, None, Bool, true, false, Ok, ℤ, arith, append_assoc}
-use Rattle.std.specs.Prelude.{if◌then◌else◌, ◌==◌, slice_get, reverse}
-use Rattle.b67_num.specs.declared.FaultKind.{FaultKind}
+use Rattle.b67_rows.proofs.Prelude.{if◌then◌else◌, ◌==◌, slice_get, reverse, FaultKind, Place, Word, Registers, Descriptor, Irw, Sirw, as_irw, as_sirw, as_descriptor, Code, Stacks, words_of, word_at, with_stack, with_push, with_cut, Cell, Reached, StackUnderflow, is_array, as_indexed, gives, faults, Image, with_stacks, with_registers, with_rows, Look, found, stops, ◌>->◌, valid, seen, replaced, Test, answer, interrupt, fault, Program, does, effect_of, asked, changed, see, ◌>>=◌, told, display_at, floor, Two, cell_in, sirw_cell, irw_or_sirw, no_second, one_sirw, reached_in, from_top, operand_in, invalid, store_by, stored, operator_at, Core, HasCore, with_core, stack_of, then_seen, see_found, reverse-cons}
 use Rattle.b67_num.specs.declared.FaultKind.TheVariants.{InvalidIndex}
-use Rattle.b67_word.specs.declared.Place.{Place}
-use Rattle.b67_word.specs.Word.{Word, as_whole}
-use Rattle.b67_control.specs.declared.Registers.{Registers}
-use Rattle.b67_control.specs.declared.Descriptor.{Descriptor}
-use Rattle.b67_control.specs.declared.Irw.{Irw}
-use Rattle.b67_control.specs.declared.Sirw.{Sirw}
-use Rattle.b67_control.specs.Control.{as_irw, as_sirw, as_descriptor, descriptor_word}
+use Rattle.b67_word.specs.Word.{as_whole}
+use Rattle.b67_control.specs.Control.{descriptor_word}
 use Rattle.b67_ops.specs.declared.Operator.TheVariants as ops
 use Rattle.b67_ops.specs.declared.PlainKind.TheVariants as kinds
-use Rattle.b67_segment.specs.declared.code.Code.{Code}
-use Rattle.b67_store.specs.Store.{Row, Stacks, words_of, word_at, row_at, with_stack, with_push, with_cut, with_row_word}
-use Rattle.b67_table.specs.declared.Cell.{Cell}
+use Rattle.b67_store.specs.Store.{Row, row_at, with_row_word}
 use Rattle.b67_table.specs.declared.Class.TheVariants as classes
-use Rattle.b67_table.specs.declared.Reached.{Reached}
-use Rattle.b67_table.specs.declared.InterruptKind.TheVariants.{StackUnderflow}
-use Rattle.b67_table.specs.Arrays.{is_array, array_in, array_by, array_of, as_indexed, index_in, index_or_fault, if_row, Subscripted, subscripted, subscripted_element, word_in, element, index, index_and_load, index_mother}
-use Rattle.b67_table.specs.Effect.{gives, faults}
-use Rattle.b67_table.specs.Image.{Image, with_stacks, with_registers, with_rows}
-use Rattle.b67_table.specs.Look.{Look, found, stops, ◌>->◌, valid, seen}
-use Rattle.b67_table.specs.Moves.{replaced}
-use Rattle.b67_table.specs.Program.{Test, answer, interrupt, fault, ask, Program, does, effect_of, asked, changed, see, row, ◌>>=◌, write_row}
-use Rattle.b67_table.specs.Questions.{told}
-use Rattle.b67_table.specs.Private.{display_at, floor}
-use Rattle.b67_table.specs.References.{Two, cell_in, sirw_cell, irw_or_sirw, no_second, one_sirw, reached_in, from_top, popped_two, operand_in, invalid}
+use Rattle.b67_table.specs.Arrays.{array_in, array_by, array_of, index_in, index_or_fault, if_row, Subscripted, subscripted, subscripted_element, word_in, element, index, index_and_load, index_mother}
+use Rattle.b67_table.specs.Program.{ask, row, write_row}
+use Rattle.b67_table.specs.References.{popped_two}
 use Rattle.b67_table.specs.Rows as rows
-use Rattle.b67_table.specs.Rows.{store, store_by, stored}
-use Rattle.b67_table.specs.Table.{raw, operator_at, class_at}
-use Rattle.b67_cores.specs.Cores.{Core, HasCore, with_core, stack_of}
-use Rattle.b67_letters.proofs.Looks.{then_seen, see_found}
+use Rattle.b67_table.specs.Rows.{store}
+use Rattle.b67_table.specs.Table.{raw, class_at}
 use Rattle.b67_rows.proofs.Rows.{raw_is, words_are}
-use Rattle.b67_rows.proofs.StackWords.{word-over, word-under, cut-stack, reverse-cons, words-set, set-set}
+use Rattle.b67_rows.proofs.StackWords.{word-over, word-under, cut-stack, words-set, set-set}
 use Rattle.b67_rows.proofs.StoreRow.{most_is}
 
 -- ---- tests, one after another

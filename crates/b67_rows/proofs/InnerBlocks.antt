@@ -1,26 +1,14 @@
 -- A block that is no procedure's stands in the text of one before it: that block is next around it, and has as many tokens at least.
 use Rattle.std.proofs.Common.{◌≡◌, refl, sym, ap, ◌∙◌, subst, ℕ, zero, suc, ◌+◌, ◌<◌, ◌≤◌, Bool, true, false, List, [], ◌∷◌, ◌++◌, length, map, Some, None, arith, add-one, append_assoc}
+use Rattle.b67_rows.proofs.Prelude.{◌==◌, if◌then◌else◌, not, slice_get, Spot, Named, Block, block_numbered, number_at, around, stmt_tokens, stmts_tokens, decls_tokens, PStmt, PStmts, PDecls, PBody, Scopes, Item, items, event_items, decls_items, ending, items_of, IsSeen, IsSeenAround, IsInner, is_procedure, InStmt, InStmts, InItems, InDeclared, get_within, true_false, some_same, none_some}
 use Rattle.std.proofs.lemmas.Bool.{and_parts, eqb-true}
-use Rattle.std.specs.Prelude.{◌==◌, if◌then◌else◌, not, slice_get}
-use Rattle.algol_tree.specs.declared.token.Spot.{Spot}
 use Rattle.algol_tree.specs.declared.tree.Heading.{Heading}
-use Rattle.algol_tree.specs.declared.tree.Named.{Named}
-use Rattle.algol_tree.specs.Blocks.{Block, same_spot, of_statement, of_procedure, procedure_block, blocks_of, blocks_in_decl, blocks_in_decls, blocks_in_stmts, blocks_in_body, spot_of, outer_block, block_numbered, number_at, around}
-use Rattle.algol_tree.specs.Counts.{stmt_tokens, stmts_tokens, decls_tokens}
+use Rattle.algol_tree.specs.Blocks.{same_spot, of_statement, of_procedure, procedure_block, blocks_of, blocks_in_decl, blocks_in_decls, blocks_in_stmts, blocks_in_body, spot_of, outer_block}
 use Rattle.algol_tree.specs.Plain as tree
-use Rattle.algol_tree.specs.Plain.{PStmt, PStmts, PDecls, PBody}
-use Rattle.algol_tree.specs.Scopes.{Scopes}
 use Rattle.algol_tree.specs.Sorts.{same_name}
-use Rattle.algol_meaning.specs.Rest.{Item}
-use Rattle.algol_meaning.specs.Statements.{items, event_items, decls_items, ending, items_of}
-use Rattle.algol_paths.specs.Blocks.{IsSeen, IsSeenAround, IsInner}
 use Rattle.algol_paths.specs.Laws.{ItemsKeepToText}
-use Rattle.algol_paths.specs.Segments.{is_procedure}
-use Rattle.algol_paths.specs.Texts.{InStmt, InStmts, InItems, InDeclared}
 use Rattle.b67_templates.specs.Names.{DeclsNamed, StmtNamed, StmtsNamed, BodyNamed}
 use Rattle.b67_templates.specs.Nested.{AreNested}
-use Rattle.b67_faithful.proofs.Contradictions.{true_false, some_same, none_some}
-use Rattle.b67_rows.proofs.Numbers.{get_below}
 
 -- the tokens of a block's own declarations and statements
 abbrev pub own_tokens : Block → ℕ
@@ -142,7 +130,7 @@ module _ (bs : List Block) where
   own_text : (n : ℕ) (c : Block) → slice_get bs n ≡ Some c → InText n (suc n) (c.spot ∷ c.outer)
   own_text n c e =
       record {
-        known = get_below bs n c e;
+        known = get_within bs n c e;
         before = omega arith;
         outer_is = ap (λ (b : Block). b.spot ∷ b.outer) (sym (block_is bs n c e));
       }
@@ -168,7 +156,7 @@ module _ (sc : Scopes) (nested : AreNested sc) where
   own_stated : (n : ℕ) (c : Block) → slice_get bs n ≡ Some c → Stated n c.stmts
   own_stated n c e =
       text_stmts (IsSeen sc n) (IsInner sc n) (IsSeenAround sc n) c.decls c.stmts (ending c)
-      (subst (λ (b : Block). ItemsKeepToText sc n (items_of b)) (block_is bs n c e) (nested.each n (get_below bs n c e)).items)
+      (subst (λ (b : Block). ItemsKeepToText sc n (items_of b)) (block_is bs n c e) (nested.each n (get_within bs n c e)).items)
 
   own_few : (n : ℕ) (c : Block) → slice_get bs n ≡ Some c → stmts_tokens c.stmts ≤ own_tokens (block_numbered bs n)
   own_few n c e = omega (arith, ap own_tokens (block_is bs n c e))

@@ -1,34 +1,19 @@
 -- WRITE and SELECT.
 use Rattle.std.proofs.Common.{◌≡◌, refl, sym, ap, ◌∙◌, ℕ, ◌+◌, ◌-◌, ◌*◌, ◌≤◌, List, [], ◌∷◌, ◌++◌, take, Option, Some, None, Bool, true, false, Ok, append_assoc, ℤ}
-use Rattle.std.specs.Prelude.{if◌then◌else◌, reverse, pos}
+use Rattle.b67_rows.proofs.Prelude.{if◌then◌else◌, reverse, pos, Place, Word, Registers, Mscw, Pcw, as_irw, as_sirw, as_mscw, as_pcw, Code, words_of, word_at, with_stack, Effect, gives, faults, Image, with_stacks, with_registers, found, ◌>->◌, valid, chained, read_as, place, mark_at, end_of_code, intrinsic_numbered, display_at, Program, effect_of, asked, see, answer, ◌>>=◌, if_chained, finished_at, intrinsic_row, operator_at, Core, HasCore, with_core}
 use Rattle.b67_num.specs.declared.FaultKind.TheVariants.{CaseIndex}
-use Rattle.b67_word.specs.declared.Place.{Place}
-use Rattle.b67_word.specs.Word.{Word}
-use Rattle.b67_control.specs.declared.Registers.{Registers}
-use Rattle.b67_control.specs.declared.Mscw.{Mscw}
-use Rattle.b67_control.specs.declared.Pcw.{Pcw}
-use Rattle.b67_control.specs.Control.{as_irw, as_sirw, as_mscw, as_pcw}
 use Rattle.b67_ops.specs.declared.Operator.TheVariants as ops
 use Rattle.b67_ops.specs.declared.PlainKind.TheVariants as kinds
 use Rattle.b67_ops.specs.declared.intrinsic.Intrinsic.{Intrinsic}
 use Rattle.b67_ops.specs.declared.intrinsic.Intrinsic.TheVariants.{Write, Select}
-use Rattle.b67_segment.specs.declared.code.Code.{Code}
-use Rattle.b67_store.specs.Store.{words_of, word_at, with_stack}
 use Rattle.b67_table.specs.declared.Class.TheVariants as classes
-use Rattle.b67_table.specs.Effect.{Effect, gives, faults}
-use Rattle.b67_table.specs.Image.{Image, with_stacks, with_registers}
-use Rattle.b67_table.specs.Look.{found, ◌>->◌, valid, chained, read_as}
-use Rattle.b67_table.specs.Chains.{place, mark_at, broken}
-use Rattle.b67_table.specs.Limits.{end_of_code}
+use Rattle.b67_table.specs.Chains.{broken}
 use Rattle.b67_table.specs.Lines.{line_for}
-use Rattle.b67_table.specs.Names.{intrinsic_numbered}
-use Rattle.b67_table.specs.Private.{display_at}
-use Rattle.b67_table.specs.Program.{Program, effect_of, asked, see, answer, ◌>>=◌, line}
-use Rattle.b67_table.specs.Arguments.{Three, three_in, wholes_in, if_chained, finished_at}
-use Rattle.b67_table.specs.Intrinsics.{intrinsic_row, case_in, case_place, gone_to_case}
+use Rattle.b67_table.specs.Program.{line}
+use Rattle.b67_table.specs.Arguments.{Three, three_in, wholes_in}
+use Rattle.b67_table.specs.Intrinsics.{case_in, case_place, gone_to_case}
 use Rattle.b67_table.specs.Rows.{row, enter}
-use Rattle.b67_table.specs.Table.{raw, operator_at, class_at}
-use Rattle.b67_cores.specs.Cores.{Core, HasCore, with_core}
+use Rattle.b67_table.specs.Table.{raw, class_at}
 use Rattle.b67_rows.proofs.Rows.{raw_is, words_are}
 use Rattle.b67_rows.proofs.StackWords.{cut-stack}
 use Rattle.b67_rows.proofs.StoreRow.{most_is}

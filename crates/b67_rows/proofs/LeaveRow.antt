@@ -1,39 +1,23 @@
 -- EXIT and RETN of a frame that is not the base frame.
 use Rattle.std.proofs.Common.{◌≡◌, refl, sym, ap, ◌∙◌, ℕ, ◌+◌, ◌≤◌, List, [], ◌∷◌, ◌++◌, length, take, drop, Option, Some, None, Bool, true, false, Ok, arith, append_assoc, length-append, ◌≢◌}
-use Rattle.std.specs.Prelude.{if◌then◌else◌, nat_eq, reverse}
+use Rattle.b67_rows.proofs.Prelude.{if◌then◌else◌, nat_eq, reverse, CriticalBlockExit, Place, Word, Registers, place_at, Code, Stacks, words_of, with_stack, with_cut, with_push, Below, Effect, gives, faults, Image, with_stacks, with_rows, with_registers, place, left_to, rebuilt, is_critical, leave, found, ◌>->◌, seen, pushed, frame, at_or, Program, Change, done, changed, effect_of, asked, answer, fault, registers, cut, live_criticals, table, operator_at, Core, IsCore, HasCore, with_core, stack_of, letter, then_seen, see_found, nat_tests}
 use Rattle.b67_deeds.specs.declared.Letter.TheVariants as act
-use Rattle.b67_num.specs.declared.FaultKind.TheVariants.{CriticalBlockExit}
-use Rattle.b67_word.specs.declared.Place.{Place}
-use Rattle.b67_word.specs.Word.{Word}
-use Rattle.b67_control.specs.declared.Registers.{Registers}
-use Rattle.b67_control.specs.Display.{place_at}
 use Rattle.b67_ops.specs.declared.Operator.TheVariants as ops
 use Rattle.b67_ops.specs.declared.PlainKind.TheVariants as kinds
-use Rattle.b67_segment.specs.declared.code.Code.{Code}
-use Rattle.b67_store.specs.Store.{Stacks, Rows, words_of, with_stack, with_cut, with_push}
+use Rattle.b67_store.specs.Store.{Rows}
 use Rattle.b67_events.specs.Events.{closed_from}
-use Rattle.b67_table.specs.declared.Below.{Below}
 use Rattle.b67_table.specs.declared.Class.TheVariants as classes
 use Rattle.b67_table.specs.declared.Leaving.{Leaving}
-use Rattle.b67_table.specs.Effect.{Effect, gives, faults}
 use Rattle.b67_table.specs.Outcome as outcomes
-use Rattle.b67_table.specs.Image.{Image, with_stacks, with_rows, with_registers, with_events}
-use Rattle.b67_table.specs.Chains.{place, left_to, rebuilt}
-use Rattle.b67_table.specs.Linkage.{arrays_closed, frame_left, is_critical, if_not_critical, leave_base, leave_other, leave, leaving, left}
-use Rattle.b67_table.specs.Look.{found, ◌>->◌, seen}
-use Rattle.b67_table.specs.Moves.{pushed}
-use Rattle.b67_table.specs.Private.{frame, at_or}
-use Rattle.b67_table.specs.Program.{Program, Change, done, changed, effect_of, asked, answer, fault, registers, cut, close_events}
-use Rattle.b67_table.specs.Questions.{live_criticals}
+use Rattle.b67_table.specs.Image.{with_events}
+use Rattle.b67_table.specs.Linkage.{arrays_closed, frame_left, if_not_critical, leave_base, leave_other, leaving, left}
+use Rattle.b67_table.specs.Program.{close_events}
 use Rattle.b67_table.specs.Rows.{row}
-use Rattle.b67_table.specs.Table.{raw, table, operator_at, class_at}
-use Rattle.b67_cores.specs.Cores.{Core, IsCore, HasCore, with_core, stack_of}
+use Rattle.b67_table.specs.Table.{raw, class_at}
 use Rattle.b67_deeds.specs.declared.Letter.TheVariants.{End, Leave}
-use Rattle.b67_letters.specs.Letters.{left_letter, letter}
-use Rattle.b67_letters.proofs.Looks.{then_seen, see_found}
+use Rattle.b67_letters.specs.Letters.{left_letter}
 use Rattle.b67_rows.proofs.Rows.{raw_is, words_are, action_is}
 use Rattle.b67_rows.proofs.StackWords.{take-seam, drop-seam, stack-over, length-stack, words-set, set-set}
-use Rattle.std.proofs.lemmas.Bool.Decides.{nat_tests}
 use Rattle.b67_rows.proofs.Cored.{has_now, others_have}
 
 pub not_zero : (n : ℕ) → 1 ≤ n → nat_eq n 0 ≡ false

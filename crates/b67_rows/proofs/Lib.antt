@@ -1,3 +1,4 @@
+pub mod Prelude
 pub mod Yielding
 pub mod Numbers
 pub mod Parents

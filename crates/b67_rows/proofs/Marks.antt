@@ -1,20 +1,9 @@
 -- The marks that lie above the floor of a frame lead down to its own mark.
 use Rattle.std.proofs.Common.{◌≡◌, refl, sym, ap, ◌∙◌, ℕ, zero, suc, ◌+◌, ◌-◌, ◌≤◌, ◌<◌, ◌^◌, List, [], ◌∷◌, ◌++◌, length, Option, Some, Bool, true, Ok, arith, append_assoc}
-use Rattle.std.specs.Prelude.{if◌then◌else◌, nat_le, ◌&&◌, slice_get, reverse}
-use Rattle.algol_tree.specs.Scopes.{Scopes}
-use Rattle.b67_word.specs.declared.Place.{Place}
-use Rattle.b67_word.specs.Word.{Word}
-use Rattle.b67_control.specs.declared.Mscw.{Mscw}
-use Rattle.b67_control.specs.declared.Rcw.{Rcw}
-use Rattle.b67_control.specs.Control.{as_mscw, as_rcw}
-use Rattle.b67_store.specs.Store.{Stacks, word_at}
-use Rattle.b67_table.specs.declared.Below.{Below}
-use Rattle.b67_table.specs.Look.{Look, found, ◌>->◌, chained, read_as, seen}
-use Rattle.b67_table.specs.Chains.{place, broken, control_at, below, entered_from, entered_below, frame_below, left_to, if_apart}
-use Rattle.b67_standing.specs.Stepping.{Slot, operand, reference, intrinsic, control, descriptor, mark}
-use Rattle.b67_cores.specs.Slots.{Known, newest, SlotsAre}
+use Rattle.b67_rows.proofs.Prelude.{if◌then◌else◌, nat_le, ◌&&◌, slice_get, reverse, Scopes, Place, Word, Mscw, Rcw, as_mscw, as_rcw, Stacks, word_at, Below, Look, found, ◌>->◌, chained, read_as, seen, place, control_at, frame_below, left_to, Slot, operand, Known, newest, SlotsAre, then_seen}
+use Rattle.b67_table.specs.Chains.{broken, below, entered_from, entered_below, if_apart}
+use Rattle.b67_standing.specs.Stepping.{reference, intrinsic, control, descriptor, mark}
 use Rattle.b67_cores.proofs.Moving.{slots_length}
-use Rattle.b67_letters.proofs.Looks.{then_seen}
 use Rattle.b67_rows.proofs.StackWords.{word-under}
 use Rattle.b67_rows.proofs.StoreRow.{most_is}
 use Rattle.b67_rows.proofs.Words.{mark_read}

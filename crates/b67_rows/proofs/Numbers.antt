@@ -1,7 +1,6 @@
 -- Numbers of processes, and lists by number.
 use Rattle.std.proofs.Common.{◌≡◌, ◌≢◌, ◌⊎◌, inl, inr, refl, ap, ℕ, zero, suc, ◌<◌, ◌≤◌, List, [], ◌∷◌, length, Some, None, arith}
-use Rattle.std.specs.Prelude.{slice_get, slice_set}
-use Rattle.b67_list.specs.Numbered.{numbered, set_numbered}
+use Rattle.b67_rows.proofs.Prelude.{slice_get, slice_set, numbered, set_numbered}
 
 pub same_or_not : (p q : ℕ) → (p ≡ q) ⊎ (p ≢ q)
 same_or_not zero zero = inl refl
@@ -13,7 +12,7 @@ same_or_not (suc p) (suc q) = later (same_or_not p q)
     later (inl e) = inl (ap suc e)
     later (inr n) = inr (λ e. n (omega (arith, e)))
 
-get_set : {A : Type 0} (xs : List A) (k : ℕ) (x y : A) → slice_get xs k ≡ Some x → slice_get (slice_set xs k y) k ≡ Some y
+pub get_set : {A : Type 0} (xs : List A) (k : ℕ) (x y : A) → slice_get xs k ≡ Some x → slice_get (slice_set xs k y) k ≡ Some y
 get_set [] k x y e = cc
 get_set (z ∷ zs) zero x y e = refl
 get_set (z ∷ zs) (suc k) x y e = get_set zs k x y e
@@ -61,8 +60,3 @@ pub get_within : {A : Type 0} (xs : List A) (k : ℕ) → k < length xs → (x :
 get_within [] k h = absurd (omega (arith, h))
 get_within (x ∷ xs) zero h = (x, refl)
 get_within (x ∷ xs) (suc k) h = get_within xs k (omega (arith, h))
-
-pub get_below : {A : Type 0} (xs : List A) (k : ℕ) (x : A) → slice_get xs k ≡ Some x → k < length xs
-get_below [] k x e = cc
-get_below (y ∷ ys) zero x e = omega arith
-get_below (y ∷ ys) (suc k) x e = omega (arith, get_below ys k x e)

@@ -1,10 +1,8 @@
 -- Static parents of an instance, and the blocks around a block.
 use Rattle.std.proofs.Common.{◌≡◌, refl, ap, ℕ, zero, suc, ◌+◌, List, [], ◌∷◌, length, arith}
+use Rattle.b67_rows.proofs.Prelude.{Spot, Block, block_numbered, number_at, around, World, instance_at, ancestor}
 use Rattle.std.specs.Prelude.{map}
-use Rattle.algol_tree.specs.declared.token.Spot.{Spot}
-use Rattle.algol_tree.specs.Blocks.{Block, block_numbered, number_at, around}
 use Rattle.algol_tree.specs.Cells.{level_of}
-use Rattle.algol_meaning.specs.World.{World, instance_at, ancestor}
 use Rattle.b67_ops.specs.declared.TheConstants.{OUTER_LEVEL}
 
 pub ancestor_up : (w : World) (up i : ℕ) → ancestor w (suc up) i ≡ (instance_at w (ancestor w up i)).parent

@@ -1,7 +1,7 @@
 -- The world in which an instance is left: all else of it is the same.
 use Rattle.std.proofs.Common.{◌≡◌, ◌≢◌, ◌⊎◌, inl, inr, refl, sym, ap, ◌∙◌, ℕ, zero, suc, Option, Some, true}
-use Rattle.b67_list.specs.Numbered.{numbered}
-use Rattle.algol_meaning.specs.World.{Instance, Process, World, instance_at, or_no_instance, ancestor, with_instance, with_process}
+use Rattle.b67_rows.proofs.Prelude.{numbered, Process, World, instance_at, ancestor}
+use Rattle.algol_meaning.specs.World.{Instance, or_no_instance, with_instance, with_process}
 use Rattle.b67_rows.proofs.Numbers.{same_or_not, numbered_set, numbered_other}
 
 -- what becomes of an instance when one is left

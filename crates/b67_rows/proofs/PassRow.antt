@@ -1,35 +1,16 @@
 -- LODT on the reference to a cell that has a reference itself, which comes in its place.
 use Rattle.std.proofs.Common.{◌≡◌, refl, ap, ◌∙◌, ℕ, ◌+◌, ◌-◌, List, ◌∷◌, Option, Some, Bool, true, false, Ok, arith}
-use Rattle.std.specs.Prelude.{if◌then◌else◌, ◌==◌, ◌||◌, is_some}
-use Rattle.b67_word.specs.declared.Place.{Place}
-use Rattle.b67_word.specs.Word.{Word}
-use Rattle.b67_control.specs.declared.Registers.{Registers}
-use Rattle.b67_control.specs.declared.Irw.{Irw}
-use Rattle.b67_control.specs.declared.Sirw.{Sirw}
-use Rattle.b67_control.specs.Control.{as_irw, as_sirw}
+use Rattle.b67_rows.proofs.Prelude.{if◌then◌else◌, ◌==◌, ◌||◌, is_some, Place, Word, Registers, Irw, Sirw, as_irw, as_sirw, Code, Stacks, word_at, Cell, Reached, StackUnderflow, Effect, gives, Image, with_stacks, with_registers, Look, stops, ◌>->◌, valid, replaced, display_at, floor, Program, does, effect_of, asked, see, answer, ◌>>=◌, cell_in, irw_or_sirw, cell_of, named, reached_in, from_top, invalid, operator_at, Core, HasCore, with_core}
 use Rattle.b67_ops.specs.declared.Operator.TheVariants as ops
 use Rattle.b67_ops.specs.declared.PlainKind.TheVariants as kinds
-use Rattle.b67_segment.specs.declared.code.Code.{Code}
-use Rattle.b67_store.specs.Store.{Stacks, word_at}
-use Rattle.b67_table.specs.declared.Cell.{Cell}
 use Rattle.b67_table.specs.declared.Class.TheVariants as classes
-use Rattle.b67_table.specs.declared.Reached.{Reached}
-use Rattle.b67_table.specs.declared.InterruptKind.TheVariants.{StackUnderflow}
-use Rattle.b67_table.specs.Effect.{Effect, gives}
-use Rattle.b67_table.specs.Image.{Image, with_stacks, with_registers}
-use Rattle.b67_table.specs.Look.{Look, stops, ◌>->◌, valid}
-use Rattle.b67_table.specs.Moves.{replaced}
-use Rattle.b67_table.specs.Private.{display_at, floor}
-use Rattle.b67_table.specs.Program.{Program, does, effect_of, asked, see, answer, ◌>>=◌}
-use Rattle.b67_table.specs.References.{cell_in, irw_or_sirw, cell_of, named, reached_in, from_top, invalid}
 use Rattle.b67_table.specs.Rows.{row, load_through, is_passed}
-use Rattle.b67_table.specs.Table.{raw, operator_at, class_at}
-use Rattle.b67_cores.specs.Cores.{Core, HasCore, with_core}
+use Rattle.b67_table.specs.Table.{raw, class_at}
 use Rattle.b67_rows.proofs.Rows.{raw_is}
 use Rattle.b67_rows.proofs.StoreRow.{most_is}
 use Rattle.b67_rows.proofs.TopRow.{with_other, one_long, word_on_top, top_replaced}
 
-or_true : (b : Bool) → (b || true) ≡ true
+pub or_true : (b : Bool) → (b || true) ≡ true
 or_true true = refl
 or_true false = refl
 

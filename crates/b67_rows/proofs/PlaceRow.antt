@@ -1,34 +1,12 @@
 -- EVAL by what is reached from the cell that is named: of a value the cell is left, and code that gives no place is a fault.
 use Rattle.std.proofs.Common.{◌≡◌, refl, ap, ◌∙◌, ℕ, ◌+◌, ◌-◌, ◌≤◌, List, ◌∷◌, Option, Some, None, Bool, false, Result, Ok, arith}
-use Rattle.std.specs.Prelude.{if◌then◌else◌, ◌==◌}
-use Rattle.b67_num.specs.declared.FaultKind.TheVariants.{NotAVariable}
-use Rattle.b67_word.specs.Word.{Word}
-use Rattle.b67_control.specs.declared.Registers.{Registers}
-use Rattle.b67_control.specs.declared.Pcw.{Pcw}
-use Rattle.b67_control.specs.Control.{as_pcw}
+use Rattle.b67_rows.proofs.Prelude.{if◌then◌else◌, ◌==◌, NotAVariable, Word, Registers, Pcw, as_pcw, Code, Stacks, Cell, InterruptKind, StackUnderflow, Reached, Effect, gives, faults, Image, with_stacks, with_registers, Look, found, stops, ◌>->◌, valid, seen, replaced, floor, Program, Change, answer, fault, does, effect_of, asked, see, ◌>>=◌, cell_word, cell_of, reached, from_top, invalid, accidental, cell_or_entry, operator_at, Resolve, told_by, entered_or, operator_letter, see_found, Core, HasCore, with_core}
 use Rattle.b67_ops.specs.declared.Operator.TheVariants as ops
 use Rattle.b67_ops.specs.declared.PlainKind.TheVariants as kinds
-use Rattle.b67_segment.specs.declared.code.Code.{Code}
-use Rattle.b67_store.specs.Store.{Stacks}
-use Rattle.b67_table.specs.declared.Cell.{Cell}
 use Rattle.b67_table.specs.declared.Class.TheVariants as classes
-use Rattle.b67_table.specs.declared.InterruptKind.{InterruptKind}
-use Rattle.b67_table.specs.declared.InterruptKind.TheVariants.{StackUnderflow}
-use Rattle.b67_table.specs.declared.Reached.{Reached}
-use Rattle.b67_table.specs.Effect.{Effect, gives, faults}
-use Rattle.b67_table.specs.Image.{Image, with_stacks, with_registers}
-use Rattle.b67_table.specs.Look.{Look, found, stops, ◌>->◌, valid, seen}
-use Rattle.b67_table.specs.Moves.{replaced}
-use Rattle.b67_table.specs.Private.{floor}
-use Rattle.b67_table.specs.Program.{Program, Change, answer, fault, does, effect_of, asked, see, ◌>>=◌}
-use Rattle.b67_table.specs.References.{cell_word, cell_of, reached, from_top, invalid}
-use Rattle.b67_table.specs.Linkage.{accidental}
-use Rattle.b67_table.specs.Rows.{row, evaluate, cell_or_entry}
-use Rattle.b67_table.specs.Table.{raw, operator_at, class_at}
-use Rattle.b67_deeds.specs.declared.Letter.TheVariants.{Resolve}
-use Rattle.b67_letters.specs.Letters.{told_by, entered_or, place_letter, operator_letter}
-use Rattle.b67_letters.proofs.Looks.{see_found}
-use Rattle.b67_cores.specs.Cores.{Core, HasCore, with_core}
+use Rattle.b67_table.specs.Rows.{row, evaluate}
+use Rattle.b67_table.specs.Table.{raw, class_at}
+use Rattle.b67_letters.specs.Letters.{place_letter}
 use Rattle.b67_rows.proofs.Reaching.{Reaches}
 use Rattle.b67_rows.proofs.Rows.{raw_is}
 use Rattle.b67_rows.proofs.StoreRow.{most_is}

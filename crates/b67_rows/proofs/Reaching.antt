@@ -1,13 +1,6 @@
 -- What a reference reaches: the word of the cell that it names, or through a reference that lies there the word of another cell.
 use Rattle.std.proofs.Common.{◌≡◌, ap, ◌∙◌, Option, Some, None, Ok}
-use Rattle.b67_word.specs.Word.{Word}
-use Rattle.b67_control.specs.declared.Sirw.{Sirw}
-use Rattle.b67_control.specs.Control.{as_sirw}
-use Rattle.b67_store.specs.Store.{Stacks, word_at}
-use Rattle.b67_table.specs.declared.Cell.{Cell}
-use Rattle.b67_table.specs.declared.Reached.{Reached}
-use Rattle.b67_table.specs.Look.{◌>->◌, seen}
-use Rattle.b67_table.specs.References.{cell_place, sirw_cell, reached, reached_in, one_sirw, no_second}
+use Rattle.b67_rows.proofs.Prelude.{Word, Sirw, as_sirw, Stacks, word_at, Cell, Reached, ◌>->◌, seen, cell_place, sirw_cell, reached, reached_in, one_sirw, no_second}
 
 -- from a cell this word in that cell is reached
 abbrev pub Reaches : Stacks → Cell → Word → Cell → Type 0

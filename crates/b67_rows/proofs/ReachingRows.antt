@@ -1,29 +1,11 @@
 -- VALC by what is reached from the cell that is named: a value is read.
 use Rattle.std.proofs.Common.{◌≡◌, refl, ap, ◌∙◌, ℕ, ◌+◌, List, [], ◌∷◌, ◌++◌, Option, Some, None, Result, Ok}
-use Rattle.std.specs.Prelude.{if◌then◌else◌, ◌==◌}
-use Rattle.b67_word.specs.Word.{Word}
-use Rattle.b67_control.specs.declared.Registers.{Registers}
-use Rattle.b67_control.specs.declared.Pcw.{Pcw}
-use Rattle.b67_control.specs.Control.{as_pcw}
-use Rattle.b67_ops.specs.declared.Couple.{Couple}
+use Rattle.b67_rows.proofs.Prelude.{if◌then◌else◌, ◌==◌, Word, Registers, Pcw, as_pcw, Couple, Code, with_stack, Cell, InterruptKind, Reached, Effect, gives, Image, with_stacks, with_registers, found, seen, Program, Change, does, effect_of, asked, see, ◌>>=◌, couple_cell, reached, invalid, value_or_entry, operator_at, Read, told_by, entered_or, operator_letter, see_found, Core, HasCore, with_core}
 use Rattle.b67_ops.specs.declared.Operator.TheVariants as ops
-use Rattle.b67_segment.specs.declared.code.Code.{Code}
-use Rattle.b67_store.specs.Store.{with_stack}
-use Rattle.b67_table.specs.declared.Cell.{Cell}
 use Rattle.b67_table.specs.declared.Class.TheVariants as classes
-use Rattle.b67_table.specs.declared.InterruptKind.{InterruptKind}
-use Rattle.b67_table.specs.declared.Reached.{Reached}
-use Rattle.b67_table.specs.Effect.{Effect, gives}
-use Rattle.b67_table.specs.Image.{Image, with_stacks, with_registers}
-use Rattle.b67_table.specs.Look.{found, seen}
-use Rattle.b67_table.specs.Program.{Program, Change, does, effect_of, asked, see, ◌>>=◌}
-use Rattle.b67_table.specs.References.{couple_cell, reached, invalid}
-use Rattle.b67_table.specs.Rows.{row, value_call, value_or_entry, value_pushed}
-use Rattle.b67_table.specs.Table.{raw, operator_at, class_at}
-use Rattle.b67_deeds.specs.declared.Letter.TheVariants.{Read}
-use Rattle.b67_letters.specs.Letters.{told_by, entered_or, value_letter, operator_letter}
-use Rattle.b67_letters.proofs.Looks.{see_found}
-use Rattle.b67_cores.specs.Cores.{Core, HasCore, with_core}
+use Rattle.b67_table.specs.Rows.{row, value_call, value_pushed}
+use Rattle.b67_table.specs.Table.{raw, class_at}
+use Rattle.b67_letters.specs.Letters.{value_letter}
 use Rattle.b67_rows.proofs.Reaching.{Reaches}
 use Rattle.b67_rows.proofs.Rows.{raw_is, pushed_stack, words_are}
 

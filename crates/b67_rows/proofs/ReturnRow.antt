@@ -1,37 +1,17 @@
 -- RETN of a frame that is not the base frame, with an operand on top, which it gives back.
 use Rattle.std.proofs.Common.{◌≡◌, refl, ap, ◌∙◌, ℕ, ◌+◌, ◌-◌, List, [], ◌∷◌, ◌++◌, length, Option, Some, Bool, true, false, Ok, arith}
-use Rattle.b67_letters.specs.Letters.{letter}
-use Rattle.std.specs.Prelude.{if◌then◌else◌, nat_eq, not, ◌&&◌, ◌==◌, slice_get, reverse}
+use Rattle.b67_rows.proofs.Prelude.{letter, if◌then◌else◌, nat_eq, not, ◌&&◌, ◌==◌, slice_get, reverse, Place, Word, Registers, Code, word_at, Below, place, Effect, gives, faults, Image, is_critical, leave, live_criticals, CriticalBlockExit, stops, valid, floor, frame, Program, does, effect_of, asked, see, ◌>>=◌, from_top, invalid, StackUnderflow, table, operator_at, Core, HasCore, nat_tests}
 use Rattle.b67_deeds.specs.declared.Letter.TheVariants as act
-use Rattle.b67_word.specs.declared.Place.{Place}
-use Rattle.b67_word.specs.Word.{Word}
-use Rattle.b67_control.specs.declared.Registers.{Registers}
 use Rattle.b67_ops.specs.declared.Operator.TheVariants as ops
 use Rattle.b67_ops.specs.declared.PlainKind.TheVariants as kinds
-use Rattle.b67_segment.specs.declared.code.Code.{Code}
-use Rattle.b67_store.specs.Store.{word_at}
-use Rattle.b67_table.specs.declared.Below.{Below}
 use Rattle.b67_table.specs.declared.Class.TheVariants as classes
-use Rattle.b67_table.specs.Chains.{place}
-use Rattle.b67_table.specs.Effect.{Effect, gives, faults}
 use Rattle.b67_table.specs.Outcome as outcomes
-use Rattle.b67_table.specs.Image.{Image}
-use Rattle.b67_table.specs.Linkage.{is_critical, leave}
-use Rattle.b67_table.specs.Questions.{live_criticals}
-use Rattle.b67_num.specs.declared.FaultKind.TheVariants.{CriticalBlockExit}
-use Rattle.b67_table.specs.Look.{stops, valid}
-use Rattle.b67_table.specs.Private.{floor, frame}
-use Rattle.b67_table.specs.Program.{Program, does, effect_of, asked, see, ◌>>=◌}
-use Rattle.b67_table.specs.References.{from_top, invalid}
-use Rattle.b67_table.specs.declared.InterruptKind.TheVariants.{StackUnderflow}
 use Rattle.b67_table.specs.Rows.{row, is_result, return_value}
-use Rattle.b67_table.specs.Table.{raw, table, operator_at, class_at}
-use Rattle.b67_cores.specs.Cores.{Core, HasCore}
+use Rattle.b67_table.specs.Table.{raw, class_at}
 use Rattle.b67_rows.proofs.LeaveRow.{not_zero, Leaves, after, leave_does, leave_blocked}
 use Rattle.b67_rows.proofs.Rows.{raw_is, words_are, action_is}
 use Rattle.b67_rows.proofs.StackWords.{word-over}
 use Rattle.b67_rows.proofs.StoreRow.{most_is}
-use Rattle.std.proofs.lemmas.Bool.Decides.{nat_tests}
 
 zero_is : (n : ℕ) → n ≡ 0 → (n == 0) ≡ true
 zero_is n e = grind (arith, e, nat_tests)

@@ -1,25 +1,14 @@
 -- The row of the operator at which a core stands.
 use Rattle.std.proofs.Common.{◌≡◌, refl, sym, ap, ◌∙◌, ℕ, List, [], ◌∷◌, ◌++◌, Option, Bool, true, false, Result, Ok, append_assoc}
-use Rattle.std.specs.Prelude.{if◌then◌else◌, ◌&&◌, reverse}
-use Rattle.std.proofs.lemmas.List.{reverse-append}
-use Rattle.b67_list.specs.Numbered.{numbered}
-use Rattle.b67_num.specs.declared.FaultKind.{FaultKind}
-use Rattle.b67_word.specs.Word.{Word}
-use Rattle.b67_control.specs.declared.Registers.{Registers}
-use Rattle.b67_ops.specs.declared.Operator.{Operator}
+use Rattle.b67_rows.proofs.Prelude.{if◌then◌else◌, ◌&&◌, reverse, reverse-append, numbered, FaultKind, Word, Registers, Operator, Code, words_or, words_of, BadCode as bad_code, Image, table, by_row, operator_at, Core, HasCore, stack_of, operator_letter, letter}
 use Rattle.b67_ops.specs.declared.BadCode.{BadCode}
-use Rattle.b67_segment.specs.declared.code.Code.{Code}
-use Rattle.b67_store.specs.Store.{words_or, words_of}
 use Rattle.b67_table.specs.declared.Class.TheVariants as classes
-use Rattle.b67_table.specs.declared.InterruptKind.TheVariants.{BadCode as bad_code}
 use Rattle.b67_table.specs.Effect.{interrupts}
 use Rattle.b67_table.specs.Outcome.{Outcome}
 use Rattle.b67_table.specs.Outcome as outcomes
-use Rattle.b67_table.specs.Image.{Image}
 use Rattle.b67_table.specs.Rows.{row}
-use Rattle.b67_table.specs.Table.{table, raw, plain, by_registers, by_operator, by_row, operator_at, class_at, is_private, is_new, private_at, private_in, private_next}
-use Rattle.b67_cores.specs.Cores.{Core, HasCore, stack_of}
-use Rattle.b67_letters.specs.Letters.{operator_letter, fetched_letter, registers_letter, letter_by, letter}
+use Rattle.b67_table.specs.Table.{raw, plain, by_registers, by_operator, class_at, is_private, is_new, private_at, private_in, private_next}
+use Rattle.b67_letters.specs.Letters.{fetched_letter, registers_letter, letter_by}
 
 module _ (code : Code) (img : Image) (p : ℕ) (core : Core) (has : HasCore img p core) (op : Operator) (next : ℕ) (at : operator_at code core.registers ≡ Ok (op, next)) where
   pub raw_is : raw code img p ≡ by_row (row op core.registers.place) code img p core.registers next

@@ -1,8 +1,7 @@
 -- Each block's text stands in a segment, whose number a control word can hold.
 use Rattle.std.proofs.Common.{◌≡◌, refl, sym, ap, ◌∙◌, ℕ, zero, suc, ◌+◌, ◌≤◌, List, [], ◌∷◌, length, take, filter, map, cond, Bool, true, false, Some, arith}
-use Rattle.std.specs.Prelude.{if◌then◌else◌, slice_get}
-use Rattle.algol_tree.specs.Blocks.{Block, block_numbered, around}
-use Rattle.algol_paths.specs.Segments.{is_procedure, procedures_before, segment_among, segment_of}
+use Rattle.b67_rows.proofs.Prelude.{if◌then◌else◌, slice_get, Block, block_numbered, around, is_procedure, segment_of}
+use Rattle.algol_paths.specs.Segments.{procedures_before, segment_among}
 
 procedure_passed : (b : Block) (bs : List Block) → (t : Bool) → is_procedure b ≡ t → length (filter is_procedure (b ∷ bs)) ≡ (if t then 1 else 0) + length (filter is_procedure bs)
 procedure_passed b bs true e = ap (λ (x : Bool). length (cond x (b ∷ filter is_procedure bs) (filter is_procedure bs))) e ∙ omega arith

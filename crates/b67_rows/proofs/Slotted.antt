@@ -1,9 +1,6 @@
 -- The words of slots, one after another.
 use Rattle.std.proofs.Common.{◌≡◌, refl, subst, ℕ, List, [], ◌∷◌}
-use Rattle.algol_tree.specs.Scopes.{Scopes}
-use Rattle.b67_word.specs.Word.{Word}
-use Rattle.b67_standing.specs.Stepping.{Slot}
-use Rattle.b67_cores.specs.Slots.{Known, SlotIs, SlotsAre}
+use Rattle.b67_rows.proofs.Prelude.{Scopes, Word, Slot, Known, SlotIs, SlotsAre}
 
 module _ (sc : Scopes) (known : List Known) (level home base : ℕ) where
   -- the word on top

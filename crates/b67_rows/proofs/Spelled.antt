@@ -1,13 +1,8 @@
 -- The text of each block stands in a segment of the code.
 use Rattle.std.proofs.Common.{◌≡◌, ℕ, ◌∷◌, length, filter, Some, arith}
-use Rattle.std.specs.Prelude.{slice_get}
-use Rattle.algol_tree.specs.Blocks.{around}
+use Rattle.b67_rows.proofs.Prelude.{slice_get, around, is_procedure, segment_of, Spells, Code, Segment}
 use Rattle.algol_tree.specs.Plain.{PProgram}
 use Rattle.algol_tree.specs.Scopes.{scopes_of}
-use Rattle.algol_paths.specs.Segments.{is_procedure, segment_of}
-use Rattle.b67_segment.specs.Syllables.{Spells}
-use Rattle.b67_segment.specs.declared.code.Code.{Code}
-use Rattle.b67_segment.specs.declared.code.Segment.{Segment}
 use Rattle.b67_templates.specs.Programs.{Texts, ProgramAt}
 use Rattle.b67_rows.proofs.Numbers.{get_within}
 use Rattle.b67_rows.proofs.Segmented.{before_whole, segment_low}

@@ -1,12 +1,7 @@
 -- The words of a core's stack: those on top, and those below.
 use Rattle.std.proofs.Common.{◌≡◌, refl, sym, ap, ◌∙◌, ℕ, zero, suc, ◌+◌, List, [], ◌∷◌, ◌++◌, length, take, drop, Some, arith, append_assoc, append-nil, length-append}
-use Rattle.std.specs.Prelude.{slice_get, slice_set, reverse}
-use Rattle.std.proofs.lemmas.List.{reverse-append, length-reverse}
-use Rattle.b67_word.specs.Word.{Word}
-use Rattle.b67_store.specs.Store.{Stacks, stack_at, words_of, words_or, with_stack}
-
-pub reverse-cons : {A : Type 0} (x : A) (xs : List A) → reverse (x ∷ xs) ≡ reverse xs ++ x ∷ []
-reverse-cons x xs = reverse-append (x ∷ []) xs
+use Rattle.b67_rows.proofs.Prelude.{slice_get, slice_set, reverse, reverse-append, length-reverse, Word, Stacks, stack_at, words_of, words_or, with_stack}
+use Rattle.b67_rows.proofs.Cored.{stack_set}
 
 -- what stands right after a front
 pub get-seam : {A : Type 0} (front : List A) (x : A) (back : List A) (n : ℕ) → n ≡ length front → slice_get (front ++ x ∷ back) n ≡ Some x
@@ -79,13 +74,8 @@ cut-stack below above words n e =
 
 -- ---- stacks by number
 
-get_set : (stacks : Stacks) (n : ℕ) (ws vs : List Word) → stack_at stacks n ≡ Some ws → stack_at (with_stack stacks n vs) n ≡ Some vs
-get_set [] n ws vs e = cc
-get_set (z ∷ zs) zero ws vs e = refl
-get_set (z ∷ zs) (suc n) ws vs e = get_set zs n ws vs e
-
 pub words-set : (stacks : Stacks) (n : ℕ) (ws vs : List Word) → stack_at stacks n ≡ Some ws → words_of (with_stack stacks n vs) n ≡ vs
-words-set stacks n ws vs e = ap words_or (get_set stacks n ws vs e)
+words-set stacks n ws vs e = ap words_or (stack_set stacks n ws vs e)
 
 pub set-set : (stacks : Stacks) (n : ℕ) (vs us : List Word) → with_stack (with_stack stacks n vs) n us ≡ with_stack stacks n us
 set-set [] n vs us = refl

@@ -1,41 +1,22 @@
 -- ENTR on START: a process is begun, or there are as many as there may be.
 use Rattle.std.proofs.Common.{◌≡◌, ◌≢◌, refl, sym, ap, ◌∙◌, ℕ, ◌+◌, ◌<◌, ◌≤◌, List, [], ◌∷◌, length, take, Option, Some, None, Bool, true, false, Ok, arith}
-use Rattle.std.specs.Prelude.{if◌then◌else◌, nat_lt, nat_le, reverse, ℤ, pos}
+use Rattle.b67_rows.proofs.Prelude.{if◌then◌else◌, nat_lt, nat_le, reverse, pos, Place, Word, Irw, Pcw, Registers, Sirw, as_irw, as_sirw, as_pcw, event_word, place_at, Couple, Code, words_of, words_or, word_at, with_stack, Cell, Reached, if_chained, finished_at, place, linked, Effect, gives, faults, Image, with_stacks, with_registers, most_cells, entered_mark, ◌>->◌, valid, seen, display_at, frame, at_or, reference, Test, answer, interrupt, fault, Program, effect_of, asked, see, ◌>>=◌, told, cell_place, cell_in, irw_or_sirw, reached, reached_in, one_sirw, on_path, operator_at, Core, IsCore, HasCore, with_core, stack_of, see_found, opened_others}
+use Rattle.std.specs.Prelude.{ℤ}
 use Rattle.b67_num.specs.declared.FaultKind.TheVariants.{ProcessLimit}
-use Rattle.b67_word.specs.declared.Place.{Place}
-use Rattle.b67_word.specs.Word.{Word, as_whole, is_whole}
+use Rattle.b67_word.specs.Word.{as_whole, is_whole}
 use Rattle.b67_control.specs.declared.EventWord.{EventWord}
-use Rattle.b67_control.specs.declared.Irw.{Irw}
-use Rattle.b67_control.specs.declared.Pcw.{Pcw}
-use Rattle.b67_control.specs.declared.Registers.{Registers}
-use Rattle.b67_control.specs.declared.Sirw.{Sirw}
-use Rattle.b67_control.specs.Control.{as_irw, as_sirw, as_pcw, irw_word, event_word}
-use Rattle.b67_control.specs.Display.{place_at}
+use Rattle.b67_control.specs.Control.{irw_word}
 use Rattle.b67_events.specs.Events.{is_open}
-use Rattle.b67_ops.specs.declared.Couple.{Couple}
 use Rattle.b67_ops.specs.declared.Operator.TheVariants as ops
 use Rattle.b67_ops.specs.declared.PlainKind.TheVariants as kinds
 use Rattle.b67_ops.specs.declared.intrinsic.Intrinsic.TheVariants.{Start}
-use Rattle.b67_segment.specs.declared.code.Code.{Code}
-use Rattle.b67_store.specs.Store.{words_of, words_or, word_at, with_stack}
-use Rattle.b67_table.specs.declared.Cell.{Cell}
-use Rattle.b67_table.specs.declared.Reached.{Reached}
-use Rattle.b67_table.specs.Arguments.{no_such, if_open, event_in, event_of, if_chained, finished_at}
-use Rattle.b67_table.specs.Chains.{place, broken, linked}
-use Rattle.b67_table.specs.Effect.{Effect, gives, faults}
-use Rattle.b67_table.specs.Image.{Image, with_stacks, with_registers}
-use Rattle.b67_table.specs.Limits.{most_cells, most_processes}
-use Rattle.b67_table.specs.Linkage.{entered_mark, base_control}
-use Rattle.b67_table.specs.Look.{◌>->◌, valid, seen}
-use Rattle.b67_table.specs.Private.{display_at, frame, at_or}
-use Rattle.b67_table.specs.PrivateRows.{reference}
-use Rattle.b67_table.specs.Program.{Test, answer, interrupt, fault, ask, Program, effect_of, asked, see, ◌>>=◌, start, started, is_event}
-use Rattle.b67_table.specs.Questions.{told}
-use Rattle.b67_table.specs.References.{cell_place, cell_in, irw_or_sirw, reached, reached_in, one_sirw}
-use Rattle.b67_table.specs.Starting.{task_in, task_of, frames_with, named_frames, on_path, Starting, starting, first_display, first_words, begun, start_process}
-use Rattle.b67_table.specs.Table.{raw, operator_at}
-use Rattle.b67_cores.specs.Cores.{Core, IsCore, HasCore, with_core, stack_of}
-use Rattle.b67_letters.proofs.Looks.{see_found}
+use Rattle.b67_table.specs.Arguments.{no_such, if_open, event_in, event_of}
+use Rattle.b67_table.specs.Chains.{broken}
+use Rattle.b67_table.specs.Limits.{most_processes}
+use Rattle.b67_table.specs.Linkage.{base_control}
+use Rattle.b67_table.specs.Program.{ask, start, started, is_event}
+use Rattle.b67_table.specs.Starting.{task_in, task_of, frames_with, named_frames, Starting, starting, first_display, first_words, begun, start_process}
+use Rattle.b67_table.specs.Table.{raw}
 use Rattle.b67_rows.proofs.Begun.{with_process, core_of, core_beside, numbered_few}
 use Rattle.b67_rows.proofs.CriticalRow.{FirstDown, critical_found}
 use Rattle.b67_rows.proofs.Displays.{Links, shown, linked_seen, shown_top}
@@ -44,7 +25,6 @@ use Rattle.b67_rows.proofs.IntrinsicRows.{CallsIntrinsic, without_call, entered,
 use Rattle.b67_rows.proofs.StoreRow.{most_is}
 use Rattle.b67_rows.proofs.TurnRow.{not_below}
 use Rattle.b67_rows.proofs.Words.{event_read, event_refers_nothing}
-use Rattle.b67_store.proofs.StoreLaws.{opened_others}
 
 -- ---- tests, one after another
 

@@ -1,31 +1,13 @@
 -- STOD on a cell of the process's own stack, which the reference under the top names.
 use Rattle.std.proofs.Common.{◌≡◌, refl, ap, ◌∙◌, ℕ, ◌+◌, ◌-◌, ◌≤◌, List, [], ◌∷◌, ◌++◌, length, take, Option, Some, None, Bool, true, false, Ok, arith}
-use Rattle.std.specs.Prelude.{if◌then◌else◌, ◌==◌, nat_le, slice_get, slice_set, reverse}
-use Rattle.std.proofs.lemmas.Bool.Decides.{nat_tests}
-use Rattle.b67_word.specs.declared.Place.{Place}
-use Rattle.b67_word.specs.Word.{Word}
-use Rattle.b67_control.specs.declared.Registers.{Registers}
-use Rattle.b67_control.specs.declared.Descriptor.{Descriptor}
-use Rattle.b67_table.specs.Arrays.{as_indexed}
+use Rattle.b67_rows.proofs.Prelude.{if◌then◌else◌, ◌==◌, nat_le, slice_get, slice_set, reverse, nat_tests, Place, Word, Registers, Descriptor, as_indexed, Code, Stacks, words_of, word_at, with_stack, with_word, with_cut, Cell, Reached, StackUnderflow, Effect, gives, Image, with_stacks, with_registers, Look, found, stops, ◌>->◌, valid, seen, Program, does, effect_of, asked, see, answer, ◌>>=◌, save, floor, Two, cell_of, cell_place, reached_in, named, from_top, operand_in, invalid, store_by, stored, operator_at, told_by, operator_letter, Core, HasCore, with_core, stack_of}
 use Rattle.b67_ops.specs.declared.Operator.TheVariants as ops
 use Rattle.b67_ops.specs.declared.PlainKind.TheVariants as kinds
-use Rattle.b67_segment.specs.declared.code.Code.{Code}
-use Rattle.b67_store.specs.Store.{Stacks, words_of, word_at, with_stack, with_word, with_cut}
-use Rattle.b67_table.specs.declared.Cell.{Cell}
 use Rattle.b67_table.specs.declared.Class.TheVariants as classes
-use Rattle.b67_table.specs.declared.Reached.{Reached}
-use Rattle.b67_table.specs.declared.InterruptKind.TheVariants.{StackUnderflow}
-use Rattle.b67_table.specs.Effect.{Effect, gives}
-use Rattle.b67_table.specs.Image.{Image, with_stacks, with_registers}
-use Rattle.b67_table.specs.Look.{Look, found, stops, ◌>->◌, valid, seen}
-use Rattle.b67_table.specs.Program.{Program, does, effect_of, asked, see, answer, ◌>>=◌, save}
-use Rattle.b67_table.specs.Private.{floor}
-use Rattle.b67_table.specs.References.{Two, cell_of, cell_place, reached_in, named, from_top, operand_in, invalid}
-use Rattle.b67_table.specs.Rows.{row, store, store_by, stored}
-use Rattle.b67_table.specs.Table.{raw, operator_at, class_at}
+use Rattle.b67_table.specs.Rows.{row, store}
+use Rattle.b67_table.specs.Table.{raw, class_at}
 use Rattle.b67_deeds.specs.declared.Letter.TheVariants.{Store, ElementStore}
-use Rattle.b67_letters.specs.Letters.{told_by, element_or_not, stored_letter, operator_letter}
-use Rattle.b67_cores.specs.Cores.{Core, HasCore, with_core, stack_of}
+use Rattle.b67_letters.specs.Letters.{element_or_not, stored_letter}
 use Rattle.b67_rows.proofs.Rows.{raw_is, words_are}
 use Rattle.b67_rows.proofs.StackWords.{word-over, word-under, cut-stack, set-front, get-front, length-set, words-set, set-set}
 

@@ -1,17 +1,11 @@
 -- What a block has to do keeps to its text, and makes all its arrays.
 use Rattle.b67_templates.specs.Cells.{made_of, events_in}
 use Rattle.std.proofs.Common.{◌≡◌, refl, sym, ap, ◌∙◌, ℕ, List, [], ◌∷◌, ◌++◌, Option, Some, None, append_assoc, append-nil}
-use Rattle.algol_tree.specs.declared.tree.Kind.{Kind}
-use Rattle.algol_tree.specs.declared.tree.Named.{Named}
+use Rattle.b67_rows.proofs.Prelude.{Kind, Named, PStmts, PDecls, Block, block_numbered, Scopes, Item, event_items, decls_items, items, items_of, ending, Made, made_in, all_to_make, an_event, KeepsToText, IsText}
 use Rattle.algol_tree.specs.Plain as tree
-use Rattle.algol_tree.specs.Plain.{PStmts, PDecls}
-use Rattle.algol_tree.specs.Blocks.{Block, block_numbered}
-use Rattle.algol_tree.specs.Scopes.{Scopes}
-use Rattle.algol_meaning.specs.Rest.{Item}
-use Rattle.algol_meaning.specs.Statements.{event_items, decls_items, items, items_of, ending, settle_items}
-use Rattle.algol_paths.specs.Arrays.{Made, made_in, to_come, all_to_make, an_event}
-use Rattle.algol_paths.specs.Laws.{KeepsToText, RestsKeepToTheirText, AllIsMadeInOrder}
-use Rattle.b67_templates.specs.Nested.{IsText}
+use Rattle.algol_meaning.specs.Statements.{settle_items}
+use Rattle.algol_paths.specs.Arrays.{to_come}
+use Rattle.algol_paths.specs.Laws.{RestsKeepToTheirText, AllIsMadeInOrder}
 
 -- ---- what items make
 

@@ -1,15 +1,8 @@
 -- The word on top of a core's stack, and another one in its place; words that are pushed.
 use Rattle.std.proofs.Common.{◌≡◌, sym, ap, ◌∙◌, ℕ, ◌+◌, ◌-◌, List, [], ◌∷◌, ◌++◌, length, take, Some, arith, append_assoc, append-nil}
-use Rattle.std.specs.Prelude.{slice_get, reverse}
-use Rattle.b67_word.specs.Word.{Word}
-use Rattle.b67_control.specs.declared.Registers.{Registers}
-use Rattle.b67_store.specs.Store.{Stacks, stack_at, words_of, word_at, with_stack, with_push, with_cut}
-use Rattle.b67_table.specs.Image.{Image, with_stacks}
-use Rattle.b67_table.specs.Moves.{pushed}
-use Rattle.b67_table.specs.Program.{Change, changed}
-use Rattle.b67_cores.specs.Cores.{Core, HasCore, stack_of}
+use Rattle.b67_rows.proofs.Prelude.{slice_get, reverse, Word, Registers, Stacks, stack_at, words_of, word_at, with_stack, with_push, with_cut, Image, with_stacks, pushed, Change, changed, Core, HasCore, stack_of, reverse-cons}
 use Rattle.b67_rows.proofs.Rows.{words_are}
-use Rattle.b67_rows.proofs.StackWords.{word-over, cut-stack, reverse-cons, words-set, set-set}
+use Rattle.b67_rows.proofs.StackWords.{word-over, cut-stack, words-set, set-set}
 
 -- ---- words that are pushed
 

@@ -1,36 +1,34 @@
 -- What an operator reaches is in the private part of no other process, where near are the cells that it names and the frames to which marks and the
 -- display lead.
-use Rattle.std.proofs.Common.{◌≡◌, refl, sym, ap, ◌∙◌, ℕ, ◌+◌, ◌-◌, ◌<◌, ◌≤◌, Some, arith}
-use Rattle.b67_list.specs.Numbered.{numbered}
-use Rattle.b67_word.specs.declared.Place.{Place}
-use Rattle.b67_word.specs.Word.{Word}
-use Rattle.b67_control.specs.declared.Registers.{Registers}
-use Rattle.b67_control.specs.declared.Mscw.{Mscw}
-use Rattle.b67_control.specs.declared.Pcw.{Pcw}
-use Rattle.b67_control.specs.Control.{as_mscw, as_pcw}
-use Rattle.b67_ops.specs.declared.Operator.{Operator}
+use Rattle.std.proofs.Common.{◌≡◌, ◌⊎◌, inl, inr, refl, sym, ap, ◌∙◌, ℕ, ◌+◌, ◌-◌, ◌<◌, ◌≤◌, Some, arith}
+use Rattle.b67_rows.proofs.Prelude.{numbered, Place, Word, Registers, Mscw, Pcw, as_mscw, as_pcw, Operator, word_at, Cell, place, link_of, cell_place, Image, critical_of, display_at, floor, level_below, HaveOwnStacks, ReachesNoOther, some_same, none_some}
 use Rattle.b67_ops.specs.declared.Operator.TheVariants as ops
 use Rattle.b67_ops.specs.declared.PlainKind.TheVariants as kinds
-use Rattle.b67_store.specs.Store.{word_at}
-use Rattle.b67_table.specs.declared.Cell.{Cell}
-use Rattle.b67_table.specs.Chains.{place, link_of}
-use Rattle.b67_table.specs.References.{cell_place}
-use Rattle.b67_table.specs.Image.{Image, critical_of}
-use Rattle.b67_table.specs.Private.{display_at, floor}
-use Rattle.b67_table.specs.Rows.{level_below}
 use Rattle.b67_table.specs.Sound.{Lives}
-use Rattle.b67_footprints.specs.Reaching.{NamesCell, LeadsTo}
-use Rattle.b67_footprints.specs.Laws.{IsOfNoOther, HaveOwnStacks, ReachesNoOther}
+use Rattle.b67_footprints.specs.Reaching.{NamesCell, LeadsTo, Reaches, own_word, cell_word, mark, control}
+use Rattle.b67_footprints.specs.Laws.{IsOfNoOther}
 use Rattle.b67_footprints.proofs.Within.{AreLed, led_are}
-use Rattle.b67_faithful.proofs.Contradictions.{some_same, none_some}
 
 -- ---- places
 
--- a place of the process's own stack, or of the system's, or below the floor of the process whose stack it is
+-- a place of the stack is critical for a process
+pub record IsDependedOn (img : Image) (stack : ℕ) : Type 0 where
+  pub by : ℕ
+  pub registers : Registers
+  pub frame : Place
+  pub has : numbered img.regs by ≡ Some registers
+  pub critical : registers.critical ≡ Some frame
+  pub lies : frame.stack ≡ stack
+
+-- the stack is the process's own, or somebody depends on it
+abbrev pub IsNearStack : ℕ → Image → ℕ → Type 0
+IsNearStack p img stack = (stack ≡ p) ⊎ IsDependedOn img stack
+
+-- a place of the process's own stack, or of the system's, or below the floor of the process whose stack it is, on which somebody depends
 pub data Near (p : ℕ) (img : Image) (x : Place) : Type 0 where
   own_stack : x.stack ≡ p → Near p img x
   system : x.stack ≡ 0 → Near p img x
-  below_floor : (r : Registers) → Lives img x.stack r → x.at < floor r → Near p img x
+  below_floor : (r : Registers) → Lives img x.stack r → x.at < floor r → IsDependedOn img x.stack → Near p img x
 
 -- a mark, with the place above it
 abbrev pub NearFrame : ℕ → Image → Place → Type 0
@@ -61,7 +59,7 @@ module _ (p : ℕ) (img : Image) where
   pub lower_near : (x : Place) (n : ℕ) → n ≤ x.at → Near p img x → Near p img (place x.stack n)
   lower_near x n low (own_stack e) = own_stack e
   lower_near x n low (system e) = system e
-  lower_near x n low (below_floor r lives high) = below_floor r lives (omega (arith, low, high))
+  lower_near x n low (below_floor r lives high d) = below_floor r lives (omega (arith, low, high)) d
 
   -- it is in the private part of no other
   pub near_apart : HaveOwnStacks img → (x : Place) → Near p img x → IsOfNoOther img p x
@@ -69,10 +67,16 @@ module _ (p : ℕ) (img : Image) where
   near_apart own x (system e) q o there private =
       let none : 0 ≡ q = sym e ∙ private.0 ∙ (own q o there).0 in
       none_some (ap (λ (n : ℕ). numbered img.regs n) none ∙ there.is)
-  near_apart own x (below_floor r lives low) q o there private =
+  near_apart own x (below_floor r lives low d) q o there private =
       let number : x.stack ≡ q = private.0 ∙ (own q o there).0 in
       let same : r ≡ o = some_same (sym lives.is ∙ ap (λ (n : ℕ). numbered img.regs n) number ∙ there.is) in
       absurd (omega (arith, low, private.1, ap floor same))
+
+  -- its stack is the process's own, or the system's, or somebody depends on it
+  pub near_stack : (x : Place) → Near p img x → IsNearStack p img x.stack ⊎ (x.stack ≡ 0)
+  near_stack x (own_stack e) = inl (inl e)
+  near_stack x (system e) = inr e
+  near_stack x (below_floor r lives low d) = inl (inr d)
 
 -- ---- where a process stands
 
@@ -114,3 +118,10 @@ module _ (p : ℕ) (img : Image) (r : Registers) (near : IsNear p img r) (op : O
         cells = λ c k. near_apart p img own (cell_place c) (names.cells c k).1;
         marks = λ f k. (near_apart p img own f (led_near f k).0, near_apart p img own (place f.stack (f.at + 1)) (led_near f k).1);
       }
+
+  -- nor does it touch a stack but the process's own, the system's, those on which somebody depends, and that of a process that it starts
+  pub touches_near : (x : Place) → Reaches img op r x → IsNearStack p img x.stack ⊎ (x.stack ≡ 0)
+  touches_near x (own_word e) = inl (inl (e ∙ near.own))
+  touches_near x (cell_word c k) = near_stack p img (cell_place c) (names.cells c k).1
+  touches_near x (mark k) = near_stack p img x (led_near x k).0
+  touches_near x (control f k) = near_stack p img (place f.stack (f.at + 1)) (led_near f k).1

@@ -1,27 +1,11 @@
 -- The cells that an operator names, by what it finds: none, one, or one and the one to which that refers.
 use Rattle.std.proofs.Common.{◌≡◌, ◌⊎◌, inl, inr, sym, ap, ◌∙◌, subst, ℕ, ◌+◌, ◌<◌, Option, Some, None, true, false}
-use Rattle.b67_word.specs.declared.Place.{Place}
-use Rattle.b67_word.specs.Word.{Word}
-use Rattle.b67_control.specs.declared.Registers.{Registers}
-use Rattle.b67_control.specs.declared.Irw.{Irw}
-use Rattle.b67_control.specs.declared.Pcw.{Pcw}
-use Rattle.b67_control.specs.declared.Sirw.{Sirw}
-use Rattle.b67_control.specs.Control.{as_irw, as_sirw, as_pcw}
-use Rattle.b67_control.proofs.ControlLaws.{irw_laws, as_pcw-other, sirw_laws}
+use Rattle.b67_rows.proofs.Prelude.{Place, Word, Registers, Irw, Pcw, Sirw, as_irw, as_sirw, as_pcw, irw_laws, as_pcw-other, Couple, Operator, word_at, Cell, place, Image, display_at, cell_place, cell_in, couple_cell, irw_or_sirw, sirw_cell, cell_of, level_below, some_same, none_some}
+use Rattle.b67_control.proofs.ControlLaws.{sirw_laws}
 use Rattle.b67_ops.specs.declared.BranchKind.{BranchKind}
-use Rattle.b67_ops.specs.declared.Couple.{Couple}
-use Rattle.b67_ops.specs.declared.Operator.{Operator}
 use Rattle.b67_ops.specs.declared.Operator.TheVariants as ops
 use Rattle.b67_ops.specs.declared.PlainKind.{PlainKind}
 use Rattle.b67_ops.specs.declared.PlainKind.TheVariants as kinds
-use Rattle.b67_store.specs.Store.{word_at}
-use Rattle.b67_table.specs.declared.Cell.{Cell}
-use Rattle.b67_table.specs.Chains.{place}
-use Rattle.b67_table.specs.Image.{Image}
-use Rattle.b67_table.specs.Private.{display_at}
-use Rattle.b67_table.specs.References.{cell_place, cell_in, couple_cell, irw_or_sirw, sirw_cell, cell_of}
-use Rattle.b67_table.specs.Rows.{level_below}
-use Rattle.b67_faithful.proofs.Contradictions.{some_same, none_some}
 use Rattle.b67_footprints.specs.Reaching.{TakesBy, Takes, Follows, IsIntrinsic}
 use Rattle.b67_footprints.proofs.Within.{AreNamed, named_are}
 use Rattle.b67_rows.proofs.Described.{IsFound, itself, in_cell, through_cell}

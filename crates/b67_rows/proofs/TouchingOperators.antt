@@ -1,19 +1,18 @@
 -- The operator that stands where a process's registers point: a private one, or one that reaches no other's private part.
-use Rattle.std.proofs.Common.{◌≡◌, refl, subst, ℕ, Result, Ok}
-use Rattle.algol_tree.specs.declared.tree.Op.{Op}
+use Rattle.std.proofs.Common.{◌≡◌, ◌⊎◌, inl, inr, refl, sym, ◌∙◌, subst, ℕ, ◌+◌, Result, Ok}
+use Rattle.b67_rows.proofs.Prelude.{Op, Registers, Operator, Code, Image, operator_at, operator_for, HaveOwnStacks, ReachesNoOther}
 use Rattle.algol_tree.specs.declared.tree.Op.TheVariants as operators
-use Rattle.b67_control.specs.declared.Registers.{Registers}
-use Rattle.b67_ops.specs.declared.Operator.{Operator}
 use Rattle.b67_ops.specs.declared.Operator.TheVariants as ops
-use Rattle.b67_segment.specs.declared.code.Code.{Code}
 use Rattle.b67_table.specs.declared.Class.{Class}
 use Rattle.b67_table.specs.declared.Class.TheVariants as classes
-use Rattle.b67_table.specs.Image.{Image}
-use Rattle.b67_table.specs.Rows.{row}
-use Rattle.b67_table.specs.Table.{operator_at, class_at}
-use Rattle.b67_templates.specs.Fragments.{operator_for}
-use Rattle.b67_footprints.specs.Laws.{HaveOwnStacks, ReachesNoOther}
-use Rattle.b67_rows.proofs.Touching.{IsNear, NamesNear, reaches_no_other}
+use Rattle.b67_word.specs.declared.Place.{Place}
+use Rattle.b67_table.specs.Rows.{Row, private_part, action, row}
+use Rattle.b67_table.specs.Sound.{OperatorTouches}
+use Rattle.b67_table.specs.Table.{class_at, class_by}
+use Rattle.b67_table.specs.Touches.{RowTouches}
+use Rattle.b67_footprints.specs.Reaching.{Reaches}
+use Rattle.b67_footprints.proofs.Touching.{operators_touch_what_they_reach}
+use Rattle.b67_rows.proofs.Touching.{IsNear, NamesNear, IsNearStack, reaches_no_other, touches_near}
 
 ok_same : {A B : Type 0} {x y : A} {o : Result A B} → o ≡ Ok x → o ≡ Ok y → x ≡ y
 ok_same e f = cc
@@ -36,6 +35,30 @@ module _ (code : Code) (p : ℕ) (img : Image) (r : Registers) (own : HaveOwnSta
       one_class (class_at op r.place) (subst (λ (f : Operator × ℕ). class_at f.0 r.place ≡ classes.Private) (ok_same there stands) private) acts
   near_reaches (acting o n there near names) op next stands acts =
       subst (λ (f : Operator × ℕ). ReachesNoOther img p f.0 r) (ok_same there stands) (reaches_no_other p img r near o names own)
+
+  -- nor does it touch a stack but the process's own, the system's, those on which somebody depends, and that of a process that it starts
+  pub stands_touches : StandsNear code p img r → (x : Place) → (t : OperatorTouches code img p x) → t.registers ≡ r → (IsNearStack p img x.stack ⊎ (x.stack ≡ 0)) ⊎ (x.stack ≡ img.started + 1)
+  unfolding class_at
+  stands_touches (privately o n there private) x t same =
+      inl (inl (inl (by_row (row t.op t.registers.place) (subst (λ (f : Operator × ℕ). class_by (row f.0 t.registers.place) ≡ classes.Private) (ok_same there stands_so) (subst (λ (z : Registers). class_by (row o z.place) ≡ classes.Private) (sym same) private)) t.touches
+      ∙ (own p t.registers t.lives).0)))
+    where
+      stands_so : operator_at code r ≡ Ok (t.op, t.next)
+      stands_so = subst (λ (z : Registers). operator_at code z ≡ Ok (t.op, t.next)) same t.stands
+
+      by_row : (w : Row) → class_by w ≡ classes.Private → RowTouches w code img p t.registers t.next x → x.stack ≡ t.registers.stack
+      by_row (private_part change) e touched = touched.0
+      by_row (action program) e touched = cc
+  stands_touches (acting o n there near names) x t same = by_reach (operators_touch_what_they_reach code img p x t)
+    where
+      stands_so : operator_at code r ≡ Ok (t.op, t.next)
+      stands_so = subst (λ (z : Registers). operator_at code z ≡ Ok (t.op, t.next)) same t.stands
+
+      by_reach : Reaches img t.op t.registers x ⊎ (x.stack ≡ img.started + 1) → (IsNearStack p img x.stack ⊎ (x.stack ≡ 0)) ⊎ (x.stack ≡ img.started + 1)
+      by_reach (inr e) = inr e
+      by_reach (inl k) =
+          inl (subst (λ (f : Operator × ℕ). (y : Place) → Reaches img f.0 r y → IsNearStack p img y.stack ⊎ (y.stack ≡ 0)) (ok_same there stands_so) (touches_near p img r near o names) x
+          (subst (λ (z : Registers). Reaches img t.op z x) same k))
 
 -- the operators of the language are private
 pub operator_private : (op : Op) (at : ℕ) → class_at (ops.Plain (operator_for op)) at ≡ classes.Private

@@ -1,21 +1,13 @@
 -- The branch back to the start of a loop, and EXIT of a base frame.
 use Rattle.std.proofs.Common.{◌≡◌, sym, ap, ◌∙◌, ℕ, zero, suc, ◌≤◌, List, [], ◌∷◌, Option, Some, None, Bool, false, Ok, arith}
-use Rattle.std.specs.Prelude.{if◌then◌else◌, nat_lt}
-use Rattle.std.proofs.lemmas.Bool.Decides.{nat_tests}
-use Rattle.b67_word.specs.Word.{Word}
+use Rattle.b67_rows.proofs.Prelude.{if◌then◌else◌, nat_lt, nat_tests, Word, Code, Stacks, stack_at, with_stack, gives, Image, with_stacks, with_registers, Row, private_part, operator_at, by_row, operator_letter, Core, HasCore, with_core, stack_of}
 use Rattle.b67_ops.specs.declared.Operator.TheVariants as ops
 use Rattle.b67_ops.specs.declared.BranchKind.TheVariants.{Brun}
-use Rattle.b67_segment.specs.declared.code.Code.{Code}
-use Rattle.b67_store.specs.Store.{Stacks, stack_at, with_stack}
 use Rattle.b67_table.specs.declared.Class.TheVariants as classes
-use Rattle.b67_table.specs.Effect.{gives}
-use Rattle.b67_table.specs.Image.{Image, with_stacks, with_registers}
 use Rattle.b67_table.specs.PrivateRows.{branch}
-use Rattle.b67_table.specs.Rows.{Row, row, private_part, acts, turn}
-use Rattle.b67_table.specs.Table.{raw, operator_at, class_at, class_by, by_row}
+use Rattle.b67_table.specs.Rows.{row, acts, turn}
+use Rattle.b67_table.specs.Table.{raw, class_at, class_by}
 use Rattle.b67_deeds.specs.declared.Letter.TheVariants.{Turn}
-use Rattle.b67_letters.specs.Letters.{operator_letter}
-use Rattle.b67_cores.specs.Cores.{Core, HasCore, with_core, stack_of}
 use Rattle.b67_rows.proofs.Rows.{raw_is}
 
 pub not_below : (m n : ℕ) → n ≤ m → nat_lt m n ≡ false

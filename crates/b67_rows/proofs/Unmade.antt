@@ -1,8 +1,6 @@
 -- What a part has still to make stays so over each action but that which makes it.
 use Rattle.std.proofs.Common.{◌≡◌, refl, Bool, true, false}
-use Rattle.algol_meaning.specs.Rest.{Rest, arrays, event}
-use Rattle.algol_meaning.specs.Asks.{Ask, makes_arrays, makes_event, ask}
-use Rattle.algol_paths.specs.Arrays.{all_to_make, all_left_to_make}
+use Rattle.b67_rows.proofs.Prelude.{Rest, arrays, event, Ask, makes_arrays, makes_event, ask, all_to_make, all_left_to_make}
 
 abbrev pub makes : Ask → Bool
 makes (makes_arrays kind ns pairs vs) = true

@@ -1,22 +1,9 @@
 -- VALC on the cell of a variable.
 use Rattle.std.proofs.Common.{◌≡◌, ap, ℕ, ◌+◌, Option, Some, None, Ok}
-use Rattle.b67_word.specs.declared.Place.{Place}
-use Rattle.b67_word.specs.Word.{Word}
-use Rattle.b67_control.specs.Control.{as_sirw, as_pcw}
-use Rattle.b67_ops.specs.declared.Couple.{Couple}
+use Rattle.b67_rows.proofs.Prelude.{Place, Word, as_sirw, as_pcw, Couple, Code, word_at, Cell, gives, Image, display_at, cell_in, couple_cell, operator_at, Read, operator_letter, Core, HasCore, with_core}
 use Rattle.b67_ops.specs.declared.Operator.TheVariants as ops
-use Rattle.b67_segment.specs.declared.code.Code.{Code}
-use Rattle.b67_store.specs.Store.{word_at}
-use Rattle.b67_table.specs.declared.Cell.{Cell}
 use Rattle.b67_table.specs.declared.Class.TheVariants as classes
-use Rattle.b67_table.specs.Effect.{gives}
-use Rattle.b67_table.specs.Image.{Image}
-use Rattle.b67_table.specs.Private.{display_at}
-use Rattle.b67_table.specs.References.{cell_in, couple_cell}
-use Rattle.b67_table.specs.Table.{raw, operator_at, class_at}
-use Rattle.b67_deeds.specs.declared.Letter.TheVariants.{Read}
-use Rattle.b67_letters.specs.Letters.{operator_letter}
-use Rattle.b67_cores.specs.Cores.{Core, HasCore, with_core}
+use Rattle.b67_table.specs.Table.{raw, class_at}
 use Rattle.b67_rows.proofs.Reaching.{Reaches, reached_there}
 use Rattle.b67_rows.proofs.ReachingRows.{with_top, value_reached_class, value_read_raw, value_read_letter}
 

@@ -1,23 +1,17 @@
 -- What the words of values, events, references and marks are read as.
 use Rattle.std.proofs.Common.{◌≡◌, ◌≢◌, refl, sym, ap, ◌∙◌, ℕ, ◌<◌, ◌^◌, Some, None, Bool, true, false, lit<}
-use Rattle.std.specs.Prelude.{◌==◌, if◌then◌else◌}
-use Rattle.algol_meaning.specs.Value.{Value, number, truth}
-use Rattle.b67_word.specs.Word.{Word, field}
+use Rattle.b67_rows.proofs.Prelude.{◌==◌, if◌then◌else◌, Value, number, truth, Word, as_irw, as_sirw, as_descriptor, as_mscw, as_pcw, event_word, Pcw, as_sirw-other, as_pcw-other, descriptor_laws, Couple, as_indexed, reference, cell_word, Cell, ValueIs}
+use Rattle.b67_word.specs.Word.{field}
 use Rattle.b67_word.proofs.WordLaws.{operand-tag}
 use Rattle.b67_control.specs.Kind as kind
 use Rattle.b67_control.specs.Kind.{kind_of}
-use Rattle.b67_control.specs.Control.{as_irw, as_sirw, as_descriptor, as_mscw, as_event, as_pcw, event_word, pcw_word, sirw_word}
-use Rattle.b67_control.specs.declared.Pcw.{Pcw}
-use Rattle.b67_control.proofs.ControlLaws.{as_irw-irw_word, as_sirw-other, as_pcw-other, as_mscw-mscw_word, kind_of-irw_word, event_laws, descriptor_laws}
-use Rattle.b67_ops.specs.declared.Couple.{Couple}
-use Rattle.b67_table.specs.Arrays.{as_indexed, indexed_in}
-use Rattle.b67_table.specs.PrivateRows.{reference, open_mark}
-use Rattle.b67_table.specs.References.{cell_word}
-use Rattle.b67_table.specs.declared.Cell.{Cell}
-use Rattle.b67_cores.specs.Slots.{ValueIs}
+use Rattle.b67_control.specs.Control.{as_event, pcw_word, sirw_word}
+use Rattle.b67_control.proofs.ControlLaws.{as_irw-irw_word, as_mscw-mscw_word, kind_of-irw_word, event_laws}
+use Rattle.b67_table.specs.Arrays.{indexed_in}
+use Rattle.b67_table.specs.PrivateRows.{open_mark}
 
 -- a word of tag 0
-tag_zero : (w : Word) → w.tag ≡ 0 → kind_of w ≡ kind.operand
+pub tag_zero : (w : Word) → w.tag ≡ 0 → kind_of w ≡ kind.operand
 unfolding kind_of
 tag_zero w e = rw e refl
 
@@ -35,7 +29,7 @@ pub no_descriptor : (w : Word) → w.tag ≡ 0 → as_descriptor w ≡ None
 no_descriptor w e = descriptor_laws.other w (λ k. let is = sym (tag_zero w e) ∙ k in cc)
 
 -- so is the control word of code
-pcw_kind : (x : Pcw) → kind_of (pcw_word x) ≡ kind.pcw
+pub pcw_kind : (x : Pcw) → kind_of (pcw_word x) ≡ kind.pcw
 unfolding kind_of pcw_word
 pcw_kind x = refl
 

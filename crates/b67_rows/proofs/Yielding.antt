@@ -1,6 +1,6 @@
 -- What the text of a block gives tells the block's result.
 use Rattle.std.proofs.Common.{◌≡◌, Option, Some, None, ap}
-use Rattle.algol_tree.specs.declared.tree.Kind.{Kind}
+use Rattle.b67_rows.proofs.Prelude.{Kind}
 use Rattle.b67_templates.specs.Contexts.{nothing, value, element, yields_of}
 
 pub result_given : (o : Option Kind) (kind : Kind) → yields_of o ≡ value kind → o ≡ Some kind

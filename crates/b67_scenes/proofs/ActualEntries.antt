@@ -1,61 +1,18 @@
 -- The entry of an actual's code by the machine, where a process stands at VALC or EVAL.
 use Rattle.std.proofs.Common.{◌≡◌, refl, sym, ap, ◌∙◌, subst, ℕ, ◌+◌, ◌-◌, ◌*◌, ◌/◌, ◌%◌, ◌≤◌, ◌<◌, ◌^◌, List, [], ◌∷◌, ◌++◌, length, Option, Some, Ok, Bool, true, false, arith, length-append}
-use Rattle.std.specs.Prelude.{◌==◌, ◌&&◌, nat_le}
-use Rattle.algol_tree.specs.declared.tree.Kind.{Kind}
-use Rattle.algol_tree.specs.Blocks.{block_numbered, around}
-use Rattle.algol_tree.specs.Cells.{level_of}
-use Rattle.algol_tree.specs.Plain.{PExpr, PProgram}
-use Rattle.algol_tree.specs.Scopes.{Scopes, scopes_of}
-use Rattle.algol_meaning.specs.World.{Process, Part, World, instance_at}
-use Rattle.algol_paths.specs.Segments.{segment_of}
-use Rattle.b67_word.specs.declared.Place.{Place}
+use Rattle.b67_scenes.proofs.Prelude.{◌==◌, ◌&&◌, nat_le, Kind, block_numbered, around, level_of, PExpr, PProgram, Scopes, scopes_of, instance_at, segment_of, Place, Word, Pcw, Rcw, as_mscw, as_rcw, place_at, as_mscw-mscw_word, as_rcw-rcw_word, Operator, Code, stack_limit, word_at, place, linked, end_of_code, entered_mark, control_word, seen, read_as, frame, at_or, numbered_within, has_place, Has, Texts, Slot, Core, IsCore, newest, SlotsAre, CoreAt, slots_length, IsShort, some_same, LiesNested, Links, shown, shown_top, linked_seen, lower_of, next_within, newest_low, segment_low, length-stack, IsActual, IsInReach, Linked, Begins_with, begins_core, all_linked, runs_low}
 use Rattle.b67_word.specs.Word as words
-use Rattle.b67_word.specs.Word.{Word}
-use Rattle.b67_control.specs.declared.Pcw.{Pcw}
-use Rattle.b67_control.specs.declared.Rcw.{Rcw}
-use Rattle.b67_control.specs.Control.{as_mscw, as_rcw}
-use Rattle.b67_control.specs.Display.{place_at}
-use Rattle.b67_control.proofs.ControlLaws.{as_mscw-mscw_word, as_rcw-rcw_word}
-use Rattle.b67_ops.specs.declared.Operator.{Operator}
-use Rattle.b67_segment.specs.declared.code.Code.{Code}
-use Rattle.b67_store.specs.Store.{stack_limit, word_at}
-use Rattle.b67_table.specs.Chains.{place, linked}
-use Rattle.b67_table.specs.Image.{Image}
-use Rattle.b67_table.specs.Limits.{end_of_code}
 use Rattle.b67_table.specs.Linkage as linkage
-use Rattle.b67_table.specs.Linkage.{entered_mark, control_word}
-use Rattle.b67_table.specs.Look.{seen, read_as}
-use Rattle.b67_table.specs.Private.{frame, at_or}
-use Rattle.b67_templates.specs.Cells.{has_place}
-use Rattle.b67_templates.specs.Fragments.{Has}
-use Rattle.b67_templates.specs.Programs.{Texts}
-use Rattle.b67_standing.specs.Stepping.{Slot}
 use Rattle.b67_standing.specs.Standing.{selected}
-use Rattle.b67_cores.specs.Cores.{Core, IsCore}
-use Rattle.b67_cores.specs.Slots.{newest, SlotsAre}
-use Rattle.b67_cores.specs.Stretches.{CoreAt}
-use Rattle.b67_cores.proofs.Moving.{slots_length}
-use Rattle.b67_faithful.specs.Faithful.{IsShort}
-use Rattle.b67_faithful.proofs.Contradictions.{some_same}
-use Rattle.b67_templates.specs.Nested.{LiesNested}
 use Rattle.b67_rows.proofs.AccidentalRow.{with_evaluation, Evaluates, evaluation_is}
-use Rattle.b67_rows.proofs.Displays.{Links, shown, shown_top, linked_seen}
-use Rattle.b67_rows.proofs.EntryRow.{lower_of}
-use Rattle.b67_rows.proofs.Growing.{numbered_low, next_within}
-use Rattle.b67_rows.proofs.Marks.{newest_low}
-use Rattle.b67_rows.proofs.Segmented.{segment_low}
 use Rattle.b67_rows.proofs.Spelled.{HasText, HaveTexts}
-use Rattle.b67_rows.proofs.StackWords.{length-stack}
-use Rattle.b67_frames.specs.Arrays.{Layout, IsActual}
-use Rattle.b67_frames.specs.Frames.{IsInReach}
-use Rattle.b67_frames.proofs.Linked.{Linked, Begins_with, begins_core, all_linked, linked as linked_down}
-use Rattle.b67_frames.proofs.Lying.{runs_low}
+use Rattle.b67_frames.proofs.Linked.{linked as linked_down}
 use Rattle.b67_scenes.proofs.ActualHomes.{ActualHome, routine_of}
 use Rattle.b67_scenes.proofs.Entries.{frame_few, home_level}
 use Rattle.b67_scenes.proofs.Finding.{Found, found_laid, entered_of}
 use Rattle.b67_scenes.proofs.Led.{reached_stands}
 use Rattle.b67_scenes.proofs.Worlds.{placed_of}
-use Rattle.b67_scenes.proofs.Scene.{Scene, frame_is}
+use Rattle.b67_scenes.proofs.Scene.{frame_is, Actor}
 use Rattle.b67_scenes.proofs.Staying.{text_in, level_in, frame_low}
 
 -- ---- the selector
@@ -77,8 +34,9 @@ selected_are sc level home base true false = (record { tag = refl; bits = omega 
 selected_are sc level home base false selector = tt
 
 module _ (tree : PProgram) (code : Code) (texts : Texts) (nested : LiesNested tree) (short : IsShort tree code) (stand : HaveTexts tree code texts)
-    (w : World) (lay : Layout) (img : Image) (p : ℕ) (q : Process) (part : Part) (outer : List Part) (bound : ℕ) (core : Core)
-    (s : Scene tree code texts w lay img p q part outer bound core) where
+    (actor : Actor tree code texts) where
+  open actor use {w, lay, img, p, part, outer, core, s}
+
   abbrev sc : Scopes
   sc = scopes_of tree
 
@@ -108,7 +66,7 @@ module _ (tree : PProgram) (code : Code) (texts : Texts) (nested : LiesNested tr
     pub returns : next < end_of_code
 
   module _ (next : ℕ) (taken rest : List Word) (waiting : List Slot) (t : Takes next taken rest waiting) (i : ℕ) (e : PExpr) (kind : Kind) (word : Word)
-      (is : IsActual sc w lay (IsInReach w (part ∷ outer)) i e kind word) (h : ActualHome tree code texts nested.nested w lay img p q part outer bound core s i e kind word is) where
+      (is : IsActual sc w lay (IsInReach w (part ∷ outer)) i e kind word) (h : ActualHome tree code texts nested.nested actor i e kind word is) where
     -- the block in whose text the actual stands, and the level at which its code runs
     abbrev pub block : ℕ
     block = (instance_at w i).block
@@ -144,7 +102,7 @@ module _ (tree : PProgram) (code : Code) (texts : Texts) (nested : LiesNested tr
     room = omega (arith, at_is, ap length t.parted, length-append taken rest, s.small)
 
     pub own_is : own ≡ length s.stands.frame.lower
-    own_is = frame_is tree code texts w lay img p q part outer bound core s
+    own_is = frame_is tree code texts actor
 
     pub own_low : length s.stands.frame.lower + 2 + length s.stands.frame.cells ≡ base
     own_low = frame_low tree code texts w lay p part outer core.below s.stands.frame
@@ -167,7 +125,7 @@ module _ (tree : PProgram) (code : Code) (texts : Texts) (nested : LiesNested tr
     pub l : Linked sc w lay img.stacks i
     l =
         linked_down sc w lay img.stacks (placed_of tree code texts w lay img s.by s.ok) (entered_of tree code texts w lay img s.by s.ok) i
-        (reached_stands tree code texts w lay img p q part outer bound core s i is.own)
+        (reached_stands tree code texts actor i is.own)
 
     same_at : l.at ≡ home
     same_at = some_same (sym l.laid ∙ found_laid tree code texts w lay img i f)
@@ -212,7 +170,7 @@ module _ (tree : PProgram) (code : Code) (texts : Texts) (nested : LiesNested tr
     -- ---- the mark and the control word
 
     low_number : f.number < 2 ^ 10
-    low_number = omega (arith, numbered_low w.processes f.number f.process f.is, s.by.few)
+    low_number = omega (arith, numbered_within w.processes f.number f.process f.is, s.by.few)
 
     pub mark_reads : at < stack_limit → as_mscw (entered_mark home df) ≡ Some (record { entered = true; stack = f.number; displacement = high; df = df })
     mark_reads small =

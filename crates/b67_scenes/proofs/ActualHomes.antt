@@ -1,42 +1,17 @@
 -- Where a process finds the control word of an actual's code: in the frame of the actual's instance, in whatever stack, and where that code stands.
 use Rattle.std.proofs.Common.{◌≡◌, refl, sym, ap, ◌∙◌, subst, ℕ, ◌+◌, List, ◌∷◌, ◌++◌, length, Some, arith, ◌<◌}
-use Rattle.std.specs.Prelude.{slice_get}
-use Rattle.algol_tree.specs.declared.tree.Kind.{Kind}
-use Rattle.algol_tree.specs.Blocks.{block_numbered}
-use Rattle.algol_tree.specs.Cells.{level_of}
+use Rattle.b67_scenes.proofs.Prelude.{slice_get, Kind, block_numbered, level_of, PExpr, PProgram, Scopes, scopes_of, Instance, instance_at, or_no_instance, segment_of, numbered_small, Place, Word, Pcw, Fits_pcw, as_sirw, pcw_word, Code, word_at, place, cell_word, get_within, simple_cells, procedures, actuals_of, made_base, has_place, Texts, context_of, control_words, some_same, AreNested, get-front, get-behind, IsActual, block_controls, IsInReach, Framed, block_few, as_many_values}
 use Rattle.algol_tree.specs.Plain as forms
-use Rattle.algol_tree.specs.Plain.{PExpr, PProgram}
-use Rattle.algol_tree.specs.Scopes.{Scopes, scopes_of}
 use Rattle.algol_meaning.specs.Choice.{is_subscripted}
-use Rattle.algol_meaning.specs.World.{Instance, Part, Process, World, instance_at, or_no_instance}
-use Rattle.algol_paths.specs.Segments.{segment_of}
-use Rattle.b67_word.specs.declared.Place.{Place}
-use Rattle.b67_word.specs.Word.{Word}
-use Rattle.b67_control.specs.declared.Pcw.{Pcw}
-use Rattle.b67_control.specs.Control.{Fits_pcw, as_sirw, pcw_word}
-use Rattle.b67_segment.specs.declared.code.Code.{Code}
-use Rattle.b67_store.specs.Store.{word_at}
-use Rattle.b67_table.specs.Chains.{place}
-use Rattle.b67_table.specs.Image.{Image}
-use Rattle.b67_table.specs.References.{cell_word}
-use Rattle.b67_templates.specs.Cells.{simple_cells, procedures, Actual, actuals_of, actual_base, made_base, has_place}
+use Rattle.b67_templates.specs.Cells.{Actual, actual_base}
 use Rattle.b67_templates.specs.Code.{RoutineAt}
 use Rattle.b67_templates.specs.Fragments.{routine_at}
-use Rattle.b67_templates.specs.Programs.{Texts, text_of, context_of}
-use Rattle.b67_cores.specs.Cores.{Core}
-use Rattle.b67_cores.specs.Stretches.{control_words}
-use Rattle.b67_faithful.proofs.Contradictions.{some_same}
-use Rattle.b67_templates.specs.Nested.{AreNested}
-use Rattle.b67_rows.proofs.Numbers.{get_below}
-use Rattle.b67_rows.proofs.StackWords.{get-front, get-behind}
-use Rattle.b67_frames.specs.Arrays.{Layout, IsActual}
-use Rattle.b67_frames.specs.Frames.{block_controls, IsInReach, Framed}
-use Rattle.b67_frames.proofs.ControlWords.{block_few, RoutineThere, routine_there, get_routine, routine_control, fits_there}
-use Rattle.b67_frames.proofs.FreshCells.{words_long}
+use Rattle.b67_templates.specs.Programs.{text_of}
+use Rattle.b67_frames.proofs.ControlWords.{RoutineThere, routine_there, get_routine, routine_control, fits_there}
 use Rattle.b67_scenes.proofs.Finding.{found_laid}
 use Rattle.b67_scenes.proofs.Sights.{Seen, seen, cell_below, cell_lies as seen_word}
-use Rattle.b67_scenes.proofs.ArrayPlaces.{cell_read, number_within}
-use Rattle.b67_scenes.proofs.Scene.{Scene}
+use Rattle.b67_scenes.proofs.ArrayPlaces.{cell_read}
+use Rattle.b67_scenes.proofs.Scene.{Actor}
 
 -- the control word of the code of an actual of the block with this number, where that code begins at this place
 abbrev pub routine_of : Scopes → ℕ → PExpr → ℕ → Pcw
@@ -57,8 +32,9 @@ same_place (forms.not e spot) = refl
 same_place (forms.two op x y) = refl
 same_place (forms.if c x y spot) = refl
 
-module _ (tree : PProgram) (code : Code) (texts : Texts) (nested : AreNested (scopes_of tree)) (w : World) (lay : Layout) (img : Image)
-    (p : ℕ) (q : Process) (part : Part) (outer : List Part) (bound : ℕ) (core : Core) (s : Scene tree code texts w lay img p q part outer bound core) where
+module _ (tree : PProgram) (code : Code) (texts : Texts) (nested : AreNested (scopes_of tree)) (actor : Actor tree code texts) where
+  open actor use {w, lay, img, part, outer, s}
+
   abbrev sc : Scopes
   sc = scopes_of tree
 
@@ -72,7 +48,7 @@ module _ (tree : PProgram) (code : Code) (texts : Texts) (nested : AreNested (sc
 
     -- the place of its code, of which the control word lies in the frame of its instance, below the floor of its process; the word refers to that
     pub record ActualHome : Type 0 where
-      pub seen_there : Seen tree code texts w lay img p q part outer bound core s i
+      pub seen_there : Seen tree code texts actor i
       pub at : ℕ
       pub code_there : RoutineAt sc (context_of code texts sc block) (text_of texts sc block) (level_of (block_numbered sc.blocks block) + 1) actual at
       pub fits : Fits_pcw (routine_of sc block e at)
@@ -80,7 +56,7 @@ module _ (tree : PProgram) (code : Code) (texts : Texts) (nested : AreNested (sc
       pub control_lies : word_at img.stacks (place seen_there.found.number (length seen_there.found.lies.frame.lower + is.couple.index)) ≡ Some (pcw_word (routine_of sc block e at))
       pub reads : as_sirw word ≡ Some (record { stack = seen_there.found.number; displacement = length seen_there.found.lies.frame.lower; index = is.couple.index })
 
-    module _ (h : Seen tree code texts w lay img p q part outer bound core s i) where
+    module _ (h : Seen tree code texts actor i) where
       abbrev framed_there : Framed sc w lay h.found.number h.found.lies.part.instance h.found.lies.outer (length h.found.lies.frame.lower) h.found.lies.frame.mark h.found.lies.frame.control h.found.lies.frame.cells
       framed_there = h.found.lies.owned.framed
 
@@ -120,7 +96,7 @@ module _ (tree : PProgram) (code : Code) (texts : Texts) (nested : AreNested (sc
       many = length (simple_cells sc (block_numbered sc.blocks here.block))
 
       values_long : length framed_there.values ≡ many
-      values_long = words_long (simple_cells sc (block_numbered sc.blocks here.block)) framed_there.simple framed_there.values framed_there.simple_are
+      values_long = as_many_values (simple_cells sc (block_numbered sc.blocks here.block)) framed_there.simple framed_there.values framed_there.simple_are
 
       -- it lies after the values and the control words of procedures
       cells_lie : slice_get h.found.lies.frame.cells (many + far) ≡ Some (control_of here.block)
@@ -134,10 +110,10 @@ module _ (tree : PProgram) (code : Code) (texts : Texts) (nested : AreNested (sc
 
       low : high + (2 + (many + far)) < length h.found.core.below
       low =
-          cell_below tree code texts w lay img p q part outer bound core s i h (many + far) (get_below h.found.lies.frame.cells (many + far) (control_of here.block) cells_lie)
+          cell_below tree code texts actor i h (many + far) (get_within h.found.lies.frame.cells (many + far) (control_of here.block) cells_lie)
           (omega (
             arith,
-            get_below (actuals_of sc (block_numbered sc.blocks here.block)) is.stands.number actual there,
+            get_within (actuals_of sc (block_numbered sc.blocks here.block)) is.stands.number actual there,
             ap (λ (j : ℕ). made_base sc (block_numbered sc.blocks j)) block_here,
           ))
 
@@ -155,20 +131,20 @@ module _ (tree : PProgram) (code : Code) (texts : Texts) (nested : AreNested (sc
             below = omega (arith, low, index_is);
             control_lies =
                 ap (λ (k : ℕ). word_at img.stacks (place h.found.number (high + k))) index_is
-                ∙ seen_word tree code texts w lay img p q part outer bound core s i h (many + far) (control_of here.block) cells_lie low
+                ∙ seen_word tree code texts actor i h (many + far) (control_of here.block) cells_lie low
                 ∙ ap (λ (j : ℕ). Some (control_of j)) (sym block_here);
             reads =
                 ap as_sirw is.word_is
                 ∙ ap (λ (f : Place). as_sirw (cell_word (record { frame = f; index = is.couple.index }))) frame_is
-                ∙ cell_read (record { frame = place h.found.number high; index = is.couple.index }) (omega (arith, number_within w.processes h.found.number h.found.process h.found.is, s.by.few))
+                ∙ cell_read (record { frame = place h.found.number high; index = is.couple.index }) (omega (arith, numbered_small w.processes h.found.number h.found.process h.found.is, s.by.few))
                 (omega (arith, low, h.found.small))
                 (omega (
                   arith,
                   index_is,
-                  get_below (actuals_of sc (block_numbered sc.blocks here.block)) is.stands.number actual there,
+                  get_within (actuals_of sc (block_numbered sc.blocks here.block)) is.stands.number actual there,
                   block_few sc nested here.block framed_there.known,
                 ));
           }
 
     pub actual_home : ActualHome
-    actual_home = home_there (seen tree code texts w lay img p q part outer bound core s i is.own)
+    actual_home = home_there (seen tree code texts actor i is.own)

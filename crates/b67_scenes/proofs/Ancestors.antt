@@ -1,15 +1,8 @@
 -- The static parents of an instance that stands, and the places of their frames, before and after a change of the world.
 use Rattle.std.proofs.Common.{◌≡◌, inl, inr, sym, ap, ◌∙◌, ℕ, zero, suc, length, Some, arith}
-use Rattle.b67_list.specs.Numbered.{numbered}
-use Rattle.algol_tree.specs.Scopes.{Scopes}
-use Rattle.algol_meaning.specs.World.{Instance, World, instance_at, ancestor}
-use Rattle.algol_standing.specs.Worlds.{IsStanding}
-use Rattle.b67_word.specs.declared.Place.{Place}
-use Rattle.b67_faithful.proofs.Contradictions.{none_some}
-use Rattle.b67_rows.proofs.Numbers.{get_within, get_below}
-use Rattle.b67_frames.specs.Arrays.{Layout}
-use Rattle.b67_frames.proofs.Facts.{HasFacts, IsStandingOrNone}
-use Rattle.b67_frames.proofs.Onward.{StandOn, StandsStill, climbs_still}
+use Rattle.b67_scenes.proofs.Prelude.{numbered, Scopes, Instance, World, instance_at, ancestor, IsStanding, Place, get_within as get_below, none_some, Layout, HasFacts, IsStandingOrNone, StandOn}
+use Rattle.b67_rows.proofs.Numbers.{get_within}
+use Rattle.b67_frames.proofs.Onward.{StandsStill, climbs_still}
 
 -- the frame of each instance that stands has a place
 abbrev pub AreLaid : World → Layout → Type 0

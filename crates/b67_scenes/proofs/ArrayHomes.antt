@@ -1,56 +1,24 @@
 -- Where a process finds an array: its descriptor lies in the frame of an instance in reach. A name that a block declares means one that is made;
 -- that of a parameter leads to one.
 use Rattle.std.proofs.Common.{◌≡◌, ◌⊎◌, inl, inr, refl, sym, ap, ◌∙◌, subst, ℕ, ◌+◌, ◌<◌, ◌≤◌, ◌^◌, List, ◌∷◌, length, Option, Some, true, false, arith}
-use Rattle.std.proofs.lemmas.List.{length-map}
-use Rattle.algol_tree.specs.declared.tree.Named.{Named}
-use Rattle.algol_tree.specs.Blocks.{block_numbered}
-use Rattle.algol_tree.specs.Cells.{level_of}
-use Rattle.algol_tree.specs.Plain.{PProgram, PBody}
-use Rattle.algol_tree.specs.Scopes.{Scopes, scopes_of, use_of}
-use Rattle.algol_tree.specs.Sorts.{Sort, is_variable, is_formal}
-use Rattle.algol_meaning.specs.Value.{Reference, Bounds, ArrayCell, Cell}
-use Rattle.algol_meaning.specs.Asks.{ask}
-use Rattle.algol_meaning.specs.World.{Instance, Part, Process, World, instance_at, or_no_instance, ancestor, by_cell, followed}
-use Rattle.algol_paths.specs.Arrays.{DeclaredArray, an_array, Shape, shape_of}
-use Rattle.algol_paths.specs.Blocks.{IsSeen, IsSeenAround, IsInner}
-use Rattle.algol_paths.specs.Texts.{InRest}
-use Rattle.algol_standing.specs.Worlds.{IsNoBlock}
-use Rattle.b67_word.specs.declared.Place.{Place}
-use Rattle.b67_word.specs.Word.{Word}
-use Rattle.b67_control.specs.declared.Sirw.{Sirw}
-use Rattle.b67_control.specs.Control.{as_sirw}
-use Rattle.b67_ops.specs.declared.Couple.{Couple}
-use Rattle.b67_segment.specs.declared.code.Code.{Code}
-use Rattle.b67_store.specs.Store.{word_at}
-use Rattle.b67_table.specs.Chains.{place}
-use Rattle.b67_table.specs.Image.{Image}
-use Rattle.b67_table.specs.Private.{display_at}
-use Rattle.b67_table.specs.References.{cell_place, sirw_cell}
-use Rattle.b67_templates.specs.Cells.{simple_cells, made_base, found_from, IsDeclaredArray, IsFormalArray, IsArray, declared, formal, made_of, made_from}
-use Rattle.b67_templates.specs.Programs.{Texts}
-use Rattle.b67_cores.specs.Cores.{Core}
-use Rattle.b67_templates.specs.Nested.{AreNested}
-use Rattle.b67_faithful.proofs.Contradictions.{some_same}
-use Rattle.b67_rows.proofs.AskedElements.{array_asked, ArraySeen, array_seen}
-use Rattle.b67_rows.proofs.Touching.{NearCell}
-use Rattle.b67_frames.specs.Arrays.{Allotted, Layout, DescriptorIs, AreSized, HasArray, IsArrayOf, named_from}
-use Rattle.b67_frames.specs.Frames.{IsComplete, IsInReach, Framed}
-use Rattle.b67_frames.proofs.ControlWords.{block_few}
-use Rattle.b67_frames.proofs.NamedArrays.{up_complete}
-use Rattle.b67_frames.proofs.StaticParents.{IsParent}
-use Rattle.b67_frames.proofs.MadeArrays.{low_number}
-use Rattle.b67_frames.proofs.OwnCells.{OwnCells, framed_cells, OwnArray, none_later, all_made, own_array}
-use Rattle.b67_frames.proofs.Subscripts.{CountsBy, by_own, by_others}
+use Rattle.b67_scenes.proofs.Prelude.{length-map, Named, block_numbered, level_of, PProgram, PBody, Scopes, scopes_of, use_of, Sort, Reference, Bounds, ArrayCell, Cell, ask, Instance, instance_at, or_no_instance, ancestor, by_cell, followed, DeclaredArray, IsSeen, IsSeenAround, IsInner, InRest, IsNoBlock, Place, Word, Sirw, as_sirw, Couple, Code, word_at, place, display_at, cell_place, sirw_cell, simple_cells, made_base, found_from, IsFormalArray, made_of, made_from, Texts, AreNested, some_same, ArraySeen, NearCell, Allotted, DescriptorIs, AreSized, HasArray, IsArrayOf, named_from, IsComplete, IsInReach, Framed, block_few, up_complete, IsParent, low_number, OwnCells, framed_cells, OwnArray, none_later, CountsBy}
+use Rattle.algol_tree.specs.Sorts.{is_variable, is_formal}
+use Rattle.algol_paths.specs.Arrays.{an_array, Shape, shape_of}
+use Rattle.b67_templates.specs.Cells.{IsDeclaredArray, IsArray, declared, formal}
+use Rattle.b67_rows.proofs.AskedElements.{array_asked, array_seen}
+use Rattle.b67_frames.proofs.OwnCells.{all_made, own_array}
+use Rattle.b67_frames.proofs.Subscripts.{by_own, by_others}
 use Rattle.b67_scenes.proofs.ArrayPlaces.{array_index, ArrayPlace, array_place}
 use Rattle.b67_scenes.proofs.FormalHomes.{FormalHome, formal_home}
 use Rattle.b67_scenes.proofs.Led.{IsLed, declared_led, named_parent, named_seen, named_at}
 use Rattle.b67_scenes.proofs.Narrowing.{made_or_around}
-use Rattle.b67_scenes.proofs.Scene.{Scene}
+use Rattle.b67_scenes.proofs.Scene.{Actor}
 use Rattle.b67_scenes.proofs.Sights.{Seen}
 use Rattle.b67_scenes.proofs.Staying.{names_in}
 
-module _ (tree : PProgram) (code : Code) (texts : Texts) (nested : AreNested (scopes_of tree)) (w : World) (lay : Layout) (img : Image)
-    (p : ℕ) (q : Process) (part : Part) (outer : List Part) (bound : ℕ) (core : Core) (s : Scene tree code texts w lay img p q part outer bound core) where
+module _ (tree : PProgram) (code : Code) (texts : Texts) (nested : AreNested (scopes_of tree)) (actor : Actor tree code texts) where
+  open actor use {w, lay, img, p, part, outer, core, s}
+
   abbrev sc : Scopes
   sc = scopes_of tree
 
@@ -115,12 +83,12 @@ module _ (tree : PProgram) (code : Code) (texts : Texts) (nested : AreNested (sc
     far_or_made (inr around_it) = inr (in_bound around_it.1)
 
     parent : IsParent sc w lay part.instance up ((use_of sc n).block)
-    parent = named_parent tree code texts w lay img p q part outer bound core s n is_seen.seen
+    parent = named_parent tree code texts actor n is_seen.seen
 
-    led : IsLed tree code texts w lay img p q part outer bound core s (named n)
-    led = declared_led tree code texts w lay img p q part outer bound core s n is_seen.seen (λ text. in_bound (keeps text).1)
+    led : IsLed tree code texts actor (named n)
+    led = declared_led tree code texts actor n is_seen.seen (λ text. in_bound (keeps text).1)
 
-    module _ (l : Seen tree code texts w lay img p q part outer bound core s home) where
+    module _ (l : Seen tree code texts actor home) where
       abbrev framed_there : Framed sc w lay l.found.number l.found.lies.part.instance l.found.lies.outer (length l.found.lies.frame.lower) l.found.lies.frame.mark l.found.lies.frame.control l.found.lies.frame.cells
       framed_there = l.found.lies.owned.framed
 
@@ -151,8 +119,8 @@ module _ (tree : PProgram) (code : Code) (texts : Texts) (nested : AreNested (sc
       of_there : IsArrayOf sc w lay home n.name d found.cell found.allotted
       of_there = subst (λ (j : ℕ). IsArrayOf sc w lay j n.name d found.cell found.allotted) l.found.lies.instance_is found.of
 
-      h : ArrayPlace tree code texts w lay img p q part outer bound core s home n.name d found.cell found.allotted of_there
-      h = array_place tree code texts w lay img p q part outer bound core s nested home n.name led d found.cell found.allotted of_there
+      h : ArrayPlace tree code texts actor home n.name d found.cell found.allotted of_there
+      h = array_place tree code texts actor nested home n.name led d found.cell found.allotted of_there
 
       number_is : v.made.number ≡ of_there.number
       number_is =
@@ -160,7 +128,7 @@ module _ (tree : PProgram) (code : Code) (texts : Texts) (nested : AreNested (sc
           some_same (sym v.made.there ∙ ap (λ (j : ℕ). made_from 0 (made_of (block_numbered sc.blocks j).decls) n.name) (sym parent.block) ∙ of_there.found) in
           ap (λ f. f.number) same
 
-      index_is : couple.index ≡ array_index tree code texts w lay img p q part outer bound core s home of_there.number
+      index_is : couple.index ≡ array_index tree code texts actor home of_there.number
       index_is = omega (arith, v.made.index_is, number_is, ap (λ (j : ℕ). made_base sc (block_numbered sc.blocks j)) parent.block)
 
       -- a reference can hold its couple
@@ -192,23 +160,23 @@ module _ (tree : PProgram) (code : Code) (texts : Texts) (nested : AreNested (sc
             sized = h.sized;
             descriptor = h.descriptor;
             reaches =
-                directly h.at (named_at tree code texts w lay img p q part outer bound core s n is_seen.seen couple.level v.made.level_is ∙ h.laid)
+                directly h.at (named_at tree code texts actor n is_seen.seen couple.level v.made.level_is ∙ h.laid)
                 (subst (λ (k : ℕ). NearCell p img (record { frame = h.at; index = k })) (sym index_is) h.near)
                 (ap (λ (k : ℕ). word_at img.stacks (place (h.at).stack ((h.at).at + k))) index_is ∙ h.lies);
             fits = couple_fits;
           }
 
     declared_home : ArrayHome ((use_of sc n).sort) (named n) (shape_of d) couple
-    declared_home = home_there (named_seen tree code texts w lay img p q part outer bound core s n is_seen.seen)
+    declared_home = home_there (named_seen tree code texts actor n is_seen.seen)
 
   -- ---- an array that a parameter stands for
 
   module _ (n : Named) (shape : Shape) (couple : Couple) (is_seen : IsSeenThere n) (v : IsFormalArray sc level n shape couple) where
-    f : FormalHome tree code texts nested w lay img p q part outer bound core s n shape couple
-    f = formal_home tree code texts nested w lay img p q part outer bound core s n shape couple is_seen.seen v
+    f : FormalHome tree code texts nested actor n shape couple
+    f = formal_home tree code texts nested actor n shape couple is_seen.seen v
 
     abbrev leads_to : Sirw
-    leads_to = record { stack = (f.target.at).stack; displacement = (f.target.at).at; index = array_index tree code texts w lay img p q part outer bound core s f.r.instance f.leads.array.number }
+    leads_to = record { stack = (f.target.at).stack; displacement = (f.target.at).at; index = array_index tree code texts actor f.r.instance f.leads.array.number }
 
     formal_array_home : ArrayHome ((use_of sc n).sort) f.r shape couple
     formal_array_home =
@@ -242,7 +210,7 @@ module _ (tree : PProgram) (code : Code) (texts : Texts) (nested : AreNested (sc
     -- all is made there, or the array is one around
     made_there_or_around : IsComplete sc w lay part.instance ⊎ IsSeenAround sc block n
     made_there_or_around =
-        made_or_around tree code texts w lay img p q part outer bound core s is_seen.made
+        made_or_around tree code texts actor is_seen.made
         (λ text. (array_seen (IsSeenAround sc block) n (λ (b : PBody). ⊥) (IsSeenAround sc block) (λ (seen : IsSeenAround sc block n). seen) part.rest asks text).seen)
 
     pub array_home : IsArray sc level n shape couple → MeantArray n shape couple

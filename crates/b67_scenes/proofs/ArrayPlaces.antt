@@ -1,39 +1,14 @@
 -- Where the descriptor of an array lies: in the frame of the instance that has made it. A reference to its cell is read back.
-use Rattle.std.proofs.Common.{◌≡◌, refl, sym, ap, ◌∙◌, subst, ℕ, zero, suc, ◌+◌, ◌<◌, ◌≤◌, ◌^◌, List, ◌++◌, length, Some, None, arith}
-use Rattle.std.specs.Prelude.{slice_get, map}
-use Rattle.b67_list.specs.Numbered.{numbered}
-use Rattle.algol_tree.specs.Blocks.{block_numbered}
-use Rattle.algol_tree.specs.Plain.{PProgram}
-use Rattle.algol_tree.specs.Scopes.{Scopes, scopes_of}
-use Rattle.algol_meaning.specs.Value.{Bounds, ArrayCell, array}
-use Rattle.algol_meaning.specs.World.{NamedCell, Instance, Part, Process, World, instance_at, or_no_instance, cell_in}
-use Rattle.algol_paths.specs.Arrays.{DeclaredArray, lows_of}
-use Rattle.b67_word.specs.declared.Place.{Place}
-use Rattle.b67_word.specs.Word.{Word}
-use Rattle.b67_control.specs.Control.{as_sirw}
+use Rattle.std.proofs.Common.{◌≡◌, refl, sym, ap, ◌∙◌, subst, ℕ, ◌+◌, ◌<◌, ◌≤◌, ◌^◌, List, ◌++◌, length, Some, None, arith}
+use Rattle.b67_scenes.proofs.Prelude.{slice_get, map, numbered, block_numbered, PProgram, Scopes, scopes_of, Bounds, ArrayCell, array, NamedCell, Instance, instance_at, or_no_instance, cell_in, DeclaredArray, numbered_small, Place, Word, as_sirw, Code, stack_limit, word_at, place, most_processes, cell_word, get_within, found_from, simple_cells, made_base, made_of, Texts, AreNested, NearCell, Allotted, DescriptorIs, AreSized, HasArray, IsArrayOf, block_controls, Framed, block_few, controls_many, low_number, OwnCells, framed_cells, OwnArray, known_array}
+use Rattle.algol_paths.specs.Arrays.{lows_of}
 use Rattle.b67_control.proofs.ControlLaws.{sirw_laws}
-use Rattle.b67_segment.specs.declared.code.Code.{Code}
-use Rattle.b67_store.specs.Store.{stack_limit, word_at}
-use Rattle.b67_table.specs.Chains.{place}
-use Rattle.b67_table.specs.Image.{Image}
-use Rattle.b67_table.specs.Limits.{most_processes}
-use Rattle.b67_table.specs.References.{cell_word}
 use Rattle.b67_table.specs.declared.Cell.{Cell}
-use Rattle.b67_templates.specs.Cells.{found_from, simple_cells, made_base, made_of}
-use Rattle.b67_templates.specs.Programs.{Texts}
-use Rattle.b67_cores.specs.Cores.{Core}
-use Rattle.b67_templates.specs.Nested.{AreNested}
-use Rattle.b67_rows.proofs.Numbers.{get_below}
-use Rattle.b67_rows.proofs.Touching.{NearCell}
-use Rattle.b67_frames.specs.Arrays.{Allotted, Layout, DescriptorIs, AreSized, HasArray, IsArrayOf}
-use Rattle.b67_frames.specs.Frames.{block_controls, Framed}
-use Rattle.b67_frames.proofs.ControlWords.{block_few, controls_many}
-use Rattle.b67_frames.proofs.MadeArrays.{low_number}
-use Rattle.b67_frames.proofs.OwnCells.{OwnCells, framed_cells, OwnArray, known_array, descriptor_lies}
+use Rattle.b67_frames.proofs.OwnCells.{descriptor_lies}
 use Rattle.b67_scenes.proofs.Finding.{found_laid, frame_near, place_near}
 use Rattle.b67_scenes.proofs.Led.{IsLed, led_below}
 use Rattle.b67_scenes.proofs.MadeNames.{no_simple}
-use Rattle.b67_scenes.proofs.Scene.{Scene}
+use Rattle.b67_scenes.proofs.Scene.{Actor}
 use Rattle.b67_scenes.proofs.Sights.{Seen, seen, cell_lies}
 
 -- a reference to a cell is read back
@@ -41,13 +16,9 @@ pub cell_read : (c : Cell) → c.frame.stack < 2 ^ 10 → c.frame.at < 2 ^ 16 �
     as_sirw (cell_word c) ≡ Some (record { stack = c.frame.stack; displacement = c.frame.at; index = c.index })
 cell_read c few low near = sirw_laws.back (record { stack = c.frame.stack; displacement = c.frame.at; index = c.index }) (few, (low, (near, tt)))
 
--- a number is one of as many as there are
-pub number_within : {A : Type 0} (xs : List A) (k : ℕ) (x : A) → numbered xs k ≡ Some x → k ≤ length xs
-number_within xs zero x e = cc
-number_within xs (suc k) x e = omega (arith, get_below xs k x e)
+module _ (tree : PProgram) (code : Code) (texts : Texts) (actor : Actor tree code texts) where
+  open actor use {w, lay, img, p, s}
 
-module _ (tree : PProgram) (code : Code) (texts : Texts) (w : World) (lay : Layout) (img : Image)
-    (p : ℕ) (q : Process) (part : Part) (outer : List Part) (bound : ℕ) (core : Core) (s : Scene tree code texts w lay img p q part outer bound core) where
   abbrev sc : Scopes
   sc = scopes_of tree
 
@@ -71,7 +42,7 @@ module _ (tree : PProgram) (code : Code) (texts : Texts) (w : World) (lay : Layo
     pub near : NearCell p img (record { frame = at; index = array_index i of.number })
     pub lies : word_at img.stacks (place at.stack (at.at + array_index i of.number)) ≡ Some word
 
-  module _ (j : ℕ) (h : Seen tree code texts w lay img p q part outer bound core s j) where
+  module _ (j : ℕ) (h : Seen tree code texts actor j) where
     abbrev framed_there : Framed sc w lay h.found.number h.found.lies.part.instance h.found.lies.outer (length h.found.lies.frame.lower) h.found.lies.frame.mark h.found.lies.frame.control h.found.lies.frame.cells
     framed_there = h.found.lies.owned.framed
 
@@ -144,15 +115,15 @@ module _ (tree : PProgram) (code : Code) (texts : Texts) (w : World) (lay : Layo
     word_there : (name : List ℕ) (declared : DeclaredArray) (cell : ArrayCell) (a : Allotted) (of : IsArrayOf sc w lay j name declared cell a) → ArrayWord j name declared cell a of
     word_there = subst (λ (k : ℕ). (name : List ℕ) (declared : DeclaredArray) (cell : ArrayCell) (a : Allotted) (of : IsArrayOf sc w lay k name declared cell a) → ArrayWord k name declared cell a of) h.found.lies.instance_is there
 
-    module _ (nested : AreNested (scopes_of tree)) (name : List ℕ) (led : IsLed tree code texts w lay img p q part outer bound core s (record { instance = j; name = name })) (declared : DeclaredArray) (cell : ArrayCell) (a : Allotted)
+    module _ (nested : AreNested (scopes_of tree)) (name : List ℕ) (led : IsLed tree code texts actor (record { instance = j; name = name })) (declared : DeclaredArray) (cell : ArrayCell) (a : Allotted)
         (of : IsArrayOf sc w lay j name declared cell a) where
       x : ArrayWord j name declared cell a of
       x = word_there name declared cell a of
 
       below : length h.found.lies.frame.lower + (2 + x.far) < length h.found.core.below
       below =
-          led_below tree code texts w lay img p q part outer bound core s nested (record { instance = j; name = name }) led h x.apart x.far
-          (get_below h.found.lies.frame.cells x.far x.word x.lies)
+          led_below tree code texts actor nested (record { instance = j; name = name }) led h x.apart x.far
+          (get_within h.found.lies.frame.cells x.far x.word x.lies)
 
       place_seen : ArrayPlace j name declared cell a of
       place_seen =
@@ -164,21 +135,21 @@ module _ (tree : PProgram) (code : Code) (texts : Texts) (w : World) (lay : Layo
             descriptor = x.descriptor;
             has = x.has;
             laid = found_laid tree code texts w lay img j h.found;
-            few = omega (arith, number_within w.processes h.found.number h.found.process h.found.is, s.by.few);
+            few = omega (arith, numbered_small w.processes h.found.number h.found.process h.found.is, s.by.few);
             low = omega (arith, below, h.found.small);
             known = x.known;
             near = (
-              frame_near tree code texts w lay img j h.found p,
-              place_near tree code texts w lay img j h.found p (length h.found.lies.frame.lower + array_index j of.number) (omega (arith, below, x.far_is)),
+              frame_near tree code texts w lay img j h.found p h.near,
+              place_near tree code texts w lay img j h.found p (length h.found.lies.frame.lower + array_index j of.number) h.near (omega (arith, below, x.far_is)),
             );
             lies =
                 ap (λ (n : ℕ). word_at img.stacks (place h.found.number (length h.found.lies.frame.lower + n))) (sym x.far_is)
-                ∙ cell_lies tree code texts w lay img p q part outer bound core s j h x.far x.word x.lies below;
+                ∙ cell_lies tree code texts actor j h x.far x.word x.lies below;
           }
 
-  pub array_place : AreNested (scopes_of tree) → (i : ℕ) (name : List ℕ) → IsLed tree code texts w lay img p q part outer bound core s (record { instance = i; name = name }) → (declared : DeclaredArray) (cell : ArrayCell) (a : Allotted)
+  pub array_place : AreNested (scopes_of tree) → (i : ℕ) (name : List ℕ) → IsLed tree code texts actor (record { instance = i; name = name }) → (declared : DeclaredArray) (cell : ArrayCell) (a : Allotted)
       (of : IsArrayOf sc w lay i name declared cell a) → ArrayPlace i name declared cell a of
-  array_place nested i name led declared cell a of = place_seen i (seen tree code texts w lay img p q part outer bound core s i led.reached) nested name led declared cell a of
+  array_place nested i name led declared cell a of = place_seen i (seen tree code texts actor i led.reached) nested name led declared cell a of
 
   module _ (nested : AreNested sc) (i : ℕ) (name : List ℕ) (declared : DeclaredArray) (cell : ArrayCell) (a : Allotted) (of : IsArrayOf sc w lay i name declared cell a)
       (h : ArrayPlace i name declared cell a of) where

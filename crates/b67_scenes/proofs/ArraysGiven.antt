@@ -1,13 +1,12 @@
 -- What ARRAYS is given: how many arrays, and their bounds in pairs.
 use Rattle.std.proofs.Common.{◌≡◌, refl, ap, ℕ, List, [], ◌∷◌, ℤ}
+use Rattle.b67_scenes.proofs.Prelude.{Value, number, whole_of, Slot, operand, intrinsic, mark, operands, AreNumbers}
 use Rattle.std.specs.Prelude.{pos}
 use Rattle.algol_tree.specs.Plain.{PPair}
 use Rattle.algol_meaning.specs.Arrays.{bounds_of}
-use Rattle.algol_meaning.specs.Value.{Value, number, whole_of}
 use Rattle.b67_ops.specs.declared.intrinsic.Intrinsic.TheVariants.{Arrays}
 use Rattle.b67_templates.specs.Fragments.{IsWhole}
-use Rattle.b67_standing.specs.Stepping.{Slot, operand, intrinsic, mark}
-use Rattle.b67_standing.specs.Standing.{operands, AreNumbers, arrays_begun, extents, AreWholeLows}
+use Rattle.b67_standing.specs.Standing.{arrays_begun, extents, AreWholeLows}
 use Rattle.b67_frames.proofs.ArraySizes.{bound_numbers}
 use Rattle.b67_scenes.proofs.Calling.{wholes_of}
 

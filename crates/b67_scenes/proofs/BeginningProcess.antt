@@ -1,64 +1,17 @@
 -- A process that begins with the instance of a procedure lives: its frame lies at the bottom of its stack, and private operators lead from the
 -- procedure's first place to what the block has to do.
 use Rattle.std.proofs.Common.{◌≡◌, refl, sym, ap, ◌∙◌, subst, ℕ, ◌+◌, ◌*◌, ◌<◌, ◌≤◌, ◌^◌, List, [], ◌∷◌, ◌++◌, length, Option, Some, None, true, false, arith, append_assoc, append-nil, length-append}
-use Rattle.std.specs.Prelude.{replicate, slice_get}
-use Rattle.b67_list.specs.Numbered.{numbered}
-use Rattle.algol_tree.specs.Blocks.{Block, block_numbered}
-use Rattle.algol_tree.specs.Cells.{level_of}
-use Rattle.algol_tree.specs.Plain.{PProgram}
-use Rattle.algol_tree.specs.Scopes.{Scopes, scopes_of}
-use Rattle.algol_meaning.specs.Critical.{some_depends}
+use Rattle.b67_scenes.proofs.Prelude.{replicate, slice_get, numbered, Block, block_numbered, level_of, PProgram, Scopes, scopes_of, some_depends, fresh_cells, settle_items, items_of, Cell, Instance, Part, Process, World, instance_at, or_no_instance, ancestor, KeepsToText, RestsKeepToTheirText, AllIsMadeInOrder, segment_of, IsStanding, Place, Word, Pcw, Rcw, Registers, pcw_word, place_at, as_mscw-mscw_word, as_rcw-rcw_word, Placed, Spells, Code, Segment, place, Image, entered_mark, base_control, at_or, parameter_cells, zero_cells, simple_cells, actuals_of, made_of, in_routine, yields_of, code_at, Texts, context_of, ComesTo, Core, IsCore, HasCore, CoreAt, FragmentsArePerformed, control_words, Begins, BlocksBegin, tokens_around, part_weight, weight, LiesNested, IsText, shown, shown_top, block_keeps, block_makes, Allotted, Layout, AreMade, block_controls, controls_count, most_around, CellsAre, IsChained, home_of, Framed, RoutinesStand, ItemsStand, Frame, of_own, block_few, routines_long, controls_many, LeadAll, lead_there, fresh_are, fresh_lead, simple_many, zero_word, cells_length, as_many_values, CriticalIs, TaskIs, Living, none_yet}
 use Rattle.algol_meaning.specs.Instances as instances
-use Rattle.algol_meaning.specs.Instances.{fresh_cells}
-use Rattle.algol_meaning.specs.Statements.{settle_items, items_of}
-use Rattle.algol_meaning.specs.Value.{Cell}
-use Rattle.algol_meaning.specs.World.{Instance, Part, Process, started, World, instance_at, or_no_instance, ancestor}
-use Rattle.algol_paths.specs.Laws.{KeepsToText, RestsKeepToTheirText, AllIsMadeInOrder}
-use Rattle.algol_paths.specs.Segments.{segment_of}
-use Rattle.algol_standing.specs.Worlds.{IsStanding}
-use Rattle.b67_word.specs.declared.Place.{Place}
-use Rattle.b67_word.specs.Word.{Word}
-use Rattle.b67_control.specs.declared.Pcw.{Pcw}
-use Rattle.b67_control.specs.declared.Rcw.{Rcw}
-use Rattle.b67_control.specs.declared.Registers.{Registers}
-use Rattle.b67_control.specs.Control.{pcw_word}
-use Rattle.b67_control.specs.Display.{place_at}
-use Rattle.b67_control.proofs.ControlLaws.{as_mscw-mscw_word, as_rcw-rcw_word}
-use Rattle.b67_segment.specs.Operators.{Placed}
-use Rattle.b67_segment.specs.Syllables.{Spells}
-use Rattle.b67_segment.specs.declared.code.Code.{Code}
-use Rattle.b67_segment.specs.declared.code.Segment.{Segment}
+use Rattle.algol_meaning.specs.World.{started}
 use Rattle.b67_table.specs.declared.Cell.{Cell as MachineCell}
-use Rattle.b67_table.specs.Chains.{place}
-use Rattle.b67_table.specs.Image.{Image}
-use Rattle.b67_table.specs.Linkage.{entered_mark, base_control}
-use Rattle.b67_table.specs.Private.{at_or}
 use Rattle.b67_table.specs.Starting.{place_of}
-use Rattle.b67_templates.specs.Cells.{parameter_cells, zero_cells, simple_cells, actuals_of, made_of}
-use Rattle.b67_templates.specs.Code.{CellsAt, in_routine}
-use Rattle.b67_templates.specs.Contexts.{yields_of}
-use Rattle.b67_templates.specs.Fragments.{Goes, code_at}
-use Rattle.b67_templates.specs.Programs.{Texts, context_of}
-use Rattle.b67_standing.specs.Standing.{ComesTo}
-use Rattle.b67_cores.specs.Cores.{Core, IsCore, HasCore}
-use Rattle.b67_cores.specs.Stretches.{CoreAt, FragmentsArePerformed, control_words, Begins, BlocksBegin}
-use Rattle.b67_faithful.specs.Weight.{tokens_around, part_weight, weight}
-use Rattle.b67_templates.specs.Nested.{LiesNested, IsText}
+use Rattle.b67_templates.specs.Code.{CellsAt}
+use Rattle.b67_templates.specs.Fragments.{Goes}
 use Rattle.b67_rows.proofs.Begun.{core_of}
-use Rattle.b67_rows.proofs.Displays.{shown, shown_top}
 use Rattle.b67_rows.proofs.Segmented.{length_mapped}
 use Rattle.b67_rows.proofs.StartRow.{begins_with, first_stack, begins_is}
-use Rattle.b67_rows.proofs.Texted.{block_keeps, block_makes}
-use Rattle.b67_frames.specs.Arrays.{Allotted, Layout, AreMade}
-use Rattle.b67_frames.specs.Frames.{block_controls, controls_count, most_around, CellsAre, IsChained, home_of, Framed, RoutinesStand, ItemsStand, Frame, of_own}
-use Rattle.b67_frames.proofs.ControlWords.{block_few, routines_long, controls_many}
-use Rattle.b67_frames.proofs.Formals.{LeadAll, lead_there}
-use Rattle.b67_frames.proofs.FreshCells.{fresh_are, fresh_lead, simple_many, words_long}
 use Rattle.b67_frames.proofs.Linked.{shown_chained}
-use Rattle.b67_frames.proofs.Zeros.{zero_word, cells_length}
-use Rattle.b67_scenes.specs.Depending.{CriticalIs, TaskIs}
-use Rattle.b67_scenes.specs.Pictures.{Living}
-use Rattle.b67_scenes.specs.Reaches.{none_yet}
 use Rattle.b67_scenes.proofs.Ancestors.{AreLaid}
 use Rattle.b67_scenes.proofs.Landing.{living_of}
 use Rattle.b67_scenes.proofs.Paths.{CanClimb}
@@ -151,7 +104,7 @@ module _ (tree : PProgram) (code : Code) (texts : Texts) (nested : LiesNested tr
     cells = (parameters ++ zeros) ++ control_words controls
 
     taken_many : length parameters ≡ length (parameter_cells sc b)
-    taken_many = words_long (parameter_cells sc b) (instances.parameter_cells b.parameters given) parameters e.cells
+    taken_many = as_many_values (parameter_cells sc b) (instances.parameter_cells b.parameters given) parameters e.cells
 
     all_many : length (simple_cells sc b) ≡ length parameters + many
     all_many = omega (arith, simple_many sc b, taken_many)
@@ -176,7 +129,7 @@ module _ (tree : PProgram) (code : Code) (texts : Texts) (nested : LiesNested tr
         omega (
           arith,
           length-append (parameters ++ zeros) (control_words controls),
-          words_long (simple_cells sc b) (fresh_cells b given) (parameters ++ zeros) cells_are,
+          as_many_values (simple_cells sc b) (fresh_cells b given) (parameters ++ zeros) cells_are,
           all_many,
           length_mapped (λ (pcw : Pcw). pcw_word pcw) controls,
         )

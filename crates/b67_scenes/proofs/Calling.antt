@@ -1,57 +1,25 @@
 -- The call of an intrinsic, by what lies above the floor of the frame.
-use Rattle.std.proofs.Common.{◌≡◌, refl, sym, ap, ◌∙◌, subst, ℕ, ◌+◌, ◌-◌, ◌<◌, ◌≤◌, ◌^◌, List, [], ◌∷◌, ◌++◌, length, Option, Some, None, true, false, arith, lit<, append_assoc, length-append, ℤ}
-use Rattle.std.specs.Prelude.{slice_get, reverse}
-use Rattle.std.proofs.lemmas.List.{reverse-append}
+use Rattle.std.proofs.Common.{◌≡◌, refl, sym, ap, ◌∙◌, subst, ℕ, ◌+◌, ◌-◌, ◌<◌, ◌≤◌, ◌^◌, List, [], ◌∷◌, ◌++◌, length, Option, Some, true, false, arith, lit<, append_assoc, length-append, ℤ}
+use Rattle.b67_scenes.proofs.Prelude.{slice_get, reverse, reverse-append, PProgram, Scopes, scopes_of, Value, number, whole_of, Word, as_whole, Mscw, Pcw, Sirw, as_irw, as_sirw, as_mscw, as_pcw, as_pcw-pcw_word, Intrinsic, Couple, number_of, couple_of_intrinsic, Place, Code, words_of, words_or, word_at, intrinsic_pcw, system_stack, place, woken_number, Look, ◌>->◌, seen, cell_of, frame, called_by, HasKind, Texts, Slot, operand, intrinsic, descriptor, mark, operands, AreNumbers, Known, ValueIs, newest, SlotsAre, CoreAt, slots_length, number_read, words_are, Top, top_slot, get-front, get-seam, reference_read, mark_read, pcw_no_sirw}
 use Rattle.algol_tree.specs.declared.tree.Kind.TheVariants as types
-use Rattle.algol_tree.specs.Plain.{PProgram}
-use Rattle.algol_tree.specs.Scopes.{Scopes, scopes_of}
-use Rattle.algol_meaning.specs.Value.{Value, number, truth, whole_of}
-use Rattle.algol_meaning.specs.World.{Process, Part, World}
-use Rattle.b67_word.specs.Word.{Word, as_whole}
-use Rattle.b67_control.specs.declared.Mscw.{Mscw}
-use Rattle.b67_control.specs.declared.Pcw.{Pcw}
+use Rattle.algol_meaning.specs.Value.{truth}
 use Rattle.b67_control.specs.declared.Irw.{Irw}
-use Rattle.b67_control.specs.declared.Sirw.{Sirw}
-use Rattle.b67_control.specs.Control.{as_irw, as_sirw, as_mscw, as_pcw}
-use Rattle.b67_control.proofs.ControlLaws.{as_sirw-other, as_pcw-pcw_word, as_mscw-mscw_word, kind_of-pcw_word}
-use Rattle.b67_ops.specs.declared.intrinsic.Intrinsic.{Intrinsic}
 use Rattle.b67_ops.specs.declared.intrinsic.Intrinsic.TheVariants as names
-use Rattle.b67_ops.specs.declared.Couple.{Couple}
-use Rattle.b67_ops.specs.Intrinsics.{number_of, couple_of_intrinsic}
 use Rattle.b67_ops.specs.declared.Operator.TheVariants as ops
 use Rattle.b67_ops.specs.declared.PlainKind.TheVariants as kinds
-use Rattle.b67_word.specs.declared.Place.{Place}
-use Rattle.b67_segment.specs.declared.code.Code.{Code}
-use Rattle.b67_store.specs.Store.{words_of, words_or, word_at}
 use Rattle.b67_table.specs.Arguments.{wholes_in, joined}
-use Rattle.b67_table.specs.Beginning.{base_mark, intrinsic_pcw, system_stack}
-use Rattle.b67_table.specs.Chains.{place}
-use Rattle.b67_table.specs.Image.{Image, woken_number}
 use Rattle.b67_table.specs.declared.Cell.{Cell}
 use Rattle.b67_table.specs.declared.Reached.{Reached}
-use Rattle.b67_table.specs.Look.{Look, ◌>->◌, valid, seen}
-use Rattle.b67_table.specs.References.{cell_in, cell_of, irw_or_sirw, reached_in, one_sirw}
+use Rattle.b67_table.specs.Look.{valid}
+use Rattle.b67_table.specs.References.{cell_in, irw_or_sirw, reached_in, one_sirw}
 use Rattle.b67_table.specs.Names.{intrinsic_numbered}
-use Rattle.b67_table.specs.Private.{frame}
 use Rattle.b67_deeds.specs.declared.Letter.{Letter}
-use Rattle.b67_letters.specs.Letters.{told_by, letter_of, intrinsic_letter, called_letter, called_by, operator_letter}
-use Rattle.b67_templates.specs.Fragments.{HasKind}
-use Rattle.b67_templates.specs.Programs.{Texts}
-use Rattle.b67_standing.specs.Stepping.{Slot, operand, reference, intrinsic, control, descriptor, mark}
-use Rattle.b67_standing.specs.Standing.{operands, AreNumbers}
-use Rattle.b67_cores.specs.Cores.{Core}
-use Rattle.b67_cores.specs.Slots.{Known, ValueIs, newest, SlotsAre}
-use Rattle.b67_cores.specs.Stretches.{CoreAt}
-use Rattle.b67_cores.proofs.Moving.{slots_length}
-use Rattle.b67_cores.proofs.Taking.{number_read}
+use Rattle.b67_letters.specs.Letters.{told_by, letter_of, intrinsic_letter, called_letter, operator_letter}
+use Rattle.b67_standing.specs.Stepping.{reference, control}
 use Rattle.b67_rows.proofs.EnterRow.{Called}
 use Rattle.b67_rows.proofs.IntrinsicRows.{CallsIntrinsic, without_call}
-use Rattle.b67_rows.proofs.Rows.{words_are}
-use Rattle.b67_rows.proofs.Slotted.{Top, top_slot}
-use Rattle.b67_rows.proofs.StackWords.{word-under, get-front, get-seam}
-use Rattle.b67_rows.proofs.Words.{reference_read, mark_read}
-use Rattle.b67_frames.specs.Arrays.{Layout}
-use Rattle.b67_scenes.proofs.Scene.{Scene, frame_is}
+use Rattle.b67_rows.proofs.StackWords.{word-under}
+use Rattle.b67_scenes.proofs.Scene.{frame_is, Actor}
 use Rattle.b67_scenes.proofs.Staying.{text_in, level_in, most_in, frame_low}
 
 -- ---- the words of intrinsics
@@ -85,14 +53,6 @@ is_numbered names.Fix = record { small = lit< tt; lies = refl; named = refl }
 
 pcw_read : (name : Intrinsic) → as_pcw (intrinsic_pcw (number_of name)) ≡ Some (intrinsic_in name)
 pcw_read name = as_pcw-pcw_word (intrinsic_in name) (lit< tt, (lit< tt, (lit< tt, (lit< tt, (omega (arith, (is_numbered name).small), tt)))))
-
-pcw_no_sirw : (name : Intrinsic) → as_sirw (intrinsic_pcw (number_of name)) ≡ None
-pcw_no_sirw name =
-    as_sirw-other (intrinsic_pcw (number_of name))
-    (λ k. let is = sym (kind_of-pcw_word (intrinsic_in name) (lit< tt, (lit< tt, (lit< tt, (lit< tt, (omega (arith, (is_numbered name).small), tt)))))) ∙ k in cc)
-
-pub base_read : as_mscw base_mark ≡ Some (record { entered = true; stack = 0; displacement = 0; df = 0 })
-base_read = as_mscw-mscw_word (record { entered = true; stack = 0; displacement = 0; df = 0 }) (lit< tt, (lit< tt, (lit< tt, tt)))
 
 -- ---- the arguments
 
@@ -192,203 +152,205 @@ module _ (sc : Scopes) (known : List Known) (level home base : ℕ) where
 
 -- ---- the call, in a scene
 
-module _ (tree : PProgram) (code : Code) (texts : Texts) (w : World) (lay : Layout) (img : Image)
-    (p : ℕ) (q : Process) (part : Part) (outer : List Part) (bound : ℕ) (core : Core) (s : Scene tree code texts w lay img p q part outer bound core)
-    (name : Intrinsic) (slots below : List Slot) (lies : s.stands.slots ≡ slots) where
-  abbrev sc : Scopes
-  sc = scopes_of tree
+module _ (tree : PProgram) (code : Code) (texts : Texts) (actor : Actor tree code texts) where
+  open actor use {w, lay, img, p, part, outer, core, s}
 
-  abbrev home : ℕ
-  home = frame core.registers
+  module _ (name : Intrinsic) (slots below : List Slot) (lies : s.stands.slots ≡ slots) where
+    abbrev sc : Scopes
+    sc = scopes_of tree
 
-  abbrev base : ℕ
-  base = length core.below
+    abbrev home : ℕ
+    home = frame core.registers
 
-  -- these words are the arguments of an intrinsic, and above the mark that gives way nothing else lies
-  pub record IsEntered (arguments : List Word) : Type 0 where
-    pub reference : Word
-    pub marked : Word
-    pub others : List Word
-    pub calls : CallsIntrinsic img core name arguments reference marked others
-    pub action : operator_letter (ops.Plain kinds.Entr) img core.registers ≡ Some (letter_of (woken_number img.numbers core.registers.stack) name)
-    pub after_at : (pc : ℕ) → CoreAt sc s.stands.held code (text_in tree texts w part) (level_in tree w part) pc below (without_call core others calls.m.df pc)
-    pub few : length below ≤ most_in tree w part
+    abbrev base : ℕ
+    base = length core.below
 
-  -- the frame's own mark
-  home_is : home ≡ length s.stands.frame.lower
-  home_is = frame_is tree code texts w lay img p q part outer bound core s
+    -- these words are the arguments of an intrinsic, and above the mark that gives way nothing else lies
+    pub record IsEntered (arguments : List Word) : Type 0 where
+      pub reference : Word
+      pub marked : Word
+      pub others : List Word
+      pub calls : CallsIntrinsic img core name arguments reference marked others
+      pub action : operator_letter (ops.Plain kinds.Entr) img core.registers ≡ Some (letter_of (woken_number img.numbers core.registers.stack) name)
+      pub after_at : (pc : ℕ) → CoreAt sc s.stands.held code (text_in tree texts w part) (level_in tree w part) pc below (without_call core others calls.m.df pc)
+      pub few : length below ≤ most_in tree w part
 
-  home_low : home ≤ base
-  home_low = omega (arith, home_is, frame_low tree code texts w lay p part outer core.below s.stands.frame)
+    -- the frame's own mark
+    home_is : home ≡ length s.stands.frame.lower
+    home_is = frame_is tree code texts actor
 
-  own_lies : slice_get core.below home ≡ Some s.stands.frame.mark
-  own_lies =
-      ap (λ (ws : List Word). slice_get ws home) s.stands.frame.words_are
-      ∙ get-seam s.stands.frame.lower s.stands.frame.mark (s.stands.frame.control ∷ s.stands.frame.cells) home home_is
+    home_low : home ≤ base
+    home_low = omega (arith, home_is, frame_low tree code texts w lay p part outer core.below s.stands.frame)
 
-  intrinsic_is : IsNumbered name
-  intrinsic_is = is_numbered name
+    own_lies : slice_get core.below home ≡ Some s.stands.frame.mark
+    own_lies =
+        ap (λ (ws : List Word). slice_get ws home) s.stands.frame.words_are
+        ∙ get-seam s.stands.frame.lower s.stands.frame.mark (s.stands.frame.control ∷ s.stands.frame.cells) home home_is
 
-  entry_lies : word_at img.stacks (record { stack = 0; at = 0 + number_of name }) ≡ Some (intrinsic_pcw (number_of name))
-  entry_lies = ap (λ (o : Option (List Word)). slice_get (words_or o) (0 + number_of name)) s.by.system ∙ intrinsic_is.lies
+    intrinsic_is : IsNumbered name
+    intrinsic_is = is_numbered name
 
-  module _ (g : Lying sc s.stands.held (level_in tree w part) home base slots (intrinsic name ∷ mark ∷ below) core.words) (i : Top sc s.stands.held (level_in tree w part) home base (intrinsic name) (mark ∷ below) g.others)
-      (k : Top sc s.stands.held (level_in tree w part) home base mark below i.words_below) where
-    abbrev df : ℕ
-    df = base + length below - newest home base below
+    entry_lies : word_at img.stacks (record { stack = 0; at = 0 + number_of name }) ≡ Some (intrinsic_pcw (number_of name))
+    entry_lies = ap (λ (o : Option (List Word)). slice_get (words_or o) (0 + number_of name)) s.by.system ∙ intrinsic_is.lies
 
-    many : length s.stands.slots ≡ length g.arguments + (length below + 2)
-    many = ap length lies ∙ g.many ∙ omega arith
+    module _ (g : Lying sc s.stands.held (level_in tree w part) home base slots (intrinsic name ∷ mark ∷ below) core.words) (i : Top sc s.stands.held (level_in tree w part) home base (intrinsic name) (mark ∷ below) g.others)
+        (k : Top sc s.stands.held (level_in tree w part) home base mark below i.words_below) where
+      abbrev df : ℕ
+      df = base + length below - newest home base below
 
-    room : base + length below + 2 ≤ 2 ^ 16
-    room = omega (arith, many, s.small, slots_length sc s.stands.held (level_in tree w part) home base s.stands.slots core.words s.stands.there.words_are)
+      many : length s.stands.slots ≡ length g.arguments + (length below + 2)
+      many = ap length lies ∙ g.many ∙ omega arith
 
-    long : length k.words_below ≡ length below
-    long = slots_length sc s.stands.held (level_in tree w part) home base below k.words_below k.are
+      room : base + length below + 2 ≤ 2 ^ 16
+      room = omega (arith, many, s.small, slots_length sc s.stands.held (level_in tree w part) home base s.stands.slots core.words s.stands.there.words_are)
 
-    all_words : core.words ≡ g.arguments ++ i.word ∷ k.word ∷ k.words_below
-    all_words = g.is ∙ ap (λ (ws : List Word). g.arguments ++ ws) (i.is ∙ ap (λ (ws : List Word). i.word ∷ ws) k.is)
+      long : length k.words_below ≡ length below
+      long = slots_length sc s.stands.held (level_in tree w part) home base below k.words_below k.are
 
-    mark_at : core.registers.f ≡ base + length below
-    mark_at = s.stands.there.mark_is ∙ ap (λ (l : List Slot). newest home base l) lies ∙ g.mark_is
+      all_words : core.words ≡ g.arguments ++ i.word ∷ k.word ∷ k.words_below
+      all_words = g.is ∙ ap (λ (ws : List Word). g.arguments ++ ws) (i.is ∙ ap (λ (ws : List Word). i.word ∷ ws) k.is)
 
-    low : newest home base below ≤ base + length below
-    low = newest_low sc s.stands.held (level_in tree w part) home base below home_low
+      mark_at : core.registers.f ≡ base + length below
+      mark_at = s.stands.there.mark_is ∙ ap (λ (l : List Slot). newest home base l) lies ∙ g.mark_is
 
-    reads_reference : as_irw i.word ≡ Some (record { level = 0; index = number_of name })
-    reads_reference = ap as_irw i.slot_is ∙ reference_read (couple_of_intrinsic name) (lit< tt) intrinsic_is.small
+      low : newest home base below ≤ base + length below
+      low = newest_low sc s.stands.held (level_in tree w part) home base below home_low
 
-    lower : Marked sc s.stands.held (level_in tree w part) home base core.below ((g.arguments ++ i.word ∷ k.word ∷ []) ++ k.words_below) (newest home base below)
-    lower =
-        marked_at sc s.stands.held (level_in tree w part) home base core.below refl s.stands.frame.mark own_lies _ s.stands.frame.mark_is below
-        (g.arguments ++ i.word ∷ k.word ∷ []) k.words_below k.are (omega (arith, room))
+      reads_reference : as_irw i.word ≡ Some (record { level = 0; index = number_of name })
+      reads_reference = ap as_irw i.slot_is ∙ reference_read (couple_of_intrinsic name) (lit< tt) intrinsic_is.small
 
-    stack_is : words_of img.stacks core.registers.stack ≡ core.below ++ reverse ((g.arguments ++ i.word ∷ k.word ∷ []) ++ k.words_below)
-    stack_is =
-        words_are img p core s.has
-        ∙ ap (λ (ws : List Word). core.below ++ reverse ws) (all_words ∙ sym (append_assoc g.arguments (i.word ∷ k.word ∷ []) k.words_below))
+      lower : Marked sc s.stands.held (level_in tree w part) home base core.below ((g.arguments ++ i.word ∷ k.word ∷ []) ++ k.words_below) (newest home base below)
+      lower =
+          marked_at sc s.stands.held (level_in tree w part) home base core.below refl s.stands.frame.mark own_lies _ s.stands.frame.mark_is below
+          (g.arguments ++ i.word ∷ k.word ∷ []) k.words_below k.are (omega (arith, room))
 
-    lower_lies : word_at img.stacks (place core.registers.stack (core.registers.f - df)) ≡ Some lower.word
-    lower_lies =
-        let at : core.registers.f - df ≡ newest home base below = omega (arith, mark_at, low) in
-        ap (λ (n : ℕ). slice_get (words_of img.stacks core.registers.stack) n) at
-        ∙ ap (λ (ws : List Word). slice_get ws (newest home base below)) stack_is
-        ∙ lower.lies
+      stack_is : words_of img.stacks core.registers.stack ≡ core.below ++ reverse ((g.arguments ++ i.word ∷ k.word ∷ []) ++ k.words_below)
+      stack_is =
+          words_are img p core s.has
+          ∙ ap (λ (ws : List Word). core.below ++ reverse ws) (all_words ∙ sym (append_assoc g.arguments (i.word ∷ k.word ∷ []) k.words_below))
 
-    called : Called core g.arguments i.word k.word k.words_below
-    called = record { words = all_words; mark_at = omega (arith, mark_at, long) }
+      lower_lies : word_at img.stacks (place core.registers.stack (core.registers.f - df)) ≡ Some lower.word
+      lower_lies =
+          let at : core.registers.f - df ≡ newest home base below = omega (arith, mark_at, low) in
+          ap (λ (n : ℕ). slice_get (words_of img.stacks core.registers.stack) n) at
+          ∙ ap (λ (ws : List Word). slice_get ws (newest home base below)) stack_is
+          ∙ lower.lies
 
-    abbrev calls : CallsIntrinsic img core name g.arguments i.word k.word k.words_below
-    calls =
-        record {
-          called = called;
-          m = record { entered = false; stack = 0; displacement = 0; df = df };
-          reads_mark = ap as_mscw k.slot_is ∙ mark_read df (omega (arith, room));
-          unentered = refl;
-          level = 0;
-          index = number_of name;
-          frame = place 0 0;
-          reads = reads_reference;
-          shown = s.sees;
-          entry = intrinsic_pcw (number_of name);
-          lies = entry_lies;
-          no_sirw = pcw_no_sirw name;
-          pcw = intrinsic_in name;
-          reads_entry = pcw_read name;
-          is_intrinsic = refl;
-          numbered = intrinsic_is.named;
-          short = omega (arith, mark_at);
-          lower = lower.word;
-          lower_lies = lower_lies;
-          lower_mark = lower.m;
-          reads_lower = lower.reads;
-        }
+      called : Called core g.arguments i.word k.word k.words_below
+      called = record { words = all_words; mark_at = omega (arith, mark_at, long) }
 
-    reference_lies : word_at img.stacks (place core.registers.stack (core.registers.f + 1)) ≡ Some i.word
-    reference_lies =
-        ap (λ (ws : List Word). slice_get ws (core.registers.f + 1)) (words_are img p core s.has ∙ ap (λ (ws : List Word). core.below ++ reverse ws) all_words)
-        ∙ word-under core.below g.arguments i.word (k.word ∷ k.words_below) (core.registers.f + 1) (omega (arith, mark_at, long))
+      abbrev calls : CallsIntrinsic img core name g.arguments i.word k.word k.words_below
+      calls =
+          record {
+            called = called;
+            m = record { entered = false; stack = 0; displacement = 0; df = df };
+            reads_mark = ap as_mscw k.slot_is ∙ mark_read df (omega (arith, room));
+            unentered = refl;
+            level = 0;
+            index = number_of name;
+            frame = place 0 0;
+            reads = reads_reference;
+            shown = s.sees;
+            entry = intrinsic_pcw (number_of name);
+            lies = entry_lies;
+            no_sirw = pcw_no_sirw name;
+            pcw = intrinsic_in name;
+            reads_entry = pcw_read name;
+            is_intrinsic = refl;
+            numbered = intrinsic_is.named;
+            short = omega (arith, mark_at);
+            lower = lower.word;
+            lower_lies = lower_lies;
+            lower_mark = lower.m;
+            reads_lower = lower.reads;
+          }
 
-    abbrev entry_cell : Cell
-    entry_cell = record { frame = place 0 0; index = number_of name }
+      reference_lies : word_at img.stacks (place core.registers.stack (core.registers.f + 1)) ≡ Some i.word
+      reference_lies =
+          ap (λ (ws : List Word). slice_get ws (core.registers.f + 1)) (words_are img p core s.has ∙ ap (λ (ws : List Word). core.below ++ reverse ws) all_words)
+          ∙ word-under core.below g.arguments i.word (k.word ∷ k.words_below) (core.registers.f + 1) (omega (arith, mark_at, long))
 
-    abbrev found_in : Look Pcw → Option Letter
-    found_in l = told_by (called_letter img core.registers.stack) (seen img.stacks l)
+      abbrev entry_cell : Cell
+      entry_cell = record { frame = place 0 0; index = number_of name }
 
-    -- the intrinsic is what ENTR calls
-    action_is_called : operator_letter (ops.Plain kinds.Entr) img core.registers ≡ Some (letter_of (woken_number img.numbers core.registers.stack) name)
-    action_is_called =
-        ap (λ (o : Option Word). found_in (valid o >-> (λ (above : Word). called_by above (cell_of core.registers above)))) reference_lies
-        ∙ ap (λ (o : Option Irw). found_in (called_by i.word (irw_or_sirw core.registers o (as_sirw i.word)))) reads_reference
-        ∙ ap (λ (o : Option Place). found_in (called_by i.word (cell_in o (number_of name)))) s.sees
-        ∙ ap (λ (o : Option Word). found_in (reached_in entry_cell o >-> (λ (v : Reached). one_sirw (as_sirw v.word) v) >-> (λ (v : Reached). valid (as_pcw v.word)))) entry_lies
-        ∙ ap (λ (o : Option Sirw). found_in (one_sirw o (record { word = intrinsic_pcw (number_of name); cell = entry_cell }) >-> (λ (v : Reached). valid (as_pcw v.word)))) (pcw_no_sirw name)
-        ∙ ap (λ (o : Option Pcw). found_in (valid o)) (pcw_read name)
-        ∙ ap (λ (o : Option Intrinsic). intrinsic_letter (woken_number img.numbers core.registers.stack) o) intrinsic_is.named
+      abbrev found_in : Look Pcw → Option Letter
+      found_in l = told_by (called_letter img core.registers.stack) (seen img.stacks l)
 
-    after_call : (pc : ℕ) → CoreAt sc s.stands.held code (text_in tree texts w part) (level_in tree w part) pc below (without_call core k.words_below df pc)
-    after_call pc =
-        record {
-          segment = s.stands.there.segment;
-          there = s.stands.there.there;
-          spells = s.stands.there.spells;
-          level_is = s.stands.there.level_is;
-          place_is = refl;
-          is = record { bottom = s.has.is.bottom; top = omega (arith, mark_at, long) };
-          mark_is = omega (arith, mark_at, low);
-          words_are = k.are;
-        }
+      -- the intrinsic is what ENTR calls
+      action_is_called : operator_letter (ops.Plain kinds.Entr) img core.registers ≡ Some (letter_of (woken_number img.numbers core.registers.stack) name)
+      action_is_called =
+          ap (λ (o : Option Word). found_in (valid o >-> (λ (above : Word). called_by above (cell_of core.registers above)))) reference_lies
+          ∙ ap (λ (o : Option Irw). found_in (called_by i.word (irw_or_sirw core.registers o (as_sirw i.word)))) reads_reference
+          ∙ ap (λ (o : Option Place). found_in (called_by i.word (cell_in o (number_of name)))) s.sees
+          ∙ ap (λ (o : Option Word). found_in (reached_in entry_cell o >-> (λ (v : Reached). one_sirw (as_sirw v.word) v) >-> (λ (v : Reached). valid (as_pcw v.word)))) entry_lies
+          ∙ ap (λ (o : Option Sirw). found_in (one_sirw o (record { word = intrinsic_pcw (number_of name); cell = entry_cell }) >-> (λ (v : Reached). valid (as_pcw v.word)))) (pcw_no_sirw name)
+          ∙ ap (λ (o : Option Pcw). found_in (valid o)) (pcw_read name)
+          ∙ ap (λ (o : Option Intrinsic). intrinsic_letter (woken_number img.numbers core.registers.stack) o) intrinsic_is.named
 
-    is_entered : IsEntered g.arguments
-    is_entered =
-        record {
-          reference = i.word;
-          marked = k.word;
-          others = k.words_below;
-          calls = calls;
-          action = action_is_called;
-          after_at = after_call;
-          few = omega (arith, many, s.stands.few);
-        }
+      after_call : (pc : ℕ) → CoreAt sc s.stands.held code (text_in tree texts w part) (level_in tree w part) pc below (without_call core k.words_below df pc)
+      after_call pc =
+          record {
+            segment = s.stands.there.segment;
+            there = s.stands.there.there;
+            spells = s.stands.there.spells;
+            level_is = s.stands.there.level_is;
+            place_is = refl;
+            is = record { bottom = s.has.is.bottom; top = omega (arith, mark_at, long) };
+            mark_is = omega (arith, mark_at, low);
+            words_are = k.are;
+          }
 
-  pub entered_with : (g : Lying sc s.stands.held (level_in tree w part) home base slots (intrinsic name ∷ mark ∷ below) core.words) → IsEntered g.arguments
-  entered_with g =
-      let i : Top sc s.stands.held (level_in tree w part) home base (intrinsic name) (mark ∷ below) g.others =
-      top_slot sc s.stands.held (level_in tree w part) home base (intrinsic name ∷ mark ∷ below) (intrinsic name) (mark ∷ below) g.others g.are refl in
-      let k : Top sc s.stands.held (level_in tree w part) home base mark below i.words_below =
-      top_slot sc s.stands.held (level_in tree w part) home base (mark ∷ below) mark below i.words_below i.are refl in
-      is_entered g i k
+      is_entered : IsEntered g.arguments
+      is_entered =
+          record {
+            reference = i.word;
+            marked = k.word;
+            others = k.words_below;
+            calls = calls;
+            action = action_is_called;
+            after_at = after_call;
+            few = omega (arith, many, s.stands.few);
+          }
+
+    pub entered_with : (g : Lying sc s.stands.held (level_in tree w part) home base slots (intrinsic name ∷ mark ∷ below) core.words) → IsEntered g.arguments
+    entered_with g =
+        let i : Top sc s.stands.held (level_in tree w part) home base (intrinsic name) (mark ∷ below) g.others =
+        top_slot sc s.stands.held (level_in tree w part) home base (intrinsic name ∷ mark ∷ below) (intrinsic name) (mark ∷ below) g.others g.are refl in
+        let k : Top sc s.stands.held (level_in tree w part) home base mark below i.words_below =
+        top_slot sc s.stands.held (level_in tree w part) home base (mark ∷ below) mark below i.words_below i.are refl in
+        is_entered g i k
 
 -- numbers are the arguments
-module _ (tree : PProgram) (code : Code) (texts : Texts) (w : World) (lay : Layout) (img : Image)
-    (p : ℕ) (q : Process) (part : Part) (outer : List Part) (bound : ℕ) (core : Core) (s : Scene tree code texts w lay img p q part outer bound core)
-    (name : Intrinsic) (vs : List Value) (below : List Slot) (fits : AreNumbers vs) (lies : s.stands.slots ≡ operands vs (intrinsic name ∷ mark ∷ below)) where
-  pub record IsCall : Type 0 where
-    pub arguments : List Word
-    pub reference : Word
-    pub marked : Word
-    pub others : List Word
-    pub calls : CallsIntrinsic img core name arguments reference marked others
-    pub wholes : wholes_in (reverse arguments) ≡ Some (wholes_of vs)
-    pub action : operator_letter (ops.Plain kinds.Entr) img core.registers ≡ Some (letter_of (woken_number img.numbers core.registers.stack) name)
-    pub after_at : (pc : ℕ) → CoreAt (scopes_of tree) s.stands.held code (text_in tree texts w part) (level_in tree w part) pc below (without_call core others calls.m.df pc)
-    pub few : length below ≤ most_in tree w part
+module _ (tree : PProgram) (code : Code) (texts : Texts) (actor : Actor tree code texts) where
+  open actor use {w, img, part, core, s}
 
-  pub call : IsCall
-  call =
-      let g : Given (scopes_of tree) s.stands.held (level_in tree w part) (frame core.registers) (length core.below) vs (intrinsic name ∷ mark ∷ below) core.words =
-      given (scopes_of tree) s.stands.held (level_in tree w part) (frame core.registers) (length core.below) vs (intrinsic name ∷ mark ∷ below) core.words fits
-      (subst (λ (l : List Slot). SlotsAre (scopes_of tree) s.stands.held (level_in tree w part) (frame core.registers) (length core.below) l core.words) lies s.stands.there.words_are) in
-      let e : IsEntered tree code texts w lay img p q part outer bound core s name (operands vs (intrinsic name ∷ mark ∷ below)) below lies g.lying.arguments =
-      entered_with tree code texts w lay img p q part outer bound core s name (operands vs (intrinsic name ∷ mark ∷ below)) below lies g.lying in
-      record {
-        arguments = g.lying.arguments;
-        reference = e.reference;
-        marked = e.marked;
-        others = e.others;
-        calls = e.calls;
-        wholes = g.wholes;
-        action = e.action;
-        after_at = e.after_at;
-        few = e.few;
-      }
+  module _ (name : Intrinsic) (vs : List Value) (below : List Slot) (fits : AreNumbers vs) (lies : s.stands.slots ≡ operands vs (intrinsic name ∷ mark ∷ below)) where
+    pub record IsCall : Type 0 where
+      pub arguments : List Word
+      pub reference : Word
+      pub marked : Word
+      pub others : List Word
+      pub calls : CallsIntrinsic img core name arguments reference marked others
+      pub wholes : wholes_in (reverse arguments) ≡ Some (wholes_of vs)
+      pub action : operator_letter (ops.Plain kinds.Entr) img core.registers ≡ Some (letter_of (woken_number img.numbers core.registers.stack) name)
+      pub after_at : (pc : ℕ) → CoreAt (scopes_of tree) s.stands.held code (text_in tree texts w part) (level_in tree w part) pc below (without_call core others calls.m.df pc)
+      pub few : length below ≤ most_in tree w part
+
+    pub call : IsCall
+    call =
+        let g : Given (scopes_of tree) s.stands.held (level_in tree w part) (frame core.registers) (length core.below) vs (intrinsic name ∷ mark ∷ below) core.words =
+        given (scopes_of tree) s.stands.held (level_in tree w part) (frame core.registers) (length core.below) vs (intrinsic name ∷ mark ∷ below) core.words fits
+        (subst (λ (l : List Slot). SlotsAre (scopes_of tree) s.stands.held (level_in tree w part) (frame core.registers) (length core.below) l core.words) lies s.stands.there.words_are) in
+        let e : IsEntered tree code texts actor name (operands vs (intrinsic name ∷ mark ∷ below)) below lies g.lying.arguments =
+        entered_with tree code texts actor name (operands vs (intrinsic name ∷ mark ∷ below)) below lies g.lying in
+        record {
+          arguments = g.lying.arguments;
+          reference = e.reference;
+          marked = e.marked;
+          others = e.others;
+          calls = e.calls;
+          wholes = g.wholes;
+          action = e.action;
+          after_at = e.after_at;
+          few = e.few;
+        }

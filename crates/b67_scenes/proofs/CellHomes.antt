@@ -1,41 +1,11 @@
 -- Where a process finds the cell of a parameter that stands for something else: in a frame that its display names.
 use Rattle.std.proofs.Common.{◌≡◌, sym, ap, ◌∙◌, subst, ℕ, suc, ◌+◌, ◌<◌, ◌^◌, List, [], ◌∷◌, length, Option, Some, Bool, true, false, arith}
-use Rattle.std.specs.Prelude.{if◌then◌else◌, slice_get}
-use Rattle.b67_list.specs.Numbered.{numbered}
-use Rattle.algol_tree.specs.declared.tree.Named.{Named}
-use Rattle.algol_tree.specs.Blocks.{block_numbered}
-use Rattle.algol_tree.specs.Cells.{level_of}
-use Rattle.algol_tree.specs.Plain.{PProgram}
-use Rattle.algol_tree.specs.Scopes.{Scopes, scopes_of, use_of}
-use Rattle.algol_tree.specs.Sorts.{same_name}
-use Rattle.algol_meaning.specs.Value.{Reference, Cell, reference}
-use Rattle.algol_meaning.specs.World.{NamedCell, Instance, Part, Process, World, instance_at, or_no_instance, ancestor, cell_at, cell_in}
-use Rattle.algol_paths.specs.Blocks.{IsSeen}
-use Rattle.algol_standing.specs.Worlds.{IsStanding}
-use Rattle.b67_word.specs.declared.Place.{Place}
-use Rattle.b67_word.specs.Word.{Word}
-use Rattle.b67_ops.specs.declared.Couple.{Couple}
-use Rattle.b67_segment.specs.declared.code.Code.{Code}
-use Rattle.b67_store.specs.Store.{word_at}
-use Rattle.b67_table.specs.Chains.{place}
-use Rattle.b67_table.specs.Image.{Image}
-use Rattle.b67_table.specs.Private.{display_at}
-use Rattle.b67_templates.specs.Cells.{Simple, Found, Wanted, simple_cells, found_from}
-use Rattle.b67_templates.specs.Programs.{Texts}
-use Rattle.b67_cores.specs.Cores.{Core}
-use Rattle.b67_templates.specs.Nested.{AreNested}
-use Rattle.b67_faithful.proofs.Contradictions.{some_same}
-use Rattle.b67_rows.proofs.Numbers.{get_below}
-use Rattle.b67_rows.proofs.StackWords.{get-front}
-use Rattle.b67_rows.proofs.Touching.{NearCell}
-use Rattle.b67_frames.specs.Arrays.{Layout, Denotes, named_from}
-use Rattle.b67_frames.specs.Frames.{CellsAre, IsInReach, Refers, Framed}
+use Rattle.b67_scenes.proofs.Prelude.{if◌then◌else◌, slice_get, numbered, Named, block_numbered, level_of, PProgram, Scopes, scopes_of, use_of, same_name, Reference, Cell, reference, NamedCell, Instance, instance_at, or_no_instance, ancestor, cell_at, cell_in, IsSeen, IsStanding, Place, Word, Couple, Code, word_at, place, display_at, get_within, Simple, Found, Wanted, simple_cells, found_from, Texts, AreNested, some_same, get-front, NearCell, Denotes, named_from, CellsAre, IsInReach, Refers, Framed, cell_front}
 use Rattle.b67_frames.proofs.Knowing.{denotes_so}
-use Rattle.b67_frames.proofs.Variables.{cell_front}
 use Rattle.b67_scenes.proofs.Finding.{frame_near, place_near}
 use Rattle.b67_scenes.proofs.Led.{named_parent, named_reached, named_seen, named_shown, IsLed, cell_reached, cell_led}
 use Rattle.b67_scenes.proofs.Sights.{Seen, cell_below, cell_lies as seen_word}
-use Rattle.b67_scenes.proofs.Scene.{Scene}
+use Rattle.b67_scenes.proofs.Scene.{Actor}
 use Rattle.b67_scenes.proofs.Staying.{names_in}
 
 -- ---- the first cell of a name
@@ -74,8 +44,9 @@ first_cell (s ∷ ss) (c ∷ cells) (w ∷ words) from name f are e =
 
 -- ---- the parameter's cell
 
-module _ (tree : PProgram) (code : Code) (texts : Texts) (nested : AreNested (scopes_of tree)) (w : World) (lay : Layout) (img : Image)
-    (p : ℕ) (q : Process) (part : Part) (outer : List Part) (bound : ℕ) (core : Core) (s : Scene tree code texts w lay img p q part outer bound core) where
+module _ (tree : PProgram) (code : Code) (texts : Texts) (nested : AreNested (scopes_of tree)) (actor : Actor tree code texts) where
+  open actor use {w, lay, img, p, part, outer, core, s}
+
   abbrev sc : Scopes
   sc = scopes_of tree
 
@@ -93,7 +64,7 @@ module _ (tree : PProgram) (code : Code) (texts : Texts) (nested : AreNested (sc
     pub word : Word
     pub denotes : Denotes sc w lay (IsInReach w (part ∷ outer)) wanted cell word
     -- a reference in it leads to what the process may look at
-    pub leads : (r : Reference) → cell ≡ reference r → IsLed tree code texts w lay img p q part outer bound core s r
+    pub leads : (r : Reference) → cell ≡ reference r → IsLed tree code texts actor r
     pub at : Place
     pub near : NearCell p img (record { frame = at; index = couple.index })
     pub shown : display_at core.registers couple.level ≡ Some at
@@ -107,9 +78,9 @@ module _ (tree : PProgram) (code : Code) (texts : Texts) (nested : AreNested (sc
     home_at = ancestor w ((use_of sc n).up) part.instance
 
     reached : IsInReach w (part ∷ outer) home_at
-    reached = named_reached tree code texts w lay img p q part outer bound core s n is_seen
+    reached = named_reached tree code texts actor n is_seen
 
-    module _ (h : Seen tree code texts w lay img p q part outer bound core s home_at) where
+    module _ (h : Seen tree code texts actor home_at) where
       abbrev framed_there : Framed sc w lay h.found.number h.found.lies.part.instance h.found.lies.outer (length h.found.lies.frame.lower) h.found.lies.frame.mark h.found.lies.frame.control h.found.lies.frame.cells
       framed_there = h.found.lies.owned.framed
 
@@ -123,7 +94,7 @@ module _ (tree : PProgram) (code : Code) (texts : Texts) (nested : AreNested (sc
       instance_here = ap or_no_instance is_here
 
       block_here : here.block ≡ (use_of sc n).block
-      block_here = sym (ap (λ (x : Instance). x.block) instance_here) ∙ (named_parent tree code texts w lay img p q part outer bound core s n is_seen).block
+      block_here = sym (ap (λ (x : Instance). x.block) instance_here) ∙ (named_parent tree code texts actor n is_seen).block
 
       abbrev ss : List Simple
       ss = simple_cells sc (block_numbered sc.blocks here.block)
@@ -149,7 +120,7 @@ module _ (tree : PProgram) (code : Code) (texts : Texts) (nested : AreNested (sc
       denotes_here : Denotes sc w lay (IsInReach w (part ∷ outer)) wanted g.0.cell g.1
       denotes_here =
           denotes_so sc w lay (IsStanding w) (IsInReach w (part ∷ outer)) wanted g.0.cell g.1
-          (λ j inside st. cell_reached tree code texts w lay img p q part outer bound core s home_at reached c.far here g.0 is_here framed_there.stands among j inside)
+          (λ j inside st. cell_reached tree code texts actor home_at reached c.far here g.0 is_here framed_there.stands among j inside)
           (subst (λ (o : Wanted). Denotes sc w lay (IsStanding w) o g.0.cell g.1) wanted_is g.4)
 
       -- the cell lies before the arrays
@@ -169,15 +140,15 @@ module _ (tree : PProgram) (code : Code) (texts : Texts) (nested : AreNested (sc
 
       low : length h.found.lies.frame.lower + (2 + c.far) < length h.found.core.below
       low =
-          cell_below tree code texts w lay img p q part outer bound core s home_at h c.far (get_below h.found.lies.frame.cells c.far g.1 cells_lie)
-          (omega (arith, get_below ss c.far found.cell c.lies, ap (λ (x : Instance). length (simple_cells sc (block_numbered sc.blocks x.block))) instance_here))
+          cell_below tree code texts actor home_at h c.far (get_within h.found.lies.frame.cells c.far g.1 cells_lie)
+          (omega (arith, get_within ss c.far found.cell c.lies, ap (λ (x : Instance). length (simple_cells sc (block_numbered sc.blocks x.block))) instance_here))
 
       couple_fits : (couple.level < 32) × (couple.index < 2 ^ 14)
       couple_fits =
           let own : Instance = s.stands.frame.instance in
           let same : level ≡ level_of (block_numbered sc.blocks own.block) = ap (λ (o : Option Instance). level_of (block_numbered sc.blocks (or_no_instance o).block)) s.stands.frame.is in (
             omega (arith, level_is, same, (nested.each own.block s.stands.frame.known).low),
-            omega (arith, far_is, (nested.each here.block framed_there.known).few, get_below ss c.far found.cell c.lies),
+            omega (arith, far_is, (nested.each here.block framed_there.known).few, get_within ss c.far found.cell c.lies),
           )
 
       home_there : CellHome n wanted couple
@@ -187,15 +158,18 @@ module _ (tree : PProgram) (code : Code) (texts : Texts) (nested : AreNested (sc
             cell_is = cell_here;
             word = g.1;
             denotes = denotes_here;
-            leads = cell_led tree code texts w lay img p q part outer bound core s home_at reached c.far here g.0 is_here framed_there.stands among;
+            leads = cell_led tree code texts actor home_at reached c.far here g.0 is_here framed_there.stands among;
             at = place h.found.number (length h.found.lies.frame.lower);
-            near = (frame_near tree code texts w lay img home_at h.found p, place_near tree code texts w lay img home_at h.found p (length h.found.lies.frame.lower + couple.index) (omega (arith, low, far_is)));
-            shown = named_shown tree code texts w lay img p q part outer bound core s n is_seen couple.level level_is h;
+            near = (
+              frame_near tree code texts w lay img home_at h.found p h.near,
+              place_near tree code texts w lay img home_at h.found p (length h.found.lies.frame.lower + couple.index) h.near (omega (arith, low, far_is)),
+            );
+            shown = named_shown tree code texts actor n is_seen couple.level level_is h;
             lies =
                 ap (λ (k : ℕ). word_at img.stacks (place h.found.number (length h.found.lies.frame.lower + k))) far_is
-                ∙ seen_word tree code texts w lay img p q part outer bound core s home_at h c.far g.1 cells_lie low;
+                ∙ seen_word tree code texts actor home_at h c.far g.1 cells_lie low;
             fits = couple_fits;
           }
 
     pub cell_home : CellHome n wanted couple
-    cell_home = home_there (named_seen tree code texts w lay img p q part outer bound core s n is_seen)
+    cell_home = home_there (named_seen tree code texts actor n is_seen)

@@ -1,25 +1,8 @@
 -- The critical place of a process that lives is below the floor of the stack in which it lies: the frame of the critical instance has its two words there.
-use Rattle.std.proofs.Common.{◌≡◌, refl, sym, ◌∙◌, subst, ℕ, Option, Some, None}
-use Rattle.algol_tree.specs.Plain.{PProgram}
-use Rattle.algol_tree.specs.Scopes.{scopes_of}
-use Rattle.algol_meaning.specs.World.{World}
-use Rattle.algol_standing.specs.Worlds.{IsWhole, stack_of}
-use Rattle.algol_standing.specs.Fitting.{IsOk}
-use Rattle.algol_standing.proofs.Pairs.{stack_forth}
-use Rattle.b67_word.specs.declared.Place.{Place}
-use Rattle.b67_control.specs.declared.Registers.{Registers}
-use Rattle.b67_segment.specs.declared.code.Code.{Code}
-use Rattle.b67_table.specs.Image.{Image}
-use Rattle.b67_table.specs.Sound.{Lives}
-use Rattle.b67_templates.specs.Programs.{Texts}
-use Rattle.b67_faithful.proofs.Contradictions.{none_some}
-use Rattle.b67_templates.specs.Nested.{AreNested}
-use Rattle.b67_rows.proofs.Touching.{NearFrame}
-use Rattle.b67_frames.specs.Arrays.{Layout}
-use Rattle.b67_scenes.specs.Depending.{CriticalIs}
-use Rattle.b67_scenes.specs.Pictures.{PicturesBy}
+use Rattle.std.proofs.Common.{◌≡◌, inr, refl, sym, ap, ◌∙◌, subst, ℕ, Option, Some, None}
+use Rattle.b67_scenes.proofs.Prelude.{numbered, some_same, PProgram, scopes_of, World, IsStanding, IsWhole, stack_of, IsOk, stack_forth, Place, Registers, Code, Image, Lives, Texts, none_some, AreNested, NearFrame, Layout, CriticalIs, PicturesBy}
 use Rattle.b67_scenes.proofs.TouchingOthers.{LivesThere, lives_there}
-use Rattle.b67_scenes.proofs.Finding.{standing_near}
+use Rattle.b67_scenes.proofs.Finding.{find, found_laid, standing_near}
 
 module _ (tree : PProgram) (code : Code) (texts : Texts) (nested : AreNested (scopes_of tree)) (w : World) (lay : Layout) (img : Image) (by : PicturesBy tree code texts w lay img) (ok : IsOk (scopes_of tree) IsWhole w) (p : ℕ) where
   -- a process that lives depends on one that stands
@@ -32,5 +15,14 @@ module _ (tree : PProgram) (code : Code) (texts : Texts) (nested : AreNested (sc
       by_critical : (c : Option ℕ) → l.process.critical ≡ c → CriticalIs lay c r.critical → NearFrame p img g
       by_critical None is none = none_some (sym none ∙ has)
       by_critical (Some i) is told =
-          standing_near tree code texts w lay img by ok p i (ok.sound.skeleton_ok.holds t (stack_of l.process) i (stack_forth w t l.process l.is) l.alive is) g
-          (told.2 ∙ sym told.1 ∙ has)
+          let st : IsStanding w i = ok.sound.skeleton_ok.holds t (stack_of l.process) i (stack_forth w t l.process l.is) l.alive is in
+          let laid : numbered lay.places i ≡ Some g = told.2 ∙ sym told.1 ∙ has in
+          standing_near tree code texts w lay img by ok p i st
+          (inr (record {
+            by = t;
+            registers = r;
+            frame = g;
+            has = there.is;
+            critical = has;
+            lies = ap (λ (x : Place). x.stack) (some_same (sym laid ∙ found_laid tree code texts w lay img i (find tree code texts w lay img by ok i st)));
+          })) g laid

@@ -1,35 +1,12 @@
 -- Whether a live process depends on an instance: in a world, and by the critical places of its image.
 use Rattle.std.proofs.Common.{◌≡◌, ◌≢◌, ◌⊎◌, inl, inr, refl, sym, ap, ◌∙◌, ℕ, zero, suc, List, [], ◌∷◌, length, Option, Some, None, Bool, true, false, arith}
-use Rattle.std.specs.Prelude.{◌&&◌, ◌||◌, ◌==◌, slice_get}
-use Rattle.std.specs.List.{list_any}
-use Rattle.std.proofs.lemmas.Bool.Decides.{nat_tests}
-use Rattle.b67_list.specs.Numbered.{numbered}
-use Rattle.algol_tree.specs.Plain.{PProgram}
-use Rattle.algol_tree.specs.Scopes.{scopes_of}
-use Rattle.algol_meaning.specs.World.{Instance, Process, Part, State, lives, World}
-use Rattle.algol_meaning.specs.Critical.{is_this, some_depends, is_evaluation}
-use Rattle.algol_standing.specs.Worlds.{IsWhole, IsStanding, stack_of}
-use Rattle.algol_standing.specs.Fitting.{IsOk}
-use Rattle.algol_standing.proofs.Pairs.{stack_forth}
-use Rattle.algol_standing.specs.Worlds.{IsOwn}
-use Rattle.b67_word.specs.declared.Place.{Place}
-use Rattle.b67_word.specs.Word.{Word}
-use Rattle.b67_control.specs.declared.Registers.{Registers}
-use Rattle.b67_segment.specs.declared.code.Code.{Code}
-use Rattle.b67_events.specs.Events.{same_place}
-use Rattle.b67_table.specs.Chains.{place}
-use Rattle.b67_table.specs.declared.ProcessState.{ProcessState}
-use Rattle.b67_table.specs.declared.ProcessState.TheVariants.{Able, WaitsFor, WaitsAny, Procures, Ended}
-use Rattle.b67_table.specs.Image.{Image, is_ended, is_live}
-use Rattle.b67_table.specs.Questions.{with_critical, unless, live_criticals}
-use Rattle.b67_templates.specs.Programs.{Texts}
-use Rattle.b67_faithful.proofs.Contradictions.{some_same, none_some}
-use Rattle.b67_frames.specs.Arrays.{Layout}
-use Rattle.b67_scenes.specs.Depending.{CriticalIs}
-use Rattle.b67_frames.specs.Frames.{Frame, Around}
-use Rattle.b67_scenes.specs.Pictures.{Pictured, living, dead, PicturesBy}
+use Rattle.b67_scenes.proofs.Prelude.{◌&&◌, ◌||◌, ◌==◌, slice_get, list_any, numbered, PProgram, scopes_of, Instance, Process, Part, State, lives, World, is_this, some_depends, is_evaluation, IsWhole, IsStanding, stack_of, IsOk, stack_forth, IsOwn, Place, Word, Registers, Code, same_place, same_place-self, place, ProcessState, Able, WaitsFor, WaitsAny, Procures, Ended, Image, is_live, live_criticals, get_within as get_below, Texts, some_same, none_some, Layout, CriticalIs, Frame, Around, Pictured, living, dead, PicturesBy, same_or_not, numbered_beyond, same_is}
+use Rattle.b67_table.specs.Image.{is_ended}
+use Rattle.b67_table.specs.Questions.{with_critical, unless}
 use Rattle.b67_scenes.proofs.Heights.{alone_there, none_there}
-use Rattle.b67_rows.proofs.Numbers.{same_or_not, get_within, get_below, numbered_beyond}
+use Rattle.b67_rows.proofs.Numbers.{get_within}
+use Rattle.b67_frames.proofs.Subscripts.{and_false}
+use Rattle.b67_frames.proofs.ArraysKept.{is_other}
 
 -- a critical place is this one
 abbrev has_place : Place → Option Place → Bool
@@ -98,27 +75,12 @@ none_of_all (s ∷ states) (r ∷ regs) f each =
 
 -- ---- places
 
-same_is : (m n : ℕ) → m ≡ n → (m == n) ≡ true
-same_is m n h = grind (arith, nat_tests)
-
-other_is : (m n : ℕ) → m ≢ n → (m == n) ≡ false
-other_is m n h = grind (arith, nat_tests)
-
-and_false : (b : Bool) → (b && false) ≡ false
-and_false true = refl
-and_false false = refl
-
-same_there : (f g : Place) → f ≡ g → same_place f g ≡ true
-same_there f g e =
-    ap (λ (b : Bool). b && (f.at == g.at)) (same_is f.stack g.stack (ap (λ (x : Place). x.stack) e))
-    ∙ same_is f.at g.at (ap (λ (x : Place). x.at) e)
-
 other_there : (f g : Place) → f ≢ g → same_place f g ≡ false
 other_there f g n = by_stack (same_or_not f.stack g.stack) (same_or_not f.at g.at)
   where
     by_stack : (f.stack ≡ g.stack) ⊎ (f.stack ≢ g.stack) → (f.at ≡ g.at) ⊎ (f.at ≢ g.at) → same_place f g ≡ false
-    by_stack (inr other) h = ap (λ (b : Bool). b && (f.at == g.at)) (other_is f.stack g.stack other)
-    by_stack (inl same) (inr other) = ap (λ (b : Bool). (f.stack == g.stack) && b) (other_is f.at g.at other) ∙ and_false (f.stack == g.stack)
+    by_stack (inr other) h = ap (λ (b : Bool). b && (f.at == g.at)) (is_other f.stack g.stack other)
+    by_stack (inl same) (inr other) = ap (λ (b : Bool). (f.stack == g.stack) && b) (is_other f.at g.at other) ∙ and_false (f.stack == g.stack)
     by_stack (inl same) (inl also) = absurd (n (ap (λ (s : ℕ). place s f.at) same ∙ ap (λ (t : ℕ). place g.stack t) also))
 
 -- who lives has not ended
@@ -188,9 +150,9 @@ module _ (tree : PProgram) (code : Code) (texts : Texts) (w : World) (lay : Layo
 
           by_number : (c ≡ i) ⊎ (c ≢ i) → (c == i) ≡ same_place g told.0
           by_number (inl same) =
-              same_is c i same ∙ sym (same_there g told.0 (some_same (sym laid ∙ ap (λ (n : ℕ). numbered lay.places n) (sym same) ∙ told.2)))
+              same_is c i same ∙ sym (same_place-self g told.0 (some_same (sym laid ∙ ap (λ (n : ℕ). numbered lay.places n) (sym same) ∙ told.2)))
           by_number (inr other) =
-              other_is c i other
+              is_other c i other
               ∙ sym (other_there g told.0 (λ (same : g ≡ told.0). other
               (alone_there tree code texts w lay p part outer words f a img by ok q is todo i own g laid c stands.instance stands.is stands.stands (told.2 ∙ ap (λ (y : Place). Some y) (sym same)))))
 

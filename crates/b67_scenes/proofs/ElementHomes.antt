@@ -1,26 +1,12 @@
 -- Where a process finds an element whose descriptor lies on its stack: in an array of an instance in reach.
 use Rattle.std.proofs.Common.{◌≡◌, sym, ap, ◌∙◌, subst, ℕ, ◌≤◌, List, [], ◌∷◌, Some, true, false, arith}
-use Rattle.algol_tree.specs.declared.tree.Kind.{Kind}
-use Rattle.algol_tree.specs.Plain.{PProgram}
-use Rattle.algol_tree.specs.Scopes.{Scopes, scopes_of}
-use Rattle.algol_meaning.specs.Value.{Reference, Bounds, ArrayCell}
-use Rattle.algol_meaning.specs.World.{Process, Part, World}
-use Rattle.b67_word.specs.Word.{Word}
-use Rattle.b67_control.specs.declared.Descriptor.{Descriptor}
-use Rattle.b67_segment.specs.declared.code.Code.{Code}
-use Rattle.b67_templates.specs.Programs.{Texts}
+use Rattle.b67_scenes.proofs.Prelude.{Kind, PProgram, Scopes, scopes_of, Reference, Bounds, ArrayCell, World, Word, Descriptor, Code, Texts, Allotted, Layout, AreSized, HasArray, IsArrayOf, OneSized, one_sized, TwoSized, two_sized, IsInReach, Lies, OwnArray, known_array, framed_cells}
 use Rattle.b67_table.specs.Arrays.{as_indexed}
-use Rattle.b67_table.specs.Image.{Image}
-use Rattle.b67_cores.specs.Cores.{Core}
-use Rattle.b67_frames.specs.Arrays.{Allotted, Layout, AreSized, HasArray, IsArrayOf, IsIn, IsElement}
+use Rattle.b67_frames.specs.Arrays.{IsIn, IsElement}
 use Rattle.b67_frames.proofs.ElementRows.{element_copy_read}
-use Rattle.b67_frames.proofs.FewElements.{OneSized, one_sized, TwoSized, two_sized}
-use Rattle.b67_frames.specs.Frames.{IsInReach}
-use Rattle.b67_frames.proofs.Lying.{Lies}
 use Rattle.b67_scenes.proofs.Finding.{Found, find}
 use Rattle.b67_scenes.proofs.Led.{reached_stands}
-use Rattle.b67_frames.proofs.OwnCells.{OwnArray, known_array, framed_cells}
-use Rattle.b67_scenes.proofs.Scene.{Scene}
+use Rattle.b67_scenes.proofs.Scene.{Actor}
 
 -- the place of an element in its row is a number that a descriptor can hold
 place_few : (sc : Scopes) (w : World) (lay : Layout) (bs : List Bounds) (ks : List ℕ) (index at : ℕ) → AreSized bs → IsIn sc w lay bs ks index at → at ≤ 1048576
@@ -38,54 +24,55 @@ place_few sc w lay (b ∷ c ∷ d ∷ bs) ks index at sized within = absurd with
 abbrev pub at_element : ℕ → ℕ → Descriptor
 at_element at n = record { presence = true; copy = true; indexed = true; mother = false; length = at; address = n }
 
-module _ (tree : PProgram) (code : Code) (texts : Texts) (w : World) (lay : Layout) (img : Image)
-    (p : ℕ) (q : Process) (part : Part) (outer : List Part) (bound : ℕ) (core : Core) (s : Scene tree code texts w lay img p q part outer bound core)
-    (r : Reference) (ks : List ℕ) (kind : Kind) (word : Word) (e : IsElement (scopes_of tree) w lay (IsInReach w (part ∷ outer)) r ks kind word) where
-  abbrev sc : Scopes
-  sc = scopes_of tree
+module _ (tree : PProgram) (code : Code) (texts : Texts) (actor : Actor tree code texts) where
+  open actor use {w, lay, img, part, outer, s}
 
-  -- The instance of its array is in reach, and has that array. The word is read as the descriptor of the element.
-  pub record ElementHome : Type 0 where
-    pub lies : Found tree code texts w lay img r.instance
-    pub home_is : r.instance ≡ lies.lies.part.instance
-    pub of : IsArrayOf sc w lay lies.lies.part.instance r.name e.declared e.cell e.allotted
-    pub has : HasArray sc w lay lies.lies.part.instance of.number e.declared e.cell e.allotted
-    pub reads : as_indexed word ≡ Some (at_element e.at e.number)
+  module _ (r : Reference) (ks : List ℕ) (kind : Kind) (word : Word) (e : IsElement (scopes_of tree) w lay (IsInReach w (part ∷ outer)) r ks kind word) where
+    abbrev sc : Scopes
+    sc = scopes_of tree
 
-  module _ (f : Found tree code texts w lay img r.instance) where
-    abbrev l : Lies tree code texts w lay f.number (f.part ∷ f.outer) r.instance f.settled
-    l = f.lies
+    -- The instance of its array is in reach, and has that array. The word is read as the descriptor of the element.
+    pub record ElementHome : Type 0 where
+      pub lies : Found tree code texts w lay img r.instance
+      pub home_is : r.instance ≡ lies.lies.part.instance
+      pub of : IsArrayOf sc w lay lies.lies.part.instance r.name e.declared e.cell e.allotted
+      pub has : HasArray sc w lay lies.lies.part.instance of.number e.declared e.cell e.allotted
+      pub reads : as_indexed word ≡ Some (at_element e.at e.number)
 
-    abbrev i : ℕ
-    i = l.part.instance
+    module _ (f : Found tree code texts w lay img r.instance) where
+      abbrev l : Lies tree code texts w lay f.number (f.part ∷ f.outer) r.instance f.settled
+      l = f.lies
 
-    here_is : r.instance ≡ i
-    here_is = sym l.instance_is
+      abbrev i : ℕ
+      i = l.part.instance
 
-    of_here : IsArrayOf sc w lay i r.name e.declared e.cell e.allotted
-    of_here = subst (λ (j : ℕ). IsArrayOf sc w lay j r.name e.declared e.cell e.allotted) here_is e.array
+      here_is : r.instance ≡ i
+      here_is = sym l.instance_is
 
-    abbrev Known_there : Type 0
-    Known_there =
-        (found : OwnArray sc w lay i l.owned.framed.instance (framed_cells sc w lay l.owned.framed) r.name of_here.number e.declared) × (found.cell ≡ e.cell) × (found.allotted ≡ e.allotted)
+      of_here : IsArrayOf sc w lay i r.name e.declared e.cell e.allotted
+      of_here = subst (λ (j : ℕ). IsArrayOf sc w lay j r.name e.declared e.cell e.allotted) here_is e.array
 
-    known_there : Known_there
-    known_there = known_array sc w lay i l.owned.framed.instance (framed_cells sc w lay l.owned.framed) r.name e.declared e.cell e.allotted of_here
+      abbrev Known_there : Type 0
+      Known_there =
+          (found : OwnArray sc w lay i l.owned.framed.instance (framed_cells sc w lay l.owned.framed) r.name of_here.number e.declared) × (found.cell ≡ e.cell) × (found.allotted ≡ e.allotted)
 
-    home_there : ElementHome
-    home_there =
-        record {
-          lies = f;
-          home_is = here_is;
-          of = of_here;
-          has =
-              subst (λ (rows : Allotted). HasArray sc w lay i of_here.number e.declared e.cell rows) known_there.2
-              (subst (λ (c : ArrayCell). HasArray sc w lay i of_here.number e.declared c known_there.0.allotted) known_there.1 known_there.0.has);
-          reads =
-              ap as_indexed e.word_is
-              ∙ element_copy_read sc w lay e.at e.number
-              (place_few sc w lay e.cell.bounds ks e.index e.at (subst (λ (c : ArrayCell). AreSized c.bounds) known_there.1 known_there.0.sized) e.within) e.few;
-        }
+      known_there : Known_there
+      known_there = known_array sc w lay i l.owned.framed.instance (framed_cells sc w lay l.owned.framed) r.name e.declared e.cell e.allotted of_here
 
-  pub element_home : ElementHome
-  element_home = home_there (find tree code texts w lay img s.by s.ok r.instance (reached_stands tree code texts w lay img p q part outer bound core s r.instance e.own))
+      home_there : ElementHome
+      home_there =
+          record {
+            lies = f;
+            home_is = here_is;
+            of = of_here;
+            has =
+                subst (λ (rows : Allotted). HasArray sc w lay i of_here.number e.declared e.cell rows) known_there.2
+                (subst (λ (c : ArrayCell). HasArray sc w lay i of_here.number e.declared c known_there.0.allotted) known_there.1 known_there.0.has);
+            reads =
+                ap as_indexed e.word_is
+                ∙ element_copy_read sc w lay e.at e.number
+                (place_few sc w lay e.cell.bounds ks e.index e.at (subst (λ (c : ArrayCell). AreSized c.bounds) known_there.1 known_there.0.sized) e.within) e.few;
+          }
+
+    pub element_home : ElementHome
+    element_home = home_there (find tree code texts w lay img s.by s.ok r.instance (reached_stands tree code texts actor r.instance e.own))

@@ -1,72 +1,20 @@
 -- The entry of a block or a procedure by the machine, where a process stands at it.
 use Rattle.std.proofs.Common.{◌≡◌, refl, sym, ap, ◌∙◌, subst, ℕ, ◌+◌, ◌-◌, ◌*◌, ◌/◌, ◌%◌, ◌≤◌, ◌<◌, List, [], ◌∷◌, ◌++◌, length, Option, Some, Ok, true, false, arith, length-append}
-use Rattle.std.specs.Prelude.{◌==◌, ◌&&◌, nat_le, slice_get}
+use Rattle.b67_scenes.proofs.Prelude.{◌==◌, ◌&&◌, nat_le, slice_get, PProgram, Block, block_numbered, around, level_of, Scopes, scopes_of, Given, Part, World, instance_at, segment_of, Place, Word, Mscw, Pcw, Rcw, as_mscw, as_rcw, as_mscw-mscw_word, as_rcw-rcw_word, place_at, Spells, Code, Segment, stack_limit, place, linked, gives, most_processes, end_of_code, entered_mark, control_word, seen, frame, at_or, plain, operator_at, Has, code_at, Wanted, simple_cells, Texts, Slot, mark, given_slots, Core, IsCore, with_core, newest, SlotsAre, CoreAt, control_words, slots_length, called_by, IsShort, AreNested, LiesNested, shown, shown_top, linked_seen, lower_of, AreFit, Taken, taken_words, next_within, newest_low, segment_low, Top, top_slot, length-stack, mark_read, block_few, as_many_controls, controls_many, Layout, block_controls, IsComplete, Framed, Frame, Shape, of_own, of_lent, IsInReach, made_many, Linked, Begins_with, begins_core, all_linked, nat_tests, cell_of, runs_low, as_many_values}
 use Rattle.algol_tree.specs.declared.TheConstants.{MOST_BLOCK_CELLS}
-use Rattle.algol_tree.specs.Plain.{PProgram}
-use Rattle.algol_tree.specs.Blocks.{Block, block_numbered, around}
-use Rattle.algol_tree.specs.Cells.{level_of}
-use Rattle.algol_tree.specs.Scopes.{Scopes, scopes_of}
-use Rattle.algol_meaning.specs.Rest.{Given}
-use Rattle.algol_meaning.specs.World.{Process, Part, World, instance_at}
 use Rattle.b67_deeds.specs.declared.Letter.TheVariants.{Enter}
-use Rattle.algol_paths.specs.Segments.{segment_of}
-use Rattle.b67_word.specs.declared.Place.{Place}
-use Rattle.b67_word.specs.Word.{Word}
-use Rattle.b67_control.specs.declared.Mscw.{Mscw}
-use Rattle.b67_control.specs.declared.Pcw.{Pcw}
-use Rattle.b67_control.specs.declared.Rcw.{Rcw}
-use Rattle.b67_control.specs.Control.{as_mscw, as_rcw}
-use Rattle.b67_control.proofs.ControlLaws.{as_mscw-mscw_word, as_rcw-rcw_word}
-use Rattle.b67_control.specs.Display.{place_at}
 use Rattle.b67_ops.specs.declared.Operator.TheVariants as ops
 use Rattle.b67_ops.specs.declared.PlainKind.TheVariants as kinds
-use Rattle.b67_segment.specs.Syllables.{Spells}
-use Rattle.b67_segment.specs.declared.code.Code.{Code}
-use Rattle.b67_segment.specs.declared.code.Segment.{Segment}
-use Rattle.b67_store.specs.Store.{stack_limit}
-use Rattle.b67_table.specs.Chains.{place, linked}
-use Rattle.b67_table.specs.Effect.{gives}
-use Rattle.b67_table.specs.Image.{Image}
-use Rattle.b67_table.specs.Limits.{most_processes, end_of_code}
-use Rattle.b67_table.specs.Linkage.{entered_mark, control_word}
-use Rattle.b67_table.specs.Look.{seen}
 use Rattle.b67_table.specs.Outcome as outcomes
-use Rattle.b67_table.specs.Private.{frame, at_or}
-use Rattle.b67_table.specs.Table.{raw, table, plain, operator_at}
-use Rattle.b67_templates.specs.Fragments.{Has, code_at}
-use Rattle.b67_templates.specs.Cells.{Wanted, simple_cells}
-use Rattle.b67_templates.specs.Programs.{Texts}
-use Rattle.b67_standing.specs.Stepping.{Slot, mark}
-use Rattle.b67_standing.specs.Standing.{given_slots}
-use Rattle.b67_cores.specs.Cores.{Core, IsCore, with_core}
-use Rattle.b67_cores.specs.Slots.{newest, SlotIs, SlotsAre}
-use Rattle.b67_cores.specs.Stretches.{CoreAt, control_words}
-use Rattle.b67_cores.proofs.Moving.{slots_length}
-use Rattle.b67_letters.specs.Letters.{called_by, letter}
-use Rattle.b67_faithful.specs.Faithful.{IsShort}
-use Rattle.b67_templates.specs.Nested.{AreNested, LiesNested}
-use Rattle.b67_rows.proofs.Displays.{shown, shown_top, linked_seen}
-use Rattle.b67_rows.proofs.EntryRow.{Leads, Enters, lower_of, with_frame, enter_raw, enter_class, enter_action, new_is}
-use Rattle.b67_rows.proofs.GivenWords.{AreFit, Taken, taken_words}
-use Rattle.b67_rows.proofs.Growing.{next_within}
-use Rattle.b67_rows.proofs.Marks.{newest_low}
+use Rattle.b67_table.specs.Table.{raw, table}
+use Rattle.b67_cores.specs.Slots.{SlotIs}
+use Rattle.b67_letters.specs.Letters.{letter}
+use Rattle.b67_rows.proofs.EntryRow.{Leads, Enters, with_frame, enter_raw, enter_class, enter_action, new_is}
 use Rattle.b67_rows.proofs.Rows.{action_not_plain}
-use Rattle.b67_rows.proofs.Segmented.{segment_low}
-use Rattle.b67_rows.proofs.Slotted.{Top, top_slot}
-use Rattle.b67_rows.proofs.StackWords.{length-stack}
-use Rattle.b67_rows.proofs.Words.{mark_read}
-use Rattle.b67_frames.proofs.ControlWords.{block_few, as_many_controls, controls_many}
-use Rattle.b67_frames.specs.Arrays.{Layout}
-use Rattle.b67_frames.specs.Frames.{block_controls, IsComplete, Framed, Frame, Shape, of_own, of_lent, IsInReach}
-use Rattle.b67_frames.proofs.Completing.{made_many}
-use Rattle.b67_frames.proofs.FreshCells.{words_long}
-use Rattle.b67_frames.proofs.Linked.{Linked, Begins_with, begins_core, all_linked, level_around}
+use Rattle.b67_frames.proofs.Linked.{level_around}
 use Rattle.b67_scenes.proofs.Homes.{operator_there}
-use Rattle.b67_scenes.proofs.Scene.{Scene, frame_is}
+use Rattle.b67_scenes.proofs.Scene.{frame_is, Actor}
 use Rattle.b67_scenes.proofs.Staying.{text_in, level_in, context_in, frame_low}
-use Rattle.std.proofs.lemmas.Bool.Decides.{nat_tests}
-use Rattle.b67_table.specs.References.{cell_of}
-use Rattle.b67_frames.proofs.Lying.{runs_low}
 
 pub home_level : (n level : ℕ) → n ≡ level → 2 ≤ n → (n + 1 == level + 1 && nat_le 2 n) ≡ true
 home_level n level e h = grind (arith, nat_tests)
@@ -80,7 +28,7 @@ cells_few sc w lay p i outer at marked control cells f nested =
       ap length f.cells_is,
       length-append f.values (control_words (block_controls sc f.instance.block f.ats) ++ f.descriptors),
       length-append (control_words (block_controls sc f.instance.block f.ats)) f.descriptors,
-      words_long (simple_cells sc b) f.simple f.values f.simple_are,
+      as_many_values (simple_cells sc b) f.simple f.values f.simple_are,
       as_many_controls (block_controls sc f.instance.block f.ats),
       controls_many sc f.instance.block f.ats f.each_has_place,
       (made_many f.declared f.arrays (lay.rows i) f.descriptors f.made).words_many,
@@ -99,8 +47,9 @@ frame_few tree code texts w lay p part outer words f nested = by_shape f.shape
     by_shape (of_lent l) = omega (arith, ap length l.none)
 
 module _ (tree : PProgram) (code : Code) (texts : Texts) (nested : LiesNested tree) (short : IsShort tree code)
-    (w : World) (lay : Layout) (img : Image) (p : ℕ) (q : Process) (part : Part) (outer : List Part) (bound : ℕ) (core : Core)
-    (s : Scene tree code texts w lay img p q part outer bound core) where
+    (actor : Actor tree code texts) where
+  open actor use {w, lay, img, p, part, outer, core, s}
+
   abbrev pub sc : Scopes
   sc = scopes_of tree
 
@@ -189,7 +138,7 @@ module _ (tree : PProgram) (code : Code) (texts : Texts) (nested : LiesNested tr
     room = omega (arith, ap length all_words, length-append arguments (first.word ∷ second.word ∷ more), s.small)
 
     pub own_is : own ≡ length s.stands.frame.lower
-    own_is = frame_is tree code texts w lay img p q part outer bound core s
+    own_is = frame_is tree code texts actor
 
     pub own_low : length s.stands.frame.lower + 2 + length s.stands.frame.cells ≡ base
     own_low = frame_low tree code texts w lay p part outer core.below s.stands.frame

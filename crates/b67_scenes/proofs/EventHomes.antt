@@ -1,59 +1,24 @@
 -- Where a process finds an event: its word lies in the frame of one of its parts. A name that a block declares means one that is made; that of
 -- a parameter leads to one.
 use Rattle.std.proofs.Common.{◌≡◌, ◌⊎◌, inl, inr, refl, sym, ap, ◌∙◌, subst, ℕ, ◌+◌, ◌<◌, ◌≤◌, ◌^◌, List, ◌∷◌, length, Option, Some, arith, None}
-use Rattle.std.specs.Prelude.{slice_get}
-use Rattle.algol_tree.specs.declared.tree.Named.{Named}
-use Rattle.algol_tree.specs.Blocks.{block_numbered}
-use Rattle.algol_tree.specs.Cells.{level_of}
-use Rattle.algol_tree.specs.Plain.{PProgram, PBody}
-use Rattle.algol_tree.specs.Scopes.{Scopes, scopes_of, use_of}
-use Rattle.algol_meaning.specs.Value.{Reference, Cell, event, reference}
-use Rattle.algol_meaning.specs.Asks.{ask}
-use Rattle.algol_meaning.specs.World.{NamedCell, Instance, Part, Process, World, instance_at, or_no_instance, ancestor, cell_in, cell_at, by_cell, followed}
+use Rattle.b67_scenes.proofs.Prelude.{slice_get, Named, block_numbered, level_of, PProgram, PBody, Scopes, scopes_of, use_of, Reference, Cell, event, reference, ask, NamedCell, Instance, instance_at, or_no_instance, ancestor, cell_in, cell_at, by_cell, followed, IsSeen, IsSeenAround, IsInner, InRest, IsNoBlock, numbered_small, NearCell, Word, Registers, as_irw, as_sirw, event_word, Couple, Code, word_at, place, Image, display_at, cell_place, cell_word, get_within, simple_cells, made_base, found_from, made_of, made_from, Texts, AreNested, some_same, IsAsked, ArraySeen, Denotes, named_from, HasEvent, IsComplete, IsInReach, Framed, block_controls, block_few, controls_many, FindsEvent, directly, by_reference, IsParent, IsEventAt, OwnCells, framed_cells, none_later, OwnEvent, up_complete}
 use Rattle.algol_paths.specs.Arrays.{an_event}
-use Rattle.algol_paths.specs.Blocks.{IsSeen, IsSeenAround, IsInner}
-use Rattle.algol_paths.specs.Texts.{InRest}
-use Rattle.algol_standing.specs.Worlds.{IsNoBlock}
-use Rattle.b67_rows.proofs.Touching.{NearCell}
-use Rattle.b67_word.specs.Word.{Word}
-use Rattle.b67_control.specs.declared.Registers.{Registers}
-use Rattle.b67_control.specs.Control.{as_irw, as_sirw, event_word}
-use Rattle.b67_ops.specs.declared.Couple.{Couple}
-use Rattle.b67_segment.specs.declared.code.Code.{Code}
-use Rattle.b67_store.specs.Store.{word_at}
-use Rattle.b67_table.specs.Chains.{place}
 use Rattle.b67_table.specs.declared.Cell.{Cell as MachineCell}
-use Rattle.b67_table.specs.Image.{Image}
-use Rattle.b67_table.specs.Private.{display_at}
-use Rattle.b67_table.specs.References.{cell_place, cell_word}
 use Rattle.b67_templates.specs.Cells as wants
-use Rattle.b67_templates.specs.Cells.{simple_cells, made_base, found_from, IsDeclaredEvent, IsFormalEvent, IsEvent, declared_event, formal_event, made_of, made_from}
-use Rattle.b67_templates.specs.Programs.{Texts}
-use Rattle.b67_cores.specs.Cores.{Core}
-use Rattle.b67_templates.specs.Nested.{AreNested}
-use Rattle.b67_faithful.proofs.Contradictions.{some_same}
-use Rattle.b67_rows.proofs.AskedElements.{IsAsked, ArraySeen, asked_seen}
-use Rattle.b67_rows.proofs.Numbers.{get_below}
-use Rattle.b67_frames.specs.Arrays.{Layout, LeadsToEvent, Denotes, IsEventOf, named_from}
-use Rattle.b67_frames.specs.Events.{HasEvent}
-use Rattle.b67_frames.specs.Frames.{IsComplete, IsInReach, Framed, block_controls}
-use Rattle.b67_frames.proofs.ControlWords.{block_few, controls_many}
-use Rattle.b67_frames.proofs.EventRows.{FindsEvent, directly, by_reference}
-use Rattle.b67_frames.proofs.StaticParents.{IsParent}
-use Rattle.b67_scenes.specs.Depending.{IsEventAt}
+use Rattle.b67_templates.specs.Cells.{IsDeclaredEvent, IsFormalEvent, IsEvent, declared_event, formal_event}
+use Rattle.b67_rows.proofs.AskedElements.{asked_seen}
+use Rattle.b67_frames.specs.Arrays.{LeadsToEvent, IsEventOf}
 use Rattle.b67_scenes.proofs.Finding.{found_laid, frame_near, place_near}
 use Rattle.b67_scenes.proofs.Led.{IsLed, declared_led, led_below, named_parent, named_seen, named_shown}
 use Rattle.b67_scenes.proofs.MadeNames.{no_simple}
 use Rattle.b67_scenes.proofs.Sights.{Seen, seen, cell_lies}
 use Rattle.b67_frames.proofs.MadeArrays.{low_made}
 use Rattle.b67_frames.proofs.NamedEvents.{far_event}
-use Rattle.b67_frames.proofs.OwnCells.{OwnCells, framed_cells, none_later}
-use Rattle.b67_frames.proofs.OwnEvents.{OwnEvent, own_event, known_event, event_lies}
-use Rattle.b67_frames.proofs.NamedArrays.{up_complete}
-use Rattle.b67_scenes.proofs.ArrayPlaces.{cell_read, number_within}
+use Rattle.b67_frames.proofs.OwnEvents.{own_event, known_event, event_lies}
+use Rattle.b67_scenes.proofs.ArrayPlaces.{cell_read}
 use Rattle.b67_scenes.proofs.CellHomes.{CellHome, cell_home}
 use Rattle.b67_scenes.proofs.Narrowing.{made_or_around}
-use Rattle.b67_scenes.proofs.Scene.{Scene}
+use Rattle.b67_scenes.proofs.Scene.{Actor}
 use Rattle.b67_scenes.proofs.Staying.{names_in}
 
 -- the cells on the way to an event are near
@@ -61,8 +26,9 @@ abbrev pub IsNearWay : (p : ℕ) (img : Image) (r : Registers) {word : Word} {c 
 IsNearWay p img r {word} {c} (directly level names shown there) = NearCell p img c
 IsNearWay p img r {word} {c} (by_reference level index home first names shown lies refers there) = NearCell p img (record { frame = home; index = index }) × NearCell p img c
 
-module _ (tree : PProgram) (code : Code) (texts : Texts) (nested : AreNested (scopes_of tree)) (w : World) (lay : Layout) (img : Image)
-    (p : ℕ) (q : Process) (part : Part) (outer : List Part) (bound : ℕ) (core : Core) (s : Scene tree code texts w lay img p q part outer bound core) where
+module _ (tree : PProgram) (code : Code) (texts : Texts) (nested : AreNested (scopes_of tree)) (actor : Actor tree code texts) where
+  open actor use {w, lay, img, p, part, outer, core, s}
+
   abbrev sc : Scopes
   sc = scopes_of tree
 
@@ -73,21 +39,21 @@ module _ (tree : PProgram) (code : Code) (texts : Texts) (nested : AreNested (sc
   block = (instance_at w part.instance).block
 
   abbrev LiesThere : ℕ → Type 0
-  LiesThere i = Seen tree code texts w lay img p q part outer bound core s i
+  LiesThere i = Seen tree code texts actor i
 
   -- the cell of the event with this number of an instance whose frame is seen
-  abbrev pub cell_there : {i : ℕ} → Seen tree code texts w lay img p q part outer bound core s i → ℕ → MachineCell
+  abbrev pub cell_there : {i : ℕ} → Seen tree code texts actor i → ℕ → MachineCell
   cell_there l number = record { frame = place l.found.number (length l.found.lies.frame.lower); index = made_base sc (block_numbered sc.blocks l.found.lies.owned.framed.instance.block) + number }
 
   -- the cells of the instance
-  abbrev pub own_there : {i : ℕ} (l : Seen tree code texts w lay img p q part outer bound core s i) → OwnCells (scopes_of tree) w lay l.found.lies.part.instance l.found.lies.owned.framed.instance
+  abbrev pub own_there : {i : ℕ} (l : Seen tree code texts actor i) → OwnCells (scopes_of tree) w lay l.found.lies.part.instance l.found.lies.owned.framed.instance
   own_there l = framed_cells sc w lay l.found.lies.owned.framed
 
   -- The event to whose cell this reference leads: its instance, which is in reach, its number there and its cell. Whatever word has this couple
   -- reaches the cell.
   pub record EventHome (home : Reference) (couple : Couple) : Type 0 where
     pub own : IsInReach w (part ∷ outer) home.instance
-    pub lies : Seen tree code texts w lay img p q part outer bound core s home.instance
+    pub lies : Seen tree code texts actor home.instance
     pub number : ℕ
     pub found : OwnEvent (scopes_of tree) w lay lies.found.lies.part.instance lies.found.lies.owned.framed.instance (own_there lies) home.name number
     pub reaches : (word : Word) → as_irw word ≡ Some (record { level = couple.level; index = couple.index }) → FindsEvent img p core.registers word (cell_there lies number)
@@ -96,7 +62,7 @@ module _ (tree : PProgram) (code : Code) (texts : Texts) (nested : AreNested (sc
     -- it is the event at the place of that cell
     pub lies_at : IsEventAt (scopes_of tree) w lay home (cell_place (cell_there lies number))
 
-  module _ (r : Reference) (led : IsLed tree code texts w lay img p q part outer bound core s r) (l : LiesThere r.instance) (number : ℕ)
+  module _ (r : Reference) (led : IsLed tree code texts actor r) (l : LiesThere r.instance) (number : ℕ)
       (found : OwnEvent sc w lay l.found.lies.part.instance l.found.lies.owned.framed.instance (own_there l) r.name number)
       (there : made_from 0 (made_of (block_numbered sc.blocks l.found.lies.owned.framed.instance.block).decls) r.name ≡ Some (record { number = number; made = an_event r.name })) where
     abbrev framed : Framed sc w lay l.found.number l.found.lies.part.instance l.found.lies.outer (length l.found.lies.frame.lower) l.found.lies.frame.mark l.found.lies.frame.control l.found.lies.frame.cells
@@ -127,18 +93,18 @@ module _ (tree : PProgram) (code : Code) (texts : Texts) (nested : AreNested (sc
 
     below : length l.found.lies.frame.lower + (2 + far) < length l.found.core.below
     below =
-        led_below tree code texts w lay img p q part outer bound core s nested r led l apart far (get_below l.found.lies.frame.cells far (event_word (record {})) cells_lie)
+        led_below tree code texts actor nested r led l apart far (get_within l.found.lies.frame.cells far (event_word (record {})) cells_lie)
 
     -- its word lies in the stack, below the floor
     pub word_there : word_at img.stacks (cell_place (cell_there l number)) ≡ Some (event_word (record {}))
     word_there =
         ap (λ (n : ℕ). word_at img.stacks (place l.found.number (length l.found.lies.frame.lower + n))) (sym index_is)
-        ∙ cell_lies tree code texts w lay img p q part outer bound core s r.instance l far (event_word (record {})) cells_lie below
+        ∙ cell_lies tree code texts actor r.instance l far (event_word (record {})) cells_lie below
 
     pub near_there : NearCell p img (cell_there l number)
     near_there = (
-      frame_near tree code texts w lay img r.instance l.found p,
-      place_near tree code texts w lay img r.instance l.found p (length l.found.lies.frame.lower + (made_base sc (block_numbered sc.blocks framed.instance.block) + number)) (omega (arith, below, index_is)),
+      frame_near tree code texts w lay img r.instance l.found p l.near,
+      place_near tree code texts w lay img r.instance l.found p (length l.found.lies.frame.lower + (made_base sc (block_numbered sc.blocks framed.instance.block) + number)) l.near (omega (arith, below, index_is)),
     )
 
     -- it is the event at that place
@@ -160,11 +126,11 @@ module _ (tree : PProgram) (code : Code) (texts : Texts) (nested : AreNested (sc
     cell_small : (number < length (made_of (block_numbered sc.blocks framed.instance.block).decls)) →
         as_sirw (cell_word (cell_there l number)) ≡ Some (record { stack = l.found.number; displacement = length l.found.lies.frame.lower; index = (cell_there l number).index })
     cell_small low =
-        cell_read (cell_there l number) (omega (arith, number_within w.processes l.found.number l.found.process l.found.is, s.by.few)) (omega (arith, below, l.found.small))
+        cell_read (cell_there l number) (omega (arith, numbered_small w.processes l.found.number l.found.process l.found.is, s.by.few)) (omega (arith, below, l.found.small))
         (omega (arith, block_few sc nested framed.instance.block framed.known, low))
 
   -- the world has it there, so it is open
-  pub has_there : {i : ℕ} (l : Seen tree code texts w lay img p q part outer bound core s i) (name : List ℕ) (number : ℕ)
+  pub has_there : {i : ℕ} (l : Seen tree code texts actor i) (name : List ℕ) (number : ℕ)
       (found : OwnEvent (scopes_of tree) w lay l.found.lies.part.instance l.found.lies.owned.framed.instance (own_there l) name number) →
       HasEvent (scopes_of tree) w lay l.found.lies.part.instance number found.cell (cell_place (cell_there l number))
   has_there l name number found =
@@ -205,10 +171,10 @@ module _ (tree : PProgram) (code : Code) (texts : Texts) (nested : AreNested (sc
     far_or_made (inr around_it) = inr (far_event sc level n couple v around_it.1)
 
     parent : IsParent sc w lay part.instance up ((use_of sc n).block)
-    parent = named_parent tree code texts w lay img p q part outer bound core s n is_seen
+    parent = named_parent tree code texts actor n is_seen
 
-    led : IsLed tree code texts w lay img p q part outer bound core s (named_from sc w lay part.instance n)
-    led = declared_led tree code texts w lay img p q part outer bound core s n is_seen (λ text. far_event sc level n couple v (keeps text).1)
+    led : IsLed tree code texts actor (named_from sc w lay part.instance n)
+    led = declared_led tree code texts actor n is_seen (λ text. far_event sc level n couple v (keeps text).1)
 
     module _ (l : LiesThere home_at) where
       abbrev framed_there : Framed sc w lay l.found.number l.found.lies.part.instance l.found.lies.outer (length l.found.lies.frame.lower) l.found.lies.frame.mark l.found.lies.frame.control l.found.lies.frame.cells
@@ -255,14 +221,14 @@ module _ (tree : PProgram) (code : Code) (texts : Texts) (nested : AreNested (sc
             found = found;
             reaches = λ word reads.
                 directly couple.level (reads ∙ ap (λ (k : ℕ). Some (record { level = couple.level; index = k })) index_here)
-                (named_shown tree code texts w lay img p q part outer bound core s n is_seen couple.level v.made.level_is l) (word_there (named_from sc w lay part.instance n) led l v.made.number found there);
+                (named_shown tree code texts actor n is_seen couple.level v.made.level_is l) (word_there (named_from sc w lay part.instance n) led l v.made.number found there);
             near = λ word reads. near_there (named_from sc w lay part.instance n) led l v.made.number found there;
             fits = couple_fits;
             lies_at = is_there (named_from sc w lay part.instance n) led l v.made.number found there;
           }
 
     pub declared_home : EventHome (named_from (scopes_of tree) w lay part.instance n) couple
-    declared_home = home_there (named_seen tree code texts w lay img p q part outer bound core s n is_seen)
+    declared_home = home_there (named_seen tree code texts actor n is_seen)
 
     -- its number is that of the declaration
     pub declared_number : declared_home.number ≡ v.made.number
@@ -274,7 +240,7 @@ module _ (tree : PProgram) (code : Code) (texts : Texts) (nested : AreNested (sc
         record {
           cell = cell_there l v.made.number;
           index_is = index_here l;
-          shown = named_shown tree code texts w lay img p q part outer bound core s n is_seen couple.level v.made.level_is l;
+          shown = named_shown tree code texts actor n is_seen couple.level v.made.level_is l;
           lies = word_there (named_from sc w lay part.instance n) led l v.made.number (found l) (there l);
           near = near_there (named_from sc w lay part.instance n) led l v.made.number (found l) (there l);
           fits = couple_fits l;
@@ -282,7 +248,7 @@ module _ (tree : PProgram) (code : Code) (texts : Texts) (nested : AreNested (sc
 
     -- its cell, which the couple names
     pub direct_event : DirectEvent couple
-    direct_event = direct_there (named_seen tree code texts w lay img p q part outer bound core s n is_seen)
+    direct_event = direct_there (named_seen tree code texts actor n is_seen)
 
   -- ---- an event to which a word leads
 
@@ -309,14 +275,14 @@ module _ (tree : PProgram) (code : Code) (texts : Texts) (nested : AreNested (sc
     there_now = ap (λ (x : Instance). made_from 0 (made_of (block_numbered sc.blocks x.block).decls) r.name) (sym here_now) ∙ leads.made.found
 
     -- the word is read as a reference to its cell
-    pub refers_there : IsLed tree code texts w lay img p q part outer bound core s r →
+    pub refers_there : IsLed tree code texts actor r →
         as_sirw word ≡ Some (record { stack = l.found.number; displacement = length l.found.lies.frame.lower; index = (cell_there l leads.made.number).index })
     refers_there led =
         ap as_sirw
         (leads.word_is
         ∙ ap (λ (x : Instance). cell_word (record { frame = leads.frame; index = made_base sc (block_numbered sc.blocks x.block) + leads.made.number })) here_now
         ∙ ap (λ f. cell_word (record { frame = f; index = made_base sc (block_numbered sc.blocks l.found.lies.owned.framed.instance.block) + leads.made.number })) frame_is)
-        ∙ cell_small r led l leads.made.number found_formal there_now (get_below (made_of (block_numbered sc.blocks l.found.lies.owned.framed.instance.block).decls) leads.made.number (an_event r.name) found_formal.declares)
+        ∙ cell_small r led l leads.made.number found_formal there_now (get_within (made_of (block_numbered sc.blocks l.found.lies.owned.framed.instance.block).decls) leads.made.number (an_event r.name) found_formal.declares)
 
   -- ---- an event that a parameter stands for
 
@@ -324,17 +290,17 @@ module _ (tree : PProgram) (code : Code) (texts : Texts) (nested : AreNested (sc
   pub record FormalEvent (n : Named) (couple : Couple) : Type 0 where
     pub r : Reference
     pub cell_is : cell_at w (named_from (scopes_of tree) w lay part.instance n) ≡ reference r
-    pub home : CellHome tree code texts nested w lay img p q part outer bound core s n wants.event couple
+    pub home : CellHome tree code texts nested actor n wants.event couple
     pub leads : LeadsToEvent (scopes_of tree) w lay (IsInReach w (part ∷ outer)) r home.word
-    pub led : IsLed tree code texts w lay img p q part outer bound core s r
-    pub lies : Seen tree code texts w lay img p q part outer bound core s r.instance
+    pub led : IsLed tree code texts actor r
+    pub lies : Seen tree code texts actor r.instance
     pub found : OwnEvent (scopes_of tree) w lay lies.found.lies.part.instance lies.found.lies.owned.framed.instance (own_there lies) r.name leads.made.number
     pub declared_there : made_from 0 (made_of (block_numbered (scopes_of tree).blocks lies.found.lies.owned.framed.instance.block).decls) r.name ≡ Some (record { number = leads.made.number; made = an_event r.name })
     pub refers : as_sirw home.word ≡ Some (record { stack = lies.found.number; displacement = length lies.found.lies.frame.lower; index = (cell_there lies leads.made.number).index })
 
   module _ (n : Named) (couple : Couple) (is_seen : IsSeen sc block n) (v : IsFormalEvent sc level n couple) where
-    h : CellHome tree code texts nested w lay img p q part outer bound core s n wants.event couple
-    h = cell_home tree code texts nested w lay img p q part outer bound core s n wants.event couple v.found tt is_seen v.there v.wanted_is v.level_is v.index_is
+    h : CellHome tree code texts nested actor n wants.event couple
+    h = cell_home tree code texts nested actor n wants.event couple v.found tt is_seen v.there v.wanted_is v.level_is v.index_is
 
     module _ (r : Reference) (same : h.cell ≡ reference r) (leads : LeadsToEvent sc w lay (IsInReach w (part ∷ outer)) r h.word) (l : LiesThere r.instance) where
       formal_there : FormalEvent n couple
@@ -355,7 +321,7 @@ module _ (tree : PProgram) (code : Code) (texts : Texts) (nested : AreNested (sc
     formal_event_there = by_cell h.cell refl h.denotes
       where
         by_cell : (c : Cell) → h.cell ≡ c → Denotes sc w lay (IsInReach w (part ∷ outer)) wants.event c h.word → FormalEvent n couple
-        by_cell (reference r) is leads = formal_there r is leads (seen tree code texts w lay img p q part outer bound core s r.instance leads.own)
+        by_cell (reference r) is leads = formal_there r is leads (seen tree code texts actor r.instance leads.own)
         by_cell _ is leads = absurd leads
 
     formal_home : (f : FormalEvent n couple) → EventHome f.r couple
@@ -383,7 +349,7 @@ module _ (tree : PProgram) (code : Code) (texts : Texts) (nested : AreNested (sc
 
     made_there_or_around : IsComplete sc w lay part.instance ⊎ IsSeenAround sc block n
     made_there_or_around =
-        made_or_around tree code texts w lay img p q part outer bound core s is_seen.made
+        made_or_around tree code texts actor is_seen.made
         (λ text. (asked_seen (IsSeenAround sc block) n (λ (b : PBody). ⊥) (IsSeenAround sc block) (λ (seen : IsSeenAround sc block n). seen) part.rest asks text).seen)
 
     pub event_home : IsEvent (scopes_of tree) (names_in tree w part) n couple → EventHome (followed w (named_from (scopes_of tree) w lay part.instance n)) couple

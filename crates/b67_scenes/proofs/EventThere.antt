@@ -1,39 +1,15 @@
 -- An event of an instance that stands becomes another one: its cells, the arrays and the events of the image after it.
 use Rattle.std.proofs.Common.{◌≡◌, ◌≢◌, refl, sym, ap, ◌∙◌, subst, ℕ, ◌+◌, List, [], ◌∷◌, ◌++◌, length, Some}
-use Rattle.std.specs.Prelude.{slice_get, slice_set}
-use Rattle.b67_list.specs.Numbered.{numbered}
-use Rattle.algol_tree.specs.Blocks.{block_numbered}
-use Rattle.algol_tree.specs.Plain.{PProgram}
-use Rattle.algol_tree.specs.Scopes.{Scopes, scopes_of}
+use Rattle.b67_scenes.proofs.Prelude.{slice_get, slice_set, numbered, block_numbered, PProgram, Scopes, scopes_of, event, EventState, NamedCell, Instance, Part, World, instance_at, or_no_instance, with_instance, cell_in, cells_with, Made, Place, Word, Event, Code, place, Simple, simple_cells, made_base, Texts, Core, some_same, IsOwn, get-behind, Layout, AreMade, ArraysAre, HasEvent, EventsAre, CellsAre, Framed, Frames, KeepsArrays, Lies, lies_in, OwnCells, OwnEvent, cells_length}
 use Rattle.algol_meaning.specs.Events.{set_event}
-use Rattle.algol_meaning.specs.Value.{event}
-use Rattle.b67_deeds.specs.Events.{EventState}
-use Rattle.algol_meaning.specs.World.{NamedCell, Instance, Part, World, instance_at, or_no_instance, with_instance, cell_in, cells_with}
-use Rattle.algol_paths.specs.Arrays.{Made}
-use Rattle.b67_word.specs.declared.Place.{Place}
-use Rattle.b67_word.specs.Word.{Word}
-use Rattle.b67_events.specs.Events.{Event, changed as with_event}
+use Rattle.b67_events.specs.Events.{changed as with_event}
 use Rattle.b67_events.specs.Laws.{StaysInPlace}
-use Rattle.b67_segment.specs.declared.code.Code.{Code}
 use Rattle.b67_store.specs.Store.{Rows}
-use Rattle.b67_table.specs.Chains.{place}
-use Rattle.b67_templates.specs.Cells.{Simple, simple_cells, made_base}
-use Rattle.b67_templates.specs.Programs.{Texts}
-use Rattle.b67_cores.specs.Cores.{Core}
-use Rattle.b67_faithful.proofs.Contradictions.{some_same}
-use Rattle.algol_standing.specs.Worlds.{IsOwn}
-use Rattle.b67_frames.specs.Arrays.{Layout, AreMade, ArraysAre}
-use Rattle.b67_frames.specs.Events.{event_there, HasEvent, EventsAre}
-use Rattle.b67_frames.specs.Frames.{CellsAre, Framed, Frames}
+use Rattle.b67_rows.proofs.Numbers.{get_set}
+use Rattle.b67_frames.specs.Events.{event_there}
 use Rattle.b67_frames.proofs.EventCells.{arrays_still, event_keeps_none, array_beside, made_changes, keeps_event, beside_set}
 use Rattle.b67_frames.proofs.EventsChanged.{events_changed}
-use Rattle.b67_frames.proofs.Knowing.{KeepsArrays}
-use Rattle.b67_frames.proofs.Lying.{Lies, lies_in}
-use Rattle.b67_frames.proofs.MadeArrays.{get_past, IsPast, past_events}
-use Rattle.b67_frames.proofs.OwnCells.{OwnCells}
-use Rattle.b67_frames.proofs.OwnEvents.{OwnEvent}
-use Rattle.b67_frames.proofs.StoredRows.{get_set}
-use Rattle.b67_frames.proofs.Zeros.{cells_length}
+use Rattle.b67_frames.proofs.MadeArrays.{IsPast, past_events}
 use Rattle.b67_scenes.proofs.StoringFrames.{length_cells, changed, stored_world, changed_at, ChangedCells}
 
 -- the frame of an own instance of a process
@@ -121,7 +97,7 @@ module _ (sc : Scopes) (w : World) (lay : Layout) (i : ℕ) (x : Instance) (own 
       (some_same
       (sym lies
       ∙ ap (λ (cs : List NamedCell). slice_get cs (front + number)) cells_are
-      ∙ get_past own.simple (slice_set own.arrays number (record { name = name; cell = event later })) number (front + number) (ap (λ (n : ℕ). n + number) (sym simple_many))
+      ∙ get-behind own.simple (slice_set own.arrays number (record { name = name; cell = event later })) number (front + number) (ap (λ (n : ℕ). n + number) (sym simple_many))
       ∙ get_set own.arrays number (record { name = name; cell = event found.cell }) (record { name = name; cell = event later }) found.there))
 
   others_are : (k : ℕ) → k ≢ front + number → slice_get cells' k ≡ slice_get x.cells k

@@ -1,41 +1,12 @@
 -- Where the frame of an instance that stands lies, in whatever stack, and how much of it lies below the floor of the process whose stack that is.
 use Rattle.std.proofs.Common.{◌≡◌, inl, inr, refl, sym, ap, ◌∙◌, subst, ℕ, ◌+◌, ◌<◌, ◌≤◌, Bool, false, List, [], ◌∷◌, ◌++◌, length, Some, arith, append_assoc, append-nil}
-use Rattle.std.specs.Prelude.{if◌then◌else◌, slice_get}
-use Rattle.b67_list.specs.Numbered.{numbered}
-use Rattle.algol_tree.specs.Blocks.{block_numbered}
-use Rattle.algol_tree.specs.Plain.{PProgram}
-use Rattle.algol_tree.specs.Scopes.{Scopes, scopes_of}
-use Rattle.algol_meaning.specs.World.{Instance, Process, Part, State, lives, World, instance_at}
-use Rattle.algol_meaning.specs.Critical.{is_evaluation, own_instances, some_depends}
-use Rattle.algol_standing.specs.Skeleton.{IsIn}
-use Rattle.algol_standing.specs.Worlds.{IsStanding, IsOwn, IsWhole, stack_of}
-use Rattle.algol_standing.specs.Fitting.{IsOk}
-use Rattle.algol_standing.specs.Lows.{IsLow}
-use Rattle.algol_standing.proofs.Pairs.{stack_forth}
-use Rattle.b67_word.specs.declared.Place.{Place}
-use Rattle.b67_word.specs.Word.{Word}
-use Rattle.b67_segment.specs.declared.code.Code.{Code}
-use Rattle.b67_store.specs.Store.{word_at, stack_limit}
-use Rattle.b67_table.specs.Chains.{place}
-use Rattle.b67_table.specs.Image.{Image}
-use Rattle.b67_templates.specs.Cells.{made_base}
-use Rattle.b67_templates.specs.Programs.{Texts}
-use Rattle.b67_cores.specs.Cores.{Core, size, HasCore}
-use Rattle.b67_cores.specs.Stretches.{Above}
-use Rattle.b67_cores.proofs.Staying.{steps_stay_above}
-use Rattle.b67_faithful.proofs.Contradictions.{some_same}
+use Rattle.b67_scenes.proofs.Prelude.{if◌then◌else◌, slice_get, numbered, block_numbered, PProgram, Scopes, scopes_of, Instance, Process, Part, State, lives, World, instance_at, is_evaluation, own_instances, some_depends, IsIn, IsStanding, IsOwn, IsWhole, stack_of, IsOk, IsLow, stack_forth, Place, Word, Code, word_at, stack_limit, place, Image, made_base, Texts, Core, size, HasCore, Above, steps_stay_above, some_same, get-front, get-behind, Near, below_floor, NearFrame, Layout, Stands, Around, Frames, begins_core, Lies, owned_frame, lies_low, lies_around, Living, Pictured, living, dead, PicturesBy, Reaches, ReachesFor}
 use Rattle.b67_rows.proofs.Numbers.{get_within}
-use Rattle.b67_rows.proofs.StackWords.{get-front, get-behind}
-use Rattle.b67_rows.proofs.Touching.{Near, below_floor, NearFrame}
-use Rattle.b67_frames.specs.Arrays.{Layout}
-use Rattle.b67_frames.specs.Frames.{Stands, Around, Frames}
-use Rattle.b67_frames.proofs.Linked.{begins_core, Entered, AreEntered, lies_entered}
-use Rattle.b67_frames.proofs.Lying.{Lies, owned_frame, lies_low, lies_around}
-use Rattle.b67_scenes.specs.Pictures.{Living, Pictured, living, dead, PicturesBy}
+use Rattle.b67_frames.proofs.Linked.{Entered, AreEntered, lies_entered}
 use Rattle.b67_scenes.specs.Reaches as reaching
-use Rattle.b67_scenes.specs.Reaches.{Reaches, ReachesFor}
 use Rattle.b67_scenes.proofs.Staying.{frame_low}
 use Rattle.b67_scenes.proofs.Worlds.{IsInStack, own_listed, in_stack}
+use Rattle.b67_rows.proofs.Touching.{IsNearStack, own_stack}
 
 module _ (tree : PProgram) (code : Code) (texts : Texts) (w : World) (lay : Layout) (img : Image) where
   abbrev sc : Scopes
@@ -115,12 +86,13 @@ module _ (tree : PProgram) (code : Code) (texts : Texts) (w : World) (lay : Layo
         word_at img.stacks (place f.number (length f.lies.frame.lower + n)) ≡ Some word
     word_sees n word e low = settled_sees (high + n) word low (settled_word n word e)
 
-    -- what lies below the floor is near to each process
-    pub place_near : (p n : ℕ) → n < length f.core.below → Near p img (place f.number n)
-    place_near p n low = below_floor f.core.registers (record { live = f.has.live; is = f.has.registers }) (omega (arith, low, f.has.is.bottom))
+    -- what lies below the floor is near to each process whose stack it is, and where somebody depends on that
+    pub place_near : (p n : ℕ) → IsNearStack p img f.number → n < length f.core.below → Near p img (place f.number n)
+    place_near p n (inl own) low = own_stack own
+    place_near p n (inr depended) low = below_floor f.core.registers (record { live = f.has.live; is = f.has.registers }) (omega (arith, low, f.has.is.bottom)) depended
 
-    pub frame_near : (p : ℕ) → NearFrame p img (place f.number (length f.lies.frame.lower))
-    frame_near p = (place_near p high (omega (arith, two_below)), place_near p (high + 1) (omega (arith, two_below)))
+    pub frame_near : (p : ℕ) → IsNearStack p img f.number → NearFrame p img (place f.number (length f.lies.frame.lower))
+    frame_near p near = (place_near p high near (omega (arith, two_below)), place_near p (high + 1) near (omega (arith, two_below)))
 
   -- ---- of a picture
 
@@ -249,5 +221,5 @@ module _ (tree : PProgram) (code : Code) (texts : Texts) (w : World) (lay : Layo
     entered_of i st = entered_there i (find i st)
 
     -- and are near to each process
-    pub standing_near : (p i : ℕ) → IsStanding w i → (g : Place) → numbered lay.places i ≡ Some g → NearFrame p img g
-    standing_near p i st g laid = subst (λ (f : Place). NearFrame p img f) (some_same (sym (found_laid i (find i st)) ∙ laid)) (frame_near i (find i st) p)
+    pub standing_near : (p i : ℕ) (st : IsStanding w i) → IsNearStack p img (find i st).number → (g : Place) → numbered lay.places i ≡ Some g → NearFrame p img g
+    standing_near p i st near g laid = subst (λ (f : Place). NearFrame p img f) (some_same (sym (found_laid i (find i st)) ∙ laid)) (frame_near i (find i st) p near)

@@ -1,36 +1,20 @@
 -- Where a process finds the cell of a parameter that stands for an array: in a frame that its display names. It leads to the array's cell.
-use Rattle.std.proofs.Common.{◌≡◌, sym, ap, ◌∙◌, ℕ, List, ◌∷◌, Some, refl}
-use Rattle.algol_tree.specs.declared.tree.Named.{Named}
-use Rattle.algol_tree.specs.Plain.{PProgram}
-use Rattle.algol_tree.specs.Scopes.{Scopes, scopes_of}
-use Rattle.algol_meaning.specs.Value.{Reference, Cell, reference}
-use Rattle.algol_meaning.specs.World.{Part, Process, World, instance_at, cell_at}
+use Rattle.std.proofs.Common.{◌≡◌, sym, ap, ◌∙◌, ℕ, ◌∷◌, Some, refl}
+use Rattle.b67_scenes.proofs.Prelude.{Named, PProgram, Scopes, scopes_of, Reference, Cell, reference, instance_at, cell_at, IsSeen, Place, as_sirw, Couple, Code, cell_word, IsFormalArray, Texts, AreNested, some_same, Denotes, named_from, IsInReach}
 use Rattle.algol_paths.specs.Arrays.{Shape}
-use Rattle.algol_paths.specs.Blocks.{IsSeen}
-use Rattle.b67_word.specs.declared.Place.{Place}
-use Rattle.b67_control.specs.Control.{as_sirw}
-use Rattle.b67_ops.specs.declared.Couple.{Couple}
-use Rattle.b67_segment.specs.declared.code.Code.{Code}
-use Rattle.b67_table.specs.Image.{Image}
-use Rattle.b67_table.specs.References.{cell_word}
 use Rattle.b67_templates.specs.Cells as wants
-use Rattle.b67_templates.specs.Cells.{Agrees, IsFormalArray}
-use Rattle.b67_templates.specs.Programs.{Texts}
-use Rattle.b67_cores.specs.Cores.{Core}
-use Rattle.b67_templates.specs.Nested.{AreNested}
-use Rattle.b67_faithful.proofs.Contradictions.{some_same}
-use Rattle.b67_frames.specs.Arrays.{Layout, LeadsTo, Denotes, named_from}
+use Rattle.b67_frames.specs.Arrays.{LeadsTo}
 use Rattle.b67_scenes.proofs.ArrayPlaces.{array_index, ArrayPlace, array_place, place_read}
-use Rattle.b67_scenes.proofs.Scene.{Scene}
+use Rattle.b67_scenes.proofs.Scene.{Actor}
 use Rattle.b67_scenes.proofs.Staying.{names_in}
-use Rattle.b67_frames.specs.Frames.{IsInReach}
 use Rattle.b67_scenes.proofs.CellHomes.{CellHome, cell_home}
 use Rattle.b67_scenes.proofs.Led.{IsLed}
 
 -- ---- the parameter's cell
 
-module _ (tree : PProgram) (code : Code) (texts : Texts) (nested : AreNested (scopes_of tree)) (w : World) (lay : Layout) (img : Image)
-    (p : ℕ) (q : Process) (part : Part) (outer : List Part) (bound : ℕ) (core : Core) (s : Scene tree code texts w lay img p q part outer bound core) where
+module _ (tree : PProgram) (code : Code) (texts : Texts) (nested : AreNested (scopes_of tree)) (actor : Actor tree code texts) where
+  open actor use {w, lay, part, outer}
+
   abbrev sc : Scopes
   sc = scopes_of tree
 
@@ -45,29 +29,29 @@ module _ (tree : PProgram) (code : Code) (texts : Texts) (nested : AreNested (sc
   pub record FormalHome (n : Named) (shape : Shape) (couple : Couple) : Type 0 where
     pub r : Reference
     pub cell_is : cell_at w (named n) ≡ reference r
-    pub home : CellHome tree code texts nested w lay img p q part outer bound core s n (wants.array shape) couple
+    pub home : CellHome tree code texts nested actor n (wants.array shape) couple
     pub leads : LeadsTo sc w lay (IsInReach w (part ∷ outer)) shape r home.word
-    pub led : IsLed tree code texts w lay img p q part outer bound core s r
-    pub target : ArrayPlace tree code texts w lay img p q part outer bound core s r.instance r.name leads.declared leads.cell leads.allotted leads.array
+    pub led : IsLed tree code texts actor r
+    pub target : ArrayPlace tree code texts actor r.instance r.name leads.declared leads.cell leads.allotted leads.array
     pub reads : as_sirw home.word
-        ≡ Some (record { stack = target.at.stack; displacement = target.at.at; index = array_index tree code texts w lay img p q part outer bound core s r.instance leads.array.number })
+        ≡ Some (record { stack = target.at.stack; displacement = target.at.at; index = array_index tree code texts actor r.instance leads.array.number })
 
   module _ (n : Named) (shape : Shape) (couple : Couple) (is_seen : IsSeen sc ((instance_at w part.instance).block) n) (v : IsFormalArray sc level n shape couple) where
-    h : CellHome tree code texts nested w lay img p q part outer bound core s n (wants.array shape) couple
-    h = cell_home tree code texts nested w lay img p q part outer bound core s n (wants.array shape) couple v.found tt is_seen v.there v.wanted_is v.level_is v.index_is
+    h : CellHome tree code texts nested actor n (wants.array shape) couple
+    h = cell_home tree code texts nested actor n (wants.array shape) couple v.found tt is_seen v.there v.wanted_is v.level_is v.index_is
 
     module _ (r : Reference) (same : h.cell ≡ reference r) (leads : LeadsTo sc w lay (IsInReach w (part ∷ outer)) shape r h.word) where
-      led : IsLed tree code texts w lay img p q part outer bound core s r
+      led : IsLed tree code texts actor r
       led = h.leads r same
 
       abbrev IsTarget : Type 0
-      IsTarget = ArrayPlace tree code texts w lay img p q part outer bound core s r.instance r.name leads.declared leads.cell leads.allotted leads.array
+      IsTarget = ArrayPlace tree code texts actor r.instance r.name leads.declared leads.cell leads.allotted leads.array
 
       target : IsTarget
-      target = array_place tree code texts w lay img p q part outer bound core s nested r.instance r.name led leads.declared leads.cell leads.allotted leads.array
+      target = array_place tree code texts actor nested r.instance r.name led leads.declared leads.cell leads.allotted leads.array
 
       abbrev far_away : ℕ
-      far_away = array_index tree code texts w lay img p q part outer bound core s r.instance leads.array.number
+      far_away = array_index tree code texts actor r.instance leads.array.number
 
       frame_is : leads.frame ≡ target.at
       frame_is = some_same (sym leads.laid ∙ target.laid)
@@ -84,7 +68,7 @@ module _ (tree : PProgram) (code : Code) (texts : Texts) (nested : AreNested (sc
             reads =
                 ap as_sirw leads.word_is
                 ∙ ap (λ (f : Place). as_sirw (cell_word (record { frame = f; index = far_away }))) frame_is
-                ∙ place_read tree code texts w lay img p q part outer bound core s nested r.instance r.name leads.declared leads.cell leads.allotted leads.array target;
+                ∙ place_read tree code texts actor nested r.instance r.name leads.declared leads.cell leads.allotted leads.array target;
           }
 
     pub formal_home : FormalHome n shape couple

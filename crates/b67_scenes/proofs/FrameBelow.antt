@@ -1,25 +1,7 @@
 -- Under the frame of a part lies that of the part around it, to which the marks lead down.
 use Rattle.std.proofs.Common.{◌≡◌, refl, ap, ◌∙◌, subst, ℕ, ◌+◌, ◌≤◌, List, ◌∷◌, ◌++◌, length, Ok, arith}
-use Rattle.std.specs.Prelude.{reverse}
-use Rattle.algol_tree.specs.Plain.{PProgram}
-use Rattle.algol_tree.specs.Scopes.{Scopes, scopes_of}
-use Rattle.algol_meaning.specs.World.{Part, World}
-use Rattle.b67_word.specs.Word.{Word}
-use Rattle.b67_control.specs.Control.{as_mscw, as_rcw}
-use Rattle.b67_segment.specs.declared.code.Code.{Code}
-use Rattle.b67_store.specs.Store.{Stacks, stack_limit}
-use Rattle.b67_table.specs.declared.Below.{Below}
-use Rattle.b67_table.specs.Chains.{place, left_to}
-use Rattle.b67_table.specs.Look.{read_as, seen}
-use Rattle.b67_templates.specs.Programs.{Texts}
-use Rattle.b67_cores.specs.Slots.{newest}
-use Rattle.b67_cores.proofs.Moving.{slots_length}
-use Rattle.b67_rows.proofs.Displays.{entered_to}
+use Rattle.b67_scenes.proofs.Prelude.{reverse, PProgram, Scopes, scopes_of, Part, World, Word, as_mscw, as_rcw, Code, Stacks, stack_limit, Below, place, left_to, read_as, seen, Texts, newest, slots_length, entered_to, length-stack, Layout, Frame, Waits, Around, Begins_with, begins_front, mark_there, control_there}
 use Rattle.b67_rows.proofs.Marks.{Above, left_seen}
-use Rattle.b67_rows.proofs.StackWords.{length-stack}
-use Rattle.b67_frames.specs.Arrays.{Layout}
-use Rattle.b67_frames.specs.Frames.{Frame, Waits, Around}
-use Rattle.b67_frames.proofs.Linked.{Begins_with, begins_front, mark_there, control_there}
 use Rattle.b67_scenes.proofs.Staying.{level_in, frame_low}
 
 module _ (tree : PProgram) (code : Code) (texts : Texts) (w : World) (lay : Layout) (p : ℕ) (stacks : Stacks) (part next : Part) (parts : List Part) (all : List Word)

@@ -1,38 +1,15 @@
 -- Processes come to other states in a world and in its image; and those that wait are able again, whom an event releases.
 use Rattle.std.proofs.Common.{◌≡◌, ◌≢◌, ◌⊎◌, inl, inr, refl, sym, ap, ◌∙◌, subst, ℕ, zero, suc, List, [], ◌∷◌, length, Option, Some, None, true}
-use Rattle.std.specs.Prelude.{slice_set}
-use Rattle.b67_list.specs.Numbered.{numbered, set_numbered}
-use Rattle.algol_tree.specs.Plain.{PProgram}
-use Rattle.algol_tree.specs.Scopes.{scopes_of}
-use Rattle.algol_meaning.specs.World.{Process, State, able, lives, World, process_at, or_no_process, with_process, set_able, set_all_able}
-use Rattle.algol_meaning.specs.Events.{list_in}
-use Rattle.b67_deeds.specs.Listed.{IsListed}
-use Rattle.b67_segment.specs.declared.code.Code.{Code}
-use Rattle.b67_templates.specs.Programs.{Texts}
-use Rattle.b67_table.specs.declared.ProcessState.{ProcessState}
-use Rattle.b67_table.specs.declared.ProcessState.TheVariants.{Able}
-use Rattle.b67_table.specs.Image.{Image, with_states, is_live, woken_number}
+use Rattle.b67_scenes.proofs.Prelude.{slice_set, numbered, set_numbered, PProgram, scopes_of, Process, State, able, lives, World, process_at, or_no_process, with_process, list_in, IsListed, Code, Texts, ProcessState, Able, Image, is_live, woken_number, AwaitsAt, Core, HasCore, length_set_numbered, true_false, same_or_not, numbered_set, numbered_other, Layout, arrays_unchanged, events_unchanged, Living, Pictured, living, dead, PicturesBy, StateIs, ListIs, WaitsAre, HasFacts, Place, waiters_at, list_of}
+use Rattle.algol_meaning.specs.World.{set_able, set_all_able}
+use Rattle.b67_table.specs.Image.{with_states}
 use Rattle.b67_table.specs.Writes.{able_again}
-use Rattle.b67_table.specs.Valid.{AwaitsAt}
-use Rattle.b67_cores.specs.Cores.{Core, HasCore}
-use Rattle.b67_faithful.proofs.Choices.{length_set_numbered}
-use Rattle.b67_faithful.proofs.Contradictions.{true_false}
-use Rattle.b67_rows.proofs.Numbers.{same_or_not, numbered_set, numbered_other}
-use Rattle.b67_frames.specs.Arrays.{Layout}
-use Rattle.b67_frames.proofs.ArraysKept.{arrays_unchanged}
-use Rattle.b67_frames.proofs.EventsKept.{events_unchanged}
-use Rattle.b67_scenes.specs.Pictures.{Living, Pictured, living, dead, PicturesBy}
-use Rattle.b67_scenes.specs.States.{StateIs}
-use Rattle.b67_scenes.specs.Waiting.{ListIs, WaitsAre}
-use Rattle.b67_frames.proofs.Facts.{HasFacts}
 use Rattle.b67_scenes.proofs.Ancestors.{all_laid}
 use Rattle.b67_scenes.proofs.StatesOnly.{alone_still}
 use Rattle.b67_scenes.proofs.Kept.{LeavesAlone, alike_by, living_alike, living_there}
 use Rattle.b67_scenes.proofs.Stage.{state_there, process_is, comes_to}
 use Rattle.b67_scenes.proofs.Waiting.{awaiting_beside, waits_beside}
 use Rattle.b67_scenes.proofs.Tasks.{events_same}
-use Rattle.b67_word.specs.declared.Place.{Place}
-use Rattle.b67_events.specs.Events.{waiters_at, list_of}
 
 -- the process is there, and lives
 pub record LivesIn (w : World) (m : ℕ) : Type 0 where

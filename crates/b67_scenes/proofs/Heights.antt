@@ -1,26 +1,6 @@
 -- No two instances that stand have their frames at one place, and none has its own where an evaluation has one.
 use Rattle.std.proofs.Common.{◌≡◌, ◌⊎◌, inl, inr, sym, ap, ◌∙◌, subst, ℕ, ◌+◌, ◌≤◌, List, [], ◌∷◌, length, Some, true, false, arith}
-use Rattle.b67_list.specs.Numbered.{numbered}
-use Rattle.algol_tree.specs.Plain.{PProgram}
-use Rattle.algol_tree.specs.Scopes.{scopes_of}
-use Rattle.algol_meaning.specs.World.{Instance, Process, Part, World}
-use Rattle.algol_meaning.specs.Critical.{is_evaluation}
-use Rattle.algol_standing.specs.Worlds.{IsWhole}
-use Rattle.algol_standing.specs.Fitting.{IsOk}
-use Rattle.algol_standing.specs.Worlds.{IsOwn}
-use Rattle.b67_word.specs.declared.Place.{Place}
-use Rattle.b67_word.specs.Word.{Word}
-use Rattle.b67_segment.specs.declared.code.Code.{Code}
-use Rattle.b67_table.specs.Chains.{place}
-use Rattle.b67_table.specs.Image.{Image}
-use Rattle.b67_templates.specs.Contexts.{Yields}
-use Rattle.b67_templates.specs.Programs.{Texts}
-use Rattle.b67_faithful.proofs.Contradictions.{some_same, true_false}
-use Rattle.b67_frames.specs.Arrays.{Layout}
-use Rattle.b67_frames.specs.Frames.{Frame, Around}
-use Rattle.b67_scenes.specs.Pictures.{PicturesBy}
-use Rattle.b67_frames.proofs.EventsLow.{IsElsewhere}
-use Rattle.b67_frames.proofs.Lying.{Lies, lies_around, lies_low, owned_frame}
+use Rattle.b67_scenes.proofs.Prelude.{numbered, PProgram, scopes_of, Instance, Process, Part, World, is_evaluation, IsWhole, IsOk, IsOwn, Place, Word, Code, place, Image, Yields, Texts, some_same, true_false, Layout, Frame, Around, PicturesBy, IsElsewhere, Lies, lies_around, lies_low, owned_frame}
 use Rattle.b67_scenes.proofs.Worlds.{held_of}
 
 module _ (tree : PProgram) (code : Code) (texts : Texts) (w : World) (lay : Layout) (p : ℕ) where

@@ -1,36 +1,10 @@
 -- Where a process finds a variable: in the frame of its instance or of a static parent of that.
 use Rattle.std.proofs.Common.{◌≡◌, ap, ◌∙◌, ℕ, ◌+◌, List, ◌∷◌, length, Some, Ok, arith}
-use Rattle.algol_tree.specs.declared.tree.Kind.{Kind}
-use Rattle.algol_tree.specs.declared.tree.Named.{Named}
-use Rattle.algol_tree.specs.Blocks.{block_numbered}
-use Rattle.algol_tree.specs.Plain.{PProgram}
-use Rattle.algol_tree.specs.Scopes.{Scopes, scopes_of, use_of}
-use Rattle.algol_meaning.specs.Value.{Reference}
-use Rattle.algol_meaning.specs.World.{Part, Process, World, instance_at, ancestor}
-use Rattle.algol_paths.specs.Blocks.{IsSeen}
-use Rattle.b67_ops.specs.declared.Couple.{Couple}
-use Rattle.b67_ops.specs.declared.Operator.{Operator}
-use Rattle.b67_segment.specs.Operators.{Placed}
+use Rattle.b67_scenes.proofs.Prelude.{Kind, Named, block_numbered, PProgram, Scopes, scopes_of, use_of, Reference, instance_at, ancestor, IsSeen, Couple, Operator, Placed, Code, word_at, place, display_at, operator_at, Has, Found, found_from, simple_cells, IsVariable, Texts, Slot, Core, Known, CoreAt, IsInReach, IsParent}
 use Rattle.b67_segment.specs.Fetching.{fetched}
-use Rattle.b67_segment.specs.declared.code.Code.{Code}
 use Rattle.b67_segment.proofs.Among.{fetched-spelled}
-use Rattle.b67_store.specs.Store.{word_at}
-use Rattle.b67_table.specs.Chains.{place}
-use Rattle.b67_table.specs.Image.{Image}
-use Rattle.b67_table.specs.Private.{display_at}
-use Rattle.b67_table.specs.Table.{operator_at}
-use Rattle.b67_templates.specs.Fragments.{Has}
-use Rattle.b67_templates.specs.Cells.{Found, found_from, simple_cells, IsVariable}
-use Rattle.b67_templates.specs.Programs.{Texts}
-use Rattle.b67_standing.specs.Stepping.{Slot}
-use Rattle.b67_cores.specs.Cores.{Core}
-use Rattle.b67_cores.specs.Slots.{Known}
-use Rattle.b67_cores.specs.Stretches.{CoreAt}
-use Rattle.b67_frames.specs.Arrays.{Layout}
-use Rattle.b67_frames.specs.Frames.{IsInReach}
-use Rattle.b67_frames.proofs.StaticParents.{IsParent}
 use Rattle.b67_scenes.proofs.Led.{named_parent, named_reached, named_shown}
-use Rattle.b67_scenes.proofs.Scene.{Scene}
+use Rattle.b67_scenes.proofs.Scene.{Actor}
 use Rattle.b67_scenes.proofs.Staying.{names_in}
 use Rattle.b67_scenes.proofs.VariableHomes.{VariableHome, variable_home}
 
@@ -42,8 +16,9 @@ operator_there sc known code ps level pc slots core op next at has =
     ∙ ap (λ (l : ℕ). fetched code (record { segment = core.registers.segment; place = pc }) l) at.level_is
     ∙ fetched-spelled code core.registers.segment at.there at.spells has
 
-module _ (tree : PProgram) (code : Code) (texts : Texts) (w : World) (lay : Layout) (img : Image)
-    (p : ℕ) (q : Process) (part : Part) (outer : List Part) (bound : ℕ) (core : Core) (s : Scene tree code texts w lay img p q part outer bound core) where
+module _ (tree : PProgram) (code : Code) (texts : Texts) (actor : Actor tree code texts) where
+  open actor use {w, lay, img, part, outer, core}
+
   abbrev sc : Scopes
   sc = scopes_of tree
 
@@ -59,31 +34,31 @@ module _ (tree : PProgram) (code : Code) (texts : Texts) (w : World) (lay : Layo
     pub parent : IsParent sc w lay part.instance ((use_of sc n).up) ((use_of sc n).block)
     pub reached : IsInReach w (part ∷ outer) (home_at n)
     pub found : Found
-    pub at : VariableHome tree code texts w lay img p q part outer bound core s (named_at n) kind found
+    pub at : VariableHome tree code texts actor (named_at n) kind found
     pub index : couple.index ≡ 2 + at.number
     pub lies : word_at img.stacks (place at.seen_there.found.number (length at.seen_there.found.lies.frame.lower + couple.index)) ≡ Some at.word
     pub shown : display_at core.registers couple.level ≡ Some (place at.seen_there.found.number (length at.seen_there.found.lies.frame.lower))
 
   module _ (n : Named) (kind : Kind) (couple : Couple) (is_seen : IsSeen sc ((instance_at w part.instance).block) n) (v : IsVariable sc (names_in tree w part) n kind couple) where
     parent : IsParent sc w lay part.instance ((use_of sc n).up) ((use_of sc n).block)
-    parent = named_parent tree code texts w lay img p q part outer bound core s n is_seen
+    parent = named_parent tree code texts actor n is_seen
 
     there : found_from 0 (simple_cells sc (block_numbered sc.blocks ((instance_at w (home_at n)).block))) n.name ≡ Some v.found
     there = ap (λ (k : ℕ). found_from 0 (simple_cells sc (block_numbered sc.blocks k)) n.name) parent.block ∙ v.there
 
-    home_there : VariableHome tree code texts w lay img p q part outer bound core s (named_at n) kind v.found → Home n kind couple
+    home_there : VariableHome tree code texts actor (named_at n) kind v.found → Home n kind couple
     home_there h =
         let index_is : couple.index ≡ 2 + h.number = omega (arith, v.index_is, h.number_is) in
         record {
           parent = parent;
-          reached = named_reached tree code texts w lay img p q part outer bound core s n is_seen;
+          reached = named_reached tree code texts actor n is_seen;
           found = v.found;
           at = h;
           index = index_is;
           lies = ap (λ (k : ℕ). word_at img.stacks (place h.seen_there.found.number (length h.seen_there.found.lies.frame.lower + k))) index_is ∙ h.word_lies;
-          shown = named_shown tree code texts w lay img p q part outer bound core s n is_seen couple.level v.level_is h.seen_there;
+          shown = named_shown tree code texts actor n is_seen couple.level v.level_is h.seen_there;
         }
 
     pub home : Home n kind couple
     home =
-        home_there (variable_home tree code texts w lay img p q part outer bound core s (named_at n) kind v.found there v.wanted_is (named_reached tree code texts w lay img p q part outer bound core s n is_seen))
+        home_there (variable_home tree code texts actor (named_at n) kind v.found there v.wanted_is (named_reached tree code texts actor n is_seen))

@@ -1,53 +1,31 @@
 -- What NXLV, NXLN and INDX find on top: the descriptor of an array, by its couple, or that of a row, and under it the index of a subscript.
 use Rattle.std.proofs.Common.{◌≡◌, refl, sym, ap, ◌∙◌, subst, ℕ, ◌+◌, ◌<◌, ◌≤◌, List, [], ◌∷◌, ◌++◌, length, Some, Bool, true, false, Ok, ℤ, arith}
-use Rattle.std.specs.Prelude.{slice_get}
-use Rattle.algol_tree.specs.declared.tree.Named.{Named}
-use Rattle.algol_tree.specs.Plain.{PProgram}
-use Rattle.algol_tree.specs.Scopes.{Scopes, scopes_of, use_of}
-use Rattle.algol_tree.specs.Sorts.{Sort}
-use Rattle.algol_meaning.specs.Value.{number, Reference, Bounds, ArrayCell, array}
+use Rattle.b67_scenes.proofs.Prelude.{slice_get, Named, PProgram, Scopes, scopes_of, use_of, Sort, number, Reference, Bounds, ArrayCell, array, followed, Word, as_whole, Descriptor, as_irw, Couple, Code, seen, frame, Texts, Slot, operand, descriptor, Known, newest, SlotsAre, CoreAt, some_same, AreNested, number_read, Top, top_slot, reference_read, Allotted, DescriptorIs, AreSized, IsArrayOf, named_from, OneSized, one_sized, TwoSized, two_sized, IsInReach, CountsBy}
 use Rattle.algol_meaning.specs.Arrays.{size_of, subscript_place}
-use Rattle.algol_meaning.specs.World.{Part, Process, World, followed}
 use Rattle.algol_paths.specs.Arrays.{Shape}
-use Rattle.b67_word.specs.Word.{Word, as_whole}
-use Rattle.b67_control.specs.declared.Descriptor.{Descriptor}
-use Rattle.b67_control.specs.Control.{as_irw, as_descriptor}
-use Rattle.b67_ops.specs.declared.Couple.{Couple}
-use Rattle.b67_segment.specs.declared.code.Code.{Code}
+use Rattle.b67_control.specs.Control.{as_descriptor}
 use Rattle.b67_store.specs.Store.{row_limit}
 use Rattle.b67_table.specs.Arrays.{is_array, array_of, array_word, index_in}
-use Rattle.b67_table.specs.Image.{Image}
-use Rattle.b67_table.specs.Look.{seen}
-use Rattle.b67_table.specs.Private.{frame}
 use Rattle.b67_templates.specs.Cells.{FoundMade}
 use Rattle.b67_templates.specs.Fragments.{moved}
-use Rattle.b67_templates.specs.Programs.{Texts}
-use Rattle.b67_standing.specs.Stepping.{row, Slot, operand, reference, descriptor}
+use Rattle.b67_standing.specs.Stepping.{row, reference}
 use Rattle.b67_standing.specs.Standing.{IsLast}
-use Rattle.b67_cores.specs.Cores.{Core}
-use Rattle.b67_cores.specs.Slots.{Known, newest, SlotsAre}
-use Rattle.b67_cores.specs.Stretches.{CoreAt}
-use Rattle.b67_faithful.proofs.Contradictions.{some_same}
-use Rattle.b67_templates.specs.Nested.{AreNested}
-use Rattle.b67_rows.proofs.Described.{whole_read, IsDescriptor, is_descriptor, whole_array, is_whole_array, IsFound, itself, in_cell, through_cell}
+use Rattle.b67_rows.proofs.Described.{IsDescriptor, is_descriptor, whole_array, is_whole_array, IsFound, itself, in_cell, through_cell}
 use Rattle.b67_rows.proofs.IndexRows.{with_one, array_itself, array_reached, array_through}
-use Rattle.b67_rows.proofs.Slotted.{Top, top_slot}
-use Rattle.b67_rows.proofs.Words.{reference_read}
-use Rattle.b67_frames.specs.Arrays.{Allotted, Layout, DescriptorIs, AreSized, IsArrayOf, IsIn, row_copy, named_from, IsRow}
+use Rattle.b67_frames.specs.Arrays.{IsIn, row_copy, IsRow}
 use Rattle.b67_frames.proofs.ElementRows.{array_read, row_copy_read}
-use Rattle.b67_frames.proofs.FewElements.{OneSized, one_sized, TwoSized, two_sized}
-use Rattle.b67_frames.specs.Frames.{IsInReach}
 use Rattle.b67_frames.proofs.Knowing.{known_is}
-use Rattle.b67_frames.proofs.Subscripts.{CountsBy, one_bound, two_bounds, only_index, first_index, second_index}
+use Rattle.b67_frames.proofs.Subscripts.{one_bound, two_bounds, only_index, first_index, second_index}
 use Rattle.b67_scenes.proofs.ArrayHomes.{Reaches, directly, by_reference, MeantArray}
-use Rattle.b67_scenes.proofs.Scene.{Scene}
+use Rattle.b67_scenes.proofs.Scene.{Actor}
 use Rattle.b67_scenes.proofs.Staying.{text_in, level_in, most_in}
 
 same_array : (a b : ArrayCell) → array a ≡ array b → a ≡ b
 same_array a b e = cc
 
-module _ (tree : PProgram) (code : Code) (texts : Texts) (nested : AreNested (scopes_of tree)) (w : World) (lay : Layout) (img : Image)
-    (p : ℕ) (q : Process) (part : Part) (outer : List Part) (bound : ℕ) (core : Core) (s : Scene tree code texts w lay img p q part outer bound core) where
+module _ (tree : PProgram) (code : Code) (texts : Texts) (nested : AreNested (scopes_of tree)) (actor : Actor tree code texts) where
+  open actor use {w, lay, img, p, part, outer, core, s}
+
   abbrev sc : Scopes
   sc = scopes_of tree
 
@@ -106,7 +84,7 @@ module _ (tree : PProgram) (code : Code) (texts : Texts) (nested : AreNested (sc
         lower = top_slot sc s.stands.held level (frame core.registers) (length core.below) (operand (number z) ∷ below) (operand (number z)) below upper.words_below upper.are refl;
       }
 
-  module _ (n : Named) (shape : Shape) (couple : Couple) (h : MeantArray tree code texts nested w lay img p q part outer bound core s n shape couple) where
+  module _ (n : Named) (shape : Shape) (couple : Couple) (h : MeantArray tree code texts nested actor n shape couple) where
     -- what a name means there
     abbrev home : Reference
     home = followed w (named_from sc w lay part.instance n)
@@ -116,13 +94,13 @@ module _ (tree : PProgram) (code : Code) (texts : Texts) (nested : AreNested (sc
 
     -- by a reference to the array
     module _ (mother : Bool) (x : Word) (d : Descriptor) (x_is : as_irw x ≡ Some (record { level = couple.level; index = couple.index })) (fits : is_array mother d ≡ true) (is : IsDescriptor h.word d) where
-      array_found : Reaches tree code texts nested w lay img p q part outer bound core s couple h.word → seen img.stacks (array_of core.registers mother x) ≡ Ok d
+      array_found : Reaches tree code texts nested actor couple h.word → seen img.stacks (array_of core.registers mother x) ≡ Ok d
       array_found (directly at shown near lies) =
           array_reached img core.registers mother x d fits couple.level couple.index at h.word x_is shown lies is.no_sirw is.reads
       array_found (by_reference at first r shown near lies refers further there) =
           array_through img core.registers mother x d fits couple.level couple.index at first r h.word x_is shown lies refers there is.no_sirw is.reads
 
-      is_found : Reaches tree code texts nested w lay img p q part outer bound core s couple h.word → IsFound p img core.registers x
+      is_found : Reaches tree code texts nested actor couple h.word → IsFound p img core.registers x
       is_found (directly at shown near lies) = in_cell (record { level = couple.level; index = couple.index }) at h.word x_is shown near lies is.no_sirw
       is_found (by_reference at first r shown near lies refers further there) =
           through_cell (record { level = couple.level; index = couple.index }) at first r h.word x_is shown near lies refers further there is.no_sirw
@@ -139,7 +117,7 @@ module _ (tree : PProgram) (code : Code) (texts : Texts) (nested : AreNested (sc
           words = two.lower.words_below;
           top = two.upper.is ∙ ap (λ (ws : List Word). two.upper.word ∷ ws) two.lower.is;
           left_are = two.lower.are;
-          is_whole = whole_read z two.lower.word two.lower.slot_is;
+          is_whole = number_read z two.lower.word two.lower.slot_is;
           marks = s.stands.there.mark_is ∙ ap (newest (frame core.registers) (length core.below)) lies;
           many = ap length lies ∙ omega arith;
           array_is = array_found mother two.upper.word (whole_array false mother size m) x_is (is_whole_array false mother size m) is h.reaches;
@@ -246,7 +224,7 @@ module _ (tree : PProgram) (code : Code) (texts : Texts) (nested : AreNested (sc
                   words = two.lower.words_below;
                   top = two.upper.is ∙ ap (λ (ws : List Word). two.upper.word ∷ ws) two.lower.is;
                   left_are = two.lower.are;
-                  is_whole = whole_read (moved second_low subscript) two.lower.word two.lower.slot_is;
+                  is_whole = number_read (moved second_low subscript) two.lower.word two.lower.slot_is;
                   marks = s.stands.there.mark_is ∙ ap (newest (frame core.registers) (length core.below)) lies;
                   many = ap length lies ∙ omega arith;
                   array_is =

@@ -1,41 +1,18 @@
 -- The way of GO TO down a process's stack: from the innermost part to that of the label's instance, past the frames that are left.
 use Rattle.std.proofs.Common.{◌≡◌, inl, inr, refl, sym, ap, ◌∙◌, subst, ℕ, zero, suc, ◌+◌, ◌<◌, ◌≤◌, List, [], ◌∷◌, ◌++◌, length, take, drop, Some, None, Bool, true, false, Ok, arith, append_assoc, append-nil, length-append}
-use Rattle.std.specs.Prelude.{if◌then◌else◌, ◌==◌, nat_eq, nat_lt, reverse, slice_get, map}
-use Rattle.std.proofs.lemmas.Bool.Decides.{nat_tests}
-use Rattle.b67_list.specs.Numbered.{numbered}
-use Rattle.algol_tree.specs.Plain.{PProgram}
-use Rattle.algol_tree.specs.Scopes.{Scopes, scopes_of}
-use Rattle.algol_meaning.specs.Critical.{is_evaluation, own_instances}
-use Rattle.algol_meaning.specs.Instances.{leave, is_part_of, cut_at}
-use Rattle.algol_meaning.specs.World.{NamedCell, Instance, Part, Process, World, instance_at, cell_in, by_cell}
-use Rattle.algol_standing.specs.Worlds.{IsOwn, IsStanding, stack_of}
-use Rattle.b67_word.specs.declared.Place.{Place}
-use Rattle.b67_word.specs.Word.{Word}
-use Rattle.b67_segment.specs.declared.code.Code.{Code}
-use Rattle.b67_store.specs.Store.{Stacks, stack_limit}
-use Rattle.b67_table.specs.declared.Below.{Below}
-use Rattle.b67_table.specs.Chains.{place, broken, left_to}
-use Rattle.b67_table.specs.GoingTo.{Passed, Passing, after, passing}
-use Rattle.b67_table.specs.Image.{Image}
-use Rattle.b67_table.specs.Look.{Look, found, ◌>->◌, seen}
-use Rattle.b67_templates.specs.Contexts.{Yields}
-use Rattle.b67_templates.specs.Programs.{Texts}
+use Rattle.b67_scenes.proofs.Prelude.{if◌then◌else◌, ◌==◌, reverse, slice_get, map, nat_tests, numbered, PProgram, Scopes, scopes_of, is_evaluation, own_instances, leave, NamedCell, Instance, Part, Process, World, instance_at, cell_in, by_cell, IsOwn, IsStanding, stack_of, Place, Word, Code, Stacks, stack_limit, Below, place, left_to, Passed, Image, Look, ◌>->◌, seen, Yields, Texts, parts_weight, some_same, true_false, same_is, numbered_other, IsSameBut, Layout, ArraysAre, IsInReach, home_of, Framed, Frame, Waits, Around, Owned, Shape, of_own, of_lent, FramesClose, Begins_with, KeepsArrays, Remain, denotes_lasts, owned_frame}
+use Rattle.std.specs.Prelude.{nat_eq, nat_lt}
+use Rattle.algol_meaning.specs.Instances.{is_part_of, cut_at}
+use Rattle.algol_standing.proofs.Jumping.{target_is}
+use Rattle.b67_table.specs.Chains.{broken}
+use Rattle.b67_table.specs.GoingTo.{Passing, after, passing}
+use Rattle.b67_table.specs.Look.{found}
 use Rattle.b67_letters.proofs.Looks.{then_seen}
-use Rattle.b67_faithful.specs.Weight.{parts_weight}
-use Rattle.b67_faithful.proofs.Contradictions.{some_same, true_false}
-use Rattle.b67_rows.proofs.Displays.{same_is}
-use Rattle.b67_rows.proofs.Numbers.{numbered_other}
-use Rattle.b67_rows.proofs.Parting.{IsSameBut}
 use Rattle.b67_rows.proofs.TurnRow.{not_below}
-use Rattle.b67_frames.specs.Arrays.{Layout, ArraysAre}
-use Rattle.b67_frames.specs.Frames.{IsInReach, home_of, Framed, Frame, Waits, Around, Owned, Shape, of_own, of_lent}
 use Rattle.b67_frames.specs.Lent.{Lent}
-use Rattle.b67_frames.proofs.Closing.{IsClosed, FramesClose}
+use Rattle.b67_frames.proofs.Closing.{IsClosed}
 use Rattle.b67_frames.proofs.JumpClosing.{after_one, cells_there, AreClosed, none_closed, own_closed, lent_closed}
 use Rattle.b67_frames.proofs.JumpRow.{same_number}
-use Rattle.b67_frames.proofs.Linked.{Begins_with}
-use Rattle.b67_frames.proofs.Knowing.{KeepsArrays, Remain, denotes_lasts}
-use Rattle.b67_frames.proofs.Lying.{owned_frame}
 use Rattle.b67_scenes.proofs.FrameBelow as down
 use Rattle.b67_scenes.proofs.FrameBelow.{leads_down, begins_below}
 use Rattle.b67_scenes.proofs.Heights.{own_low}
@@ -48,9 +25,6 @@ use Rattle.b67_scenes.proofs.Staying.{most_in}
 eq_not : (m n : ℕ) → n < m → nat_eq m n ≡ false
 eq_not m n h = grind (arith, nat_tests)
 
-same_of : (m n : ℕ) → (m == n) ≡ true → m ≡ n
-same_of m n h = grind (arith, h, nat_tests)
-
 -- ---- frames that are passed
 
 -- a test that is false at the place of each of these frames
@@ -59,13 +33,6 @@ NoFrame is [] = Unit {0}
 NoFrame is (f ∷ fs) = (is f.frame ≡ false) × NoFrame is fs
 
 -- ---- the part of an instance
-
-part_of_it : (part : Part) (i : ℕ) → is_part_of part i ≡ true → (is_evaluation part.purpose ≡ false) × (part.instance ≡ i)
-part_of_it part i e = by (is_evaluation part.purpose) refl e
-  where
-    by : (t : Bool) → is_evaluation part.purpose ≡ t → (if t then false else part.instance == i) ≡ true → (is_evaluation part.purpose ≡ false) × (part.instance ≡ i)
-    by true owns h = cc
-    by false owns h = (owns, same_of part.instance i h)
 
 -- another part is further out
 part_outer : (part : Part) (outer : List Part) (i : ℕ) → is_part_of part i ≡ false → IsOwn (part ∷ outer) i → IsOwn outer i
@@ -211,8 +178,8 @@ module _ (tree : PProgram) (code : Code) (texts : Texts) (closing : FramesClose)
           cut_is = λ before.
               ap (λ (t : Bool). if t then record { newer = before; from = part ∷ outer } else cut_at (before ++ part ∷ []) outer i) e
               ∙ ap (λ (ns : List Part). record { newer = ns; from = part ∷ outer }) (sym (append-nil before));
-          owns = (part_of_it part i e).0;
-          instance_is = (part_of_it part i e).1;
+          owns = (target_is part i e).0;
+          instance_is = (target_is part i e).1;
           front = words;
           rest = [];
           words_are = sym (append-nil words);

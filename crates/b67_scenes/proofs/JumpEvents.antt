@@ -1,29 +1,8 @@
 -- The events of the frames that GO TO leaves are closed, and those of all others stay as they were.
 use Rattle.std.proofs.Common.{◌≡◌, ◌⊎◌, inl, inr, refl, ap, ◌∙◌, ℕ, Bool, false, List, [], ◌∷◌, Some, None}
-use Rattle.std.specs.Prelude.{if◌then◌else◌}
-use Rattle.b67_list.specs.Numbered.{numbered}
-use Rattle.algol_tree.specs.Plain.{PProgram}
-use Rattle.algol_tree.specs.Scopes.{Scopes, scopes_of}
-use Rattle.algol_meaning.specs.Critical.{own_instances}
-use Rattle.algol_meaning.specs.Instances.{leave}
-use Rattle.b67_deeds.specs.Events.{EventState}
-use Rattle.b67_deeds.specs.Listed.{IsListed}
-use Rattle.algol_meaning.specs.World.{Instance, Process, Part, World, with_process}
-use Rattle.b67_word.specs.declared.Place.{Place}
-use Rattle.b67_word.specs.Word.{Word}
-use Rattle.b67_events.specs.Events.{Event, event_at, is_from, closed_from, waiters_at}
-use Rattle.b67_events.proofs.EventLaws.{one_event}
-use Rattle.b67_segment.specs.declared.code.Code.{Code}
-use Rattle.b67_store.specs.Store.{Stacks}
-use Rattle.b67_table.specs.GoingTo.{Passed}
-use Rattle.b67_templates.specs.Programs.{Texts}
-use Rattle.algol_standing.specs.Worlds.{IsOwn}
-use Rattle.b67_frames.specs.Arrays.{Layout}
-use Rattle.b67_frames.specs.Events.{HasEvent, EventsAre}
-use Rattle.b67_frames.specs.Frames.{Frame}
-use Rattle.b67_frames.proofs.Closing.{FramesClose}
+use Rattle.b67_scenes.proofs.Prelude.{if◌then◌else◌, numbered, PProgram, Scopes, scopes_of, own_instances, leave, EventState, IsListed, Instance, Process, Part, World, with_process, Place, Word, Event, event_at, is_from, closed_from, waiters_at, one_event, Code, Stacks, Passed, Texts, IsOwn, Layout, HasEvent, EventsAre, Frame, FramesClose, IsElsewhere}
 use Rattle.b67_frames.proofs.EventsKept.{events_by}
-use Rattle.b67_frames.proofs.EventsLow.{IsElsewhere, event_outside}
+use Rattle.b67_frames.proofs.EventsLow.{event_outside}
 use Rattle.b67_frames.proofs.JumpClosing.{events_left}
 use Rattle.b67_scenes.proofs.JumpCut.{NoFrame, Way}
 use Rattle.b67_scenes.proofs.JumpWorld.{IsAmong, stood_before}

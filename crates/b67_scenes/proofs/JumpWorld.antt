@@ -1,19 +1,7 @@
 -- The world in which GO TO has left instances of a process: all else of them is the same, and so are all others.
 use Rattle.std.proofs.Common.{◌≡◌, ◌≢◌, ◌⊎◌, inl, inr, refl, sym, ap, ◌∙◌, subst, ℕ, zero, suc, ◌<◌, ◌≤◌, List, [], ◌∷◌, length, Option, Some, None, true, false, arith}
-use Rattle.std.specs.Prelude.{slice_get, slice_set}
-use Rattle.b67_list.specs.Numbered.{numbered, set_numbered}
-use Rattle.algol_meaning.specs.Instances.{leave}
-use Rattle.algol_meaning.specs.World.{Instance, Process, World, no_process, instance_at, or_no_instance, ancestor, with_instance, with_process}
-use Rattle.algol_tree.specs.Scopes.{Scopes}
-use Rattle.b67_word.specs.declared.Place.{Place}
-use Rattle.b67_table.specs.Chains.{place}
-use Rattle.b67_faithful.proofs.Choices.{length_set_numbered}
-use Rattle.b67_faithful.proofs.Contradictions.{some_same, none_some, true_false}
-use Rattle.b67_rows.proofs.Numbers.{same_or_not, numbered_set, numbered_other}
-use Rattle.b67_rows.proofs.Parting.{IsSameBut, same_but}
-use Rattle.b67_frames.specs.Arrays.{Layout}
-use Rattle.b67_frames.proofs.Lying.{StayBelow}
-use Rattle.b67_frames.proofs.Onward.{StandOn}
+use Rattle.b67_scenes.proofs.Prelude.{slice_get, slice_set, numbered, set_numbered, leave, Instance, Process, World, no_process, instance_at, or_no_instance, ancestor, with_instance, with_process, Scopes, Place, place, length_set_numbered, some_same, none_some, true_false, same_or_not, numbered_set, numbered_other, IsSameBut, Layout, StayBelow, StandOn}
+use Rattle.b67_rows.proofs.Parting.{same_but}
 use Rattle.b67_scenes.proofs.Kept.{LeavesAlone, AreAlike}
 use Rattle.b67_scenes.proofs.Tasks.{EventsStay, events_left}
 

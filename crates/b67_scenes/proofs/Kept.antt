@@ -1,33 +1,8 @@
 -- What an action of one process leaves of the picture of another.
 use Rattle.std.proofs.Common.{◌≡◌, ◌≢◌, Bool, refl, sym, ap, ◌∙◌, subst, ℕ, suc, ◌+◌, ◌≤◌, false, List, [], ◌∷◌, length, Option, Some, arith}
-use Rattle.std.specs.Prelude.{if◌then◌else◌}
-use Rattle.b67_list.specs.Numbered.{numbered, set_numbered}
-use Rattle.algol_tree.specs.Blocks.{block_numbered}
-use Rattle.algol_tree.specs.Plain.{PProgram}
-use Rattle.algol_tree.specs.Scopes.{Scopes, scopes_of}
-use Rattle.algol_meaning.specs.World.{Instance, Part, Process, World, instance_at, or_no_instance, process_at, or_no_process, State}
-use Rattle.algol_meaning.specs.Critical.{is_evaluation, own_instances, some_depends}
-use Rattle.algol_standing.specs.Lows.{IsLow}
-use Rattle.b67_word.specs.Word.{Word}
-use Rattle.b67_segment.specs.declared.code.Code.{Code}
-use Rattle.b67_templates.specs.Cells.{made_base}
-use Rattle.b67_templates.specs.Programs.{Texts}
-use Rattle.b67_table.specs.Chains.{place}
-use Rattle.b67_table.specs.Image.{Image}
-use Rattle.b67_cores.specs.Cores.{Core, HasCore}
-use Rattle.b67_faithful.specs.Weight.{weight, parts_weight}
-use Rattle.b67_faithful.proofs.Contradictions.{some_same}
-use Rattle.b67_frames.specs.Arrays.{Layout}
-use Rattle.b67_frames.specs.Frames.{Owned, Frame, Around, Frames}
-use Rattle.b67_scenes.specs.Pictures.{Living, Pictured, living, dead}
+use Rattle.b67_scenes.proofs.Prelude.{if◌then◌else◌, numbered, set_numbered, block_numbered, PProgram, Scopes, scopes_of, Instance, Part, Process, World, instance_at, or_no_instance, process_at, or_no_process, State, is_evaluation, own_instances, some_depends, IsLow, Word, Code, made_base, Texts, place, Image, Core, HasCore, weight, parts_weight, some_same, Layout, Owned, Frame, Around, Frames, Living, Pictured, living, dead, Reaches, ReachesFor, StateIs, ProcessState, numbered_other, StayBelow, owned_frame, same_block, StandOn}
 use Rattle.b67_scenes.specs.Reaches as reaching
-use Rattle.b67_scenes.specs.Reaches.{Reaches, ReachesFor}
-use Rattle.b67_scenes.specs.States.{StateIs}
 use Rattle.b67_scenes.proofs.Ancestors.{AreLaid}
-use Rattle.b67_table.specs.declared.ProcessState.{ProcessState}
-use Rattle.b67_rows.proofs.Numbers.{numbered_other}
-use Rattle.b67_frames.proofs.Lying.{StayBelow, owned_frame, same_block}
-use Rattle.b67_frames.proofs.Onward.{StandOn}
 use Rattle.b67_scenes.proofs.Staying.{frames_stay, frames_weigh, frames_most}
 use Rattle.b67_scenes.proofs.Tasks.{EventsStay, critical_stays, task_stays, state_stays, events_same}
 

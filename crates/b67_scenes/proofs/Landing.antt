@@ -1,32 +1,11 @@
 -- A process that has a core at a place from which private operators lead to where the machine stands for what its parts have still to do.
 use Rattle.std.proofs.Common.{◌≡◌, sym, ap, ◌∙◌, subst, ℕ, ◌+◌, ◌≤◌, List, ◌∷◌, ◌++◌, length, Some, arith}
-use Rattle.algol_tree.specs.Plain.{PProgram}
-use Rattle.algol_tree.specs.Scopes.{Scopes, scopes_of}
-use Rattle.algol_meaning.specs.World.{Process, Part, World, instance_at}
-use Rattle.algol_paths.specs.Segments.{segment_of}
+use Rattle.b67_scenes.proofs.Prelude.{PProgram, Scopes, scopes_of, Process, Part, World, instance_at, segment_of, Registers, place_at, Placed, Code, Texts, stack_limit, place, Image, frame, Slot, ComesTo, Core, size, HasCore, CoreSteps, Known, CoreAt, FragmentsArePerformed, slots_length, weight, Layout, AreKnown, IsInReach, IsChained, Frame, Around, Frames, CriticalIs, TaskIs, innermost_most, Living, Reaches, ReachesFor}
 use Rattle.b67_scenes.proofs.Paths.{CanClimb}
-use Rattle.b67_control.specs.declared.Registers.{Registers}
-use Rattle.b67_control.specs.Display.{place_at}
-use Rattle.b67_segment.specs.Operators.{Placed}
-use Rattle.b67_segment.specs.declared.code.Code.{Code}
-use Rattle.b67_templates.specs.Programs.{Texts}
-use Rattle.b67_store.specs.Store.{stack_limit}
-use Rattle.b67_table.specs.Chains.{place}
-use Rattle.b67_table.specs.Image.{Image}
-use Rattle.b67_table.specs.Private.{frame}
-use Rattle.b67_standing.specs.Stepping.{Slot}
-use Rattle.b67_standing.specs.Standing.{ComesTo}
-use Rattle.b67_cores.specs.Cores.{Core, size, HasCore, CoreSteps, here}
-use Rattle.b67_cores.specs.Slots.{Known}
-use Rattle.b67_cores.specs.Stretches.{CoreAt, Arrives, FragmentsArePerformed}
-use Rattle.b67_cores.proofs.Moving.{slots_length, steps_on}
-use Rattle.b67_faithful.specs.Weight.{weight}
-use Rattle.b67_frames.specs.Arrays.{Layout, AreKnown}
-use Rattle.b67_frames.specs.Frames.{IsInReach, IsChained, Frame, Around, Frames}
-use Rattle.b67_scenes.specs.Depending.{CriticalIs, TaskIs}
-use Rattle.b67_scenes.specs.Pictures.{innermost_most, Living}
+use Rattle.b67_cores.specs.Cores.{here}
+use Rattle.b67_cores.specs.Stretches.{Arrives}
+use Rattle.b67_cores.proofs.Moving.{steps_on}
 use Rattle.b67_scenes.specs.Reaches as reaching
-use Rattle.b67_scenes.specs.Reaches.{Reaches, ReachesFor}
 use Rattle.b67_scenes.proofs.Ancestors.{AreLaid}
 use Rattle.b67_scenes.proofs.Staying.{text_in, level_in, context_in, most_in, names_in}
 use Rattle.b67_scenes.proofs.Stuffed.{known_both, sees, stuffed_known}

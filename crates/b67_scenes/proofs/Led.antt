@@ -1,41 +1,17 @@
 -- Where a process that stands at its action is led by names and by cells: the frames that its display names, and what it may look at there.
 use Rattle.std.proofs.Common.{◌≡◌, inl, refl, sym, ap, ◌∙◌, subst, ℕ, zero, suc, ◌+◌, ◌-◌, ◌<◌, ◌≤◌, Bool, true, false, List, [], ◌∷◌, length, Some, None, arith}
-use Rattle.std.specs.Prelude.{slice_get}
-use Rattle.b67_list.specs.Numbered.{numbered}
-use Rattle.algol_tree.specs.declared.tree.Named.{Named}
-use Rattle.algol_tree.specs.Blocks.{block_numbered, around}
-use Rattle.algol_tree.specs.Plain.{PProgram}
-use Rattle.algol_tree.specs.Scopes.{Scopes, scopes_of, use_of}
-use Rattle.algol_meaning.specs.Value.{Reference, Cell, reference}
-use Rattle.algol_meaning.specs.World.{NamedCell, Instance, Part, Process, World, instance_at, or_no_instance, ancestor}
-use Rattle.algol_meaning.specs.Critical.{is_evaluation, referred_in}
-use Rattle.algol_paths.specs.Blocks.{IsSeen, IsSeenAround}
-use Rattle.algol_paths.specs.Texts.{InRest}
-use Rattle.algol_calls.specs.Fits.{has_simple}
-use Rattle.algol_standing.specs.Skeleton.{IsIn}
-use Rattle.algol_standing.specs.Worlds.{IsStanding, IsOwn, IsWhole, IsAmong, IsNoBlock, parent_in, referred_in_cells, home_of, newest_own}
-use Rattle.algol_standing.specs.Lows.{CellLow, CellsLow, IsLow}
+use Rattle.b67_scenes.proofs.Prelude.{slice_get, numbered, Named, block_numbered, around, PProgram, Scopes, scopes_of, use_of, Reference, Cell, reference, NamedCell, Instance, instance_at, or_no_instance, ancestor, is_evaluation, IsSeen, IsSeenAround, InRest, has_simple, IsIn, IsStanding, IsOwn, IsWhole, IsAmong, IsNoBlock, referred_in_cells, newest_own, IsLow, top_stands, OUTER_LEVEL, Code, place, display_at, get_within, found_from, simple_cells, Texts, some_same, none_some, AreNested, length_around, named_from, IsInReach, ArePlaced, HasFacts, facts_of, IsParent}
+use Rattle.algol_meaning.specs.Critical.{referred_in}
+use Rattle.algol_standing.specs.Worlds.{parent_in, home_of}
+use Rattle.algol_standing.specs.Lows.{CellLow, CellsLow}
 use Rattle.algol_standing.proofs.Pairs.{home_forth}
-use Rattle.algol_standing.proofs.Seen.{top_stands, part_stands, home_path, in_back}
-use Rattle.b67_ops.specs.declared.TheConstants.{OUTER_LEVEL}
-use Rattle.b67_segment.specs.declared.code.Code.{Code}
-use Rattle.b67_table.specs.Chains.{place}
-use Rattle.b67_table.specs.Image.{Image}
-use Rattle.b67_table.specs.Private.{display_at}
-use Rattle.b67_templates.specs.Cells.{found_from, simple_cells}
-use Rattle.b67_templates.specs.Programs.{Texts}
-use Rattle.b67_cores.specs.Cores.{Core}
-use Rattle.b67_faithful.proofs.Contradictions.{some_same, none_some}
-use Rattle.b67_templates.specs.Nested.{AreNested}
-use Rattle.b67_rows.proofs.Numbers.{get_below}
-use Rattle.b67_rows.proofs.Parents.{length_around, ancestor_up}
-use Rattle.b67_frames.specs.Arrays.{Layout, named_from}
-use Rattle.b67_frames.specs.Frames.{IsInReach, ArePlaced}
-use Rattle.b67_frames.proofs.Facts.{HasFacts, facts_of, referred_there}
-use Rattle.b67_frames.proofs.StaticParents.{IsParent, parents}
+use Rattle.algol_standing.proofs.Seen.{part_stands, home_path, in_back}
+use Rattle.b67_rows.proofs.Parents.{ancestor_up}
+use Rattle.b67_frames.proofs.Facts.{referred_there}
+use Rattle.b67_frames.proofs.StaticParents.{parents}
 use Rattle.b67_scenes.proofs.Finding.{found_laid}
 use Rattle.b67_scenes.proofs.Paths.{path_stands, path_further, up_path}
-use Rattle.b67_scenes.proofs.Scene.{Scene}
+use Rattle.b67_scenes.proofs.Scene.{Actor}
 use Rattle.b67_scenes.proofs.Sights.{Seen, seen, made_below}
 use Rattle.b67_scenes.proofs.SimpleNames.{simple_found}
 use Rattle.b67_scenes.proofs.Staying.{names_in}
@@ -47,8 +23,9 @@ low_there sc b i [] k c are e = none_some e
 low_there sc b i (d ∷ cells) zero c are e = subst (λ (x : NamedCell). CellLow sc b i x.cell) (some_same e) are.0
 low_there sc b i (d ∷ cells) (suc k) c are e = low_there sc b i cells k c are.1 e
 
-module _ (tree : PProgram) (code : Code) (texts : Texts) (w : World) (lay : Layout) (img : Image)
-    (p : ℕ) (q : Process) (part : Part) (outer : List Part) (bound : ℕ) (core : Core) (s : Scene tree code texts w lay img p q part outer bound core) where
+module _ (tree : PProgram) (code : Code) (texts : Texts) (actor : Actor tree code texts) where
+  open actor use {w, lay, img, p, q, part, outer, core, s}
+
   abbrev sc : Scopes
   sc = scopes_of tree
 
@@ -84,14 +61,14 @@ module _ (tree : PProgram) (code : Code) (texts : Texts) (w : World) (lay : Layo
     pub named_reached : IsInReach w (part ∷ outer) (ancestor w ((use_of (scopes_of tree) n).up) part.instance)
     named_reached = home_path sc IsWhole w s.ok.sound p q part outer s.at s.todo n is_seen
 
-    pub named_seen : Seen tree code texts w lay img p q part outer bound core s (ancestor w ((use_of (scopes_of tree) n).up) part.instance)
-    named_seen = seen tree code texts w lay img p q part outer bound core s home named_reached
+    pub named_seen : Seen tree code texts actor (ancestor w ((use_of (scopes_of tree) n).up) part.instance)
+    named_seen = seen tree code texts actor home named_reached
 
     pub named_parent : IsParent (scopes_of tree) w lay part.instance ((use_of (scopes_of tree) n).up) ((use_of (scopes_of tree) n).block)
     named_parent = parents sc w lay scene_placed part.instance part_there up ((use_of sc n).block) is_seen
 
     low : up + OUTER_LEVEL ≤ level
-    low = omega (arith, length_around sc.blocks block, get_below (block ∷ around sc.blocks block) up ((use_of sc n).block) is_seen)
+    low = omega (arith, length_around sc.blocks block, get_within (block ∷ around sc.blocks block) up ((use_of sc n).block) is_seen)
 
     -- the display has its place at the level of its block, and names its frame
     pub named_at : (at : ℕ) → at + (use_of (scopes_of tree) n).up ≡ names_in tree w part → display_at core.registers at ≡ numbered lay.places (ancestor w ((use_of (scopes_of tree) n).up) part.instance)
@@ -99,7 +76,7 @@ module _ (tree : PProgram) (code : Code) (texts : Texts) (w : World) (lay : Layo
         let far : at ≡ level - up = omega (arith, level_is) in
         ap (λ (k : ℕ). display_at core.registers k) far ∙ s.stands.chained up low
 
-    pub named_shown : (at : ℕ) → at + (use_of (scopes_of tree) n).up ≡ names_in tree w part → (h : Seen tree code texts w lay img p q part outer bound core s (ancestor w ((use_of (scopes_of tree) n).up) part.instance)) →
+    pub named_shown : (at : ℕ) → at + (use_of (scopes_of tree) n).up ≡ names_in tree w part → (h : Seen tree code texts actor (ancestor w ((use_of (scopes_of tree) n).up) part.instance)) →
         display_at core.registers at ≡ Some (place h.found.number (length h.found.lies.frame.lower))
     named_shown at level_is h = named_at at level_is ∙ found_laid tree code texts w lay img home h.found
 
@@ -156,10 +133,10 @@ module _ (tree : PProgram) (code : Code) (texts : Texts) (w : World) (lay : Layo
         }
 
   -- the cell of an array or event to which it leads lies below the floor
-  pub led_below : AreNested (scopes_of tree) → (r : Reference) → IsLed r → (h : Seen tree code texts w lay img p q part outer bound core s r.instance) →
+  pub led_below : AreNested (scopes_of tree) → (r : Reference) → IsLed r → (h : Seen tree code texts actor r.instance) →
       found_from 0 (simple_cells (scopes_of tree) (block_numbered (scopes_of tree).blocks ((instance_at w r.instance).block))) r.name ≡ None →
       (n : ℕ) → n < length h.found.lies.frame.cells → length h.found.lies.frame.lower + (2 + n) < length h.found.core.below
-  led_below nested r led h apart n within = made_below tree code texts w lay img p q part outer bound core s r.instance h n within no_low
+  led_below nested r led h apart n within = made_below tree code texts actor r.instance h n within no_low
     where
       known : (instance_at w r.instance).block < length sc.blocks
       known =

@@ -1,3 +1,4 @@
+pub mod Prelude
 pub mod Staying
 pub mod Stuffed
 pub mod VariableHomes
@@ -47,6 +48,7 @@ pub mod StartSeen
 pub mod Heights
 pub mod Dependents
 pub mod Finding
+pub mod Depended
 pub mod Paths
 pub mod Sights
 pub mod PassedCriticals

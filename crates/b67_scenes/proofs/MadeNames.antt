@@ -1,15 +1,8 @@
 -- The name of a cell that actions make is none of a simple cell.
 use Rattle.std.proofs.Common.{◌≡◌, refl, ap, ◌∙◌, ℕ, ◌+◌, List, [], ◌∷◌, ◌++◌, Option, Some, None, Bool, true, false}
-use Rattle.std.specs.Prelude.{if◌then◌else◌}
-use Rattle.algol_tree.specs.Sorts.{same_name}
+use Rattle.b67_scenes.proofs.Prelude.{if◌then◌else◌, same_name, Cell, simple, array, event, reference, NamedCell, cell_in, Word, Simple, Wanted, Found, found_from, none_some, true_false, CellIs, CellsAre}
 use Rattle.algol_meaning.specs.Value as meant
-use Rattle.algol_meaning.specs.Value.{Cell, simple, array, event, reference}
-use Rattle.algol_meaning.specs.World.{NamedCell, cell_in}
-use Rattle.b67_word.specs.Word.{Word}
 use Rattle.b67_templates.specs.Cells as wants
-use Rattle.b67_templates.specs.Cells.{Simple, Wanted, Found, found_from}
-use Rattle.b67_faithful.proofs.Contradictions.{none_some, true_false}
-use Rattle.b67_frames.specs.Frames.{CellIs, CellsAre}
 
 -- an array or an event
 abbrev pub is_made : Cell → Bool

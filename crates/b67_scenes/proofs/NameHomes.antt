@@ -1,40 +1,22 @@
 -- Where a process finds the cell of a parameter by name, and the variable to whose cell that has a reference, or the code of the actual that it
 -- names.
-use Rattle.std.proofs.Common.{◌≡◌, ℕ, ◌+◌, List, ◌∷◌, length, Some, None}
-use Rattle.algol_tree.specs.declared.tree.Kind.{Kind}
-use Rattle.algol_tree.specs.declared.tree.Named.{Named}
-use Rattle.algol_tree.specs.Plain.{PProgram, PExpr}
-use Rattle.algol_tree.specs.Scopes.{Scopes, scopes_of}
+use Rattle.std.proofs.Common.{◌≡◌, ℕ, ◌+◌, ◌∷◌, length, Some, None}
+use Rattle.b67_scenes.proofs.Prelude.{Kind, Named, PProgram, PExpr, Scopes, scopes_of, Reference, Cell, reference, instance_at, cell_at, IsSeen, Place, Word, as_sirw, pcw_word, Couple, Code, word_at, place, Texts, AreNested, value_tag, pcw_refers_nothing, LeadsToVariable, IsActual, Denotes, named_from, NearCell, IsInReach}
 use Rattle.algol_meaning.specs.Value as meant
-use Rattle.algol_meaning.specs.Value.{Reference, NameCell, Cell, reference}
-use Rattle.algol_meaning.specs.World.{Part, Process, World, instance_at, cell_at}
-use Rattle.algol_paths.specs.Blocks.{IsSeen}
-use Rattle.b67_word.specs.declared.Place.{Place}
-use Rattle.b67_word.specs.Word.{Word}
-use Rattle.b67_control.specs.Control.{as_sirw, pcw_word}
-use Rattle.b67_ops.specs.declared.Couple.{Couple}
-use Rattle.b67_segment.specs.declared.code.Code.{Code}
-use Rattle.b67_store.specs.Store.{word_at}
-use Rattle.b67_table.specs.Chains.{place}
-use Rattle.b67_table.specs.Image.{Image}
+use Rattle.algol_meaning.specs.Value.{NameCell}
 use Rattle.b67_templates.specs.Cells as wants
 use Rattle.b67_templates.specs.Cells.{IsFormalName}
-use Rattle.b67_templates.specs.Programs.{Texts}
-use Rattle.b67_cores.specs.Cores.{Core}
-use Rattle.b67_templates.specs.Nested.{AreNested}
-use Rattle.b67_rows.proofs.Words.{value_tag, no_sirw, pcw_refers_nothing}
-use Rattle.b67_frames.specs.Arrays.{Layout, LeadsToVariable, IsActual, Denotes, named_from}
-use Rattle.b67_rows.proofs.Touching.{NearCell}
-use Rattle.b67_frames.specs.Frames.{IsInReach}
+use Rattle.b67_rows.proofs.Words.{no_sirw}
 use Rattle.b67_scenes.proofs.Finding.{Found, frame_near, place_near}
 use Rattle.b67_scenes.proofs.ActualHomes.{routine_of, ActualHome, actual_home}
 use Rattle.b67_scenes.proofs.CellHomes.{CellHome, cell_home}
 use Rattle.b67_scenes.proofs.NamedVariables.{NamesVariable, names_variable}
-use Rattle.b67_scenes.proofs.Scene.{Scene}
+use Rattle.b67_scenes.proofs.Scene.{Actor}
 use Rattle.b67_scenes.proofs.Staying.{names_in}
 
-module _ (tree : PProgram) (code : Code) (texts : Texts) (nested : AreNested (scopes_of tree)) (w : World) (lay : Layout) (img : Image)
-    (p : ℕ) (q : Process) (part : Part) (outer : List Part) (bound : ℕ) (core : Core) (s : Scene tree code texts w lay img p q part outer bound core) where
+module _ (tree : PProgram) (code : Code) (texts : Texts) (nested : AreNested (scopes_of tree)) (actor : Actor tree code texts) where
+  open actor use {w, lay, img, p, part, outer}
+
   abbrev sc : Scopes
   sc = scopes_of tree
 
@@ -44,7 +26,7 @@ module _ (tree : PProgram) (code : Code) (texts : Texts) (nested : AreNested (sc
 
   -- the cell of a parameter by name
   abbrev pub NameCellHome : Named → Kind → Couple → Type 0
-  NameCellHome n kind couple = CellHome tree code texts nested w lay img p q part outer bound core s n (wants.by_name kind) couple
+  NameCellHome n kind couple = CellHome tree code texts nested actor n (wants.by_name kind) couple
 
   -- it has a reference to a variable
   pub record NameHome (n : Named) (kind : Kind) (couple : Couple) : Type 0 where
@@ -52,7 +34,7 @@ module _ (tree : PProgram) (code : Code) (texts : Texts) (nested : AreNested (sc
     pub r : Reference
     pub cell_is : cell_at w (here n) ≡ reference r
     pub denotes : LeadsToVariable sc w lay (IsInReach w (part ∷ outer)) kind r home.word
-    pub named : NamesVariable tree code texts nested w lay img p q part outer bound core s r kind home.word denotes
+    pub named : NamesVariable tree code texts nested actor r kind home.word denotes
 
   -- it names an actual
   pub record ActualNamed (n : Named) (kind : Kind) (couple : Couple) : Type 0 where
@@ -60,7 +42,7 @@ module _ (tree : PProgram) (code : Code) (texts : Texts) (nested : AreNested (sc
     pub a : NameCell
     pub cell_is : cell_at w (here n) ≡ meant.named a
     pub denotes : IsActual sc w lay (IsInReach w (part ∷ outer)) a.instance a.actual kind home.word
-    pub actual : ActualHome tree code texts nested w lay img p q part outer bound core s a.instance a.actual kind home.word denotes
+    pub actual : ActualHome tree code texts nested actor a.instance a.actual kind home.word denotes
 
   pub data NameStands (n : Named) (kind : Kind) (couple : Couple) : Type 0 where
     for_variable : NameHome n kind couple → NameStands n kind couple
@@ -76,14 +58,17 @@ module _ (tree : PProgram) (code : Code) (texts : Texts) (nested : AreNested (sc
     pub lies : word_at img.stacks (place at.stack (at.at + index)) ≡ Some reached
     pub no_further : as_sirw reached ≡ None
 
-  variable_at : (r : Reference) (kind : Kind) (word : Word) (leads : LeadsToVariable sc w lay (IsInReach w (part ∷ outer)) kind r word) → NamesVariable tree code texts nested w lay img p q part outer bound core s r kind word leads → LeadsOn word
+  variable_at : (r : Reference) (kind : Kind) (word : Word) (leads : LeadsToVariable sc w lay (IsInReach w (part ∷ outer)) kind r word) → NamesVariable tree code texts nested actor r kind word leads → LeadsOn word
   variable_at r kind word leads named =
       let f : Found tree code texts w lay img r.instance = named.home.seen_there.found in
       record {
         at = place f.number (length f.lies.frame.lower);
         index = 2 + named.home.number;
         refers = named.reads;
-        near = (frame_near tree code texts w lay img r.instance f p, place_near tree code texts w lay img r.instance f p (length f.lies.frame.lower + (2 + named.home.number)) named.home.below);
+        near = (
+          frame_near tree code texts w lay img r.instance f p named.home.seen_there.near,
+          place_near tree code texts w lay img r.instance f p (length f.lies.frame.lower + (2 + named.home.number)) named.home.seen_there.near named.home.below,
+        );
         reached = named.home.word;
         lies = named.home.word_lies;
         no_further = no_sirw named.home.word (value_tag named.home.value named.home.word named.home.word_is);
@@ -91,16 +76,19 @@ module _ (tree : PProgram) (code : Code) (texts : Texts) (nested : AreNested (sc
 
   -- the reference to a variable
   pub variable_on : (r : Reference) (kind : Kind) (word : Word) → LeadsToVariable (scopes_of tree) w lay (IsInReach w (part ∷ outer)) kind r word → LeadsOn word
-  variable_on r kind word leads = variable_at r kind word leads (names_variable tree code texts nested w lay img p q part outer bound core s r kind word leads)
+  variable_on r kind word leads = variable_at r kind word leads (names_variable tree code texts nested actor r kind word leads)
 
-  actual_at : (i : ℕ) (e : PExpr) (kind : Kind) (word : Word) (denotes : IsActual sc w lay (IsInReach w (part ∷ outer)) i e kind word) → ActualHome tree code texts nested w lay img p q part outer bound core s i e kind word denotes → LeadsOn word
+  actual_at : (i : ℕ) (e : PExpr) (kind : Kind) (word : Word) (denotes : IsActual sc w lay (IsInReach w (part ∷ outer)) i e kind word) → ActualHome tree code texts nested actor i e kind word denotes → LeadsOn word
   actual_at i e kind word denotes actual =
       let f : Found tree code texts w lay img i = actual.seen_there.found in
       record {
         at = place f.number (length f.lies.frame.lower);
         index = denotes.couple.index;
         refers = actual.reads;
-        near = (frame_near tree code texts w lay img i f p, place_near tree code texts w lay img i f p (length f.lies.frame.lower + denotes.couple.index) actual.below);
+        near = (
+          frame_near tree code texts w lay img i f p actual.seen_there.near,
+          place_near tree code texts w lay img i f p (length f.lies.frame.lower + denotes.couple.index) actual.seen_there.near actual.below,
+        );
         reached = pcw_word (routine_of sc ((instance_at w i).block) e actual.at);
         lies = actual.control_lies;
         no_further = pcw_refers_nothing (routine_of sc ((instance_at w i).block) e actual.at);
@@ -108,7 +96,7 @@ module _ (tree : PProgram) (code : Code) (texts : Texts) (nested : AreNested (sc
 
   -- .. to the code of an actual
   pub actual_on : (i : ℕ) (e : PExpr) (kind : Kind) (word : Word) → IsActual (scopes_of tree) w lay (IsInReach w (part ∷ outer)) i e kind word → LeadsOn word
-  actual_on i e kind word denotes = actual_at i e kind word denotes (actual_home tree code texts nested w lay img p q part outer bound core s i e kind word denotes)
+  actual_on i e kind word denotes = actual_at i e kind word denotes (actual_home tree code texts nested actor i e kind word denotes)
 
   to_variable : (n : Named) (kind : Kind) (couple : Couple) (h : NameHome n kind couple) → LeadsOn h.home.word
   to_variable n kind couple h = variable_at h.r kind h.home.word h.denotes h.named
@@ -133,7 +121,7 @@ module _ (tree : PProgram) (code : Code) (texts : Texts) (nested : AreNested (sc
           r = r;
           cell_is = is;
           denotes = denotes;
-          named = names_variable tree code texts nested w lay img p q part outer bound core s r kind h.word denotes;
+          named = names_variable tree code texts nested actor r kind h.word denotes;
         })
     of_cell h (meant.named a) is denotes =
         for_actual (record {
@@ -141,12 +129,12 @@ module _ (tree : PProgram) (code : Code) (texts : Texts) (nested : AreNested (sc
           a = a;
           cell_is = is;
           denotes = denotes;
-          actual = actual_home tree code texts nested w lay img p q part outer bound core s a.instance a.actual kind h.word denotes;
+          actual = actual_home tree code texts nested actor a.instance a.actual kind h.word denotes;
         })
     of_cell h _ is denotes = absurd denotes
 
     pub name_stands : IsSeen sc ((instance_at w part.instance).block) n → IsFormalName sc (names_in tree w part) n kind couple → NameStands n kind couple
     name_stands seen v =
         let h : NameCellHome n kind couple =
-        cell_home tree code texts nested w lay img p q part outer bound core s n (wants.by_name kind) couple v.found tt seen v.there v.wanted_is v.level_is v.index_is in
+        cell_home tree code texts nested actor n (wants.by_name kind) couple v.found tt seen v.there v.wanted_is v.level_is v.index_is in
         of_cell h h.cell h.cell_is h.denotes

@@ -1,45 +1,25 @@
 -- The word that leads to the cell of a variable is read as the place of that cell.
-use Rattle.std.proofs.Common.{◌≡◌, sym, ap, ◌∙◌, ℕ, ◌+◌, ◌<◌, List, ◌∷◌, length, Some, arith}
-use Rattle.algol_tree.specs.declared.tree.Kind.{Kind}
-use Rattle.algol_tree.specs.Blocks.{block_numbered}
-use Rattle.algol_tree.specs.Plain.{PProgram}
-use Rattle.algol_tree.specs.Scopes.{Scopes, scopes_of}
-use Rattle.algol_meaning.specs.Value.{Reference}
-use Rattle.algol_meaning.specs.World.{Part, Process, World}
-use Rattle.b67_word.specs.declared.Place.{Place}
-use Rattle.b67_word.specs.Word.{Word}
-use Rattle.b67_control.specs.Control.{as_sirw}
-use Rattle.b67_segment.specs.declared.code.Code.{Code}
-use Rattle.b67_table.specs.Chains.{place}
-use Rattle.b67_table.specs.Image.{Image}
-use Rattle.b67_table.specs.References.{cell_word}
-use Rattle.b67_templates.specs.Cells.{simple_cells}
-use Rattle.b67_templates.specs.Programs.{Texts}
-use Rattle.b67_cores.specs.Cores.{Core}
-use Rattle.b67_faithful.proofs.Contradictions.{some_same}
-use Rattle.b67_templates.specs.Nested.{AreNested}
-use Rattle.b67_rows.proofs.Numbers.{get_below}
-use Rattle.b67_frames.specs.Arrays.{Layout, LeadsToVariable}
-use Rattle.b67_frames.proofs.FreshCells.{words_long}
-use Rattle.b67_frames.specs.Frames.{IsInReach}
+use Rattle.std.proofs.Common.{◌≡◌, sym, ap, ◌∙◌, ℕ, ◌+◌, ◌<◌, ◌∷◌, length, Some, arith}
+use Rattle.b67_scenes.proofs.Prelude.{Kind, block_numbered, PProgram, Scopes, scopes_of, Reference, numbered_small, Place, Word, as_sirw, Code, place, cell_word, get_within, simple_cells, Texts, some_same, AreNested, LeadsToVariable, IsInReach, as_many_values}
 use Rattle.b67_scenes.proofs.Finding.{Found, found_laid}
-use Rattle.b67_scenes.proofs.ArrayPlaces.{cell_read, number_within}
-use Rattle.b67_scenes.proofs.Scene.{Scene}
+use Rattle.b67_scenes.proofs.ArrayPlaces.{cell_read}
+use Rattle.b67_scenes.proofs.Scene.{Actor}
 use Rattle.b67_scenes.proofs.VariableHomes.{VariableHome, variable_home}
 
-module _ (tree : PProgram) (code : Code) (texts : Texts) (nested : AreNested (scopes_of tree)) (w : World) (lay : Layout) (img : Image)
-    (p : ℕ) (q : Process) (part : Part) (outer : List Part) (bound : ℕ) (core : Core) (s : Scene tree code texts w lay img p q part outer bound core) where
+module _ (tree : PProgram) (code : Code) (texts : Texts) (nested : AreNested (scopes_of tree)) (actor : Actor tree code texts) where
+  open actor use {w, lay, img, part, outer, s}
+
   abbrev sc : Scopes
   sc = scopes_of tree
 
   module _ (r : Reference) (kind : Kind) (word : Word) (leads : LeadsToVariable sc w lay (IsInReach w (part ∷ outer)) kind r word) where
     -- the variable, and that the word names its cell
     pub record NamesVariable : Type 0 where
-      pub home : VariableHome tree code texts w lay img p q part outer bound core s r kind leads.found
+      pub home : VariableHome tree code texts actor r kind leads.found
       pub word_is : word ≡ cell_word (record { frame = place home.seen_there.found.number (length home.seen_there.found.lies.frame.lower); index = 2 + home.number })
       pub reads : as_sirw word ≡ Some (record { stack = home.seen_there.found.number; displacement = length home.seen_there.found.lies.frame.lower; index = 2 + home.number })
 
-    names_it : VariableHome tree code texts w lay img p q part outer bound core s r kind leads.found → NamesVariable
+    names_it : VariableHome tree code texts actor r kind leads.found → NamesVariable
     names_it h =
         let f : Found tree code texts w lay img r.instance = h.seen_there.found in
         let high : ℕ = length f.lies.frame.lower in
@@ -47,8 +27,8 @@ module _ (tree : PProgram) (code : Code) (texts : Texts) (nested : AreNested (sc
         let few_words : h.number < length (simple_cells sc (block_numbered sc.blocks f.lies.owned.framed.instance.block)) =
         omega (
           arith,
-          get_below f.lies.owned.framed.values h.number h.word h.value_lies,
-          words_long (simple_cells sc (block_numbered sc.blocks f.lies.owned.framed.instance.block)) f.lies.owned.framed.simple f.lies.owned.framed.values f.lies.owned.framed.simple_are,
+          get_within f.lies.owned.framed.values h.number h.word h.value_lies,
+          as_many_values (simple_cells sc (block_numbered sc.blocks f.lies.owned.framed.instance.block)) f.lies.owned.framed.simple f.lies.owned.framed.values f.lies.owned.framed.simple_are,
         ) in
         let word_is : word ≡ cell_word (record { frame = place f.number high; index = 2 + h.number }) =
         leads.word_is
@@ -59,9 +39,9 @@ module _ (tree : PProgram) (code : Code) (texts : Texts) (nested : AreNested (sc
           word_is = word_is;
           reads =
               ap as_sirw word_is
-              ∙ cell_read (record { frame = place f.number high; index = 2 + h.number }) (omega (arith, number_within w.processes f.number f.process f.is, s.by.few)) (omega (arith, h.below, f.small))
+              ∙ cell_read (record { frame = place f.number high; index = 2 + h.number }) (omega (arith, numbered_small w.processes f.number f.process f.is, s.by.few)) (omega (arith, h.below, f.small))
               (omega (arith, few_words, (nested.each f.lies.owned.framed.instance.block f.lies.owned.framed.known).few));
         }
 
     pub names_variable : NamesVariable
-    names_variable = names_it (variable_home tree code texts w lay img p q part outer bound core s r kind leads.found leads.there leads.wanted_is leads.own)
+    names_variable = names_it (variable_home tree code texts actor r kind leads.found leads.there leads.wanted_is leads.own)

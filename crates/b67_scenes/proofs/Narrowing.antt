@@ -1,22 +1,11 @@
 -- An evaluation of an actual in an instance that has not made all asks for nothing that the block of that is still to make.
-use Rattle.std.proofs.Common.{◌≡◌, ◌⊎◌, inl, inr, ◌∙◌, ℕ, List, [], length}
-use Rattle.algol_tree.specs.Plain.{PProgram, PBody}
-use Rattle.algol_tree.specs.Scopes.{Scopes, scopes_of}
-use Rattle.algol_meaning.specs.World.{Process, Part, World, instance_at}
-use Rattle.algol_paths.specs.Arrays.{all_to_make}
-use Rattle.algol_paths.specs.Blocks.{IsSeenAround}
-use Rattle.algol_paths.specs.Texts.{InRest}
-use Rattle.b67_segment.specs.declared.code.Code.{Code}
-use Rattle.b67_table.specs.Image.{Image}
-use Rattle.b67_templates.specs.Programs.{Texts}
-use Rattle.b67_cores.specs.Cores.{Core}
-use Rattle.b67_frames.specs.Arrays.{Layout}
-use Rattle.b67_frames.specs.Frames.{IsComplete, Owned, Shape, of_own, of_lent}
-use Rattle.b67_frames.proofs.Completing.{complete_of}
-use Rattle.b67_scenes.proofs.Scene.{Scene}
+use Rattle.std.proofs.Common.{◌≡◌, ◌⊎◌, inl, inr, ◌∙◌, ℕ, [], length}
+use Rattle.b67_scenes.proofs.Prelude.{PProgram, PBody, Scopes, scopes_of, instance_at, all_to_make, IsSeenAround, InRest, Code, Texts, IsComplete, Owned, Shape, of_own, of_lent, complete_of}
+use Rattle.b67_scenes.proofs.Scene.{Actor}
 
-module _ (tree : PProgram) (code : Code) (texts : Texts) (w : World) (lay : Layout) (img : Image)
-    (p : ℕ) (q : Process) (part : Part) (outer : List Part) (bound : ℕ) (core : Core) (s : Scene tree code texts w lay img p q part outer bound core) where
+module _ (tree : PProgram) (code : Code) (texts : Texts) (actor : Actor tree code texts) where
+  open actor use {w, lay, p, part, outer, s}
+
   abbrev sc : Scopes
   sc = scopes_of tree
 

@@ -1,29 +1,9 @@
 -- A frame that GO TO passes is critical where a live process depends on the instance of one of the parts that it leaves.
 use Rattle.std.proofs.Common.{◌≡◌, ◌⊎◌, inl, inr, refl, sym, ap, ◌∙◌, subst, ℕ, List, [], ◌∷◌, Some, Bool, false}
-use Rattle.std.specs.Prelude.{if◌then◌else◌, ◌||◌}
-use Rattle.std.specs.List.{list_any}
-use Rattle.b67_list.specs.Numbered.{numbered}
-use Rattle.algol_tree.specs.Plain.{PProgram}
-use Rattle.algol_tree.specs.Scopes.{scopes_of}
-use Rattle.algol_meaning.specs.Critical.{some_depends, some_depends_on_any, own_instances}
-use Rattle.algol_meaning.specs.World.{Instance, Process, Part, World}
-use Rattle.algol_standing.specs.Worlds.{IsWhole}
-use Rattle.algol_standing.specs.Fitting.{IsOk}
-use Rattle.algol_standing.specs.Worlds.{IsOwn}
-use Rattle.b67_word.specs.declared.Place.{Place}
-use Rattle.b67_word.specs.Word.{Word}
-use Rattle.b67_segment.specs.declared.code.Code.{Code}
-use Rattle.b67_events.specs.Events.{same_place}
-use Rattle.b67_table.specs.Chains.{place}
-use Rattle.b67_table.specs.GoingTo.{Passed, passed_frames}
-use Rattle.b67_table.specs.Image.{Image}
+use Rattle.b67_scenes.proofs.Prelude.{if◌then◌else◌, ◌||◌, list_any, numbered, PProgram, scopes_of, some_depends, own_instances, Instance, Process, Part, World, IsWhole, IsOk, IsOwn, Place, Word, Code, same_place, place, Passed, Image, live_criticals, Texts, Layout, Frame, Around, IsElsewhere, PicturesBy}
+use Rattle.algol_meaning.specs.Critical.{some_depends_on_any}
+use Rattle.b67_table.specs.GoingTo.{passed_frames}
 use Rattle.b67_table.specs.Linkage.{is_critical}
-use Rattle.b67_table.specs.Questions.{live_criticals}
-use Rattle.b67_templates.specs.Programs.{Texts}
-use Rattle.b67_frames.specs.Arrays.{Layout}
-use Rattle.b67_frames.specs.Frames.{Frame, Around}
-use Rattle.b67_frames.proofs.EventsLow.{IsElsewhere}
-use Rattle.b67_scenes.specs.Pictures.{PicturesBy}
 use Rattle.b67_scenes.proofs.Dependents.{dependents_agree, nobody_there}
 use Rattle.b67_scenes.proofs.PassedFrames.{IsOwnFrame, IsLentFrame, ArePassed}
 use Rattle.b67_scenes.proofs.Worlds.{held_of}

@@ -1,14 +1,6 @@
 -- The frames that GO TO passes: each is that of an own instance, at whose place it lies, or is lent to an evaluation, where no own instance has its own.
 use Rattle.std.proofs.Common.{◌≡◌, ◌⊎◌, inl, inr, sym, ap, ◌∙◌, ℕ, ◌<◌, ◌≤◌, List, [], ◌∷◌, Some, true, false, arith}
-use Rattle.b67_list.specs.Numbered.{numbered}
-use Rattle.algol_meaning.specs.World.{Part}
-use Rattle.algol_meaning.specs.Critical.{is_evaluation}
-use Rattle.algol_standing.specs.Worlds.{IsOwn}
-use Rattle.b67_word.specs.declared.Place.{Place}
-use Rattle.b67_table.specs.Chains.{place}
-use Rattle.b67_table.specs.GoingTo.{Passed}
-use Rattle.b67_faithful.proofs.Contradictions.{some_same}
-use Rattle.b67_frames.specs.Arrays.{Layout}
+use Rattle.b67_scenes.proofs.Prelude.{numbered, Part, is_evaluation, IsOwn, Place, place, Passed, some_same, Layout}
 
 module _ (lay : Layout) (p : ℕ) where
   abbrev pub IsOwnFrame : List Part → Part → ℕ → Type 0

@@ -1,20 +1,12 @@
 -- The first instance on a path of those that are referred to has the first frame on the path down of those that are referred to.
 use Rattle.std.proofs.Common.{◌≡◌, ◌⊎◌, inl, inr, refl, sym, ap, ◌∙◌, subst, ℕ, ◌<◌, ◌≤◌, List, [], ◌∷◌, ◌++◌, Option, Some, Bool, true, false, arith, append_assoc}
-use Rattle.std.specs.Prelude.{if◌then◌else◌, slice_get}
-use Rattle.b67_list.specs.Numbered.{numbered}
-use Rattle.algol_meaning.specs.World.{Part, Process, lives, World}
-use Rattle.algol_meaning.specs.Critical.{is_evaluation, own_instances}
-use Rattle.algol_standing.specs.Skeleton.{Stack, Home, IsIn, NextIn, Owned, FirstOf, this, further, SkeletonOk}
-use Rattle.algol_standing.specs.Worlds.{stack_of, skeleton, IsStanding}
+use Rattle.b67_scenes.proofs.Prelude.{if◌then◌else◌, slice_get, numbered, Part, Process, lives, World, is_evaluation, own_instances, Stack, Home, IsIn, NextIn, FirstOf, SkeletonOk, stack_of, skeleton, IsStanding, stack_forth, home_stands, Place, place, Image, critical_of, some_same, Layout, IsAmongPlaces, FirstDown}
+use Rattle.algol_standing.specs.Skeleton.{Owned, this, further}
 use Rattle.algol_standing.proofs.Firsts.{below_in}
-use Rattle.algol_standing.proofs.Pairs.{stack_forth, stack_back}
-use Rattle.algol_standing.proofs.Standing.{home_stands, lives as stack_lives}
-use Rattle.b67_word.specs.declared.Place.{Place}
-use Rattle.b67_table.specs.Chains.{place}
-use Rattle.b67_table.specs.Image.{Image, critical_of}
-use Rattle.b67_faithful.proofs.Contradictions.{some_same}
-use Rattle.b67_frames.specs.Arrays.{Layout}
-use Rattle.b67_rows.proofs.CriticalRow.{IsAmongPlaces, LeadsDown, under, across, FirstDown, this_frame, lower_frame}
+use Rattle.algol_standing.proofs.Pairs.{stack_back}
+use Rattle.algol_standing.proofs.Standing.{lives as stack_lives}
+use Rattle.b67_rows.proofs.CriticalRow.{LeadsDown, under, across, this_frame, lower_frame}
+use Rattle.b67_frames.proofs.ChoicePaths.{own_both}
 use Rattle.b67_scenes.proofs.Towers.{Tower, base, above, Under, parted, AreHigher, none_higher, laid_at, tower_owns, own_under, whose_frame, higher_next, Seat, seat_in, own_first}
 
 -- ---- the next instance below one, in a stack whose numbers go down
@@ -38,15 +30,6 @@ next_of homes p c a b (y ∷ r) o (inr n) = let low = o.3 a (below_in c (y ∷ r
 owned_back : (homes : List Home) (p : ℕ) (front rest : List ℕ) → Owned homes p (front ++ rest) → Owned homes p rest
 owned_back homes p [] rest o = o
 owned_back homes p (x ∷ front) rest o = owned_back homes p front rest o.4
-
-own_both : (newer parts : List Part) → own_instances (newer ++ parts) ≡ own_instances newer ++ own_instances parts
-own_both [] parts = refl
-own_both (x ∷ newer) parts = by (is_evaluation x.purpose) (own_both newer parts)
-  where
-    by : (t : Bool) → own_instances (newer ++ parts) ≡ own_instances newer ++ own_instances parts →
-        (if t then own_instances (newer ++ parts) else x.instance ∷ own_instances (newer ++ parts)) ≡ (if t then own_instances newer else x.instance ∷ own_instances newer) ++ own_instances parts
-    by true e = e
-    by false e = ap (λ (xs : List ℕ). x.instance ∷ xs) e
 
 -- ---- the walk
 

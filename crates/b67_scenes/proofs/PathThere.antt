@@ -1,40 +1,11 @@
 -- The frames of each process that lives lie one on the other in an image, and the walk down the path of a process finds the frame of the first
 -- instance there that is referred to.
 use Rattle.std.proofs.Common.{◌≡◌, inl, refl, sym, ap, ◌∙◌, subst, ℕ, ◌+◌, ◌<◌, ◌≤◌, Bool, true, false, List, [], ◌∷◌, ◌++◌, length, Option, Some, arith, append_assoc}
-use Rattle.std.specs.Prelude.{if◌then◌else◌, slice_get}
-use Rattle.b67_list.specs.Numbered.{numbered}
-use Rattle.algol_tree.specs.Plain.{PProgram}
-use Rattle.algol_tree.specs.Scopes.{Scopes, scopes_of}
-use Rattle.algol_meaning.specs.World.{Instance, Process, Part, State, lives, World, instance_at, or_no_instance}
-use Rattle.algol_meaning.specs.Critical.{is_evaluation, own_instances}
-use Rattle.algol_standing.specs.Skeleton.{IsIn, FirstOf}
-use Rattle.algol_standing.specs.Worlds.{newest_own, skeleton, stack_of, IsStanding, IsWhole}
-use Rattle.algol_standing.specs.Fitting.{IsOk}
+use Rattle.b67_scenes.proofs.Prelude.{if◌then◌else◌, slice_get, numbered, PProgram, Scopes, scopes_of, Instance, Process, Part, State, lives, World, instance_at, or_no_instance, is_evaluation, own_instances, IsIn, FirstOf, newest_own, skeleton, stack_of, IsStanding, IsWhole, IsOk, stack_forth, Place, Word, Code, word_at, place, Image, critical_in, get_within as get_below, Texts, Above, steps_stay_above, some_same, true_false, Layout, Stands, Around, Frames, HasFacts, facts_of, begins_core, owned_frame, IsAmongPlaces, FirstDown, get-front, get-seam, Living, Pictured, living, dead, PicturesBy, Reaches, ReachesFor, CriticalIs}
 use Rattle.algol_standing.proofs.Left.{references_lie_on_paths}
-use Rattle.algol_standing.proofs.Pairs.{stack_forth}
-use Rattle.b67_word.specs.declared.Place.{Place}
-use Rattle.b67_word.specs.Word.{Word}
-use Rattle.b67_segment.specs.declared.code.Code.{Code}
-use Rattle.b67_store.specs.Store.{word_at}
-use Rattle.b67_table.specs.Chains.{place}
-use Rattle.b67_table.specs.Image.{Image, critical_in}
-use Rattle.b67_templates.specs.Programs.{Texts}
-use Rattle.b67_cores.specs.Stretches.{Above}
-use Rattle.b67_cores.proofs.Staying.{steps_stay_above}
-use Rattle.b67_faithful.proofs.Contradictions.{some_same, true_false}
-use Rattle.b67_frames.specs.Arrays.{Layout}
-use Rattle.b67_frames.specs.Frames.{Stands, Around, Frames}
-use Rattle.b67_frames.proofs.Facts.{HasFacts, facts_of}
-use Rattle.b67_frames.proofs.Linked.{begins_core}
-use Rattle.b67_frames.proofs.Lying.{owned_frame}
 use Rattle.b67_rows.proofs.Begun.{numbered_few}
-use Rattle.b67_rows.proofs.CriticalRow.{IsAmongPlaces, FirstDown}
-use Rattle.b67_rows.proofs.Numbers.{get_within, get_below}
-use Rattle.b67_rows.proofs.StackWords.{get-front, get-seam}
-use Rattle.b67_scenes.specs.Pictures.{Living, Pictured, living, dead, PicturesBy}
+use Rattle.b67_rows.proofs.Numbers.{get_within}
 use Rattle.b67_scenes.specs.Reaches as reaching
-use Rattle.b67_scenes.specs.Reaches.{Reaches, ReachesFor}
-use Rattle.b67_scenes.specs.Depending.{CriticalIs}
 use Rattle.b67_scenes.proofs.Finding.{Found, found_laid, found_process, found_there}
 use Rattle.b67_scenes.proofs.PathDown.{DependsOn, path_found}
 use Rattle.b67_scenes.proofs.Staying.{frame_low}

@@ -1,25 +1,9 @@
 -- What lies in reach of a part: its instance, and the static parents of that.
 use Rattle.std.proofs.Common.{sym, subst, ℕ, ◌+◌, ◌≤◌, Bool, List, ◌∷◌, length, arith}
-use Rattle.std.specs.Prelude.{if◌then◌else◌}
-use Rattle.algol_tree.specs.Blocks.{block_numbered, around}
-use Rattle.algol_tree.specs.Cells.{level_of}
-use Rattle.algol_tree.specs.Plain.{PProgram}
-use Rattle.algol_tree.specs.Scopes.{Scopes}
-use Rattle.algol_meaning.specs.World.{Part, World, instance_at, ancestor}
-use Rattle.algol_standing.specs.Skeleton.{here, down}
-use Rattle.algol_standing.specs.Worlds.{IsStanding, IsOnPath, IsWhole, newest_own, skeleton}
-use Rattle.algol_standing.specs.Fitting.{IsOk}
+use Rattle.b67_scenes.proofs.Prelude.{if◌then◌else◌, block_numbered, around, level_of, PProgram, Scopes, Part, World, instance_at, ancestor, here, down, IsStanding, IsOnPath, IsWhole, newest_own, skeleton, IsOk, stands_path, OUTER_LEVEL, Word, Code, Texts, length_around, Layout, HasFacts, facts_of, IsInReach, Frame, Shape, of_own, of_lent}
 use Rattle.algol_standing.proofs.Seen.{ancestors}
-use Rattle.algol_standing.proofs.Standing.{stands_path, path_on}
-use Rattle.b67_ops.specs.declared.TheConstants.{OUTER_LEVEL}
-use Rattle.b67_word.specs.Word.{Word}
-use Rattle.b67_segment.specs.declared.code.Code.{Code}
-use Rattle.b67_templates.specs.Programs.{Texts}
+use Rattle.algol_standing.proofs.Standing.{path_on}
 use Rattle.b67_rows.proofs.Numbers.{get_within}
-use Rattle.b67_rows.proofs.Parents.{length_around}
-use Rattle.b67_frames.specs.Arrays.{Layout}
-use Rattle.b67_frames.proofs.Facts.{HasFacts, facts_of}
-use Rattle.b67_frames.specs.Frames.{IsInReach, Frame, Shape, of_own, of_lent}
 
 module _ (sc : Scopes) (w : World) (ok : IsOk sc IsWhole w) where
   -- what lies on the path from one that stands, stands

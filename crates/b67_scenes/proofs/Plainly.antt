@@ -1,34 +1,14 @@
 -- A plain operator leaves an image of the same world.
-use Rattle.std.proofs.Common.{◌≡◌, ◌≢◌, ◌⊎◌, inl, inr, refl, sym, ap, ◌∙◌, subst, ℕ, zero, suc, ◌<◌, ◌≤◌, List, [], ◌∷◌, length, length-append, Option, Some, None, Bool, true, false, arith}
-use Rattle.std.specs.Prelude.{if◌then◌else◌}
-use Rattle.b67_list.specs.Numbered.{numbered}
-use Rattle.algol_tree.specs.Plain.{PProgram}
-use Rattle.algol_tree.specs.Scopes.{scopes_of}
-use Rattle.algol_meaning.specs.World.{Part, Process, lives, World}
-use Rattle.b67_word.specs.declared.Place.{Place}
-use Rattle.b67_segment.specs.declared.code.Code.{Code}
-use Rattle.b67_templates.specs.Programs.{Texts}
-use Rattle.b67_store.specs.Store.{stack_at, stack_limit}
-use Rattle.b67_control.specs.Display.{place_at}
-use Rattle.b67_table.specs.declared.InterruptKind.TheVariants.{BadCode as bad_code}
-use Rattle.b67_scenes.specs.States.{StateIs}
-use Rattle.b67_table.specs.Effect.{Effect, interrupts}
+use Rattle.std.proofs.Common.{◌≡◌, ◌≢◌, ◌⊎◌, inl, inr, refl, sym, ap, ◌∙◌, subst, ℕ, ◌<◌, ◌≤◌, List, [], ◌∷◌, length, length-append, Option, Some, None, Bool, true, false, arith}
+use Rattle.b67_scenes.proofs.Prelude.{if◌then◌else◌, numbered, PProgram, scopes_of, Part, Process, lives, World, Place, Code, Texts, stack_at, stack_limit, place_at, BadCode as bad_code, StateIs, Effect, interrupts, Image, is_live, plain, by_registers, stack_length, Core, HasCore, with_core, size, CoreSteps, Above, steps_stay_above, true_false, none_some, some_same, length_set_numbered, same_or_not, numbered_beyond, most_or_more, Layout, CriticalIs, TaskIs, ReachesFor, Living, Pictured, living, dead, PicturesBy}
 use Rattle.b67_table.specs.Outcome.{gives}
 use Rattle.b67_table.specs.Outcome as outcomes
-use Rattle.b67_table.specs.Image.{Image, is_live}
-use Rattle.b67_table.specs.Table.{table, raw, plain, by_registers, stack_length}
+use Rattle.b67_table.specs.Table.{table, raw}
 use Rattle.b67_table.specs.Runs.{Plains, stay, go}
-use Rattle.b67_cores.specs.Cores.{Core, HasCore, with_core, size, CoreStep, CoreSteps, here, onward}
-use Rattle.b67_cores.specs.Stretches.{StepsArePerformed, StepsComeToLimit, Performed, Above}
-use Rattle.b67_cores.proofs.Staying.{steps_stay_above}
-use Rattle.b67_faithful.proofs.Contradictions.{true_false, gives_same, none_some, some_same}
-use Rattle.b67_faithful.proofs.Choices.{length_set_numbered}
-use Rattle.b67_rows.proofs.Numbers.{same_or_not, numbered_beyond}
-use Rattle.b67_frames.specs.Arrays.{Layout}
-use Rattle.b67_scenes.specs.Depending.{CriticalIs, TaskIs}
+use Rattle.b67_cores.specs.Cores.{CoreStep, here, onward}
+use Rattle.b67_cores.specs.Stretches.{StepsArePerformed, StepsComeToLimit, Performed}
+use Rattle.b67_faithful.proofs.Contradictions.{gives_same}
 use Rattle.b67_scenes.specs.Reaches as reaching
-use Rattle.b67_scenes.specs.Reaches.{ReachesFor}
-use Rattle.b67_scenes.specs.Pictures.{Living, Pictured, living, dead, PicturesBy}
 use Rattle.b67_scenes.proofs.Kept.{living_there}
 
 -- one plain operator
@@ -58,18 +38,8 @@ stepped performed code p img a b has fits_a fits_b step =
     let one = first_of d.plains refl in
     (d, one.0, one.1)
 
--- so many words are within the limit, or more
-at_most_or_more : (m n : ℕ) → (m ≤ n) ⊎ (n < m)
-at_most_or_more zero n = inl (omega arith)
-at_most_or_more (suc m) zero = inr (omega arith)
-at_most_or_more (suc m) (suc n) = later (at_most_or_more m n)
-  where
-    later : (m ≤ n) ⊎ (n < m) → (suc m ≤ suc n) ⊎ (suc n < suc m)
-    later (inl h) = inl (omega (arith, h))
-    later (inr h) = inr (omega (arith, h))
-
 pub within_or_beyond : (n : ℕ) → (n ≤ stack_limit) ⊎ (stack_limit < n)
-within_or_beyond n = at_most_or_more n stack_limit
+within_or_beyond n = most_or_more n stack_limit
 
 module _ (performed : StepsArePerformed) (tree : PProgram) (code : Code) (texts : Texts) where
   module _ (w : World) (lay : Layout) (img : Image) where

@@ -1,26 +1,6 @@
 -- A process that stands at its action.
-use Rattle.std.proofs.Common.{◌≡◌, refl, sym, ap, ◌∙◌, subst, ℕ, ◌+◌, ◌≤◌, List, [], ◌∷◌, length, Some, arith}
-use Rattle.b67_list.specs.Numbered.{numbered}
-use Rattle.algol_tree.specs.Plain.{PProgram}
-use Rattle.algol_tree.specs.Scopes.{scopes_of}
-use Rattle.algol_meaning.specs.World.{Process, Part, World}
-use Rattle.algol_standing.specs.Worlds.{IsWhole}
-use Rattle.algol_standing.specs.Fitting.{IsOk}
-use Rattle.b67_control.specs.declared.Registers.{Registers}
-use Rattle.b67_control.specs.Display.{place_at}
-use Rattle.b67_segment.specs.declared.code.Code.{Code}
-use Rattle.b67_templates.specs.Programs.{Texts}
-use Rattle.b67_store.specs.Store.{stack_limit}
-use Rattle.b67_table.specs.Chains.{place}
-use Rattle.b67_table.specs.Image.{Image}
-use Rattle.b67_table.specs.Private.{frame, display_at, at_or}
-use Rattle.b67_cores.specs.Cores.{Core, size, HasCore}
-use Rattle.b67_faithful.specs.Weight.{weight}
-use Rattle.b67_faithful.proofs.Contradictions.{some_same}
-use Rattle.b67_frames.specs.Arrays.{Layout}
-use Rattle.b67_frames.specs.Frames.{IsNarrow, Stands, Around, Frames}
-use Rattle.b67_scenes.specs.Depending.{CriticalIs, TaskIs}
-use Rattle.b67_scenes.specs.Pictures.{innermost_most, Living, PicturesBy}
+use Rattle.std.proofs.Common.{true, ◌≡◌, refl, sym, ap, ◌∙◌, subst, ℕ, ◌+◌, ◌≤◌, List, [], ◌∷◌, length, Some, arith}
+use Rattle.b67_scenes.proofs.Prelude.{numbered, PProgram, scopes_of, Process, Part, World, IsWhole, IsOk, Registers, place_at, Code, Texts, stack_limit, place, Image, frame, display_at, at_or, Core, size, HasCore, weight, some_same, Layout, IsNarrow, Stands, Around, Frames, CriticalIs, TaskIs, innermost_most, Living, PicturesBy, lives, StateIs}
 use Rattle.b67_scenes.proofs.Staying.{most_in}
 
 module _ (tree : PProgram) (code : Code) (texts : Texts) (w : World) (lay : Layout) (img : Image) where
@@ -73,10 +53,87 @@ module _ (tree : PProgram) (code : Code) (texts : Texts) (w : World) (lay : Layo
         },
       )
 
-  module _ (p : ℕ) (q : Process) (part : Part) (outer : List Part) (bound : ℕ) (core : Core) (s : Scene p q part outer bound core) where
-    -- the display register of its level names its frame
-    pub shown_frame : display_at core.registers core.registers.ll ≡ Some (place p (length s.stands.frame.lower))
-    shown_frame = ap (λ (l : ℕ). display_at core.registers l) s.stands.there.level_is ∙ s.stands.top
+-- a process that stands at its action, in a world and an image of it: all that a lemma on an action speaks of
+pub record Actor (tree : PProgram) (code : Code) (texts : Texts) : Type 0 where
+  pub w : World
+  pub lay : Layout
+  pub img : Image
+  pub p : ℕ
+  pub q : Process
+  pub part : Part
+  pub outer : List Part
+  pub bound : ℕ
+  pub core : Core
+  pub s : Scene tree code texts w lay img p q part outer bound core
 
-    pub frame_is : frame core.registers ≡ length s.stands.frame.lower
-    frame_is = ap at_or shown_frame
+-- of a scene
+abbrev pub actor_of : {tree : PProgram} {code : Code} {texts : Texts} {w : World} {lay : Layout} {img : Image} {p : ℕ} {q : Process} {part : Part} {outer : List Part} {bound : ℕ} {core : Core} →
+    Scene tree code texts w lay img p q part outer bound core → Actor tree code texts
+actor_of {w = w} {lay = lay} {img = img} {p = p} {q = q} {part = part} {outer = outer} {bound = bound} {core = core} s =
+    record { w = w; lay = lay; img = img; p = p; q = q; part = part; outer = outer; bound = bound; core = core; s = s }
+
+-- .. that may act
+pub record AbleActor (tree : PProgram) (code : Code) (texts : Texts) : Type 0 where
+  pub w : World
+  pub lay : Layout
+  pub img : Image
+  pub p : ℕ
+  pub q : Process
+  pub part : Part
+  pub outer : List Part
+  pub bound : ℕ
+  pub core : Core
+  pub s : Scene tree code texts w lay img p q part outer bound core
+  pub able_is : lives q.state ≡ true
+  pub able_p : StateIs (scopes_of tree) w lay q.state (numbered img.states p)
+
+abbrev pub able_actor : {tree : PProgram} {code : Code} {texts : Texts} {w : World} {lay : Layout} {img : Image} {p : ℕ} {q : Process} {part : Part} {outer : List Part} {bound : ℕ} {core : Core} →
+    Scene tree code texts w lay img p q part outer bound core → lives q.state ≡ true → StateIs (scopes_of tree) w lay q.state (numbered img.states p) → AbleActor tree code texts
+able_actor {w = w} {lay = lay} {img = img} {p = p} {q = q} {part = part} {outer = outer} {bound = bound} {core = core} s able_is able_p =
+    record { w = w; lay = lay; img = img; p = p; q = q; part = part; outer = outer; bound = bound; core = core; s = s; able_is = able_is; able_p = able_p }
+
+-- .. in its outermost part
+pub record OutmostActor (tree : PProgram) (code : Code) (texts : Texts) : Type 0 where
+  pub w : World
+  pub lay : Layout
+  pub img : Image
+  pub p : ℕ
+  pub q : Process
+  pub part : Part
+  pub bound : ℕ
+  pub core : Core
+  pub s : Scene tree code texts w lay img p q part [] bound core
+
+abbrev pub outmost_actor : {tree : PProgram} {code : Code} {texts : Texts} {w : World} {lay : Layout} {img : Image} {p : ℕ} {q : Process} {part : Part} {bound : ℕ} {core : Core} →
+    Scene tree code texts w lay img p q part [] bound core → OutmostActor tree code texts
+outmost_actor {w = w} {lay = lay} {img = img} {p = p} {q = q} {part = part} {bound = bound} {core = core} s =
+    record { w = w; lay = lay; img = img; p = p; q = q; part = part; bound = bound; core = core; s = s }
+
+-- .. in a part with parts around it, which next is the innermost of
+pub record InnerActor (tree : PProgram) (code : Code) (texts : Texts) : Type 0 where
+  pub w : World
+  pub lay : Layout
+  pub img : Image
+  pub p : ℕ
+  pub q : Process
+  pub part : Part
+  pub next : Part
+  pub parts : List Part
+  pub bound : ℕ
+  pub core : Core
+  pub s : Scene tree code texts w lay img p q part (next ∷ parts) bound core
+
+abbrev pub inner_actor : {tree : PProgram} {code : Code} {texts : Texts} {w : World} {lay : Layout} {img : Image} {p : ℕ} {q : Process} {part next : Part} {parts : List Part} {bound : ℕ} {core : Core} →
+    Scene tree code texts w lay img p q part (next ∷ parts) bound core → InnerActor tree code texts
+inner_actor {w = w} {lay = lay} {img = img} {p = p} {q = q} {part = part} {next = next} {parts = parts} {bound = bound} {core = core} s =
+    record { w = w; lay = lay; img = img; p = p; q = q; part = part; next = next; parts = parts; bound = bound; core = core; s = s }
+
+module _ (tree : PProgram) (code : Code) (texts : Texts) (actor : Actor tree code texts) where
+  open actor use {p, core, s}
+
+  -- the display register of its level names its frame
+  pub shown_frame : display_at core.registers core.registers.ll ≡ Some (place p (length s.stands.frame.lower))
+  shown_frame = ap (λ (l : ℕ). display_at core.registers l) s.stands.there.level_is ∙ s.stands.top
+
+  pub frame_is : frame core.registers ≡ length s.stands.frame.lower
+  frame_is = ap at_or shown_frame

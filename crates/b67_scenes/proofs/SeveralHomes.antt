@@ -1,42 +1,20 @@
 -- The cells of several events whose references lie on an intrinsic: in the world and in the image.
 use Rattle.std.proofs.Common.{◌≡◌, inl, inr, refl, sym, ap, ◌∙◌, ℕ, List, [], ◌∷◌, ◌++◌, Option, true, arith, append_assoc, length-append}
-use Rattle.std.specs.Prelude.{map, reverse, is_some}
-use Rattle.algol_tree.specs.declared.tree.Named.{Named}
-use Rattle.algol_tree.specs.Plain.{PProgram}
-use Rattle.algol_tree.specs.Scopes.{Scopes, scopes_of}
-use Rattle.algol_meaning.specs.Asks.{ask}
-use Rattle.algol_meaning.specs.Value.{Reference}
-use Rattle.algol_meaning.specs.World.{Process, Part, World, followed}
-use Rattle.b67_word.specs.Word.{Word}
-use Rattle.b67_control.specs.declared.Registers.{Registers}
-use Rattle.b67_events.specs.Events.{Event, is_open}
-use Rattle.b67_events.proofs.EventLaws.{one_event}
-use Rattle.b67_ops.specs.declared.Couple.{Couple}
-use Rattle.b67_segment.specs.declared.code.Code.{Code}
+use Rattle.b67_scenes.proofs.Prelude.{map, reverse, Named, PProgram, Scopes, scopes_of, ask, Reference, World, followed, Word, Registers, Event, one_event, Couple, Code, Image, cell_place, AreNested, Texts, Slot, Known, SlotsAre, IsAsked, Top, top_slot, reference_read, named_from, AreFound, ListIs, IsStanding}
+use Rattle.std.specs.Prelude.{is_some}
+use Rattle.b67_events.specs.Events.{is_open}
 use Rattle.b67_table.specs.declared.Cell.{Cell as MachineCell}
-use Rattle.b67_table.specs.Image.{Image}
-use Rattle.b67_table.specs.References.{cell_place}
 use Rattle.b67_templates.specs.Cells.{AreEvents}
-use Rattle.b67_templates.specs.Nested.{AreNested}
-use Rattle.b67_templates.specs.Programs.{Texts}
-use Rattle.b67_standing.specs.Stepping.{Slot, reference}
+use Rattle.b67_standing.specs.Stepping.{reference}
 use Rattle.b67_standing.specs.Standing.{references}
-use Rattle.b67_cores.specs.Cores.{Core}
-use Rattle.b67_cores.specs.Slots.{Known, SlotsAre}
 use Rattle.b67_table.specs.PrivateRows as rows
 use Rattle.b67_faithful.proofs.Sources.{reverse-cons}
-use Rattle.b67_rows.proofs.AskedElements.{IsNamed, IsAsked}
-use Rattle.b67_rows.proofs.Slotted.{Top, top_slot}
-use Rattle.b67_rows.proofs.Words.{reference_read}
-use Rattle.b67_frames.specs.Arrays.{Layout, named_from}
-use Rattle.b67_frames.proofs.SeveralRows.{AreFound}
-use Rattle.b67_scenes.specs.Waiting.{ListIs}
+use Rattle.b67_rows.proofs.AskedElements.{IsNamed}
 use Rattle.b67_scenes.proofs.Calling.{Lying}
 use Rattle.b67_scenes.proofs.EventHomes.{IsNearWay, cell_there, EventHome, event_home, has_there}
 use Rattle.b67_scenes.proofs.Led.{reached_stands}
-use Rattle.b67_scenes.proofs.Scene.{Scene}
+use Rattle.b67_scenes.proofs.Scene.{Actor}
 use Rattle.b67_scenes.proofs.Staying.{names_in}
-use Rattle.algol_standing.specs.Worlds.{IsStanding}
 
 -- each of these instances stands
 abbrev pub AllStanding : World → List Reference → Type 0
@@ -77,8 +55,9 @@ module _ (sc : Scopes) (known : List Known) (level home base : ℕ) where
 
 -- ---- the cells
 
-module _ (tree : PProgram) (code : Code) (texts : Texts) (nested : AreNested (scopes_of tree)) (w : World) (lay : Layout) (img : Image)
-    (p : ℕ) (q : Process) (part : Part) (outer : List Part) (bound : ℕ) (core : Core) (s : Scene tree code texts w lay img p q part outer bound core) where
+module _ (tree : PProgram) (code : Code) (texts : Texts) (nested : AreNested (scopes_of tree)) (actor : Actor tree code texts) where
+  open actor use {w, lay, img, p, part, core, s}
+
   abbrev sc : Scopes
   sc = scopes_of tree
 
@@ -93,26 +72,26 @@ module _ (tree : PProgram) (code : Code) (texts : Texts) (nested : AreNested (sc
     pub near : AreNearWays p img core.registers (map rows.reference cs) cells reach
     pub stand : AllStanding w (map (λ (n : Named). followed w (named_from (scopes_of tree) w lay part.instance n)) ns)
 
-  one_open : (n : Named) (c : Couple) (h : EventHome tree code texts nested w lay img p q part outer bound core s (followed w (named_from sc w lay part.instance n)) c) →
-      is_open (cell_place (cell_there tree code texts nested w lay img p q part outer bound core s h.lies h.number)) img.events ≡ true
+  one_open : (n : Named) (c : Couple) (h : EventHome tree code texts nested actor (followed w (named_from sc w lay part.instance n)) c) →
+      is_open (cell_place (cell_there tree code texts nested actor h.lies h.number)) img.events ≡ true
   one_open n c h =
-      one_event.found (cell_place (cell_there tree code texts nested w lay img p q part outer bound core s h.lies h.number)) img.events
+      one_event.found (cell_place (cell_there tree code texts nested actor h.lies h.number)) img.events
       ∙ ap (λ (x : Option Event). is_some x)
       (s.by.events.are_open h.lies.found.lies.part.instance h.number h.found.cell _
-      (has_there tree code texts nested w lay img p q part outer bound core s h.lies (followed w (named_from sc w lay part.instance n)).name h.number h.found))
+      (has_there tree code texts nested actor h.lies (followed w (named_from sc w lay part.instance n)).name h.number h.found))
 
   pub on_several : (ns : List Named) (cs : List Couple) → ((n : Named) → IsNamed ns n → IsAsked (ask part.rest) n) → AreEvents (scopes_of tree) (names_in tree w part) ns cs → OnSeveral ns cs
   on_several [] [] asked events = record { cells = []; reach = tt; list_is = tt; near = tt; stand = tt }
   on_several [] (c ∷ cs) asked events = absurd events
   on_several (n ∷ ns) [] asked events = absurd events
   on_several (n ∷ ns) (c ∷ cs) asked events =
-      let h : EventHome tree code texts nested w lay img p q part outer bound core s (followed w (named_from sc w lay part.instance n)) c =
-      event_home tree code texts nested w lay img p q part outer bound core s n c (asked n (inl refl)) events.0 in
+      let h : EventHome tree code texts nested actor (followed w (named_from sc w lay part.instance n)) c =
+      event_home tree code texts nested actor n c (asked n (inl refl)) events.0 in
       let rest : OnSeveral ns cs = on_several ns cs (λ m is. asked m (inr is)) events.1 in
       record {
-        cells = cell_there tree code texts nested w lay img p q part outer bound core s h.lies h.number ∷ rest.cells;
+        cells = cell_there tree code texts nested actor h.lies h.number ∷ rest.cells;
         reach = (h.reaches (rows.reference c) (reference_read c h.fits.0 h.fits.1), one_open n c h, rest.reach);
         list_is = (h.lies_at, rest.list_is);
         near = (h.near (rows.reference c) (reference_read c h.fits.0 h.fits.1), rest.near);
-        stand = (reached_stands tree code texts w lay img p q part outer bound core s (followed w (named_from sc w lay part.instance n)).instance h.own, rest.stand);
+        stand = (reached_stands tree code texts actor (followed w (named_from sc w lay part.instance n)).instance h.own, rest.stand);
       }

@@ -1,33 +1,14 @@
 -- An image that pictures a world shows it, and its stacks are within their weights.
 use Rattle.std.proofs.Common.{◌≡◌, refl, sym, ap, ◌∙◌, subst, ℕ, suc, ◌+◌, ◌≤◌, List, [], ◌∷◌, length, Option, Some, None, Bool, true, false, arith}
-use Rattle.std.specs.Prelude.{if◌then◌else◌, ◌&&◌, ◌||◌, not, slice_get}
-use Rattle.b67_list.specs.Numbered.{numbered}
-use Rattle.algol_tree.specs.Plain.{PProgram}
-use Rattle.algol_tree.specs.Scopes.{Scopes, scopes_of}
-use Rattle.algol_meaning.specs.World.{Process, State, able, waits_for, waits_any, procures, ended, lives, World, WorldFault, process_at, or_no_process}
-use Rattle.algol_meaning.specs.World.{is_able as meaning_able}
+use Rattle.b67_scenes.proofs.Prelude.{if◌then◌else◌, ◌&&◌, ◌||◌, not, slice_get, numbered, PProgram, Scopes, scopes_of, Process, State, able, waits_for, waits_any, procures, ended, lives, World, WorldFault, process_at, or_no_process, is_able as meaning_able, Registers, Code, Texts, ProcessState, Able, WaitsFor, WaitsAny, Procures, Ended, BadCode as bad_code, Effect, interrupts, limited, limit, Image, is_live, by_registers, stack_length, weight, true_false, some_same, numbered_beyond, Layout, failure_of, Living, Pictured, living, dead, PicturesBy, StateIs}
 use Rattle.algol_meaning.specs.Run.{end_of}
 use Rattle.algol_meaning.specs.Run as meaning
-use Rattle.b67_control.specs.declared.Registers.{Registers}
-use Rattle.b67_segment.specs.declared.code.Code.{Code}
-use Rattle.b67_templates.specs.Programs.{Texts}
-use Rattle.b67_table.specs.declared.ProcessState.{ProcessState}
-use Rattle.b67_table.specs.declared.ProcessState.TheVariants.{Able, WaitsFor, WaitsAny, Procures, Ended}
-use Rattle.b67_table.specs.declared.InterruptKind.TheVariants.{BadCode as bad_code}
-use Rattle.b67_table.specs.Effect.{Effect, interrupts}
-use Rattle.b67_table.specs.Outcome.{limited, limit}
-use Rattle.b67_table.specs.Image.{Image, Failure, is_live}
+use Rattle.b67_table.specs.Image.{Failure}
 use Rattle.b67_table.specs.Image.{is_able as image_able}
-use Rattle.b67_table.specs.Table.{table, raw, by_registers, stack_length}
+use Rattle.b67_table.specs.Table.{table, raw}
 use Rattle.b67_table.specs.Ending.{ImageEnd, image_end, may_act}
 use Rattle.b67_table.specs.Ending as machine
 use Rattle.b67_faithful.specs.Agreement.{end_as}
-use Rattle.b67_faithful.specs.Weight.{weight}
-use Rattle.b67_faithful.proofs.Contradictions.{true_false, some_same}
-use Rattle.b67_rows.proofs.Numbers.{numbered_beyond}
-use Rattle.b67_frames.specs.Arrays.{Layout}
-use Rattle.b67_scenes.specs.Pictures.{failure_of, Living, Pictured, living, dead, PicturesBy}
-use Rattle.b67_scenes.specs.States.{StateIs}
 use Rattle.b67_scenes.proofs.Plainly.{steps_fit}
 
 -- ---- a process in a world and in its image

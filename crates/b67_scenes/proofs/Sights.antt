@@ -1,39 +1,19 @@
 -- How much a process that stands at its action may look at: of each instance on the path from its newest, all cells but those that another process
 -- is making, and of these the ones that are there.
-use Rattle.std.proofs.Common.{◌≡◌, ◌≢◌, ◌⊎◌, inl, inr, sym, ap, ◌∙◌, subst, ℕ, suc, ◌+◌, ◌<◌, ◌≤◌, List, [], ◌∷◌, length, Some, arith, append-nil}
-use Rattle.std.specs.Prelude.{slice_get}
-use Rattle.b67_list.specs.Numbered.{numbered}
-use Rattle.algol_tree.specs.Blocks.{block_numbered}
-use Rattle.algol_tree.specs.Plain.{PProgram}
-use Rattle.algol_tree.specs.Scopes.{Scopes, scopes_of}
-use Rattle.algol_meaning.specs.World.{Instance, Process, Part, World, instance_at}
-use Rattle.algol_meaning.specs.Critical.{own_instances}
-use Rattle.algol_standing.specs.Skeleton.{IsIn}
-use Rattle.algol_standing.specs.Worlds.{IsStanding, IsOnPath, IsOwn, newest_own, IsWhole}
-use Rattle.algol_standing.specs.Lows.{IsLow}
-use Rattle.algol_standing.proofs.Seen.{top_inside, top_stands}
-use Rattle.b67_word.specs.Word.{Word}
-use Rattle.b67_segment.specs.declared.code.Code.{Code}
-use Rattle.b67_store.specs.Store.{word_at}
-use Rattle.b67_table.specs.Chains.{place}
-use Rattle.b67_table.specs.Image.{Image}
-use Rattle.b67_templates.specs.Cells.{made_base}
-use Rattle.b67_templates.specs.Programs.{Texts}
-use Rattle.b67_cores.specs.Cores.{Core}
-use Rattle.b67_faithful.proofs.Contradictions.{some_same}
-use Rattle.b67_rows.proofs.Numbers.{same_or_not}
-use Rattle.b67_rows.proofs.Touching.{Near}
-use Rattle.b67_frames.specs.Arrays.{Layout}
-use Rattle.b67_frames.specs.Frames.{IsInReach}
-use Rattle.b67_frames.proofs.Lying.{lies_low, lies_in}
-use Rattle.b67_scenes.proofs.Finding.{Shows, wholly, but_made, two_words, Found, found_process, word_sees, place_near, find}
-use Rattle.b67_scenes.proofs.Scene.{Scene}
+use Rattle.std.proofs.Common.{◌≡◌, ◌≢◌, ◌⊎◌, inl, inr, refl, sym, ap, ◌∙◌, subst, ℕ, suc, ◌+◌, ◌<◌, ◌≤◌, List, [], ◌∷◌, length, Some, arith, append-nil}
+use Rattle.b67_scenes.proofs.Prelude.{slice_get, numbered, block_numbered, PProgram, Scopes, scopes_of, Instance, Process, Part, instance_at, own_instances, IsIn, IsStanding, IsOnPath, IsOwn, stack_of, stack_forth, newest_own, IsWhole, IsLow, top_stands, Word, Code, word_at, place, made_base, Texts, some_same, same_or_not, IsInReach, lies_low, lies_in}
+use Rattle.algol_standing.proofs.Seen.{top_inside}
+use Rattle.b67_scenes.proofs.Finding.{Shows, wholly, but_made, two_words, Found, found_process, word_sees, find}
+use Rattle.b67_scenes.proofs.Scene.{Actor}
 use Rattle.b67_scenes.proofs.Worlds.{own_listed}
 use Rattle.b67_scenes.proofs.Paths.{path_stands}
+use Rattle.b67_rows.proofs.Touching.{IsNearStack}
+use Rattle.b67_scenes.proofs.Depended.{number_is, path_near}
 use Rattle.b67_scenes.proofs.Unseen.{newest_alone}
 
-module _ (tree : PProgram) (code : Code) (texts : Texts) (w : World) (lay : Layout) (img : Image)
-    (p : ℕ) (q : Process) (part : Part) (outer : List Part) (bound : ℕ) (core : Core) (s : Scene tree code texts w lay img p q part outer bound core) where
+module _ (tree : PProgram) (code : Code) (texts : Texts) (actor : Actor tree code texts) where
+  open actor use {w, lay, img, p, q, part, outer, core, s}
+
   abbrev sc : Scopes
   sc = scopes_of tree
 
@@ -75,6 +55,21 @@ module _ (tree : PProgram) (code : Code) (texts : Texts) (w : World) (lay : Layo
       let is : numbered w.instances i ≡ Some x = ap (λ (j : ℕ). numbered w.instances j) (sym f.lies.instance_is) ∙ f.lies.owned.framed.is in
       other (sym (found_process tree code texts w lay img i f x is) ∙ found_process tree code texts w lay img i (own_found i own) x is)
 
+  -- ---- whose stack it is in
+
+  -- the newest own one is found in the process's stack
+  newest_number : (f : Found tree code texts w lay img (newest_own (part ∷ outer))) → f.number ≡ p
+  newest_number f =
+      number_is tree code texts w lay img s.by s.ok (newest_own (part ∷ outer)) p (stack_of q) (stack_forth w p q s.at)
+      (subst (λ (parts : List Part). IsIn (own_instances parts) (newest_own (part ∷ outer))) (sym s.todo) (top_inside (scopes_of tree) IsWhole w s.ok.sound p q part outer s.at s.todo)) f
+
+  -- what is in reach lies in that, or in a stack on which somebody depends
+  pub in_reach_near : (i : ℕ) → IsInReach w (part ∷ outer) i → (f : Found tree code texts w lay img i) → IsNearStack p img f.number
+  in_reach_near i path f =
+      let st : IsStanding w (newest_own (part ∷ outer)) = top_stands (scopes_of tree) IsWhole w s.ok.sound p q part outer s.at s.todo in
+      let top : Found tree code texts w lay img (newest_own (part ∷ outer)) = find tree code texts w lay img s.by s.ok (newest_own (part ∷ outer)) st in
+      path_near tree code texts w lay img s.by s.ok p (newest_own (part ∷ outer)) i path st top (inl (newest_number top)) f
+
   -- ---- what is seen
 
   -- How much the process may look at of a frame that is found: all of it, or all but cells that are made, where another process is making them.
@@ -86,6 +81,7 @@ module _ (tree : PProgram) (code : Code) (texts : Texts) (w : World) (lay : Layo
   pub record Seen (i : ℕ) : Type 0 where
     pub found : Found tree code texts w lay img i
     pub sees : Sees i found
+    pub near : IsNearStack p img found.number
 
   pub own_seen : (i : ℕ) → IsOwn (part ∷ outer) i → Seen i
   unfolding own_found
@@ -93,6 +89,7 @@ module _ (tree : PProgram) (code : Code) (texts : Texts) (w : World) (lay : Layo
       record {
         found = own_found i own;
         sees = sees_all (lies_low tree code texts w lay p (part ∷ outer) i core.below (lies_in tree code texts w lay p part outer core s.stands s.around i own));
+        near = inl refl;
       }
 
   module _ (i : ℕ) (path : IsInReach w (part ∷ outer) i) where
@@ -118,7 +115,7 @@ module _ (tree : PProgram) (code : Code) (texts : Texts) (w : World) (lay : Layo
       where
         by_number : (f : FoundThere i) → (f.number ≡ p) ⊎ (f.number ≢ p) → Seen i
         by_number f (inl same) = own_seen i (found_own i f same)
-        by_number f (inr other) = record { found = f; sees = sees_other f other f.shows }
+        by_number f (inr other) = record { found = f; sees = sees_other f other f.shows; near = in_reach_near i path f }
 
   -- ---- words and places
 
@@ -153,6 +150,3 @@ module _ (tree : PProgram) (code : Code) (texts : Texts) (w : World) (lay : Layo
     cell_lies n word e low =
         let as_far : high + suc (suc n) ≡ high + (2 + n) = omega arith in
         ap (λ (k : ℕ). word_at img.stacks (place h.found.number k)) (sym as_far) ∙ word_sees tree code texts w lay img i h.found (suc (suc n)) word e (omega (arith, low))
-
-    pub cell_near : (k n : ℕ) → n < length h.found.core.below → Near k img (place h.found.number n)
-    cell_near k n low = place_near tree code texts w lay img i h.found k n low

@@ -1,22 +1,17 @@
 -- A name that a block has from its entry on is that of a simple cell of its frame.
 use Rattle.std.proofs.Common.{◌≡◌, ℕ, ◌+◌, Bool, true, false, List, [], ◌∷◌, ◌++◌, Option, Some, None, refl, sym, ap, if◌then◌else◌}
-use Rattle.algol_tree.specs.declared.tree.Kind.{Kind}
-use Rattle.algol_tree.specs.declared.tree.Named.{Named}
-use Rattle.algol_tree.specs.Blocks.{Block}
+use Rattle.b67_scenes.proofs.Prelude.{Kind, Named, Block, Scopes, Parameter, same_name, has_simple, Simple, Found, found_from, result_of, variables, parameter_cells, simple_cells, AreTold}
 use Rattle.algol_tree.specs.Plain as tree
 use Rattle.algol_tree.specs.Plain.{PDecls}
-use Rattle.algol_tree.specs.Scopes.{Scopes}
-use Rattle.algol_tree.specs.Sorts.{Parameter, same_name, is_named_in}
-use Rattle.algol_calls.specs.Fits.{has_parameter, has_result, has_variable, has_simple}
-use Rattle.b67_templates.specs.Cells.{Simple, Found, found_from, of_kind, result_of, variables, parameter_cells, simple_cells}
-use Rattle.b67_templates.specs.Nested.{AreTold, AreParameters}
+use Rattle.algol_tree.specs.Sorts.{is_named_in}
+use Rattle.algol_calls.specs.Fits.{has_parameter, has_result, has_variable}
+use Rattle.algol_standing.proofs.Lists.{false_true}
+use Rattle.b67_templates.specs.Cells.{of_kind}
+use Rattle.b67_templates.specs.Nested.{AreParameters}
 
 abbrev has_cell : List Simple → List ℕ → Bool
 has_cell [] name = false
 has_cell (c ∷ cells) name = if same_name c.name name then true else has_cell cells name
-
-false_true : {A : Type 0} → false ≡ true → A
-false_true e = cc
 
 found_if : (k : ℕ) (cells : List Simple) (name : List ℕ) → has_cell cells name ≡ true → (f : Found) × (found_from k cells name ≡ Some f)
 found_if k [] name e = false_true e

@@ -1,44 +1,12 @@
 -- What all actions share: the choice of the world, the limit, and the picture after an action.
 use Rattle.std.proofs.Common.{◌≡◌, ◌≢◌, ◌⊎◌, inl, inr, refl, sym, ap, ◌∙◌, subst, ℕ, suc, ◌<◌, ◌≤◌, List, ◌∷◌, length, Option, Some, None, Bool, false, arith, true}
-use Rattle.std.specs.Prelude.{if◌then◌else◌, nat_le}
-use Rattle.std.proofs.lemmas.Bool.Decides.{nat_tests}
-use Rattle.b67_list.specs.Numbered.{numbered, set_numbered}
+use Rattle.b67_scenes.proofs.Prelude.{if◌then◌else◌, nat_le, nat_tests, numbered, set_numbered, PProgram, Scopes, scopes_of, Part, Process, lives, WorldFault, World, process_at, or_no_process, IsWhole, IsOk, ask, list_in, IsListed, Place, waiters_at, Registers, Code, Texts, stack_at, stack_limit, ProcessState, StateIs, limited, limit, Image, is_live, stack_length, Core, HasCore, some_same, weight, parts_weight, Layout, ArraysAre, EventsAre, HasFacts, facts_of, keeps_same, arrays_unchanged, events_unchanged, failure_of, Living, Pictured, living, PicturesBy, WaitsAre, length_set_numbered, same_or_not, numbered_set, numbered_other}
 use Rattle.b67_num.specs.declared.FaultKind.{FaultKind}
-use Rattle.algol_tree.specs.Plain.{PProgram}
-use Rattle.algol_tree.specs.Scopes.{Scopes, scopes_of}
-use Rattle.algol_meaning.specs.World.{Part, Process, lives, WorldFault, World, process_at, or_no_process}
-use Rattle.algol_standing.specs.Worlds.{IsWhole}
-use Rattle.algol_standing.specs.Fitting.{IsOk}
-use Rattle.algol_meaning.specs.Asks.{ask}
-use Rattle.algol_meaning.specs.Events.{list_in}
-use Rattle.b67_deeds.specs.Listed.{IsListed}
-use Rattle.b67_word.specs.declared.Place.{Place}
-use Rattle.b67_events.specs.Events.{waiters_at}
 use Rattle.algol_meaning.specs.Choice.{choice, choice_in, choice_of}
-use Rattle.b67_control.specs.declared.Registers.{Registers}
-use Rattle.b67_segment.specs.declared.code.Code.{Code}
-use Rattle.b67_templates.specs.Programs.{Texts}
-use Rattle.b67_store.specs.Store.{stack_at, stack_limit}
-use Rattle.b67_table.specs.declared.ProcessState.{ProcessState}
-use Rattle.b67_scenes.specs.States.{StateIs}
 use Rattle.b67_table.specs.Effect as effects
-use Rattle.b67_table.specs.Outcome.{gives, faults, limited, limit}
-use Rattle.b67_table.specs.Image.{Image, is_live}
-use Rattle.b67_table.specs.Table.{table, raw, stack_length, length_in}
+use Rattle.b67_table.specs.Outcome.{gives, faults}
+use Rattle.b67_table.specs.Table.{table, raw, length_in}
 use Rattle.b67_table.specs.Ending.{failed}
-use Rattle.b67_cores.specs.Cores.{Core, HasCore}
-use Rattle.b67_faithful.proofs.Contradictions.{some_same}
-use Rattle.b67_faithful.specs.Weight.{weight, parts_weight}
-use Rattle.b67_frames.specs.Arrays.{Layout, ArraysAre}
-use Rattle.b67_frames.specs.Events.{EventsAre}
-use Rattle.b67_frames.proofs.Facts.{HasFacts, facts_of}
-use Rattle.b67_frames.proofs.Knowing.{keeps_same}
-use Rattle.b67_frames.proofs.ArraysKept.{arrays_unchanged}
-use Rattle.b67_frames.proofs.EventsKept.{events_unchanged}
-use Rattle.b67_scenes.specs.Pictures.{failure_of, Living, Pictured, living, PicturesBy}
-use Rattle.b67_scenes.specs.Waiting.{WaitsAre}
-use Rattle.b67_faithful.proofs.Choices.{length_set_numbered}
-use Rattle.b67_rows.proofs.Numbers.{same_or_not, numbered_set, numbered_other}
 use Rattle.b67_rows.proofs.StoreRow.{most_is}
 use Rattle.b67_scenes.proofs.Ancestors.{all_laid}
 use Rattle.b67_scenes.proofs.Kept.{LeavesAlone, AreAlike, alike_by, pictured_alike}

@@ -1,57 +1,45 @@
 -- What a process that starts another names: all of it is seen from the text of its part.
 use Rattle.std.proofs.Common.{◌≡◌, ◌⊎◌, inl, inr, subst, ℕ, List, [], Option}
-use Rattle.algol_tree.specs.declared.tree.Named.{Named}
-use Rattle.algol_tree.specs.Plain.{PProgram}
-use Rattle.algol_tree.specs.Scopes.{Scopes, scopes_of}
-use Rattle.algol_meaning.specs.Asks.{Ask, starts, ask}
-use Rattle.algol_meaning.specs.Rest.{Given}
-use Rattle.algol_meaning.specs.World.{Process, Part, World, instance_at}
-use Rattle.algol_paths.specs.Arrays.{all_to_make}
-use Rattle.algol_paths.specs.Blocks.{IsSeen, IsSeenAround, IsInner}
-use Rattle.algol_paths.specs.Texts.{InGivens, InName, InRest}
-use Rattle.algol_standing.specs.Worlds.{IsNoBlock}
+use Rattle.b67_scenes.proofs.Prelude.{Named, PProgram, Scopes, scopes_of, Ask, ask, Given, instance_at, all_to_make, IsSeen, IsSeenAround, IsInner, InRest, IsNoBlock, Code, Texts, IsComplete}
+use Rattle.algol_meaning.specs.Asks.{starts}
+use Rattle.algol_paths.specs.Texts.{InGivens, InName}
 use Rattle.algol_standing.proofs.Asking.{Sees, rest_sees, bound_sees}
-use Rattle.b67_segment.specs.declared.code.Code.{Code}
-use Rattle.b67_table.specs.Image.{Image}
-use Rattle.b67_templates.specs.Programs.{Texts}
-use Rattle.b67_cores.specs.Cores.{Core}
-use Rattle.b67_frames.specs.Arrays.{Layout}
-use Rattle.b67_frames.specs.Frames.{IsComplete}
 use Rattle.b67_scenes.proofs.Narrowing.{made_or_around}
-use Rattle.b67_scenes.proofs.Scene.{Scene}
+use Rattle.b67_scenes.proofs.Scene.{Actor}
 
 -- a call with a task
 abbrev pub AreNamedThere : (Named → Type 0) → Named → List Given → Option Named → Type 0
 AreNamedThere P n gs task = P n × InGivens P gs × InName P task
 
-module _ (tree : PProgram) (code : Code) (texts : Texts) (w : World) (lay : Layout) (img : Image)
-    (p : ℕ) (q : Process) (part : Part) (outer : List Part) (bound : ℕ) (core : Core) (s : Scene tree code texts w lay img p q part outer bound core)
-    (n : Named) (gs : List Given) (task : Option Named) (asks : ask part.rest ≡ starts n gs task) where
-  abbrev sc : Scopes
-  sc = scopes_of tree
+module _ (tree : PProgram) (code : Code) (texts : Texts) (actor : Actor tree code texts) where
+  open actor use {w, lay, part, s}
 
-  abbrev block : ℕ
-  block = (instance_at w part.instance).block
+  module _ (n : Named) (gs : List Given) (task : Option Named) (asks : ask part.rest ≡ starts n gs task) where
+    abbrev sc : Scopes
+    sc = scopes_of tree
 
-  pub start_seen : AreNamedThere (IsSeen (scopes_of tree) ((instance_at w part.instance).block)) n gs task
-  start_seen =
-      subst (λ (k : Ask). Sees (IsSeen sc block) (IsInner sc block) k) asks
-      (rest_sees (IsSeen sc block) (IsInner sc block) (IsSeenAround sc block) (λ m (seen : IsSeenAround sc block m). seen.0) part.rest s.stands.frame.text)
+    abbrev block : ℕ
+    block = (instance_at w part.instance).block
 
-  -- in an evaluation that keeps to what is around its block
-  pub start_around : InRest (IsSeenAround (scopes_of tree) ((instance_at w part.instance).block)) IsNoBlock (IsSeenAround (scopes_of tree) ((instance_at w part.instance).block)) part.rest →
-      AreNamedThere (IsSeenAround (scopes_of tree) ((instance_at w part.instance).block)) n gs task
-  start_around text =
-      subst (λ (k : Ask). Sees (IsSeenAround sc block) IsNoBlock k) asks
-      (rest_sees (IsSeenAround sc block) IsNoBlock (IsSeenAround sc block) (λ m (seen : IsSeenAround sc block m). seen) part.rest text)
+    pub start_seen : AreNamedThere (IsSeen (scopes_of tree) ((instance_at w part.instance).block)) n gs task
+    start_seen =
+        subst (λ (k : Ask). Sees (IsSeen sc block) (IsInner sc block) k) asks
+        (rest_sees (IsSeen sc block) (IsInner sc block) (IsSeenAround sc block) (λ m (seen : IsSeenAround sc block m). seen.0) part.rest s.stands.frame.text)
 
-  bound_around : (all_to_make part.rest ≡ []) ⊎ AreNamedThere (IsSeenAround sc block) n gs task
-  bound_around = by_bound (bound_sees (IsSeen sc block) (IsInner sc block) (IsSeenAround sc block) part.rest s.stands.frame.text)
-    where
-      by_bound : (all_to_make part.rest ≡ []) ⊎ Sees (IsSeenAround sc block) IsNoBlock (ask part.rest) → (all_to_make part.rest ≡ []) ⊎ AreNamedThere (IsSeenAround sc block) n gs task
-      by_bound (inl none) = inl none
-      by_bound (inr sees) = inr (subst (λ (k : Ask). Sees (IsSeenAround sc block) IsNoBlock k) asks sees)
+    -- in an evaluation that keeps to what is around its block
+    pub start_around : InRest (IsSeenAround (scopes_of tree) ((instance_at w part.instance).block)) IsNoBlock (IsSeenAround (scopes_of tree) ((instance_at w part.instance).block)) part.rest →
+        AreNamedThere (IsSeenAround (scopes_of tree) ((instance_at w part.instance).block)) n gs task
+    start_around text =
+        subst (λ (k : Ask). Sees (IsSeenAround sc block) IsNoBlock k) asks
+        (rest_sees (IsSeenAround sc block) IsNoBlock (IsSeenAround sc block) (λ m (seen : IsSeenAround sc block m). seen) part.rest text)
 
-  -- all is made there, or they are around
-  pub start_made : IsComplete (scopes_of tree) w lay part.instance ⊎ AreNamedThere (IsSeenAround (scopes_of tree) ((instance_at w part.instance).block)) n gs task
-  start_made = made_or_around tree code texts w lay img p q part outer bound core s bound_around start_around
+    bound_around : (all_to_make part.rest ≡ []) ⊎ AreNamedThere (IsSeenAround sc block) n gs task
+    bound_around = by_bound (bound_sees (IsSeen sc block) (IsInner sc block) (IsSeenAround sc block) part.rest s.stands.frame.text)
+      where
+        by_bound : (all_to_make part.rest ≡ []) ⊎ Sees (IsSeenAround sc block) IsNoBlock (ask part.rest) → (all_to_make part.rest ≡ []) ⊎ AreNamedThere (IsSeenAround sc block) n gs task
+        by_bound (inl none) = inl none
+        by_bound (inr sees) = inr (subst (λ (k : Ask). Sees (IsSeenAround sc block) IsNoBlock k) asks sees)
+
+    -- all is made there, or they are around
+    pub start_made : IsComplete (scopes_of tree) w lay part.instance ⊎ AreNamedThere (IsSeenAround (scopes_of tree) ((instance_at w part.instance).block)) n gs task
+    start_made = made_or_around tree code texts actor bound_around start_around

@@ -1,77 +1,28 @@
 -- The first image pictures the first world.
 use Rattle.std.proofs.Common.{◌≡◌, inl, refl, sym, ap, ◌∙◌, subst, ℕ, zero, suc, ◌+◌, ◌-◌, ◌*◌, ◌<◌, ◌≤◌, List, [], ◌∷◌, ◌++◌, length, Some, None, true, false, arith, length-append, append-nil}
-use Rattle.std.specs.Prelude.{map, replicate, not, if◌then◌else◌, slice_get}
-use Rattle.std.proofs.lemmas.List.{length-replicate, length-map}
-use Rattle.b67_list.specs.Numbered.{numbered}
+use Rattle.b67_scenes.proofs.Prelude.{map, replicate, not, if◌then◌else◌, slice_get, length-map, numbered, Block, block_numbered, number_at, around, Parameter, same_name, level_of, PProgram, Scopes, scopes_of, items_of, settle_items, Instance, Part, Process, World, able, process_at, fresh_cells, IsStanding, IsWhole, IsOk, ArrayCell, event, EventState, DeclaredArray, RestsKeepToTheirText, AllIsMadeInOrder, procedures_before, segment_of, Word, Pcw, Registers, Rcw, pcw_word, place_at, as_mscw-mscw_word, as_rcw-rcw_word, OUTER_LEVEL, Placed, Spells, Code, Segment, place, base_control, woken_number, yields_of, Simple, parameter_cells, simple_cells, zero_cells, actuals_of, made_of, Texts, context_of, ComesTo, Core, IsCore, HasCore, CoreAt, FragmentsArePerformed, control_words, Begins, BlocksBegin, tokens_around, weight, some_same, none_some, AreTold, AreNested, block_keeps, block_makes, block_few, routines_long, controls_many, Allotted, Layout, HasArray, ArraysAre, block_controls, controls_count, most_around, CellsAre, IsChained, Framed, of_own, facts_of, LeadAll, lead_there, fresh_are, fresh_lead, simple_many, zero_word, cells_length, HasEvent, EventsAre, Pictured, living, ListIs, list_in, list_of, none_yet, Place, get_within}
+use Rattle.std.proofs.lemmas.List.{length-replicate}
 use Rattle.algol_tree.specs.declared.token.Spot.{Spot}
-use Rattle.algol_tree.specs.Blocks.{Block, block_numbered, number_at, around}
-use Rattle.algol_tree.specs.Sorts.{Parameter, same_name}
-use Rattle.algol_tree.specs.Cells.{level_of}
-use Rattle.algol_tree.specs.Plain.{PProgram}
-use Rattle.algol_tree.specs.Scopes.{Scopes, scopes_of}
-use Rattle.algol_meaning.specs.Statements.{items_of, settle_items}
-use Rattle.algol_meaning.specs.World.{Instance, Part, Process, World, able, process_at}
 use Rattle.algol_meaning.specs.World as worlds
-use Rattle.algol_meaning.specs.Instances.{fresh_cells}
 use Rattle.algol_meaning.specs.Run.{start}
 use Rattle.algol_meaning.specs.Arrays.{size_of_cells}
-use Rattle.algol_standing.specs.Worlds.{IsStanding, IsWhole}
-use Rattle.algol_standing.specs.Fitting.{IsOk}
-use Rattle.algol_meaning.specs.Value.{ArrayCell, event}
-use Rattle.b67_deeds.specs.Events.{EventState}
-use Rattle.algol_paths.specs.Arrays.{DeclaredArray}
-use Rattle.algol_paths.specs.Laws.{RestsKeepToTheirText, AllIsMadeInOrder}
-use Rattle.algol_paths.specs.Segments.{procedures_before, segment_among, segment_of}
-use Rattle.b67_word.specs.Word.{Word}
-use Rattle.b67_control.specs.declared.Pcw.{Pcw}
-use Rattle.b67_control.specs.declared.Registers.{Registers}
-use Rattle.b67_control.specs.declared.Rcw.{Rcw}
-use Rattle.b67_control.specs.Control.{pcw_word}
-use Rattle.b67_control.specs.Display.{place_at}
-use Rattle.b67_control.proofs.ControlLaws.{as_mscw-mscw_word, as_rcw-rcw_word}
-use Rattle.b67_ops.specs.declared.TheConstants.{OUTER_LEVEL}
-use Rattle.b67_segment.specs.Operators.{Placed}
-use Rattle.b67_segment.specs.Syllables.{Spells}
-use Rattle.b67_segment.specs.declared.code.Code.{Code}
-use Rattle.b67_segment.specs.declared.code.Segment.{Segment}
+use Rattle.algol_paths.specs.Segments.{segment_among}
 use Rattle.b67_table.specs.Beginning.{base_mark, base_frame, first_registers, first_image}
-use Rattle.b67_table.specs.Chains.{place}
-use Rattle.b67_table.specs.Linkage.{base_control}
-use Rattle.b67_table.specs.Image.{woken_number}
-use Rattle.b67_templates.specs.Contexts.{yields_of}
-use Rattle.b67_templates.specs.Cells.{Simple, parameters_around, parameter_cells, simple_cells, zero_cells, actuals_of, made_of}
+use Rattle.b67_templates.specs.Cells.{parameters_around}
 use Rattle.b67_templates.specs.Depths.{decls_depth, stmts_depth}
-use Rattle.b67_templates.specs.Programs.{Texts, BodyAt, context_of, ProgramAt}
+use Rattle.b67_templates.specs.Programs.{BodyAt, ProgramAt}
 use Rattle.b67_templates.proofs.Few.{actuals_are_few}
-use Rattle.b67_standing.specs.Standing.{ComesTo}
 use Rattle.b67_standing.specs.Laws.{BlocksStart}
-use Rattle.b67_cores.specs.Cores.{Core, IsCore, HasCore}
-use Rattle.b67_cores.specs.Stretches.{CoreAt, FragmentsArePerformed, control_words, Begins, BlocksBegin}
-use Rattle.b67_faithful.specs.Weight.{tokens_around, weight}
-use Rattle.b67_faithful.proofs.Contradictions.{some_same, none_some}
 use Rattle.b67_templates.specs.Names.{HasNames}
-use Rattle.b67_templates.specs.Nested.{AreTold, AreNested}
-use Rattle.b67_rows.proofs.Texted.{block_keeps, block_makes}
-use Rattle.b67_frames.proofs.ControlWords.{block_few, routines_long, controls_many, controls_fit}
-use Rattle.b67_frames.specs.Arrays.{Allotted, Layout, rows_of_cells, HasArray, ArraysAre}
-use Rattle.b67_frames.specs.Frames.{block_controls, controls_count, most_around, CellsAre, IsChained, Framed, of_own}
+use Rattle.b67_frames.proofs.ControlWords.{controls_fit}
+use Rattle.b67_frames.specs.Arrays.{rows_of_cells}
 use Rattle.b67_frames.proofs.ArraysKept.{no_elements, no_rows}
 use Rattle.b67_frames.proofs.Segmenting.{block_small}
-use Rattle.b67_frames.proofs.Facts.{facts_of}
-use Rattle.b67_frames.proofs.Formals.{LeadAll, lead_there}
-use Rattle.b67_frames.proofs.FreshCells.{fresh_are, fresh_lead, none_are, none_lead, simple_many}
-use Rattle.b67_frames.proofs.Zeros.{zero_word, cells_length}
-use Rattle.b67_frames.specs.Events.{HasEvent, EventsAre}
-use Rattle.b67_scenes.specs.Pictures.{Pictured, living, Pictures}
-use Rattle.b67_scenes.specs.Waiting.{ListIs}
-use Rattle.algol_meaning.specs.Events.{list_in}
-use Rattle.b67_events.specs.Events.{list_of}
-use Rattle.b67_scenes.specs.Reaches.{none_yet}
+use Rattle.b67_frames.proofs.FreshCells.{none_are, none_lead}
+use Rattle.b67_scenes.specs.Pictures.{Pictures}
 use Rattle.b67_scenes.proofs.Ancestors.{all_laid}
 use Rattle.b67_scenes.proofs.Landing.{Landed, living_of}
 use Rattle.b67_scenes.proofs.Paths.{can_climb}
-use Rattle.b67_word.specs.declared.Place.{Place}
-use Rattle.b67_rows.proofs.Numbers.{get_below}
 
 abbrev pub first_core : Core
 first_core = record { below = base_frame; words = []; registers = first_registers }
@@ -349,7 +300,7 @@ module _ (tree : PProgram) (code : Code) (names : HasNames tree) (nested : AreNe
     where
       no_event : (i number : ℕ) (e : EventState) (at : Place) → HasEvent sc w first_lay i number e at → ⊥
       no_event i number e at h =
-          let low = get_below h.instance.cells (length (simple_cells sc (block_numbered sc.blocks h.instance.block)) + number) (record { name = h.name; cell = event e }) h.has in
+          let low = get_within h.instance.cells (length (simple_cells sc (block_numbered sc.blocks h.instance.block)) + number) (record { name = h.name; cell = event e }) h.has in
           let many : length h.instance.cells ≡ length (simple_cells sc (block_numbered sc.blocks h.instance.block)) =
           subst (λ (x : Instance). length x.cells ≡ length (simple_cells sc (block_numbered sc.blocks x.block))) (only_instance i h.instance h.is)
           (cells_length (simple_cells sc block) (fresh_cells block []) (replicate many zero_word) zeros) in

@@ -1,37 +1,9 @@
 -- The picture with a process more, which begins with an instance of its own: the process that has started it goes on, and all others are pictured as
 -- they were.
 use Rattle.std.proofs.Common.{◌≡◌, ◌≢◌, ◌⊎◌, inl, inr, refl, sym, ap, ◌∙◌, subst, ℕ, ◌+◌, ◌<◌, ◌≤◌, List, [], ◌∷◌, ◌++◌, length, Option, Some, None, true, arith, length-append}
-use Rattle.b67_list.specs.Numbered.{numbered, set_numbered}
-use Rattle.algol_tree.specs.Plain.{PProgram}
-use Rattle.algol_tree.specs.Scopes.{Scopes, scopes_of}
-use Rattle.algol_meaning.specs.World.{Instance, Process, able, lives, World, no_process, or_no_process, process_at}
-use Rattle.algol_meaning.specs.Events.{list_in}
-use Rattle.b67_deeds.specs.Listed.{IsListed}
-use Rattle.b67_word.specs.declared.Place.{Place as MachinePlace}
-use Rattle.b67_word.specs.Word.{Word}
-use Rattle.b67_control.specs.declared.Registers.{Registers}
-use Rattle.b67_segment.specs.declared.code.Code.{Code}
-use Rattle.b67_templates.specs.Programs.{Texts}
-use Rattle.b67_store.specs.Store.{stack_at}
-use Rattle.b67_table.specs.declared.ProcessState.{ProcessState}
-use Rattle.b67_table.specs.declared.ProcessState.TheVariants.{Able}
-use Rattle.b67_table.specs.Chains.{place}
-use Rattle.b67_events.specs.Events.{Event, waiters_at, list_of}
-use Rattle.b67_table.specs.Image.{Image, woken_number}
-use Rattle.b67_table.specs.Valid.{AwaitsAt}
-use Rattle.b67_table.specs.Limits.{most_processes}
-use Rattle.b67_cores.specs.Cores.{Core, HasCore}
-use Rattle.b67_faithful.proofs.Contradictions.{some_same}
-use Rattle.b67_faithful.proofs.Choices.{length_set_numbered}
-use Rattle.b67_frames.specs.Arrays.{Layout, ArraysAre}
-use Rattle.b67_frames.specs.Events.{EventsAre}
-use Rattle.b67_frames.proofs.ArraysKept.{rows_but, rows_other}
+use Rattle.b67_scenes.proofs.Prelude.{numbered, set_numbered, PProgram, Scopes, scopes_of, Instance, Process, able, lives, World, no_process, or_no_process, process_at, list_in, IsListed, Place as MachinePlace, Word, Registers, Code, Texts, stack_at, ProcessState, Able, place, Event, waiters_at, list_of, Image, woken_number, AwaitsAt, most_processes, numbered_within, Core, HasCore, some_same, length_set_numbered, Layout, ArraysAre, EventsAre, rows_but, rows_other, same_or_not, numbered_set, numbered_other, Living, Pictured, living, PicturesBy, StateIs, AreAwaiting, WaitsAre}
 use Rattle.b67_rows.proofs.Begun.{with_process, numbered_else, begun_state, others_stay, other_state, system_kept}
-use Rattle.b67_rows.proofs.Growing.{numbered_last, numbered_before, numbered_earlier, numbered_low}
-use Rattle.b67_rows.proofs.Numbers.{same_or_not, numbered_set, numbered_other}
-use Rattle.b67_scenes.specs.Pictures.{Living, Pictured, living, PicturesBy}
-use Rattle.b67_scenes.specs.States.{StateIs}
-use Rattle.b67_scenes.specs.Waiting.{AreAwaiting, WaitsAre}
+use Rattle.b67_rows.proofs.Growing.{numbered_last, numbered_before, numbered_earlier}
 use Rattle.b67_scenes.proofs.Kept.{LeavesAlone, AreAlike, pictured_alike}
 use Rattle.b67_scenes.proofs.Tasks.{state_stays, events_before}
 use Rattle.b67_scenes.proofs.Waiting.{number_by, no_number, number_is, waits_kept, awaiting_beside}
@@ -48,7 +20,7 @@ started_layout w lay = record { places = lay.places ++ place (length w.processes
 -- what was there keeps its rows
 pub rows_before : (w : World) (lay : Layout) (i : ℕ) (x : Instance) → numbered w.instances i ≡ Some x → rows_but lay.rows (length w.instances + 1) [] i ≡ lay.rows i
 rows_before w lay i x e =
-    rows_other lay.rows (length w.instances + 1) [] i (λ (same : i ≡ length w.instances + 1). let low : i ≤ length w.instances = numbered_low w.instances i x e in omega (arith, same, low))
+    rows_other lay.rows (length w.instances + 1) [] i (λ (same : i ≡ length w.instances + 1). let low : i ≤ length w.instances = numbered_within w.instances i x e in omega (arith, same, low))
 
 -- the instances of others are the same
 pub others_alike : (sc : Scopes) (w : World) (lay : Layout) (p : ℕ) (q : Process) (made : Instance) (new : Process) (k : ℕ) → LeavesAlone sc w (started_world w p q made new) lay (started_layout w lay) k →
@@ -67,7 +39,7 @@ past_end {A} xs n newest = found (numbered xs n) refl
   where
     found : (o : Option A) → numbered xs n ≡ o → numbered xs n ≡ None
     found None e = e
-    found (Some x) e = let low : n ≤ length xs = numbered_low xs n x e in absurd (omega (arith, newest, low))
+    found (Some x) e = let low : n ≤ length xs = numbered_within xs n x e in absurd (omega (arith, newest, low))
 
 -- In the image in which the one has gone on, all else is as it was, and each process has its registers.
 pub record HasGoneOn (w : World) (img onward : Image) (p : ℕ) : Type 0 where
@@ -180,7 +152,7 @@ module _ (tree : PProgram) (code : Code) (texts : Texts) (w : World) (lay : Layo
             (λ k. same_number k (same_or_not k last)) awaiting_started
 
         old_p : p ≢ length w.processes + 1
-        old_p same = let low : p ≤ length w.processes = numbered_low w.processes p q at in omega (arith, same, low)
+        old_p same = let low : p ≤ length w.processes = numbered_within w.processes p q at in omega (arith, same, low)
 
         pictured_new : Pictured tree code texts w' lay' img' (length w.processes + 1) new
         pictured_new = living (ap lives able_is) (subst (λ (s : Option ProcessState). StateIs (scopes_of tree) w' lay' new.state s) (sym new_state) (subst (λ s. StateIs (scopes_of tree) w' lay' s (Some Able)) (sym able_is) tt)) begun

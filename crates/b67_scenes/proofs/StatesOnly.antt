@@ -1,18 +1,8 @@
 -- A world in which only the state and the woken number of a process are others, and it lives as well: it leaves all processes alone.
 use Rattle.std.proofs.Common.{◌≡◌, ◌≢◌, ◌⊎◌, inl, inr, refl, sym, ap, ◌∙◌, subst, ℕ, zero, suc, List, [], ◌∷◌, Some, None, Bool, true, false}
-use Rattle.std.specs.Prelude.{◌&&◌, ◌||◌, slice_get, slice_set, map}
-use Rattle.b67_list.specs.Numbered.{numbered, set_numbered}
-use Rattle.algol_tree.specs.Scopes.{Scopes}
-use Rattle.algol_meaning.specs.World.{Part, Process, State, lives, World, instance_at, with_process}
-use Rattle.algol_meaning.specs.Critical.{is_this, some_depends}
-use Rattle.algol_standing.specs.Skeleton.{Stack, Skeleton, Stands, OnPath}
-use Rattle.algol_standing.specs.Worlds.{IsAmong, IsStanding, IsOnPath, stack_of, skeleton}
+use Rattle.b67_scenes.proofs.Prelude.{◌&&◌, ◌||◌, slice_get, slice_set, map, numbered, set_numbered, Scopes, Part, Process, State, lives, World, instance_at, with_process, is_this, some_depends, Stack, Skeleton, OnPath, IsAmong, IsStanding, IsOnPath, stack_of, skeleton, some_same, same_or_not, numbered_set, numbered_other, Layout, HasFacts, IsStandingOrNone, keeps_same}
+use Rattle.algol_standing.specs.Skeleton.{Stands}
 use Rattle.algol_standing.specs.Lows.{WorldLow}
-use Rattle.b67_faithful.proofs.Contradictions.{some_same}
-use Rattle.b67_rows.proofs.Numbers.{same_or_not, numbered_set, numbered_other}
-use Rattle.b67_frames.specs.Arrays.{Layout}
-use Rattle.b67_frames.proofs.Facts.{HasFacts, IsStandingOrNone}
-use Rattle.b67_frames.proofs.Knowing.{keeps_same}
 use Rattle.b67_scenes.proofs.Ancestors.{AreLaid}
 use Rattle.b67_scenes.proofs.Kept.{LeavesAlone}
 

@@ -1,33 +1,8 @@
 -- What a change of the world leaves of the parts of a process: their static parents, their frames, and where they stand.
 use Rattle.std.proofs.Common.{◌≡◌, inl, inr, refl, sym, ap, ◌∙◌, subst, ℕ, ◌+◌, ◌*◌, ◌<◌, ◌≤◌, List, [], ◌∷◌, length, Option, Some, Bool, arith, length-append}
-use Rattle.std.specs.Prelude.{if◌then◌else◌}
-use Rattle.algol_tree.specs.Blocks.{block_numbered}
-use Rattle.algol_tree.specs.Cells.{level_of}
-use Rattle.algol_tree.specs.Plain.{PProgram}
-use Rattle.algol_tree.specs.Scopes.{Scopes, scopes_of}
-use Rattle.algol_meaning.specs.World.{Instance, Part, World, instance_at, or_no_instance}
-use Rattle.algol_meaning.specs.Critical.{is_evaluation}
-use Rattle.algol_standing.specs.Worlds.{IsStanding}
-use Rattle.algol_paths.specs.Segments.{segment_of}
-use Rattle.b67_word.specs.declared.Place.{Place}
-use Rattle.b67_word.specs.Word.{Word}
-use Rattle.b67_control.specs.Display.{place_at}
-use Rattle.b67_segment.specs.Operators.{Placed}
-use Rattle.b67_segment.specs.declared.code.Code.{Code}
-use Rattle.b67_table.specs.Chains.{place}
-use Rattle.b67_templates.specs.Contexts.{Yields, Context}
-use Rattle.b67_templates.specs.Programs.{Texts, context_of}
-use Rattle.b67_standing.specs.Standing.{StandsFor}
-use Rattle.b67_cores.specs.Cores.{Core}
-use Rattle.b67_cores.specs.Slots.{Known}
-use Rattle.b67_cores.specs.Stretches.{CoreAt}
-use Rattle.b67_faithful.specs.Weight.{part_weight, parts_weight, tokens_around}
-use Rattle.b67_frames.specs.Arrays.{Layout, AreKnown}
-use Rattle.b67_frames.specs.Frames.{most_around, IsInReach, IsChained, Shape, of_own, of_lent, Frame, Stands, Around, Frames, run_level}
-use Rattle.b67_frames.proofs.Lying.{StayBelow, here_still, same_block, known_after, weight_stays, around_stays, Stayed, frame_stays, IsOfPart}
-use Rattle.b67_scenes.specs.Pictures.{innermost_most}
+use Rattle.b67_scenes.proofs.Prelude.{if◌then◌else◌, block_numbered, level_of, PProgram, Scopes, scopes_of, Instance, Part, World, instance_at, or_no_instance, is_evaluation, IsStanding, segment_of, Place, Word, place_at, Placed, Code, place, Yields, Context, Texts, context_of, StandsFor, Core, Known, CoreAt, part_weight, parts_weight, tokens_around, Layout, AreKnown, most_around, IsInReach, IsChained, Shape, of_own, of_lent, Frame, Stands, Around, Frames, run_level, StayBelow, same_block, weight_stays, around_stays, innermost_most, in_routine}
+use Rattle.b67_frames.proofs.Lying.{here_still, known_after, Stayed, frame_stays, IsOfPart}
 use Rattle.b67_scenes.proofs.Ancestors.{AreLaid, same_place}
-use Rattle.b67_templates.specs.Code.{in_routine}
 
 -- the operators of the segment in which the text of a part stands, the level of its names, and that at which its code runs
 abbrev pub text_in : PProgram → Texts → World → Part → List Placed

@@ -1,49 +1,17 @@
 -- The frames of a process's parts after a store into a cell of one of them: of a variable, whose word in the stack is another one, or of an
 -- array, whose word stays.
 use Rattle.std.proofs.Common.{◌≡◌, ◌≢◌, ◌⊎◌, inl, inr, refl, sym, ap, ◌∙◌, subst, ℕ, zero, suc, ◌+◌, ◌<◌, ◌≤◌, List, [], ◌∷◌, ◌++◌, length, Option, Some, None, false, arith, length-append, Bool, true}
-use Rattle.std.specs.Prelude.{slice_get, slice_set, reverse, if◌then◌else◌}
-use Rattle.b67_list.specs.Numbered.{numbered}
-use Rattle.algol_tree.specs.Blocks.{block_numbered}
-use Rattle.algol_tree.specs.Cells.{level_of}
-use Rattle.algol_tree.specs.Plain.{PProgram}
-use Rattle.algol_tree.specs.Scopes.{Scopes, scopes_of}
-use Rattle.algol_tree.specs.Sorts.{same_name}
-use Rattle.algol_meaning.specs.Value.{Cell}
-use Rattle.algol_meaning.specs.World.{NamedCell, Instance, Part, World, instance_at, or_no_instance, with_instance, ancestor, cells_with}
+use Rattle.b67_scenes.proofs.Prelude.{slice_get, slice_set, reverse, if◌then◌else◌, numbered, block_numbered, level_of, PProgram, Scopes, scopes_of, same_name, Cell, NamedCell, Instance, Part, World, instance_at, or_no_instance, with_instance, ancestor, cells_with, resume, Made, KeepsToText, segment_of, Place, Word, Code, place, Yields, yields_of, Simple, Wanted, simple_cells, actuals_of, made_of, Texts, context_of, ComesTo, Known, newest, SlotsAre, control_words, parts_weight, some_same, same_or_not, numbered_set, numbered_other, Allotted, Layout, AreMade, AreKnown, CellsAre, block_controls, most_around, IsInReach, home_of, Framed, RoutinesStand, ItemsStand, Frame, Waits, Around, Owned, Shape, of_own, of_lent, run_level, KeepsArrays, Remain, keeps_same, denotes_lasts, HasFacts, IsStandingOrNone, Lies, lies_low, lies_around, StayBelow, around_stays, owned_frame, frame_gives, runs_at, StandOn, home_on, in_routine, is_evaluation, IsIn, referred_in_cells, IsStanding, IsOnPath, IsOwn, newest_own, as_many_values}
 use Rattle.algol_meaning.specs.Rest.{Answer}
-use Rattle.algol_meaning.specs.Asks.{resume}
-use Rattle.algol_paths.specs.Arrays.{Made}
-use Rattle.algol_paths.specs.Laws.{KeepsToText}
-use Rattle.algol_paths.specs.Segments.{segment_of}
-use Rattle.b67_word.specs.declared.Place.{Place}
-use Rattle.b67_word.specs.Word.{Word}
-use Rattle.b67_segment.specs.declared.code.Code.{Code}
-use Rattle.b67_table.specs.Chains.{place}
-use Rattle.b67_templates.specs.Contexts.{Yields, yields_of}
-use Rattle.b67_templates.specs.Cells.{Simple, Wanted, simple_cells, actuals_of, made_of}
-use Rattle.b67_templates.specs.Programs.{Texts, context_of}
-use Rattle.b67_standing.specs.Standing.{Gives, pushed, ComesTo}
-use Rattle.b67_cores.specs.Slots.{Known, newest, SlotsAre}
-use Rattle.b67_cores.specs.Stretches.{control_words}
-use Rattle.b67_faithful.specs.Weight.{parts_weight}
-use Rattle.b67_faithful.proofs.Contradictions.{some_same}
-use Rattle.b67_rows.proofs.Numbers.{same_or_not, numbered_set, numbered_other}
+use Rattle.b67_standing.specs.Standing.{Gives, pushed}
 use Rattle.b67_rows.proofs.StackWords.{length-set}
-use Rattle.b67_frames.specs.Arrays.{Allotted, Layout, AreMade, AreKnown}
-use Rattle.b67_frames.specs.Frames.{CellsAre, block_controls, most_around, IsInReach, home_of, Framed, RoutinesStand, ItemsStand, Frame, Waits, Around, Owned, Shape, of_own, of_lent, context_at, text_of, level_at, most_of, run_level}
-use Rattle.b67_frames.proofs.FreshCells.{words_long}
-use Rattle.b67_frames.proofs.Knowing.{KeepsArrays, Remain, keeps_same, HasReferred, has_reference, has_actual, referred_denoted, denotes_lasts, known_lasts, climbs_all}
+use Rattle.b67_frames.specs.Frames.{context_at, text_of, level_at, most_of}
+use Rattle.b67_frames.proofs.Knowing.{HasReferred, has_reference, has_actual, referred_denoted, known_lasts, climbs_all}
 use Rattle.b67_frames.proofs.Variables.{HasNoValue, ReferencesStay}
-use Rattle.b67_frames.proofs.Facts.{HasFacts, IsStandingOrNone}
-use Rattle.b67_frames.proofs.Lying.{below_frame, Lies, lies_low, lies_around, StayBelow, around_stays, owned_frame, frame_gives, runs_at}
-use Rattle.b67_frames.proofs.Onward.{StandOn, home_on}
+use Rattle.b67_frames.proofs.Lying.{below_frame}
 use Rattle.b67_scenes.proofs.Ancestors.{AreLaid}
 use Rattle.b67_scenes.proofs.Staying.{most_in, IsAsHeavy, same_weight}
-use Rattle.b67_templates.specs.Code.{in_routine}
-use Rattle.algol_meaning.specs.Critical.{is_evaluation}
 use Rattle.algol_standing.specs.Skeleton as skeletons
-use Rattle.algol_standing.specs.Skeleton.{IsIn}
-use Rattle.algol_standing.specs.Worlds.{referred_in_cells, IsStanding, IsOnPath, IsOwn, newest_own}
 
 -- ---- lists
 
@@ -185,7 +153,7 @@ module _ (tree : PProgram) (code : Code) (texts : Texts) (w : World) (lay : Layo
 
   frame_values : (part : Part) (outer : List Part) (low : ℕ) (m c : Word) (cells : List Word) (o : OwnedBefore part outer low m c cells) → part.instance ≡ i → length o.framed.values ≡ length ss
   frame_values part outer low m c cells o e =
-      words_long (simple_cells sc (block_numbered sc.blocks o.framed.instance.block)) o.framed.simple o.framed.values o.framed.simple_are
+      as_many_values (simple_cells sc (block_numbered sc.blocks o.framed.instance.block)) o.framed.simple o.framed.values o.framed.simple_are
       ∙ ap (λ (y : Instance). length (simple_cells sc (block_numbered sc.blocks y.block))) (frame_is part outer low m c cells o e)
 
   frame_cells : (part : Part) (outer : List Part) (low : ℕ) (m c : Word) (cells : List Word) (o : OwnedBefore part outer low m c cells) → part.instance ≡ i → length ss ≤ length cells

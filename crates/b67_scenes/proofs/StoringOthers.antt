@@ -1,52 +1,13 @@
 -- A store into a cell of a frame of a process, by whatever process: the one whose frame it is lives on after it, with the word in its stack below its
 -- floor, on its way to where it stands or there; and all others are pictured as they were.
 use Rattle.std.proofs.Common.{◌≡◌, ◌≢◌, ◌⊎◌, inl, inr, refl, sym, ap, ◌∙◌, subst, ℕ, ◌+◌, ◌<◌, ◌≤◌, List, [], ◌∷◌, ◌++◌, length, Option, Some, arith}
-use Rattle.b67_list.specs.Numbered.{numbered}
-use Rattle.algol_tree.specs.Blocks.{block_numbered}
-use Rattle.algol_tree.specs.Cells.{level_of}
-use Rattle.algol_tree.specs.Plain.{PProgram}
-use Rattle.algol_tree.specs.Scopes.{Scopes, scopes_of}
-use Rattle.algol_meaning.specs.World.{NamedCell, Instance, Part, Process, World, instance_at, process_at, with_process}
-use Rattle.algol_paths.specs.Arrays.{Made}
-use Rattle.algol_paths.specs.Segments.{segment_of}
-use Rattle.b67_word.specs.Word.{Word}
-use Rattle.b67_segment.specs.declared.code.Code.{Code}
-use Rattle.b67_store.specs.Store.{stack_at}
-use Rattle.b67_table.specs.declared.ProcessState.{ProcessState}
-use Rattle.b67_table.specs.Chains.{place}
-use Rattle.b67_table.specs.Image.{Image}
-use Rattle.b67_table.specs.Private.{frame}
-use Rattle.b67_templates.specs.Cells.{simple_cells}
-use Rattle.b67_templates.specs.Programs.{Texts, context_of}
-use Rattle.b67_standing.specs.Standing.{StandsFor}
-use Rattle.b67_cores.specs.Cores.{Core, over, HasCore, CoreSteps}
-use Rattle.b67_cores.specs.Slots.{newest, SlotsAre}
-use Rattle.b67_cores.specs.Stretches.{CoreAt, Above}
-use Rattle.b67_cores.proofs.Staying.{steps_stay_above}
-use Rattle.b67_faithful.proofs.Choices.{length_set_numbered}
-use Rattle.b67_rows.proofs.Numbers.{same_or_not}
-use Rattle.b67_frames.specs.Arrays.{Layout, AreMade, ArraysAre}
-use Rattle.b67_frames.specs.Events.{EventsAre}
-use Rattle.b67_frames.specs.Frames.{CellsAre, most_around, IsChained, Stands, Around, Frames, run_level}
-use Rattle.b67_frames.proofs.Facts.{HasFacts}
-use Rattle.b67_frames.proofs.Knowing.{KeepsArrays}
-use Rattle.b67_frames.proofs.Lying.{StayBelow}
-use Rattle.b67_scenes.specs.Pictures.{innermost_most, Living, Pictured, living, dead, PicturesBy}
-use Rattle.b67_scenes.specs.Waiting.{WaitsAre}
-use Rattle.b67_scenes.specs.Reaches.{ReachesFor}
+use Rattle.b67_scenes.proofs.Prelude.{numbered, block_numbered, level_of, PProgram, Scopes, scopes_of, NamedCell, Instance, Part, Process, World, instance_at, process_at, with_process, Made, segment_of, Word, Code, stack_at, ProcessState, place, Image, frame, simple_cells, Texts, context_of, StandsFor, Core, HasCore, CoreSteps, newest, SlotsAre, CoreAt, Above, steps_stay_above, length_set_numbered, same_or_not, Layout, AreMade, ArraysAre, EventsAre, CellsAre, most_around, IsChained, Stands, Around, Frames, run_level, HasFacts, KeepsArrays, StayBelow, innermost_most, Living, Pictured, living, dead, PicturesBy, WaitsAre, ReachesFor, in_routine, Yields, is_evaluation, IsIn, referred_in_cells, IsOwn, weight, parts_weight, place_at, StateIs}
+use Rattle.b67_cores.specs.Cores.{over}
 use Rattle.b67_scenes.proofs.Kept.{LeavesAlone, reach_alone, alike_but, pictured_alike}
 use Rattle.b67_scenes.proofs.Stage.{process_is, comes_by}
 use Rattle.b67_scenes.proofs.Staying.{IsAsHeavy, same_weight, frames_stay}
 use Rattle.b67_scenes.proofs.Tasks.{EventsStay, task_stays, state_stays, events_kept, events_beside}
 use Rattle.b67_scenes.proofs.StoringFrames.{IsStored, put, length_put, put_first, changed, stored_world, others_at, same_of, same_ancestors, as_heavy, ChangedCells, Stored, known_stored, onward_from, laid_from, frame_stored}
-use Rattle.b67_templates.specs.Code.{in_routine}
-use Rattle.b67_templates.specs.Contexts.{Yields}
-use Rattle.algol_meaning.specs.Critical.{is_evaluation}
-use Rattle.algol_standing.specs.Skeleton.{IsIn}
-use Rattle.algol_standing.specs.Worlds.{referred_in_cells, IsOwn}
-use Rattle.b67_faithful.specs.Weight.{weight, parts_weight}
-use Rattle.b67_control.specs.Display.{place_at}
-use Rattle.b67_scenes.specs.States.{StateIs}
 
 -- The instance's frame lies so high in the stack of process p. A word that is stored lies so far above the frame's two words, at the place k.
 module _ (tree : PProgram) (code : Code) (texts : Texts) (w : World) (lay : Layout) (p : ℕ) (i : ℕ) (x : Instance) (at : numbered w.instances i ≡ Some x) (with_cells : List NamedCell)

@@ -1,25 +1,10 @@
 -- The references that STFF made are known: each display register names the frame of a static parent, that of its level the part's own.
 use Rattle.std.proofs.Common.{◌≡◌, refl, sym, ap, ◌∙◌, subst, ℕ, ◌+◌, ◌-◌, ◌≤◌, List, [], ◌∷◌, ◌++◌, Option, Some, arith}
+use Rattle.b67_scenes.proofs.Prelude.{PProgram, Scopes, scopes_of, use_of, Part, World, ancestor, IsStanding, newest_own, Place, Word, place_at, cell_word, Couple, OUTER_LEVEL, Code, Context, Texts, Core, Known, Layout, AreKnown, IsInReach, IsChained, Frame, Around}
 use Rattle.std.specs.Prelude.{IsSome}
-use Rattle.algol_tree.specs.Plain.{PProgram}
-use Rattle.algol_tree.specs.Scopes.{Scopes, scopes_of, use_of}
-use Rattle.algol_meaning.specs.World.{Part, World, ancestor}
-use Rattle.algol_standing.specs.Worlds.{IsStanding, newest_own}
-use Rattle.b67_word.specs.declared.Place.{Place}
-use Rattle.b67_word.specs.Word.{Word}
-use Rattle.b67_control.specs.Display.{place_at}
-use Rattle.b67_table.specs.References.{cell_word}
-use Rattle.b67_ops.specs.declared.Couple.{Couple}
-use Rattle.b67_ops.specs.declared.TheConstants.{OUTER_LEVEL}
-use Rattle.b67_segment.specs.declared.code.Code.{Code}
-use Rattle.b67_templates.specs.Contexts.{Context}
-use Rattle.b67_templates.specs.Programs.{Texts}
 use Rattle.b67_standing.specs.Stepping.{Held, Stuffable, of_array, of_variable, of_event, of_actual}
-use Rattle.b67_cores.specs.Cores.{Core}
-use Rattle.b67_cores.specs.Slots.{Known}
 use Rattle.b67_cores.specs.Stretches.{Sees, IsStuffed, AreStuffed}
-use Rattle.b67_frames.specs.Arrays.{Layout, an_array_named, an_event_named, a_variable_named, HeldIs, AreKnown}
-use Rattle.b67_frames.specs.Frames.{IsInReach, IsChained, Frame, Around}
+use Rattle.b67_frames.specs.Arrays.{an_array_named, an_event_named, a_variable_named, HeldIs}
 use Rattle.b67_frames.proofs.Lying.{part_stands}
 use Rattle.b67_scenes.proofs.Ancestors.{AreLaid}
 use Rattle.b67_scenes.proofs.Paths.{on_further, CanClimb, part_in_reach}

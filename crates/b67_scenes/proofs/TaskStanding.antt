@@ -1,17 +1,8 @@
 -- The event of a process's task is in an instance that stands, and is older than all of the process's own.
 use Rattle.std.proofs.Common.{◌≡◌, inl, inr, refl, sym, ◌∙◌, subst, ℕ, zero, suc, ◌<◌, ◌≤◌, Bool, true, false, List, [], ◌∷◌, Option, Some, arith}
-use Rattle.std.specs.Prelude.{slice_get}
-use Rattle.b67_list.specs.Numbered.{numbered}
-use Rattle.algol_tree.specs.Scopes.{Scopes}
-use Rattle.algol_meaning.specs.Critical.{own_instances}
-use Rattle.algol_meaning.specs.Value.{Reference}
-use Rattle.algol_meaning.specs.World.{Process, lives, World}
-use Rattle.algol_standing.specs.Skeleton.{Stack, Home, IsIn, NextIn, Owned, Next, here, down}
-use Rattle.algol_standing.specs.Worlds.{IsOwn, IsStanding, IsOnPath, IsWhole, skeleton, stack_of}
-use Rattle.algol_standing.specs.Fitting.{IsOk}
+use Rattle.b67_scenes.proofs.Prelude.{slice_get, numbered, Scopes, own_instances, Reference, Process, lives, World, Stack, Home, IsIn, NextIn, Next, here, down, IsOwn, IsStanding, IsOnPath, IsWhole, skeleton, stack_of, IsOk, map_back, stack_forth, some_same, none_some}
+use Rattle.algol_standing.specs.Skeleton.{Owned}
 use Rattle.algol_standing.proofs.Laws.{paths_stand}
-use Rattle.algol_standing.proofs.Pairs.{map_back, stack_forth}
-use Rattle.b67_faithful.proofs.Contradictions.{some_same, none_some}
 use Rattle.b67_scenes.proofs.Worlds.{own_listed}
 
 -- in a stack, or from its base to its critical instance, what lies below is older

@@ -1,24 +1,6 @@
 -- A process's critical place and the places of the events of its task and of its wait stay where places stay and events stay events.
 use Rattle.std.proofs.Common.{◌≡◌, ◌≢◌, ◌⊎◌, inl, inr, refl, sym, ap, ◌∙◌, subst, ℕ, ◌+◌, List, [], ◌∷◌, ◌++◌, Option, Some, None, Bool, true, false}
-use Rattle.std.specs.Prelude.{if◌then◌else◌}
-use Rattle.b67_list.specs.Numbered.{numbered}
-use Rattle.algol_tree.specs.Blocks.{block_numbered}
-use Rattle.algol_tree.specs.Scopes.{Scopes}
-use Rattle.algol_tree.specs.Sorts.{same_name}
-use Rattle.algol_meaning.specs.Value.{Reference, event}
-use Rattle.b67_deeds.specs.Events.{EventState}
-use Rattle.algol_meaning.specs.World.{State, able, waits_for, waits_any, procures, ended, NamedCell, Instance, World, instance_at, or_no_instance, cell_in}
-use Rattle.b67_word.specs.declared.Place.{Place}
-use Rattle.b67_table.specs.declared.ProcessState.{ProcessState}
-use Rattle.b67_table.specs.declared.ProcessState.TheVariants.{Able, WaitsFor, WaitsAny, Procures, Ended}
-use Rattle.b67_table.specs.Chains.{place}
-use Rattle.b67_templates.specs.Cells.{made_of, made_from, made_base}
-use Rattle.b67_rows.proofs.Numbers.{same_or_not}
-use Rattle.b67_rows.proofs.Parting.{IsSameBut}
-use Rattle.b67_frames.specs.Arrays.{Layout}
-use Rattle.b67_frames.proofs.Knowing.{KeepsArrays}
-use Rattle.b67_scenes.specs.Depending.{CriticalIs, IsEventAt, TaskIs}
-use Rattle.b67_scenes.specs.States.{StateIs}
+use Rattle.b67_scenes.proofs.Prelude.{if◌then◌else◌, numbered, block_numbered, Scopes, same_name, Reference, event, EventState, State, able, waits_for, waits_any, procures, ended, NamedCell, Instance, World, instance_at, or_no_instance, cell_in, Place, ProcessState, Able, WaitsFor, WaitsAny, Procures, Ended, place, made_of, made_from, made_base, same_or_not, IsSameBut, Layout, KeepsArrays, CriticalIs, IsEventAt, TaskIs, StateIs}
 
 -- the frames of instances are where they were
 abbrev pub PlacesStay : Layout → Layout → Type 0

@@ -1,53 +1,20 @@
 -- Where a process finds what an action reads: the operand in the cell of a variable or a result, and the control word of a procedure.
-use Rattle.algol_meaning.specs.Critical.{is_evaluation}
 use Rattle.std.proofs.Common.{◌≡◌, refl, sym, ap, ◌∙◌, subst, ℕ, suc, ◌+◌, ◌≤◌, List, [], ◌∷◌, ◌++◌, length, Option, Some, None, false, arith, lit<, ◌<◌}
-use Rattle.std.specs.Prelude.{slice_get, reverse}
-use Rattle.algol_tree.specs.declared.tree.Kind.{Kind}
-use Rattle.algol_tree.specs.declared.tree.Named.{Named}
-use Rattle.algol_tree.specs.Blocks.{Block, block_numbered, number_at}
-use Rattle.algol_tree.specs.Cells.{level_of}
-use Rattle.algol_tree.specs.Plain.{PProgram}
-use Rattle.algol_tree.specs.Scopes.{Scopes, scopes_of, use_of}
-use Rattle.algol_meaning.specs.World.{NamedCell, Instance, Part, Process, World, instance_at, or_no_instance, ancestor}
-use Rattle.algol_paths.specs.Blocks.{IsSeen}
-use Rattle.algol_paths.specs.Segments.{procedures_before, segment_of}
-use Rattle.b67_word.specs.declared.Place.{Place}
-use Rattle.b67_word.specs.Word.{Word}
-use Rattle.b67_control.specs.declared.Pcw.{Pcw}
-use Rattle.b67_control.specs.Control.{Fits_pcw, as_pcw, as_sirw, pcw_word}
-use Rattle.b67_control.proofs.ControlLaws.{as_pcw-pcw_word, as_sirw-other}
-use Rattle.b67_ops.specs.declared.Couple.{Couple}
-use Rattle.b67_segment.specs.declared.code.Code.{Code}
-use Rattle.b67_store.specs.Store.{words_of, word_at}
-use Rattle.b67_table.specs.Chains.{place}
-use Rattle.b67_table.specs.Image.{Image}
-use Rattle.b67_table.specs.Private.{display_at}
+use Rattle.b67_scenes.proofs.Prelude.{is_evaluation, slice_get, reverse, Kind, Named, Block, block_numbered, number_at, level_of, PProgram, Scopes, scopes_of, use_of, NamedCell, Instance, instance_at, or_no_instance, ancestor, IsSeen, procedures_before, segment_of, Place, Word, Pcw, Fits_pcw, as_pcw, as_sirw, pcw_word, as_pcw-pcw_word, Couple, Code, words_of, word_at, place, display_at, get_within, Simple, result_of, variables, parameter_cells, simple_cells, procedures, made_base, IsVariable, code_at, Texts, control_words, AreNested, words_are, get-front, get-behind, length_around, NearCell, value_tag, CellsAre, block_controls, Framed, Owned, owned_frame, Holds_value, value_of_cell, as_many_values}
+use Rattle.b67_control.proofs.ControlLaws.{as_sirw-other}
 use Rattle.b67_templates.specs.Cells as wants
-use Rattle.b67_templates.specs.Cells.{Simple, result_of, variables, parameter_cells, simple_cells, procedures, made_base, IsVariable, IsProcedure}
-use Rattle.b67_templates.specs.Fragments.{code_at}
-use Rattle.b67_templates.specs.Programs.{Texts}
-use Rattle.b67_cores.specs.Cores.{Core}
-use Rattle.b67_cores.specs.Stretches.{control_words}
-use Rattle.b67_templates.specs.Nested.{IsDeclared, AreNested}
-use Rattle.b67_rows.proofs.Numbers.{get_below}
-use Rattle.b67_rows.proofs.Rows.{words_are}
+use Rattle.b67_templates.specs.Cells.{IsProcedure}
+use Rattle.b67_templates.specs.Nested.{IsDeclared}
 use Rattle.b67_rows.proofs.Segmented.{procedure_segment, get_mapped}
-use Rattle.b67_rows.proofs.StackWords.{get-front, get-behind}
-use Rattle.b67_rows.proofs.Parents.{length_around}
-use Rattle.b67_rows.proofs.Touching.{NearCell, own_cell}
-use Rattle.b67_rows.proofs.Words.{value_tag}
-use Rattle.b67_frames.specs.Arrays.{Layout}
-use Rattle.b67_frames.specs.Frames.{CellsAre, block_controls, Framed, Owned}
+use Rattle.b67_rows.proofs.Touching.{own_cell}
+use Rattle.b67_rows.proofs.Words.{pcw_kind}
 use Rattle.b67_frames.proofs.FreshCells.{cells_joined}
-use Rattle.b67_frames.proofs.Lying.{owned_frame}
 use Rattle.b67_scenes.proofs.Finding.{Found, frame_near, place_near}
 use Rattle.b67_scenes.proofs.Led.{named_parent, named_seen, named_shown}
 use Rattle.b67_scenes.proofs.Sights.{Seen, cell_below, cell_lies}
 use Rattle.b67_frames.proofs.ControlWords.{get_control}
-use Rattle.b67_frames.proofs.TouchingWords.{pcw_kind}
-use Rattle.b67_frames.proofs.Variables.{Holds_value, value_of_cell}
 use Rattle.b67_scenes.proofs.Homes.{Home, home}
-use Rattle.b67_scenes.proofs.Scene.{Scene, shown_frame}
+use Rattle.b67_scenes.proofs.Scene.{shown_frame, Actor}
 use Rattle.b67_scenes.proofs.Staying.{names_in, level_in}
 
 -- ---- words
@@ -63,15 +30,6 @@ pub record IsEntry (w : Word) : Type 0 where
   pub no_sirw : as_sirw w ≡ None
 
 -- ---- cells
-
--- a block's cells have as many words
-words_many : (ss : List Simple) (cells : List NamedCell) (words : List Word) → CellsAre ss cells words → length words ≡ length ss
-words_many [] [] [] are = refl
-words_many [] [] (w ∷ words) are = absurd are
-words_many [] (c ∷ cells) words are = absurd are
-words_many (s ∷ ss) [] words are = absurd are
-words_many (s ∷ ss) (c ∷ cells) [] are = absurd are
-words_many (s ∷ ss) (c ∷ cells) (w ∷ words) are = ap suc (words_many ss cells words are.2)
 
 record First (far : ℕ) (words : List Word) : Type 0 where
   word : Word
@@ -100,8 +58,9 @@ first_value sc b kind typed cells words are = behind (parameter_cells sc b) cell
 
 -- ---- where a process stands
 
-module _ (tree : PProgram) (code : Code) (texts : Texts) (nested : AreNested (scopes_of tree)) (w : World) (lay : Layout) (img : Image)
-    (p : ℕ) (q : Process) (part : Part) (outer : List Part) (bound : ℕ) (core : Core) (s : Scene tree code texts w lay img p q part outer bound core) where
+module _ (tree : PProgram) (code : Code) (texts : Texts) (nested : AreNested (scopes_of tree)) (actor : Actor tree code texts) where
+  open actor use {w, lay, img, p, part, outer, core, s}
+
   abbrev sc : Scopes
   sc = scopes_of tree
 
@@ -129,14 +88,14 @@ module _ (tree : PProgram) (code : Code) (texts : Texts) (nested : AreNested (sc
 
   pub variable_there : (n : Named) (kind : Kind) (couple : Couple) → IsSeen sc block n → IsVariable sc level n kind couple → Names couple IsOperand
   variable_there n kind couple seen_it v =
-      let h : Home tree code texts w lay img p q part outer bound core s n kind couple = home tree code texts w lay img p q part outer bound core s n kind couple seen_it v in
+      let h : Home tree code texts actor n kind couple = home tree code texts actor n kind couple seen_it v in
       let f : Found tree code texts w lay img (ancestor w ((use_of sc n).up) part.instance) = h.at.seen_there.found in
       record {
         home = place f.number (length f.lies.frame.lower);
         shown = h.shown;
         near = (
-          frame_near tree code texts w lay img (ancestor w ((use_of sc n).up) part.instance) f p,
-          place_near tree code texts w lay img (ancestor w ((use_of sc n).up) part.instance) f p (length f.lies.frame.lower + couple.index) (omega (arith, h.at.below, h.index)),
+          frame_near tree code texts w lay img (ancestor w ((use_of sc n).up) part.instance) f p h.at.seen_there.near,
+          place_near tree code texts w lay img (ancestor w ((use_of sc n).up) part.instance) f p (length f.lies.frame.lower + couple.index) h.at.seen_there.near (omega (arith, h.at.below, h.index)),
         );
         word = h.at.word;
         lies = h.lies;
@@ -179,7 +138,7 @@ module _ (tree : PProgram) (code : Code) (texts : Texts) (nested : AreNested (sc
         record {
           home = place p (length s.stands.frame.lower);
           near = own_cell p img (record { frame = place p (length s.stands.frame.lower); index = couple.index }) refl;
-          shown = ap (λ (k : ℕ). display_at core.registers k) (level_is ∙ sym s.stands.there.level_is) ∙ shown_frame tree code texts w lay img p q part outer bound core s;
+          shown = ap (λ (k : ℕ). display_at core.registers k) (level_is ∙ sym s.stands.there.level_is) ∙ shown_frame tree code texts actor;
           word = first.word;
           lies = below_there (length s.stands.frame.lower + couple.index) first.word result_lies;
           is = first.is;
@@ -191,7 +150,7 @@ module _ (tree : PProgram) (code : Code) (texts : Texts) (nested : AreNested (sc
     abbrev home_at : ℕ
     home_at = ancestor w ((use_of sc n).up) part.instance
 
-    module _ (h : Seen tree code texts w lay img p q part outer bound core s home_at) where
+    module _ (h : Seen tree code texts actor home_at) where
       abbrev framed_there : Framed sc w lay h.found.number h.found.lies.part.instance h.found.lies.outer (length h.found.lies.frame.lower) h.found.lies.frame.mark h.found.lies.frame.control h.found.lies.frame.cells
       framed_there = h.found.lies.owned.framed
 
@@ -214,7 +173,7 @@ module _ (tree : PProgram) (code : Code) (texts : Texts) (nested : AreNested (sc
       instance_here = ap (instance_at w) (sym h.found.lies.instance_is) ∙ ap or_no_instance framed_there.is
 
       block_here : here.block ≡ (use_of sc n).block
-      block_here = sym (ap (λ (x : Instance). x.block) instance_here) ∙ (named_parent tree code texts w lay img p q part outer bound core s n is_seen).block
+      block_here = sym (ap (λ (x : Instance). x.block) instance_here) ∙ (named_parent tree code texts actor n is_seen).block
 
       declared_there : slice_get (procedures declaring.decls) c.number ≡ Some c.declared
       declared_there = ap (λ (j : ℕ). slice_get (procedures ((block_numbered sc.blocks j).decls)) c.number) block_here ∙ c.there
@@ -241,7 +200,7 @@ module _ (tree : PProgram) (code : Code) (texts : Texts) (nested : AreNested (sc
       cells_lie =
           ap (λ (ws : List Word). slice_get ws cell_number) framed_there.cells_is
           ∙ get-behind framed_there.values (controls_there ++ framed_there.descriptors) c.number cell_number
-          (omega (arith, words_many (simple_cells sc declaring) framed_there.simple framed_there.values framed_there.simple_are))
+          (omega (arith, as_many_values (simple_cells sc declaring) framed_there.simple framed_there.values framed_there.simple_are))
           ∙ get-front controls_there framed_there.descriptors c.number (pcw_word control)
           (get_control sc here.block framed_there.ats c.number segment
           (get_mapped (λ (m : Named). segment_of sc.blocks (number_at sc.blocks m.spot)) (procedures declaring.decls) c.number c.declared declared_there))
@@ -251,10 +210,10 @@ module _ (tree : PProgram) (code : Code) (texts : Texts) (nested : AreNested (sc
 
       below : length h.found.lies.frame.lower + (2 + cell_number) < length h.found.core.below
       below =
-          cell_below tree code texts w lay img p q part outer bound core s home_at h cell_number (get_below h.found.lies.frame.cells cell_number (pcw_word control) cells_lie)
+          cell_below tree code texts actor home_at h cell_number (get_within h.found.lies.frame.cells cell_number (pcw_word control) cells_lie)
           (omega (
             arith,
-            get_below (procedures declaring.decls) c.number c.declared declared_there,
+            get_within (procedures declaring.decls) c.number c.declared declared_there,
             ap (λ (x : Instance). made_base sc (block_numbered sc.blocks x.block)) instance_here,
           ))
 
@@ -263,14 +222,14 @@ module _ (tree : PProgram) (code : Code) (texts : Texts) (nested : AreNested (sc
           record {
             home = place h.found.number (length h.found.lies.frame.lower);
             near = (
-              frame_near tree code texts w lay img home_at h.found p,
-              place_near tree code texts w lay img home_at h.found p (length h.found.lies.frame.lower + couple.index) (omega (arith, below, index_is)),
+              frame_near tree code texts w lay img home_at h.found p h.near,
+              place_near tree code texts w lay img home_at h.found p (length h.found.lies.frame.lower + couple.index) h.near (omega (arith, below, index_is)),
             );
-            shown = named_shown tree code texts w lay img p q part outer bound core s n is_seen couple.level c.level_is h;
+            shown = named_shown tree code texts actor n is_seen couple.level c.level_is h;
             word = pcw_word control;
             lies =
                 ap (λ (k : ℕ). word_at img.stacks (place h.found.number (length h.found.lies.frame.lower + k))) index_is
-                ∙ cell_lies tree code texts w lay img p q part outer bound core s home_at h cell_number (pcw_word control) cells_lie below;
+                ∙ cell_lies tree code texts actor home_at h cell_number (pcw_word control) cells_lie below;
             is =
                 record {
                   control = control;
@@ -281,4 +240,4 @@ module _ (tree : PProgram) (code : Code) (texts : Texts) (nested : AreNested (sc
           }
 
     pub procedure_there : Names couple IsEntry
-    procedure_there = entry_there (named_seen tree code texts w lay img p q part outer bound core s n is_seen)
+    procedure_there = entry_there (named_seen tree code texts actor n is_seen)

@@ -1,54 +1,22 @@
 -- What the operators reach that do something with events, or make one.
 use Rattle.std.proofs.Common.{◌≡◌, ◌⊎◌, inl, inr, refl, sym, ap, ◌∙◌, subst, ℕ, ◌+◌, List, [], ◌∷◌, ◌++◌, length, Option, Some, arith, lit<}
-use Rattle.std.specs.Prelude.{slice_get, reverse, map}
-use Rattle.algol_tree.specs.declared.tree.Named.{Named}
-use Rattle.algol_tree.specs.Plain.{PProgram}
-use Rattle.algol_tree.specs.Scopes.{Scopes, scopes_of}
-use Rattle.algol_meaning.specs.Asks.{Ask, event_deed, makes_event, ask}
-use Rattle.algol_meaning.specs.World.{Part, Process, World}
+use Rattle.b67_scenes.proofs.Prelude.{slice_get, reverse, map, Named, PProgram, Scopes, scopes_of, Ask, ask, Word, Registers, Sirw, as_irw, as_sirw, event_word, Intrinsic, number_of, couple_of_intrinsic, Code, words_or, word_at, intrinsic_pcw, place, Image, frame, cell_place, sirw_cell, cell_of, Texts, Couple, Slot, intrinsic, mark, newest, SlotsAre, slots_length, some_same, none_some, AreNested, IsAsked, words_are, Top, top_slot, NearCell, StandsNear, reference_read, FindsEvent, directly, by_reference, pcw_no_sirw, AreFound}
+use Rattle.algol_meaning.specs.Asks.{event_deed, makes_event}
 use Rattle.b67_deeds.specs.Deeds.{EventDeed}
-use Rattle.b67_word.specs.Word.{Word}
-use Rattle.b67_control.specs.declared.Registers.{Registers}
-use Rattle.b67_control.specs.declared.Sirw.{Sirw}
-use Rattle.b67_control.specs.Control.{as_irw, as_sirw, event_word}
 use Rattle.b67_ops.specs.declared.Operator.TheVariants as ops
 use Rattle.b67_ops.specs.declared.PlainKind.TheVariants as kinds
-use Rattle.b67_ops.specs.declared.intrinsic.Intrinsic.{Intrinsic}
 use Rattle.b67_ops.specs.declared.intrinsic.Intrinsic.TheVariants.{Event}
-use Rattle.b67_ops.specs.Intrinsics.{number_of, couple_of_intrinsic}
-use Rattle.b67_segment.specs.declared.code.Code.{Code}
-use Rattle.b67_store.specs.Store.{words_or, word_at}
 use Rattle.b67_table.specs.declared.Cell.{Cell}
-use Rattle.b67_table.specs.Beginning.{intrinsic_pcw}
-use Rattle.b67_table.specs.Chains.{place}
-use Rattle.b67_table.specs.Image.{Image}
 use Rattle.b67_table.specs.PrivateRows as rows
-use Rattle.b67_table.specs.Private.{frame}
-use Rattle.b67_table.specs.References.{cell_place, sirw_cell, cell_of}
-use Rattle.b67_templates.specs.Programs.{Texts}
 use Rattle.b67_ops.specs.Intrinsics.{intrinsic_of}
-use Rattle.b67_ops.specs.declared.Couple.{Couple}
-use Rattle.b67_standing.specs.Stepping.{Slot, intrinsic, mark}
 use Rattle.b67_standing.specs.Standing.{ActionAt}
-use Rattle.b67_cores.specs.Cores.{Core}
-use Rattle.b67_cores.specs.Slots.{newest, SlotsAre}
-use Rattle.b67_cores.proofs.Moving.{slots_length}
-use Rattle.b67_faithful.proofs.Contradictions.{some_same, none_some}
-use Rattle.b67_templates.specs.Nested.{AreNested}
-use Rattle.b67_rows.proofs.AskedElements.{IsAsked}
-use Rattle.b67_rows.proofs.Rows.{words_are}
-use Rattle.b67_rows.proofs.Slotted.{Top, top_slot}
-use Rattle.b67_rows.proofs.Touching.{NearCell, system_cell}
+use Rattle.b67_rows.proofs.Touching.{system_cell}
 use Rattle.b67_rows.proofs.TouchingNames.{one_word, one_cell, entry_names_above}
-use Rattle.b67_rows.proofs.TouchingOperators.{StandsNear}
-use Rattle.b67_rows.proofs.Words.{event_refers_nothing, reference_read}
-use Rattle.b67_frames.specs.Arrays.{Layout}
-use Rattle.b67_frames.proofs.EventRows.{FindsEvent, directly, by_reference}
-use Rattle.b67_frames.proofs.TouchingCalls.{above_others, call_names, lies_there, no_further, under_top}
+use Rattle.b67_rows.proofs.Words.{event_refers_nothing}
+use Rattle.b67_frames.proofs.TouchingCalls.{above_others, call_names, lies_there, under_top}
 use Rattle.b67_frames.proofs.TouchingWords.{numbers_small}
-use Rattle.b67_frames.proofs.SeveralRows.{AreFound}
 use Rattle.b67_scenes.proofs.EventHomes.{IsNearWay}
-use Rattle.b67_scenes.proofs.Scene.{Scene}
+use Rattle.b67_scenes.proofs.Scene.{Actor}
 use Rattle.b67_scenes.proofs.Staying.{text_in, level_in, context_in, most_in}
 use Rattle.b67_scenes.proofs.TouchingScene.{by_names}
 use Rattle.b67_scenes.proofs.SeveralHomes.{AreNearWays, Referred, referred, OnSeveral, on_several}
@@ -124,7 +92,9 @@ module _ (p : ℕ) (img : Image) (r : Registers) where
 -- ---- where a process stands at it
 
 module _ (tree : PProgram) (code : Code) (texts : Texts) (nested : AreNested (scopes_of tree))
-    (w : World) (lay : Layout) (img : Image) (p : ℕ) (q : Process) (part : Part) (outer : List Part) (bound : ℕ) (core : Core) (s : Scene tree code texts w lay img p q part outer bound core) where
+    (actor : Actor tree code texts) where
+  open actor use {w, img, p, part, core, s}
+
   abbrev sc : Scopes
   sc = scopes_of tree
 
@@ -146,8 +116,8 @@ module _ (tree : PProgram) (code : Code) (texts : Texts) (nested : AreNested (sc
       let name : Intrinsic = intrinsic_of x in
       let cs : List Couple = a.2.couples in
       let words : List Word = map rows.reference cs in
-      let on : OnSeveral tree code texts nested w lay img p q part outer bound core s ns cs =
-      on_several tree code texts nested w lay img p q part outer bound core s ns cs (λ n is. subst (λ (k : Ask). IsAsked k n) (sym asks) is) a.2.are_events in
+      let on : OnSeveral tree code texts nested actor ns cs =
+      on_several tree code texts nested actor ns cs (λ n is. subst (λ (k : Ask). IsAsked k n) (sym asks) is) a.2.are_events in
       let g : Referred sc s.stands.held level home base cs (intrinsic name ∷ mark ∷ a.1) core.words =
       referred sc s.stands.held level home base cs (intrinsic name ∷ mark ∷ a.1) core.words (subst (λ (l : List Slot). SlotsAre sc s.stands.held level home base l core.words) a.2.lies s.stands.there.words_are) in
       let i : Top sc s.stands.held level home base (intrinsic name) (mark ∷ a.1) g.lying.others =
@@ -155,11 +125,11 @@ module _ (tree : PProgram) (code : Code) (texts : Texts) (nested : AreNested (sc
       let f : core.registers.f ≡ base + length a.1 = s.stands.there.mark_is ∙ ap (newest home base) a.2.lies ∙ g.lying.mark_is in
       let many : length i.words_below ≡ length (mark ∷ a.1) = slots_length sc s.stands.held level home base (mark ∷ a.1) i.words_below i.are in
       let whole : core.words ≡ g.lying.arguments ++ i.word ∷ i.words_below = g.lying.is ∙ ap (λ (ws : List Word). g.lying.arguments ++ ws) i.is in
-      by_names tree code texts nested w lay img p q part outer bound core s (ops.Plain kinds.Entr) a.0 a.2.stands
+      by_names tree code texts nested actor (ops.Plain kinds.Entr) a.0 a.2.stands
       (entry_names_above p img core.registers i.word (under_top img p core s.has g.lying.arguments i.word i.words_below whole (core.registers.f + 1) (omega (arith, f, many)))
       (record { level = 0; index = number_of name }) (ap as_irw i.slot_is ∙ reference_read (couple_of_intrinsic name) (lit< tt) (numbers_small name)) (place 0 0) s.sees
       (system_cell p img (record { frame = place 0 0; index = number_of name }) refl) (intrinsic_pcw (number_of name))
-      (ap (λ (o : Option (List Word)). slice_get (words_or o) (0 + number_of name)) s.by.system ∙ lies_there name) (no_further name) (IsOnWays p img core.registers words on.cells on.reach)
+      (ap (λ (o : Option (List Word)). slice_get (words_or o) (0 + number_of name)) s.by.system ∙ lies_there name) (pcw_no_sirw name) (IsOnWays p img core.registers words on.cells on.reach)
       (λ k u d after lies e.
       first_ways p img core.registers words on.cells on.reach u d
       (above_others (IsOneWord words) core.below g.lying.arguments (i.word ∷ i.words_below)
@@ -169,5 +139,5 @@ module _ (tree : PProgram) (code : Code) (texts : Texts) (nested : AreNested (sc
 
   pub event_made_near : (n : Named) → At (makes_event n) → StandsNear code p img core.registers
   event_made_near n a =
-      by_names tree code texts nested w lay img p q part outer bound core s (ops.Plain kinds.Entr) a.1.made a.1.stands
+      by_names tree code texts nested actor (ops.Plain kinds.Entr) a.1.made a.1.stands
       (call_names img p core s.has s.by.system s.sees sc s.stands.held level home s.stands.slots s.stands.there.mark_is s.stands.there.words_are Event [] [] a.1.lies)

@@ -1,43 +1,15 @@
 -- The processes of a picture: each has its own stack, and the marks below its floor lead to frames below floors.
 use Rattle.std.proofs.Common.{◌≡◌, refl, sym, ap, ◌∙◌, ℕ, ◌+◌, ◌<◌, ◌≤◌, List, [], ◌∷◌, length, Option, Some, None, true, arith}
-use Rattle.std.specs.Prelude.{slice_get, reverse}
-use Rattle.b67_list.specs.Numbered.{numbered}
-use Rattle.algol_tree.specs.Plain.{PProgram}
-use Rattle.algol_tree.specs.Scopes.{scopes_of}
-use Rattle.algol_meaning.specs.World.{Process, Part, lives, World}
-use Rattle.b67_word.specs.declared.Place.{Place}
-use Rattle.b67_word.specs.Word.{Word}
-use Rattle.b67_control.specs.declared.Registers.{Registers}
-use Rattle.b67_control.specs.Display.{place_at}
-use Rattle.b67_segment.specs.declared.code.Code.{Code}
-use Rattle.b67_store.specs.Store.{words_of, word_at}
-use Rattle.b67_table.specs.Chains.{place}
-use Rattle.b67_table.specs.Image.{Image, is_live}
-use Rattle.b67_table.specs.Private.{display_at, at_or, frame, floor}
+use Rattle.b67_scenes.proofs.Prelude.{slice_get, reverse, numbered, PProgram, scopes_of, Process, Part, lives, World, Place, Word, Registers, place_at, Code, words_of, word_at, place, Image, is_live, display_at, at_or, frame, floor, Lives, numbered_within, Texts, Above, steps_stay_above, some_same, true_false, AreNested, numbered_beyond, words_are, get-front, FrameAt, system_frame, Layout, Stands, Around, Frames, IsWhole, IsOk, facts_of, AllLead, lead_at, Living, Pictured, living, dead, PicturesBy}
 use Rattle.b67_table.specs.Privacy.{Keeps}
-use Rattle.b67_table.specs.Sound.{Lives}
-use Rattle.b67_table.proofs.Lists.{numbered_within}
-use Rattle.b67_templates.specs.Programs.{Texts}
 use Rattle.b67_cores.specs.Cores.{stack_of}
-use Rattle.b67_cores.specs.Stretches.{Above}
 use Rattle.b67_cores.proofs.Performing.{steps_keep}
-use Rattle.b67_cores.proofs.Staying.{steps_stay_above}
-use Rattle.b67_faithful.proofs.Contradictions.{some_same, true_false}
-use Rattle.b67_templates.specs.Nested.{AreNested}
 use Rattle.b67_footprints.specs.Laws.{HaveOwnStacks}
-use Rattle.b67_rows.proofs.Numbers.{numbered_beyond, get_within}
-use Rattle.b67_rows.proofs.Rows.{words_are}
-use Rattle.b67_rows.proofs.StackWords.{get-front}
-use Rattle.b67_rows.proofs.Touching.{below_floor, FrameAt, system_frame}
-use Rattle.b67_frames.specs.Arrays.{Layout}
-use Rattle.b67_frames.specs.Frames.{Stands, Around, Frames}
-use Rattle.algol_standing.specs.Worlds.{IsWhole}
-use Rattle.algol_standing.specs.Fitting.{IsOk}
-use Rattle.b67_frames.proofs.Facts.{facts_of}
-use Rattle.b67_scenes.proofs.Finding.{standing_near}
+use Rattle.b67_rows.proofs.Numbers.{get_within}
+use Rattle.b67_rows.proofs.Touching.{IsNearStack}
+use Rattle.b67_scenes.proofs.Depended.{Has, own_has, path_has, up_path, frames_near}
 use Rattle.b67_scenes.proofs.Worlds.{placed_of}
-use Rattle.b67_frames.proofs.TouchingWords.{LinksTo, AllLead, lead_at, below_leads}
-use Rattle.b67_scenes.specs.Pictures.{Living, Pictured, living, dead, PicturesBy}
+use Rattle.b67_frames.proofs.TouchingWords.{LinksTo, below_leads}
 
 module _ (tree : PProgram) (code : Code) (texts : Texts) (w : World) (lay : Layout) (img : Image) (by : PicturesBy tree code texts w lay img) where
   -- ---- a process that lives
@@ -65,14 +37,11 @@ module _ (tree : PProgram) (code : Code) (texts : Texts) (w : World) (lay : Layo
       let l : LivesThere q r = lives_there q r alive in
       (ap (λ (o : Registers). o.stack) l.has ∙ l.living_is.has.own, omega (arith, numbered_within w.processes q l.process l.is, by.started))
 
-  -- ---- below its floor, as near to process p
+  -- ---- below its floor, as near to process p, whose stack it is, or where somebody depends on it
 
-  module _ (nested : AreNested (scopes_of tree)) (ok : IsOk (scopes_of tree) IsWhole w) (p q : ℕ) (o : Process) (l : Living tree code texts w lay img q o) where
+  module _ (nested : AreNested (scopes_of tree)) (ok : IsOk (scopes_of tree) IsWhole w) (p q : ℕ) (near : IsNearStack p img q) (o : Process) (l : Living tree code texts w lay img q o) where
     there : Lives img q l.core.registers
     there = record { live = l.has.live; is = l.has.registers }
-
-    pub frames_near : (n : ℕ) → n + 2 ≤ floor l.core.registers → FrameAt p img q n
-    frames_near n low = (below_floor l.core.registers there (omega (arith, low)), below_floor l.core.registers there (omega (arith, low)))
 
     -- its words there are those that it has where it settles
     lower_word : (n : ℕ) (x : Word) → n < floor l.core.registers → slice_get (stack_of l.core) n ≡ Some x → slice_get l.settled.below n ≡ Some x
@@ -102,7 +71,8 @@ module _ (tree : PProgram) (code : Code) (texts : Texts) (w : World) (lay : Layo
       lower_lead : AllLead (FrameAt p img) (system_frame p img) l.settled.below
       lower_lead =
           below_leads tree code texts nested w lay q (facts_of (scopes_of tree) w ok) (placed_of tree code texts w lay img by ok) (FrameAt p img) (system_frame p img)
-          (λ i g st laid. standing_near tree code texts w lay img by ok p i st g laid) part outer l.settled s a (omega (arith, ends_low, l.has.is.bottom, l.small))
+          (Has tree code texts w lay img by ok p q near) (own_has tree code texts w lay img by ok p q near) (path_has tree code texts w lay img by ok p q near)
+          (up_path tree code texts w lay img by ok p q near) (frames_near tree code texts w lay img by ok p q near) part outer l.settled s a (omega (arith, ends_low, l.has.is.bottom, l.small))
 
     -- the marks there lead to near frames
     pub lower_links : (n : ℕ) (x : Word) → n < floor l.core.registers → word_at img.stacks (place q n) ≡ Some x → LinksTo (FrameAt p img) x

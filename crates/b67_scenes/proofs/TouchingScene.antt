@@ -1,51 +1,29 @@
 -- A process that stands at its action: near are the frames to which marks and its display lead.
-use Rattle.algol_meaning.specs.Critical.{is_evaluation}
-use Rattle.std.proofs.Common.{◌≡◌, ◌⊎◌, inl, inr, sym, ap, ◌∙◌, ℕ, ◌+◌, ◌-◌, ◌<◌, ◌≤◌, List, Some, Ok, arith}
-use Rattle.std.specs.Prelude.{slice_get}
-use Rattle.algol_tree.specs.Plain.{PProgram}
-use Rattle.algol_tree.specs.Scopes.{Scopes, scopes_of}
-use Rattle.algol_meaning.specs.World.{Process, Part, World, instance_at, ancestor}
-use Rattle.b67_word.specs.declared.Place.{Place}
-use Rattle.b67_word.specs.Word.{Word}
-use Rattle.b67_control.specs.declared.Mscw.{Mscw}
-use Rattle.b67_control.specs.Control.{as_mscw}
-use Rattle.b67_ops.specs.declared.Operator.{Operator}
-use Rattle.b67_ops.specs.declared.TheConstants.{OUTER_LEVEL}
-use Rattle.b67_segment.specs.Operators.{Placed}
-use Rattle.b67_segment.specs.declared.code.Code.{Code}
+use Rattle.std.proofs.Common.{◌≡◌, ◌⊎◌, inl, inr, refl, ◌∷◌, sym, ap, ◌∙◌, ℕ, ◌+◌, ◌-◌, ◌<◌, ◌≤◌, List, Some, Ok, arith}
+use Rattle.b67_scenes.proofs.Prelude.{is_evaluation, slice_get, PProgram, Scopes, scopes_of, instance_at, ancestor, Place, Word, Mscw, as_mscw, Operator, OUTER_LEVEL, Placed, Code, words_or, words_of, word_at, system_stack, critical_in, critical_of, display_at, floor, operator_at, Has, Texts, some_same, none_some, AreNested, most_or_more, words_are, Near, below_floor, NearFrame, FrameAt, system_frame, StandsNear, facts_of, newest_own, IsOnPath, IsStanding, AllLead, lead_at}
 use Rattle.b67_table.specs.declared.Class.TheVariants as classes
-use Rattle.b67_store.specs.Store.{words_or, words_of, word_at}
-use Rattle.b67_table.specs.Beginning.{system_stack}
 use Rattle.b67_table.specs.Chains.{link_of}
-use Rattle.b67_table.specs.Image.{Image, critical_in, critical_of}
-use Rattle.b67_table.specs.Private.{display_at, floor}
-use Rattle.b67_table.specs.Table.{operator_at, class_at}
-use Rattle.b67_templates.specs.Fragments.{Has}
-use Rattle.b67_templates.specs.Programs.{Texts}
-use Rattle.b67_cores.specs.Cores.{Core, stack_of}
-use Rattle.b67_faithful.proofs.Contradictions.{some_same, none_some}
-use Rattle.b67_templates.specs.Nested.{AreNested}
-use Rattle.b67_rows.proofs.Numbers.{most_or_more}
-use Rattle.b67_rows.proofs.Rows.{words_are}
-use Rattle.b67_rows.proofs.Touching.{Near, own_stack, system, below_floor, NearFrame, FrameAt, system_frame, own_frame, IsNear, NamesNear}
-use Rattle.b67_rows.proofs.TouchingOperators.{StandsNear, privately, acting}
-use Rattle.b67_frames.specs.Arrays.{Layout}
-use Rattle.b67_frames.proofs.Facts.{facts_of}
+use Rattle.b67_table.specs.Table.{class_at}
+use Rattle.b67_cores.specs.Cores.{stack_of}
+use Rattle.b67_rows.proofs.Touching.{own_stack, system, own_frame, IsNear, NamesNear}
+use Rattle.b67_rows.proofs.TouchingOperators.{privately, acting}
 use Rattle.b67_frames.proofs.Lying.{runs_near}
-use Rattle.b67_scenes.proofs.Finding.{standing_near}
+use Rattle.b67_scenes.proofs.Depended.{Has as HasNear, own_has, path_has, up_path as parents_path, frames_near}
+use Rattle.b67_scenes.proofs.Finding.{find, standing_near}
+use Rattle.b67_scenes.proofs.Sights.{in_reach_near}
 use Rattle.b67_scenes.proofs.Led.{part_there}
-use Rattle.b67_scenes.proofs.Paths.{path_stands, up_path}
+use Rattle.b67_scenes.proofs.Paths.{path_stands, path_further, part_in_reach, up_path}
 use Rattle.b67_scenes.proofs.Worlds.{placed_of}
-use Rattle.algol_standing.specs.Worlds.{IsStanding}
-use Rattle.b67_frames.proofs.TouchingWords.{AllLead, lead_at, system_leads, core_leads}
+use Rattle.b67_frames.proofs.TouchingWords.{system_leads, core_leads}
 use Rattle.b67_scenes.proofs.CriticalNear.{critical_near}
 use Rattle.b67_scenes.proofs.Homes.{operator_there}
-use Rattle.b67_scenes.proofs.Scene.{Scene, shown_frame}
+use Rattle.b67_scenes.proofs.Scene.{shown_frame, Actor}
 use Rattle.b67_scenes.proofs.Staying.{text_in, level_in, names_in}
 use Rattle.b67_scenes.proofs.TouchingOthers.{LivesThere, lives_there, lower_links}
 
-module _ (tree : PProgram) (code : Code) (texts : Texts) (nested : AreNested (scopes_of tree)) (w : World) (lay : Layout) (img : Image)
-    (p : ℕ) (q : Process) (part : Part) (outer : List Part) (bound : ℕ) (core : Core) (s : Scene tree code texts w lay img p q part outer bound core) where
+module _ (tree : PProgram) (code : Code) (texts : Texts) (nested : AreNested (scopes_of tree)) (actor : Actor tree code texts) where
+  open actor use {w, lay, img, p, part, outer, core, s}
+
   abbrev sc : Scopes
   sc = scopes_of tree
 
@@ -72,8 +50,13 @@ module _ (tree : PProgram) (code : Code) (texts : Texts) (nested : AreNested (sc
     names_near : l ≤ named_level → NearFrame p img f
     names_near within =
         let up : ℕ = named_level - l in
-        let st : IsStanding w part.instance = part_there tree code texts w lay img p q part outer bound core s in
-        standing_near tree code texts w lay img s.by s.ok p (ancestor w up part.instance) (path_stands sc w s.ok part.instance (ancestor w up part.instance) st (up_path sc w s.ok part.instance up st (far within))) f
+        let st : IsStanding w part.instance = part_there tree code texts actor in
+        let path : IsOnPath w part.instance (ancestor w up part.instance) = up_path sc w s.ok part.instance up st (far within) in
+        let up_stands : IsStanding w (ancestor w up part.instance) = path_stands sc w s.ok part.instance (ancestor w up part.instance) st path in
+        standing_near tree code texts w lay img s.by s.ok p (ancestor w up part.instance) up_stands
+        (in_reach_near tree code texts actor (ancestor w up part.instance)
+        (path_further sc w s.ok (newest_own (part ∷ outer)) part.instance (ancestor w up part.instance) (part_in_reach tree code texts w lay p part outer core.below s.stands.frame) path)
+        (find tree code texts w lay img s.by s.ok (ancestor w up part.instance) up_stands)) f
         (sym (s.stands.chained up (far within)) ∙ ap (λ (n : ℕ). display_at core.registers n) (back within) ∙ e)
 
     -- one level further in it is the part's own
@@ -82,7 +65,7 @@ module _ (tree : PProgram) (code : Code) (texts : Texts) (nested : AreNested (sc
       where
         own_near : l ≡ core.registers.ll → NearFrame p img f
         own_near top =
-            own_frame p img f (ap (λ (y : Place). y.stack) (some_same (sym e ∙ ap (λ (n : ℕ). display_at core.registers n) top ∙ shown_frame tree code texts w lay img p q part outer bound core s)))
+            own_frame p img f (ap (λ (y : Place). y.stack) (some_same (sym e ∙ ap (λ (n : ℕ). display_at core.registers n) top ∙ shown_frame tree code texts actor)))
 
         by_level : (l ≤ named_level) ⊎ (named_level < l) → NearFrame p img f
         by_level (inl within) = names_near within
@@ -91,7 +74,9 @@ module _ (tree : PProgram) (code : Code) (texts : Texts) (nested : AreNested (sc
   -- the marks of near stacks lead to near frames
   own_leads : AllLead (FrameAt p img) (system_frame p img) (stack_of core)
   own_leads =
-      core_leads tree code texts nested w lay p (facts_of sc w s.ok) (placed_of tree code texts w lay img s.by s.ok) (FrameAt p img) (system_frame p img) (λ i g st laid. standing_near tree code texts w lay img s.by s.ok p i st g laid) part outer core s.stands s.around s.small
+      core_leads tree code texts nested w lay p (facts_of sc w s.ok) (placed_of tree code texts w lay img s.by s.ok) (FrameAt p img) (system_frame p img)
+      (HasNear tree code texts w lay img s.by s.ok p p (inl refl)) (own_has tree code texts w lay img s.by s.ok p p (inl refl)) (path_has tree code texts w lay img s.by s.ok p p (inl refl))
+      (parents_path tree code texts w lay img s.by s.ok p p (inl refl)) (frames_near tree code texts w lay img s.by s.ok p p (inl refl)) part outer core s.stands s.around s.small
 
   links_near : (x : Place) (v : Word) (m : Mscw) → Near p img x → word_at img.stacks x ≡ Some v → as_mscw v ≡ Some m → NearFrame p img (link_of m)
   links_near x v m (own_stack own) e is =
@@ -100,9 +85,9 @@ module _ (tree : PProgram) (code : Code) (texts : Texts) (nested : AreNested (sc
   links_near x v m (system none) e is =
       let words : words_of img.stacks x.stack ≡ system_stack = ap (words_of img.stacks) none ∙ ap words_or s.by.system in
       (lead_at (FrameAt p img) (system_frame p img) system_stack x.at v (system_leads (FrameAt p img) (system_frame p img)) (sym (ap (λ (ws : List Word). slice_get ws x.at) words) ∙ e)).link m is
-  links_near x v m (below_floor r lives low) e is =
+  links_near x v m (below_floor r lives low depended) e is =
       let t : LivesThere tree code texts w lay img s.by x.stack r = lives_there tree code texts w lay img s.by x.stack r lives in
-      (lower_links tree code texts w lay img s.by nested s.ok p x.stack t.process t.living_is x.at v (omega (arith, low, ap floor t.has)) e).link m is
+      (lower_links tree code texts w lay img s.by nested s.ok p x.stack (inr depended) t.process t.living_is x.at v (omega (arith, low, ap floor t.has)) e).link m is
 
   -- the critical place of a process of a near stack is near
   depends_near : (f c : Place) → Near p img f → critical_of img.regs f.stack ≡ Some c → NearFrame p img c
@@ -110,7 +95,7 @@ module _ (tree : PProgram) (code : Code) (texts : Texts) (nested : AreNested (sc
       critical_near tree code texts nested w lay img s.by s.ok p p core.registers (record { live = s.has.live; is = s.has.registers }) c
       (sym (ap (critical_of img.regs) own ∙ ap critical_in s.has.registers) ∙ e)
   depends_near f c (system none) e = none_some (sym (ap (critical_of img.regs) none) ∙ e)
-  depends_near f c (below_floor r lives low) e = critical_near tree code texts nested w lay img s.by s.ok p f.stack r lives c (sym (ap critical_in lives.is) ∙ e)
+  depends_near f c (below_floor r lives low depended) e = critical_near tree code texts nested w lay img s.by s.ok p f.stack r lives c (sym (ap critical_in lives.is) ∙ e)
 
   pub is_near : IsNear p img core.registers
   is_near =

@@ -1,28 +1,7 @@
 -- The frames of a process's parts lie one on the other, and their marks lead down.
 use Rattle.std.proofs.Common.{◌≡◌, refl, sym, ap, ◌∙◌, subst, ℕ, ◌+◌, ◌<◌, ◌≤◌, List, [], ◌∷◌, ◌++◌, length, Some, false, Ok, arith}
-use Rattle.std.specs.Prelude.{reverse}
-use Rattle.b67_list.specs.Numbered.{numbered}
-use Rattle.algol_tree.specs.Plain.{PProgram}
-use Rattle.algol_tree.specs.Scopes.{Scopes, scopes_of}
-use Rattle.algol_meaning.specs.World.{Part, World}
-use Rattle.algol_meaning.specs.Critical.{is_evaluation}
-use Rattle.b67_word.specs.Word.{Word}
-use Rattle.b67_control.specs.Control.{as_mscw, as_rcw}
-use Rattle.b67_segment.specs.declared.code.Code.{Code}
-use Rattle.b67_store.specs.Store.{Stacks, word_at, stack_limit}
-use Rattle.b67_table.specs.Chains.{place, frame_below}
-use Rattle.b67_table.specs.Look.{read_as, seen}
-use Rattle.b67_templates.specs.Contexts.{Yields}
-use Rattle.b67_templates.specs.Programs.{Texts}
-use Rattle.b67_cores.specs.Slots.{newest}
-use Rattle.b67_cores.proofs.Moving.{slots_length}
-use Rattle.b67_rows.proofs.Displays.{entered_to}
-use Rattle.b67_rows.proofs.Marks.{Above, newest_low, under_seen}
-use Rattle.b67_rows.proofs.StackWords.{length-stack}
-use Rattle.b67_frames.specs.Arrays.{Layout}
-use Rattle.b67_frames.specs.Frames.{Frame, Waits, Around}
-use Rattle.b67_frames.proofs.Linked.{Begins_with, begins_front, mark_there, control_there}
-use Rattle.b67_frames.proofs.Lying.{owned_frame}
+use Rattle.b67_scenes.proofs.Prelude.{reverse, numbered, PProgram, Scopes, scopes_of, Part, World, is_evaluation, Word, as_mscw, as_rcw, Code, Stacks, word_at, stack_limit, place, frame_below, read_as, seen, Yields, Texts, newest, slots_length, entered_to, newest_low, length-stack, Layout, Frame, Waits, Around, Begins_with, begins_front, mark_there, control_there, owned_frame}
+use Rattle.b67_rows.proofs.Marks.{Above, under_seen}
 use Rattle.b67_scenes.proofs.Staying.{level_in, frame_low}
 use Rattle.b67_scenes.proofs.Towers.{Tower, base, above}
 

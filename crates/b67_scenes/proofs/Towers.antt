@@ -1,16 +1,6 @@
 -- The frames of a process's parts, one on the other, along which the marks lead down.
 use Rattle.std.proofs.Common.{◌≡◌, ◌⊎◌, inl, inr, refl, sym, ap, ◌∙◌, subst, ℕ, ◌<◌, ◌≤◌, List, [], ◌∷◌, ◌++◌, Some, Bool, true, false, Ok, arith, append_assoc}
-use Rattle.std.specs.Prelude.{if◌then◌else◌}
-use Rattle.b67_list.specs.Numbered.{numbered}
-use Rattle.algol_meaning.specs.World.{Part}
-use Rattle.algol_meaning.specs.Critical.{is_evaluation, own_instances}
-use Rattle.algol_standing.specs.Skeleton.{IsIn}
-use Rattle.b67_word.specs.declared.Place.{Place}
-use Rattle.b67_store.specs.Store.{Stacks}
-use Rattle.b67_table.specs.Chains.{place, frame_below}
-use Rattle.b67_table.specs.Look.{seen}
-use Rattle.b67_faithful.proofs.Contradictions.{some_same}
-use Rattle.b67_frames.specs.Arrays.{Layout}
+use Rattle.b67_scenes.proofs.Prelude.{if◌then◌else◌, numbered, Part, is_evaluation, own_instances, IsIn, Place, Stacks, place, frame_below, seen, some_same, Layout}
 
 -- the instances of some parts and of those around them
 pub own_either : (newer parts : List Part) (i : ℕ) → IsIn (own_instances (newer ++ parts)) i → IsIn (own_instances newer) i ⊎ IsIn (own_instances parts) i
@@ -31,9 +21,6 @@ own_either (x ∷ newer) parts i n = by (is_evaluation x.purpose) n (own_either 
 -- those of a part that has one for its own
 pub own_first : (x : Part) (parts : List Part) → is_evaluation x.purpose ≡ false → own_instances (x ∷ parts) ≡ x.instance ∷ own_instances parts
 own_first x parts owns = ap (λ (t : Bool). if t then own_instances parts else x.instance ∷ own_instances parts) owns
-
-pub own_none : (x : Part) (parts : List Part) → is_evaluation x.purpose ≡ true → own_instances (x ∷ parts) ≡ own_instances parts
-own_none x parts evaluates = ap (λ (t : Bool). if t then own_instances parts else x.instance ∷ own_instances parts) evaluates
 
 module _ (lay : Layout) (r : ℕ) where
   -- the frame of each of these instances is higher

@@ -1,17 +1,10 @@
 -- The newest instance of a stack, on which no live process depends, lies on no other's path.
 use Rattle.std.proofs.Common.{◌≡◌, ◌⊎◌, inl, inr, ℕ, ◌||◌, List, [], ◌∷◌, Option, Some, false, refl, sym, ap, ◌∙◌, subst, arith}
-use Rattle.std.specs.Prelude.{slice_get}
-use Rattle.b67_list.specs.Numbered.{numbered}
-use Rattle.algol_tree.specs.Scopes.{Scopes}
-use Rattle.algol_meaning.specs.World.{Process, World}
-use Rattle.algol_meaning.specs.Critical.{own_instances, some_depends}
+use Rattle.b67_scenes.proofs.Prelude.{slice_get, numbered, Scopes, Process, World, own_instances, some_depends, Stack, Home, Skeleton, IsIn, NextIn, Next, OnPath, SkeletonOk, stack_of, skeleton, IsOnPath, IsWhole, IsOk, home_stands, stack_forth}
 use Rattle.algol_standing.specs.Skeleton as skeletons
-use Rattle.algol_standing.specs.Skeleton.{Stack, Home, Skeleton, IsIn, NextIn, Owned, Next, OnPath, SkeletonOk, AreFree}
-use Rattle.algol_standing.specs.Worlds.{stack_of, skeleton, IsOnPath, IsWhole}
-use Rattle.algol_standing.specs.Fitting.{IsOk}
+use Rattle.algol_standing.specs.Skeleton.{Owned, AreFree}
 use Rattle.algol_standing.proofs.Lists.{some_same}
-use Rattle.algol_standing.proofs.Standing.{lives as stack_lives, home_stands}
-use Rattle.algol_standing.proofs.Pairs.{stack_forth}
+use Rattle.algol_standing.proofs.Standing.{lives as stack_lives}
 use Rattle.algol_standing.proofs.Leaving.{free_of}
 
 -- directly below one of a stack lies an older one of it, or its critical instance

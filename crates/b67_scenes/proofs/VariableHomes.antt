@@ -1,43 +1,23 @@
 -- Where a process finds the variable to whose cell a reference leads: in the frame of an instance in reach, in whatever stack.
 use Rattle.std.proofs.Common.{◌≡◌, sym, ap, ◌∙◌, subst, ℕ, ◌+◌, List, ◌∷◌, length, Some, arith, ◌<◌}
-use Rattle.std.specs.Prelude.{slice_get}
-use Rattle.algol_tree.specs.declared.tree.Kind.{Kind}
-use Rattle.algol_tree.specs.Blocks.{block_numbered}
-use Rattle.algol_tree.specs.Plain.{PProgram}
-use Rattle.algol_tree.specs.Scopes.{Scopes, scopes_of}
-use Rattle.algol_meaning.specs.Value.{Value, Reference, simple}
-use Rattle.algol_meaning.specs.World.{NamedCell, Instance, Part, Process, World, instance_at, or_no_instance, cell_at, cell_in}
-use Rattle.b67_word.specs.Word.{Word}
-use Rattle.b67_segment.specs.declared.code.Code.{Code}
-use Rattle.b67_store.specs.Store.{word_at}
-use Rattle.b67_table.specs.Chains.{place}
-use Rattle.b67_table.specs.Image.{Image}
-use Rattle.b67_templates.specs.Fragments.{HasKind}
+use Rattle.b67_scenes.proofs.Prelude.{slice_get, Kind, block_numbered, PProgram, Scopes, scopes_of, Value, Reference, simple, NamedCell, Instance, instance_at, or_no_instance, cell_at, cell_in, Word, Code, word_at, place, get_within, HasKind, Simple, Found, found_from, simple_cells, Wanted, Texts, ValueIs, get-front, CellIs, IsInReach, Framed, cell_front, Holds_value, value_of_cell, as_many_values}
 use Rattle.b67_templates.specs.Cells as wants
-use Rattle.b67_templates.specs.Cells.{Simple, Found, found_from, simple_cells, Wanted}
-use Rattle.b67_templates.specs.Programs.{Texts}
-use Rattle.b67_cores.specs.Cores.{Core}
-use Rattle.b67_cores.specs.Slots.{ValueIs}
-use Rattle.b67_rows.proofs.Numbers.{get_below}
-use Rattle.b67_rows.proofs.StackWords.{get-front}
-use Rattle.b67_frames.specs.Arrays.{Layout}
-use Rattle.b67_frames.specs.Frames.{CellIs, IsInReach, Framed}
-use Rattle.b67_frames.proofs.FreshCells.{words_long}
-use Rattle.b67_frames.proofs.Variables.{Cell_of, variable_cell, cell_front, Holds_value, value_of_cell}
-use Rattle.b67_scenes.proofs.Scene.{Scene}
+use Rattle.b67_frames.proofs.Variables.{Cell_of, variable_cell}
+use Rattle.b67_scenes.proofs.Scene.{Actor}
 use Rattle.b67_scenes.proofs.Sights.{Seen, seen, cell_below, cell_lies as seen_word}
 
-module _ (tree : PProgram) (code : Code) (texts : Texts) (w : World) (lay : Layout) (img : Image)
-    (p : ℕ) (q : Process) (part : Part) (outer : List Part) (bound : ℕ) (core : Core) (s : Scene tree code texts w lay img p q part outer bound core) where
+module _ (tree : PProgram) (code : Code) (texts : Texts) (actor : Actor tree code texts) where
+  open actor use {w, lay, img, part, outer}
+
   abbrev sc : Scopes
   sc = scopes_of tree
 
   abbrev SeenThere : ℕ → Type 0
-  SeenThere i = Seen tree code texts w lay img p q part outer bound core s i
+  SeenThere i = Seen tree code texts actor i
 
   -- the cell is the first of that name in its block, holds a value, and has the value's word, which lies below the floor of its process
   pub record VariableHome (r : Reference) (kind : Kind) (found : Found) : Type 0 where
-    pub seen_there : Seen tree code texts w lay img p q part outer bound core s r.instance
+    pub seen_there : Seen tree code texts actor r.instance
     pub instance_is : instance_at w r.instance ≡ seen_there.found.lies.owned.framed.instance
     pub there : found_from 0 (simple_cells sc (block_numbered sc.blocks seen_there.found.lies.owned.framed.instance.block)) r.name ≡ Some found
     pub wanted_is : found.cell.wanted ≡ wants.value kind
@@ -92,11 +72,11 @@ module _ (tree : PProgram) (code : Code) (texts : Texts) (w : World) (lay : Layo
 
       low : length h.found.lies.frame.lower + (2 + c.far) < length h.found.core.below
       low =
-          cell_below tree code texts w lay img p q part outer bound core s r.instance h c.far (get_below h.found.lies.frame.cells c.far c.word cells_lie)
+          cell_below tree code texts actor r.instance h c.far (get_within h.found.lies.frame.cells c.far c.word cells_lie)
           (omega (
             arith,
-            get_below framed_there.values c.far c.word c.lies,
-            words_long ss first_cells framed_there.values framed_there.simple_are,
+            get_within framed_there.values c.far c.word c.lies,
+            as_many_values ss first_cells framed_there.values framed_there.simple_are,
             ap (λ (x : Instance). length (simple_cells sc (block_numbered sc.blocks x.block))) instance_here,
           ))
 
@@ -117,8 +97,8 @@ module _ (tree : PProgram) (code : Code) (texts : Texts) (w : World) (lay : Layo
             value_lies = c.lies;
             cell_lies = cells_lie;
             below = low;
-            word_lies = seen_word tree code texts w lay img p q part outer bound core s r.instance h c.far c.word cells_lie low;
+            word_lies = seen_word tree code texts actor r.instance h c.far c.word cells_lie low;
           }
 
     pub variable_home : IsInReach w (part ∷ outer) r.instance → VariableHome r kind found
-    variable_home path = home_there (seen tree code texts w lay img p q part outer bound core s r.instance path)
+    variable_home path = home_there (seen tree code texts actor r.instance path)

@@ -1,25 +1,10 @@
 -- What processes wait for, and their woken numbers, stay where places stay and events stay events.
 use Rattle.std.proofs.Common.{◌≡◌, ◌≢◌, ◌⊎◌, inl, inr, refl, sym, ap, ◌∙◌, subst, ℕ, zero, suc, List, [], ◌∷◌, length, Option, Some, None, Bool, true, false}
-use Rattle.std.specs.Prelude.{if◌then◌else◌, slice_get, slice_set}
-use Rattle.b67_list.specs.Numbered.{numbered, set_numbered}
-use Rattle.b67_deeds.specs.Listed.{IsListed}
-use Rattle.algol_tree.specs.Scopes.{Scopes}
-use Rattle.algol_meaning.specs.Value.{Reference}
-use Rattle.algol_meaning.specs.World.{Process, World, process_at, or_no_process}
-use Rattle.algol_meaning.specs.Events.{list_in}
-use Rattle.b67_word.specs.declared.Place.{Place}
-use Rattle.b67_events.specs.Events.{Event, event_at, state_of, waiters_at, list_of, with_list, same_place, is_from, closed_from, opened, fresh}
-use Rattle.b67_events.proofs.EventLaws.{one_event}
-use Rattle.b67_events.proofs.Listed.{same_place-true, same_place-self}
-use Rattle.b67_table.specs.declared.ProcessState.{ProcessState}
-use Rattle.b67_table.specs.declared.ProcessState.TheVariants.{Able, WaitsFor, WaitsAny, Procures, Ended}
-use Rattle.b67_table.specs.Image.{Image, woken_number, is_able}
-use Rattle.b67_table.specs.Valid.{AwaitsAt}
-use Rattle.b67_faithful.proofs.Choices.{length_set_numbered}
-use Rattle.b67_faithful.proofs.Contradictions.{some_same}
-use Rattle.b67_rows.proofs.Numbers.{same_or_not, numbered_set, numbered_other}
-use Rattle.b67_frames.specs.Arrays.{Layout}
-use Rattle.b67_scenes.specs.Waiting.{AreAwaiting, ListIs, WaitsAre}
+use Rattle.b67_scenes.proofs.Prelude.{if◌then◌else◌, slice_get, slice_set, numbered, set_numbered, IsListed, Scopes, Reference, Process, World, process_at, or_no_process, list_in, Place, Event, event_at, waiters_at, list_of, same_place, is_from, closed_from, one_event, same_place-self, ProcessState, Able, WaitsFor, WaitsAny, Procures, Ended, Image, woken_number, AwaitsAt, length_set_numbered, some_same, same_or_not, numbered_set, numbered_other, Layout, AreAwaiting, ListIs, WaitsAre}
+use Rattle.b67_events.specs.Events.{state_of, with_list, opened, fresh}
+use Rattle.b67_events.proofs.Listed.{same_place-true}
+use Rattle.b67_events.proofs.OfSeveral.{list-own}
+use Rattle.b67_table.specs.Image.{is_able}
 use Rattle.b67_scenes.proofs.Tasks.{EventsStay, PlacesStay, event_stays}
 
 -- ---- by number
@@ -83,31 +68,9 @@ list_emptied xs (suc k) = get_emptied xs k
 pub list_beside : (xs : List (List Place)) (p r : ℕ) (l : List Place) → r ≢ p → list_of r (set_numbered xs p l) ≡ list_of r xs
 list_beside xs p r l other = list_by (set_numbered xs p l) xs r (numbered_other xs p r l (λ (e : p ≡ r). other (sym e)))
 
--- the list of a process that waits for these
-get_there : (xs : List (List Place)) (k : ℕ) (l : List Place) → list_of (suc k) (with_list xs (suc k) l) ≡ l
-get_there [] zero l = refl
-get_there (x ∷ xs) zero l = refl
-get_there [] (suc k) l = get_there [] k l
-get_there (x ∷ xs) (suc k) l = get_there xs k l
-
 pub list_there : (xs : List (List Place)) (p : ℕ) (l : List Place) → p ≢ 0 → list_of p (with_list xs p l) ≡ l
 list_there xs zero l some = absurd (some refl)
-list_there xs (suc k) l some = get_there xs k l
-
-get_others : (xs : List (List Place)) (k j : ℕ) (l : List Place) → j ≢ k → list_of (suc j) (with_list xs (suc k) l) ≡ list_of (suc j) xs
-get_others [] zero zero l other = absurd (other refl)
-get_others (x ∷ xs) zero zero l other = absurd (other refl)
-get_others [] zero (suc j) l other = refl
-get_others (x ∷ xs) zero (suc j) l other = refl
-get_others [] (suc k) zero l other = refl
-get_others (x ∷ xs) (suc k) zero l other = refl
-get_others [] (suc k) (suc j) l other = get_others [] k j l (λ e. other (ap suc e))
-get_others (x ∷ xs) (suc k) (suc j) l other = get_others xs k j l (λ e. other (ap suc e))
-
-pub list_others : (xs : List (List Place)) (p r : ℕ) (l : List Place) → r ≢ p → list_of r (with_list xs p l) ≡ list_of r xs
-list_others xs zero r l other = refl
-list_others xs (suc k) zero l other = refl
-list_others xs (suc k) (suc j) l other = get_others xs k j l (λ e. other (ap suc e))
+list_there xs (suc k) l some = list-own xs k l
 
 -- ---- lists
 

@@ -1,38 +1,10 @@
 -- What holds of a world that is pictured, and is as worlds are: an evaluation in an instance that has not made all keeps to what is around it.
 use Rattle.std.proofs.Common.{◌≡◌, ◌≢◌, ◌⊎◌, inl, inr, refl, sym, ap, ◌∙◌, subst, ℕ, zero, suc, Bool, true, false, List, [], ◌∷◌, length, Some}
-use Rattle.std.specs.Prelude.{if◌then◌else◌, slice_get}
-use Rattle.b67_list.specs.Numbered.{numbered}
-use Rattle.algol_tree.specs.Plain.{PProgram}
-use Rattle.algol_tree.specs.Scopes.{Scopes, scopes_of}
-use Rattle.algol_meaning.specs.World.{Instance, Process, Part, State, lives, World, instance_at, or_no_instance}
-use Rattle.algol_meaning.specs.Critical.{is_evaluation, own_instances}
-use Rattle.algol_paths.specs.Arrays.{all_to_make}
-use Rattle.algol_paths.specs.Blocks.{IsSeenAround}
-use Rattle.algol_paths.specs.Texts.{InRest}
-use Rattle.algol_standing.specs.Skeleton.{IsIn, Stack}
+use Rattle.b67_scenes.proofs.Prelude.{if◌then◌else◌, slice_get, numbered, PProgram, Scopes, scopes_of, Instance, Process, Part, State, lives, World, instance_at, or_no_instance, is_evaluation, own_instances, all_to_make, IsSeenAround, InRest, IsIn, Stack, IsAmong, IsNoBlock, IsOwn, IsStanding, IsWhole, skeleton, stack_of, IsOk, map_back, stack_forth, stands_path, Place, Word, Code, place, Image, Yields, Texts, Core, some_same, true_false, same_or_not, Layout, IsComplete, IsNarrow, ArePlaced, Frame, Around, Frames, Owned, complete_of, IsElsewhere, owned_frame, Lies, lies_in, Pictured, living, dead, PicturesBy}
 use Rattle.algol_standing.specs.Worlds as worlds
-use Rattle.algol_standing.specs.Worlds.{IsAmong, IsNoBlock, IsOwn, IsStanding, IsWhole, skeleton, stack_of}
-use Rattle.algol_standing.specs.Fitting.{IsOk}
-use Rattle.algol_standing.proofs.Pairs.{map_back, stack_forth}
 use Rattle.algol_standing.proofs.Seen.{there as there_is, parent_path}
-use Rattle.algol_standing.proofs.Standing.{stands_path}
-use Rattle.b67_word.specs.declared.Place.{Place}
-use Rattle.b67_word.specs.Word.{Word}
-use Rattle.b67_segment.specs.declared.code.Code.{Code}
-use Rattle.b67_table.specs.Chains.{place}
-use Rattle.b67_table.specs.Image.{Image}
-use Rattle.b67_templates.specs.Contexts.{Yields}
-use Rattle.b67_templates.specs.Programs.{Texts}
-use Rattle.b67_cores.specs.Cores.{Core}
-use Rattle.b67_faithful.proofs.Contradictions.{some_same, true_false}
-use Rattle.b67_rows.proofs.Numbers.{same_or_not}
-use Rattle.b67_frames.specs.Arrays.{Layout}
 use Rattle.b67_frames.specs.Frames as frames
-use Rattle.b67_frames.specs.Frames.{IsComplete, IsNarrow, IsPlaced, ArePlaced, Frame, Around, Frames, Owned}
-use Rattle.b67_frames.proofs.Completing.{complete_of}
-use Rattle.b67_frames.proofs.EventsLow.{IsElsewhere}
-use Rattle.b67_frames.proofs.Lying.{owned_frame, Lies, lies_in}
-use Rattle.b67_scenes.specs.Pictures.{Pictured, living, dead, PicturesBy}
+use Rattle.b67_frames.specs.Frames.{IsPlaced}
 
 -- where no part has an instance of its own, none of these has
 none_own : (parts : List Part) (part : Part) → own_instances parts ≡ [] → IsAmong parts part → is_evaluation part.purpose ≡ false → ⊥

@@ -1,5 +1,5 @@
 use Rattle.algol_tree.specs.Image.{program as plain}
-use Rattle.b67_compile.proofs.Compiled.{code_is_faithful}
+use Rattle.b67_compile.proofs.Compiled.{code_is_faithful, code_stacks}
 use Rattle.algol_front.proofs.Ordered.{source_in_order}
 use Rattle.b67_compile.proofs.Sources.{source_accepted, source_named, source_plain, source_whole}
 use Rattle.b67_compile.proofs.compiler.compile.Goals as goal
@@ -19,7 +19,12 @@ code_of-requires-clause-texts c = source_plain (plain c.args.checked.now.program
 pub code_of-requires-clause-named : goal.code_of-requires-clause-named
 code_of-requires-clause-named c = source_named (plain c.args.checked.now.program) c.args.checked.now.accepted
 
-pub returns : goal.returns
-returns c =
+pub returns-clause-faithful : goal.returns-clause-faithful
+returns-clause-faithful c =
     code_is_faithful (plain c.args.checked.now.program) c.code_of.result c.args.checked.now.accepted
+    c.code_of.ensures.code c.code_of.ensures.formats c.code_of.ensures.short c.code_of.ensures.listable
+
+pub returns-clause-stacks : goal.returns-clause-stacks
+returns-clause-stacks c =
+    code_stacks (plain c.args.checked.now.program) c.code_of.result c.args.checked.now.accepted
     c.code_of.ensures.code c.code_of.ensures.formats c.code_of.ensures.short c.code_of.ensures.listable
