@@ -12,3 +12,7 @@ AreWidest spans widest = (k : ℕ) → gap_before 0 spans k ≤ slice_index_or w
 -- nor is what is kept for a chunk wider than what is kept for its group
 abbrev pub AreOver : List ℕ → List ℕ → Type 0
 AreOver chunks groups = (k : ℕ) → slice_index_or chunks k 0 ≤ slice_index_or groups (k / GROUP) 0
+
+-- nor is any wider than this
+abbrev pub AreWithin : List ℕ → ℕ → Type 0
+AreWithin chunks most = (k : ℕ) → slice_index_or chunks k 0 ≤ most

@@ -23,7 +23,9 @@ use std::marker::Model;
 /// 4,096 spans before it, one for each 64 of the 4,096 in which it is, and one for each of the 64: for n spans by
 /// n / 4,096 + 128 steps. For each 64 spans it is kept how wide the gaps before them are at most. A bound may be wider than
 /// all of them where spans below others were opened or closed; the first search that comes to such a bound in vain
-/// makes it exact, by 192 steps. Closing finds the span by a step for each halving of n. The spans after one that is opened
+/// makes it exact, by 192 steps. Where no bound was so wide at the last search, and none was raised so far since, one step finds
+/// the end: rows that are opened one after another cost the same each, however many there are. Closing finds the span by a step
+/// for each halving of n, and the last one at once. The spans after one that is opened
 /// or closed are moved by one in their list, and one gap is looked at for each 64 of them, which may come into the bound
 /// of these; at the end, where a program closes first what it opened last, there are none. A row's words are zeroed; those
 /// of a stack are only where the list is lengthened. No word is moved.

@@ -4,6 +4,7 @@ ghost use Rattle.std.specs.List.{insert, remove};
 ghost use Rattle.std.specs.Vec.{vec_len};
 ghost use Rattle.b67_flat.specs.Spans.{Ascend, end_after, gap_before, first_fit, below, closed};
 ghost use Rattle.b67_flat.specs.Widest.{AreWidest};
+ghost use Rattle.b67_flat.specs.declared.Span.{Span as Seen};
 
 use crate::Span;
 use crate::widest::Widest;
@@ -107,7 +108,7 @@ fn fit_among(spans: &Vec<Span>, widest: &mut Widest, count: u64) -> usize
     ensures widest { AreWidest spans.now.items widest.new }
     ensures size { length widest.new ≡ length widest.old }
 {
-    let mut chunk = widest.next_wide(0, count);
+    let mut chunk = widest.first_wide(count);
     'chunks: while chunk * CHUNK < spans.len() {
         if let Some(at) = fit_in(spans, chunk * CHUNK, count) {
             return at;
@@ -117,6 +118,19 @@ fn fit_among(spans: &Vec<Span>, widest: &mut Widest, count: u64) -> usize
         chunk = widest.next_wide(chunk + 1, count);
     }
     spans.len()
+}
+
+// So many spans begin below a place, from the first one on: all but the last where the one before it does, else none.
+fn surely_below(spans: &Vec<Span>, place: u64) -> usize
+    requires { Ascend 0 spans.now.items }
+    ensures within { result ≤ vec_len spans.now }
+    ensures below { (k : ℕ) (other : Seen) → k < result → (slice_index_or spans.now.items k other).place < place }
+{
+    let count = spans.len();
+    if 2 <= count && spans[count - 2].place < place {
+        return count - 1;
+    }
+    0
 }
 
 impl Spans {
@@ -184,11 +198,12 @@ impl Spans {
         );
     }
 
-    // How many spans begin below a place. Work that grows with the logarithm of their number.
+    // How many spans begin below a place. A few steps where only the last one does not; else work that grows with the logarithm of
+    // their number.
     pub fn below(&self, place: u64) -> usize
         ensures { result ≡ below place self.now }
     {
-        let mut low = 0;
+        let mut low = surely_below(&self.spans, place);
         let mut high = self.spans.len();
         'halving: while low < high {
             let middle = low + (high - low) / 2;

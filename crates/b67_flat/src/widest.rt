@@ -9,24 +9,25 @@ use std::marker::Model;
 // So many chunks that follow one another are one group.
 pub const GROUP: usize = 64;
 
-// A bound for each chunk, and one for each group of them that is the widest of theirs.
+// A bound for each chunk, one for each group of them that is the widest of theirs, and one that none of them passes.
 #[derive(Drop)]
 pub struct Widest {
     chunks: Vec<u64>,
     groups: Vec<u64>,
+    most: u64,
 }
 
 impl Model for Widest {
     ghost use Rattle.std.specs.Prelude.{ℕ, List, ◌*◌, ◌≤◌};
     ghost use Rattle.std.specs.Vec.{vec_len};
-    ghost use Rattle.b67_flat.specs.Widest.{AreOver};
+    ghost use Rattle.b67_flat.specs.Widest.{AreOver, AreWithin};
     ghost use Rattle.b67_flat.specs.declared.widest.TheConstants.{GROUP};
 
     ghost Value = { List ℕ };
 
     ghost view = { λ w. w.chunks.items };
 
-    ghost invariant = { λ w. AreOver w.chunks.items w.groups.items × (vec_len w.chunks ≤ vec_len w.groups * GROUP) };
+    ghost invariant = { λ w. AreOver w.chunks.items w.groups.items × (vec_len w.chunks ≤ vec_len w.groups * GROUP) × AreWithin w.chunks.items w.most };
 }
 
 // The widest of the bounds of the group that begins with this chunk.
@@ -50,6 +51,7 @@ impl Widest {
         Widest {
             chunks: Vec::new(alloc),
             groups: Vec::new(alloc),
+            most: 0,
         }
     }
 
@@ -100,6 +102,7 @@ impl Widest {
             let group = chunk / GROUP;
             self.chunks[chunk] = width;
             self.groups[group] = self.groups[group].max(width);
+            self.most = self.most.max(width);
         }
     }
 
@@ -111,6 +114,7 @@ impl Widest {
         self.chunks[chunk] = width;
         let group = chunk / GROUP;
         self.groups[group] = widest_of(&self.chunks, group * GROUP);
+        self.most = self.most.max(width);
     }
 
     // How many chunks from this one on are passed over, since no bound of theirs is so wide: those of the group that begins
@@ -140,6 +144,24 @@ impl Widest {
                 return chunk;
             }
             chunk += passed.min(self.chunks.len() - chunk);
+        }
+        chunk
+    }
+
+    // The first chunk whose bound is so wide; the number of all where there is none. One step where a search for less found
+    // none, and no bound was raised so far since; else work as for the next one from the first on.
+    pub fn first_wide(&mut self, width: u64) -> usize
+        requires { 1 ≤ width }
+        ensures within { result ≤ length self.new }
+        ensures narrow { (k : ℕ) → k < result → slice_index_or self.new k 0 < width }
+        ensures same { self.new ≡ self.old }
+    {
+        if self.most < width {
+            return self.chunks.len();
+        }
+        let chunk = self.next_wide(0, width);
+        if chunk == self.chunks.len() {
+            self.most = width - 1;
         }
         chunk
     }
