@@ -7,4 +7,5 @@ pub mod Stretching
 pub mod Landing
 pub mod Made
 pub mod Sharing
+pub mod Bursts
 pub mod Seats

@@ -83,6 +83,22 @@ acted_more acted.NotOut before now e = omega (arith, e)
 acted_more acted.Over before now e = omega (arith, e)
 acted_more acted.NoMemory before now e = omega (arith, e)
 
+-- more acts after it are as many before it
+pub acted_further : (answer : Acted) (before now more : ℕ) → IsActed answer before now → IsActed answer (before + more) (now + more)
+acted_further acted.Went before now more e = omega (arith, e)
+acted_further acted.Waits before now more e = omega (arith, e)
+acted_further acted.NotOut before now more e = omega (arith, e)
+acted_further acted.Over before now more e = omega (arith, e)
+acted_further acted.NoMemory before now more e = omega (arith, e)
+
+-- where an act was counted, an action was performed
+pub counted_action : (done : Option Done) (answer : Acted) → answer ≡ answer_to done → 1 ≤ acts_in answer → is_action done ≡ true
+counted_action done answer e some = by (is_action done) refl
+  where
+    by : (b : Bool) → is_action done ≡ b → b ≡ true
+    by true same = refl
+    by false same = absurd (omega (arith, some, ap acts_in e ∙ action_counts done ∙ ap one_if same))
+
 -- ---- of a plant that is shared
 
 -- the book of acts after an act

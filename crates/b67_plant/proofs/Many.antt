@@ -1,6 +1,6 @@
 -- Entries of a process one after another, on a plant: what stands before the last one.
 use Rattle.std.specs.Prelude.{IfSome, slice_get}
-use Rattle.std.proofs.Common.{◌≡◌, refl, sym, ap, subst, ◌∙◌, ℕ, zero, suc, ◌+◌, ◌-◌, ◌≤◌, ◌<◌, Bool, true, false, List, [], ◌∷◌, ◌++◌, length, length-append, take, get_or, replicate, Option, Some, None, arith}
+use Rattle.std.proofs.Common.{◌≡◌, refl, sym, ap, subst, ◌∙◌, ℕ, zero, suc, ◌+◌, ◌-◌, ◌≤◌, ◌<◌, true, false, List, [], ◌∷◌, ◌++◌, length, length-append, take, get_or, replicate, Option, Some, None, arith}
 use Rattle.std.proofs.lemmas.List.{length-take-le}
 use Rattle.b67_deeds.specs.declared.Letter.{Letter}
 use Rattle.b67_segment.specs.declared.code.Code.{Code}
@@ -115,11 +115,6 @@ first_is [] rest zero e = refl
 first_is [] rest (suc n) e = absurd (omega (arith, e))
 first_is (l ∷ part) rest zero e = absurd (omega (arith, e))
 first_is (l ∷ part) rest (suc n) e = ap (λ (xs : List Letter). l ∷ xs) (first_is part rest n (omega (arith, e)))
-
--- only where many are wanted, more than one letter can be noted
-pub is_many : (b : Bool) (most : ℕ) (notes : List Letter) → (b ≡ false → most ≤ 1) → 1 < length (take most notes) → b ≡ true
-is_many true most notes h more = refl
-is_many false most notes h more = absurd (omega (arith, more, first_few notes most, h refl))
 
 -- the letter of an action that was performed is that which was found
 letter_there : (before notes : List Letter) (most n : ℕ) (found : Letter) (kept : Option Letter) (after : List Letter) → n < length (take most notes)

@@ -1,25 +1,23 @@
 -- What the calls of processors that share a plant leave.
-use Rattle.std.proofs.Common.{◌≡◌, inl, inr, refl, sym, ap, subst, ◌∙◌, ℕ, zero, suc, ◌≤◌, Bool, true, false, Option, Some, None, List, arith}
+use Rattle.std.proofs.Common.{◌≡◌, refl, sym, subst, ℕ, zero, suc, ◌≤◌, Bool, true, false, Option, Some, None, List, arith}
 use Rattle.std.specs.Prelude.{◌≢◌}
 use Rattle.b67_list.specs.Numbered.{numbered}
 use Rattle.b67_segment.specs.declared.code.Code.{Code}
 use Rattle.b67_table.specs.declared.ProcessState.{ProcessState}
 use Rattle.b67_table.specs.Image.{is_able}
 use Rattle.b67_table.proofs.Lists.{numbered_within}
-use Rattle.b67_processors.specs.declared.Acted.{Acted}
 use Rattle.b67_stands.specs.Running.{Running, answer_of}
 use Rattle.b67_stands.specs.Picked.{Pick}
 use Rattle.b67_stands.specs.Placing.{holder_of}
 use Rattle.b67_stands.specs.Stands.{Stands}
 use Rattle.b67_stands.proofs.Places.{held_able}
-use Rattle.b67_stands.specs.Shared.{Shared, take, land, act, leave, IsFree, with_acts}
+use Rattle.b67_stands.specs.Shared.{Shared, take, land, leave, IsFree}
 use Rattle.b67_plant.specs.declared.taking.Taken.{Taken}
 use Rattle.b67_plant.specs.declared.taking.Taken.TheVariants as taken
 use Rattle.b67_plant.specs.declared.taking.PlantLanding.{PlantLanding}
 use Rattle.b67_plant.specs.declared.taking.PlantLanding.TheVariants as landings
 use Rattle.b67_plant.specs.Parcels.{Stretch}
-use Rattle.b67_plant.specs.Calls.{Takes, LandsOrStays, Acts, acts_in, LeavesOr}
-use Rattle.b67_plant.proofs.Made.{no_acts, refused_none, action_counts}
+use Rattle.b67_plant.specs.Calls.{Takes, LandsOrStays, LeavesOr}
 
 -- ---- the calls
 
@@ -40,19 +38,6 @@ module _ (code : Code) (budget : ℕ) (pick : Pick) (processors : ℕ) (acts : L
   landed_on me s landings.NotOut one t = as_it_was t.2
   landed_on me s landings.Over one t = as_it_was t.1
   landed_on me s landings.Lacked one t = as_it_was t.1
-
-  -- no act is counted, and all is as it was
-  none_made : (me n : ℕ) → n ≡ 0 → new ≡ old → Shared code budget pick processors (with_acts acts me n) new
-  none_made me n none same =
-      subst (λ (xs : List ℕ). Shared code budget pick processors xs new) (sym (no_acts acts me) ∙ ap (with_acts acts me) (sym none)) (as_it_was same)
-
-  pub acted_on : (me p : ℕ) (answer : Acted) → 1 ≤ me → me ≤ processors → Acts budget me p old answer new
-      → Shared code budget pick processors (with_acts acts me (acts_in answer)) new
-  acted_on me p answer one most (inl t) = none_made me (acts_in answer) (refused_none (answer_of budget old) answer t.0) t.1
-  acted_on me p answer one most (inr (inl (going, other, same, e))) = none_made me (acts_in answer) (ap acts_in e) same
-  acted_on me p answer one most (inr (inr (going, mine, (performed, made, e)))) =
-      subst (λ (n : ℕ). Shared code budget pick processors (with_acts acts me n) new) (sym (ap acts_in e ∙ action_counts performed.done))
-      (act me p performed shared going one most mine made)
 
   pub left_on : (has_left : Bool) → answer_of budget old ≢ None → LeavesOr has_left old new → Shared code budget pick processors acts new
   left_on true ended t = leave shared ended t

@@ -19,6 +19,7 @@ use Rattle.b67_stands.specs.Running.{Running, spends, answer_of}
 use Rattle.b67_stands.specs.Placing.{holder_of}
 use Rattle.b67_stands.specs.Picked.{Pick}
 use Rattle.b67_stands.specs.Calls.{TakesOne, LandsOnce, GoesBack, ActsOnce, Leaves}
+use Rattle.b67_stands.specs.Turns.{ActsMany}
 use Rattle.b67_machine.specs.Parts.{private_part, part_list, FirstDiffer}
 use Rattle.b67_plant.specs.Parcels.{Stretch, StartsAs, IsWorked}
 
@@ -122,6 +123,13 @@ Acts budget me p old answer new =
     ((refusal (answer_of budget old) ≡ Some answer) × (new ≡ old))
     ⊎ ((answer_of budget old ≡ None) × (holder_of old.out p ≢ me) × (new ≡ old) × (answer ≡ acted.NotOut))
     ⊎ ((answer_of budget old ≡ None) × (holder_of old.out p ≡ me) × ((performed : Performed) × ActsOnce budget old p performed new × (answer ≡ answer_to performed.done)))
+
+-- The same, but where it acts, it does so after turns of its own, after each of which it is taken again.
+abbrev pub ActsThen : Pick → ℕ → ℕ → ℕ → Running → Acted → ℕ → Running → Type 0
+ActsThen pick budget me p old answer turns new =
+    ((refusal (answer_of budget old) ≡ Some answer) × (new ≡ old) × (turns ≡ 0))
+    ⊎ ((answer_of budget old ≡ None) × (holder_of old.out p ≢ me) × (new ≡ old) × (answer ≡ acted.NotOut) × (turns ≡ 0))
+    ⊎ ((answer_of budget old ≡ None) × (holder_of old.out p ≡ me) × ((performed : Performed) × ActsMany pick budget old p turns performed new × (answer ≡ answer_to performed.done)))
 
 -- ---- leave
 

@@ -9,13 +9,14 @@ ghost use Rattle.b67_machine.specs.Reads.{machine_end};
 ghost use Rattle.b67_machine.specs.declared.entry.Performed.{Performed as ThePerformed};
 ghost use Rattle.b67_processors.specs.Acts.{IsActed};
 ghost use Rattle.b67_plant.specs.Calls.{answer_to};
+ghost use Rattle.b67_plant.specs.declared.TheConstants.{NOTES};
 ghost use Rattle.b67_stands.specs.Calls.{ActsOnce};
 ghost use Rattle.b67_stands.specs.Placing.{holder_of};
 ghost use Rattle.b67_stands.specs.Running.{answer_of};
 ghost use Rattle.b67_stands.specs.Turns.{ActsMany};
 
 use crate::placing::{answer_to, is_action, lacks};
-use crate::{NOTES, Named, Plant, Seat};
+use crate::{NOTES, Named, Plant, SHARE, Seat};
 use b67_deeds::Letter;
 use b67_joining::join_queue;
 use b67_machine::{Entered, Machine};
@@ -62,24 +63,47 @@ impl<N: Named, L: Ledger, C: Core, P: Rule> Plant<N, L, C, P> {
         ensures leaves { seat.new.left ≡ seat.old.left }
         ensures mark { seat.new.mark ≡ seat.old.mark }
     {
-        self.enter_many(process, false, seat)
+        self.enter_many(process, 1, seat).0
     }
 
-    // Entries of a process that is out, one after another: where nobody waits, as many as letters can be noted, after each of which but the
-    // last it is taken again; else one. What is answered is of the last one.
-    pub fn enter_many(&mut self, process: u32, many: bool, seat: &mut Seat<N, L>) -> Acted
+    // How many entries a processor that shares the plant may perform beyond one before the others have it: the more, the longer the schedule is.
+    pub fn further(&self) -> u32
+        ensures { result < NOTES }
+    {
+        (self.schedule.len() / SHARE).min(NOTES as u64 - 1) as u32
+    }
+
+    // How many entries of one process are performed at once: where nobody waits, so many beyond one; else one.
+    pub fn at_once(&self, further: u32) -> usize
+        requires { further < NOTES }
+        ensures some { 1 ≤ result }
+        ensures few { result ≤ NOTES }
+        ensures alone { 1 < result → self.now.waiting ≡ [] }
+    {
+        if self.is_alone() {
+            further as usize + 1
+        } else {
+            1
+        }
+    }
+
+    // Entries of a process that is out, one after another, at most so many: after each of them but the last it is taken again, since nobody
+    // waits. What is answered is what the last one came to, and how many there were before it.
+    pub fn enter_many(&mut self, process: u32, most: usize, seat: &mut Seat<N, L>) -> (Acted, u32)
         requires going { answer_of N.budget self.old ≡ None }
         requires out { 1 ≤ holder_of self.old.out process }
-        requires alone { many ≡ true → self.old.waiting ≡ [] }
-        ensures acts { (turns : ℕ) × (many ≡ false → turns ≡ 0) × (performed : ThePerformed) × ActsMany N.pick N.budget self.old process turns performed self.new × (result ≡ answer_to performed.done)
-            × IsActed result (seat.old.count + turns) seat.new.count }
+        requires some { 1 ≤ most }
+        requires few { most ≤ NOTES }
+        requires alone { 1 < most → self.old.waiting ≡ [] }
+        ensures acts { (performed : ThePerformed) × ActsMany N.pick N.budget self.old process result.1 performed self.new × (result.0 ≡ answer_to performed.done) }
+        ensures one { most ≤ 1 → result.1 ≡ 0 }
+        ensures count { IsActed result.0 (seat.old.count + result.1) seat.new.count }
         ensures fits { seat.new.count < 2 ^ 64 }
         ensures leaves { seat.new.left ≡ seat.old.left }
         ensures mark { seat.new.mark ≡ seat.old.mark }
     {
         let _count = seat.count;
         let before = self.machine.started();
-        let most = if many { NOTES } else { 1 };
         let left = self.budget - self.spent;
         let entered = perform_most(&mut self.machine, process, &mut self.notes, most, left);
         let last = entered.last;
@@ -94,7 +118,7 @@ impl<N: Named, L: Ledger, C: Core, P: Rule> Plant<N, L, C, P> {
         seat.count += u64::from(entered.entries);
         let answer = answer_to(last.done);
         if !is_action(last.done) {
-            return answer;
+            return (answer, entered.entries);
         }
         self.spent += 1;
         self.schedule.push(process, self.notes[entries]);
@@ -102,6 +126,6 @@ impl<N: Named, L: Ledger, C: Core, P: Rule> Plant<N, L, C, P> {
         join_queue(&self.machine, &mut self.ready, before, process);
         self.acts.add(&mut seat.acts, 1);
         seat.count += 1;
-        answer
+        (answer, entered.entries)
     }
 }

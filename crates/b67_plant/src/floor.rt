@@ -2,8 +2,8 @@
 ghost use Rattle.std.specs.Prelude.{◌≡◌, ◌≢◌, ◌+◌, ◌<◌, ◌≤◌, ◌^◌, true, false, None};
 ghost use Rattle.b67_processors.specs.Acts.{IsActed};
 ghost use Rattle.b67_stands.specs.Running.{answer_of};
-ghost use Rattle.b67_stands.specs.Shared.{Shared};
-ghost use Rattle.b67_plant.specs.Calls.{LandsOrStays, Acts, LeavesOr};
+ghost use Rattle.b67_stands.specs.Shared.{Shared, IsFree};
+ghost use Rattle.b67_plant.specs.Calls.{LandsOrStays, ActsThen, LeavesOr};
 
 use crate::placing::acts_in;
 use crate::{Ahead, Named, Parcel, Plant, PlantLanding, Seat, Taken};
@@ -96,19 +96,86 @@ impl<N: Named, L: Ledger, C: Core, P: Rule> Floor<N, L, C, P> {
         self.plant.land_or_stay(me, parcel)
     }
 
-    // The action of a process, as the plant's. It is counted of the processor, whose seat it is, where it was performed.
-    pub fn act(&mut self, me: u32, process: u32, seat: &mut Seat<N, L>) -> Acted
+    // Actions of a process, as the plant's: what the last one came to, and how many there were before it. They are counted of the processor,
+    // whose seat it is, where they were performed.
+    pub fn act(&mut self, me: u32, process: u32, seat: &mut Seat<N, L>) -> (Acted, u32)
         requires me { (1 ≤ me) × (me ≤ N.processors) }
         requires whose { seat.old.mark.place + 1 ≡ me }
-        ensures acts { Acts N.budget me process self.old result self.new }
-        ensures count { IsActed result seat.old.count seat.new.count }
+        ensures acts { ActsThen N.pick N.budget me process self.old result.0 result.1 self.new }
+        ensures count { IsActed result.0 (seat.old.count + result.1) seat.new.count }
         ensures fits { seat.new.count < 2 ^ 64 }
         ensures leaves { seat.new.left ≡ seat.old.left }
         ensures whose { seat.new.mark.place ≡ seat.old.mark.place }
     {
-        let acted = self.plant.act(me, process, seat);
-        self.tally.add(&mut seat.mark, acts_in(acted));
-        acted
+        let (acted, before) = self.plant.act_many(me, process, seat);
+        self.tally
+            .add(&mut seat.mark, u64::from(before) + acts_in(acted));
+        (acted, before)
+    }
+
+    // One turn more of a processor with which nobody is out, while the run goes on: the process at the place that the rule picks is taken, and
+    // acts. It answers how many actions were performed, and whether another turn may follow.
+    fn turn(&mut self, me: u32, seat: &mut Seat<N, L>) -> (u64, bool)
+        requires me { (1 ≤ me) × (me ≤ N.processors) }
+        requires whose { seat.old.mark.place + 1 ≡ me }
+        requires free { IsFree me self.old }
+        requires fits { seat.old.count < 2 ^ 64 }
+        ensures free { result.1 ≡ true → IsFree me self.new }
+        ensures count { seat.new.count ≡ seat.old.count + result.0 }
+        ensures fits { seat.new.count < 2 ^ 64 }
+        ensures leaves { seat.new.left ≡ seat.old.left }
+        ensures whose { seat.new.mark.place ≡ seat.old.mark.place }
+    {
+        if self.plant.answer().is_some() {
+            return (0, false);
+        }
+        let Some(process) = self.plant.pick(me) else {
+            return (0, false);
+        };
+        let most = self.plant.at_once(self.plant.further());
+        let (acted, before) = self.plant.enter_many(process, most, seat);
+        let last = acts_in(acted);
+        let made = u64::from(before) + last;
+        self.tally.add(&mut seat.mark, made);
+        (made, last > 0)
+    }
+
+    // Turns more of a processor after its act, the more, the longer the schedule is; and how many actions were performed. There are none where
+    // somebody is still out with it.
+    pub fn turns(&mut self, me: u32, seat: &mut Seat<N, L>) -> u64
+        requires me { (1 ≤ me) × (me ≤ N.processors) }
+        requires whose { seat.old.mark.place + 1 ≡ me }
+        requires fits { seat.old.count < 2 ^ 64 }
+        ensures count { seat.new.count ≡ seat.old.count + result }
+        ensures fits { seat.new.count < 2 ^ 64 }
+        ensures leaves { seat.new.left ≡ seat.old.left }
+        ensures whose { seat.new.mark.place ≡ seat.old.mark.place }
+    {
+        let mut left = self.plant.further();
+        if left == 0 || !self.is_free(me) {
+            return 0;
+        }
+        let mut made = 0;
+        'turns: while left > 0 {
+            left -= 1;
+            let (more, goes) = self.turn(me, seat);
+            made += more;
+            if !goes {
+                return made;
+            }
+        }
+        made
+    }
+
+    // Tests that the run goes on, and that nobody is out with a processor.
+    fn is_free(&self, me: u32) -> bool
+        requires { 1 ≤ me }
+        ensures { result ≡ true → IsFree me self.now }
+    {
+        match self.plant.answer() {
+            Some(_) => false,
+            None => self.plant.out_with(me).is_none(),
+        }
     }
 
     // A processor stops, as the plant says.

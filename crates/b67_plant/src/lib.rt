@@ -38,6 +38,9 @@ pub use working::Parcel;
 // As many letters are noted at once.
 const NOTES: usize = 1_024;
 
+// A processor performs an entry more, before others have the plant, for each so many that the schedule has.
+const SHARE: u64 = 64;
+
 /// Which run a plant is of: nothing of a plant is known across its lock but what its type says.
 pub trait Named: Ledger {
     ghost code: { MachineCode };

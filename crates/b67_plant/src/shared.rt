@@ -1,7 +1,7 @@
 // The plant behind its lock.
 //
 // Under the lock lie landing, action and the copy of the process that is taken next: an entry holds it once, from its landing until the next
-// process is taken. Where nobody is ready a processor waits, and takes the lock once more. A parcel is worked outside, and so it begins and
+// process is taken. In a long run further turns are made meanwhile, so that what lies about an entry is done once for many. Where nobody is ready a processor waits, and takes the lock once more. A parcel is worked outside, and so it begins and
 // ends there.
 ghost use Rattle.std.specs.Prelude.{◌≡◌, ◌≢◌, ℕ, ◌+◌, ◌<◌, ◌≤◌, ◌^◌, List, true, false, Some};
 ghost use Rattle.std.specs.Sync.Mutex.{mutex_guard_value};
@@ -236,21 +236,23 @@ impl<'a, N: Named + Send + Sync, L: Ledger + Send + Sync, C: Core + Send, P: Rul
         refused(landing)
     }
 
-    // Under the lock of the landing the processor takes its next process too, where one is ready. The others are woken after it.
+    // Under the lock of the landing the processor makes further turns, and takes its next process too, where one is ready. The others are woken
+    // after it.
     fn act<R: Threads + Wait + Sync>(
         &self,
         _rt: &R,
         me: u32,
         pass: Pass<'a, N, L, C, P>,
         seat: &mut Seat<N, L>,
-    ) -> Acted {
+    ) -> (Acted, u64) {
         let Pass { mut floor, process } = pass;
         let before = floor.plant().waiting();
-        let acted = floor.act(me, process, seat);
+        let (acted, others) = floor.act(me, process, seat);
+        let more = floor.turns(me, seat);
         let has_ended = take_next(&mut *floor, me, seat);
         let joined = floor.plant().waiting().saturating_sub(before);
         drop(floor);
         self.wake(has_ended, joined);
-        acted
+        (acted, u64::from(others) + more)
     }
 }

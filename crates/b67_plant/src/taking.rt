@@ -2,7 +2,8 @@
 ghost use Rattle.std.specs.Prelude.{◌≡◌, ◌≢◌, ℕ, ◌+◌, ◌-◌, ◌<◌, ◌≤◌, ◌^◌, nat_le, true, false, None, Some, IfSome, length};
 ghost use Rattle.b67_processors.specs.Acts.{IsActed};
 ghost use Rattle.b67_table.specs.Limits.{most_processes};
-ghost use Rattle.b67_plant.specs.Calls.{Picks, Takes, Lands, LandsOrStays, LandsWell, Acts, LeavesOr, LackingIsKept};
+ghost use Rattle.b67_table.specs.Sound.{Sound};
+ghost use Rattle.b67_plant.specs.Calls.{Picks, Takes, Lands, LandsOrStays, LandsWell, Acts, ActsThen, LeavesOr, LackingIsKept};
 ghost use Rattle.b67_plant.specs.Parcels.{IsCopied, StartsAs};
 ghost use Rattle.b67_stands.specs.Calls.{GoesBack};
 ghost use Rattle.b67_stands.specs.Placing.{holder_of};
@@ -63,6 +64,7 @@ impl<N: Named, L: Ledger, C: Core, P: Rule> Plant<N, L, C, P> {
     pub fn answer(&self) -> Option<Replayed>
         ensures value { result ≡ answer_of N.budget self.now }
         ensures stands { Stands N.code N.budget self.now }
+        ensures sound { Sound N.code }
     {
         if self.lacked {
             return Some(Replayed::NoMemory);
@@ -170,6 +172,29 @@ impl<N: Named, L: Ledger, C: Core, P: Rule> Plant<N, L, C, P> {
             return Acted::NotOut;
         }
         self.enter(process, seat)
+    }
+
+    /// Performs entries as [`act`](Plant::act) does: where nobody waits, one after another, after each of which but the last the process is
+    /// taken again, and the more, the longer the schedule is. What is answered is what the last one came to, and how many there were before it.
+    pub fn act_many(&mut self, me: u32, process: u32, seat: &mut Seat<N, L>) -> (Acted, u32)
+        requires { 1 ≤ me }
+        ensures acts { ActsThen N.pick N.budget me process self.old result.0 result.1 self.new }
+        ensures count { IsActed result.0 (seat.old.count + result.1) seat.new.count }
+        ensures fits { seat.new.count < 2 ^ 64 }
+        ensures leaves { seat.new.left ≡ seat.old.left }
+        ensures mark { seat.new.mark ≡ seat.old.mark }
+        ensures stands { Stands N.code N.budget self.old }
+        ensures sound { Sound N.code }
+    {
+        let _count = seat.count;
+        if let Some(refused) = refusal(self.answer()) {
+            return (refused, 0);
+        }
+        if me != self.holder(process) {
+            return (Acted::NotOut, 0);
+        }
+        let most = self.at_once(self.further());
+        self.enter_many(process, most, seat)
     }
 
     /// Lands a parcel: its operators are performed on the machine, where its start is the private part that is kept. Else its process goes

@@ -4,7 +4,7 @@
 mod gates;
 
 ghost use Rattle.std.specs.Prelude.{◌≡◌, ℕ, ◌+◌, ◌<◌, ◌≤◌, ◌^◌, true};
-ghost use Rattle.b67_processors.specs.Acts.{IsActed, HasTaken, HasGiven};
+ghost use Rattle.b67_processors.specs.Acts.{IsActed, HasTaken};
 
 pub use gates::{Gate, Meeting, Open};
 use std::sync::Wait;
@@ -97,17 +97,17 @@ pub trait Shop: Sync {
         requires me { (1 ≤ me) × (me ≤ processors self.now) }
         requires worked { worked self.now parcel.now };
 
-    /// Performs an action, by leave of a landing.
+    /// Performs actions, by leave of a landing, and answers what the last one came to, and how many were performed before it.
     fn act<R: Threads + Wait + Sync>(
         &self,
         rt: &R,
         me: u32,
         pass: Self::Pass,
         seat: &mut Self::Seat,
-    ) -> Acted
+    ) -> (Acted, u64)
         requires me { (1 ≤ me) × (me ≤ processors self.now) }
         requires whose { whose seat.old ≡ me }
-        ensures count { IsActed result (count seat.old) (count seat.new) }
+        ensures count { IsActed result.0 (count seat.old + result.1) (count seat.new) }
         ensures fits { count seat.new < 2 ^ 64 }
         ensures leaves { leaves seat.new ≡ leaves seat.old }
         ensures parts { parts seat.new ≡ parts seat.old }
@@ -139,8 +139,9 @@ pub fn serve<S: Shop, G: Gate, R: Threads + Wait + Sync>(
                 shop.work(parcel);
                 gate.pass(rt, me, turn);
                 turn = turn.saturating_add(1);
-                if lands_and_acts(rt, shop, me, parcel, seat) {
-                    acts += 1;
+                let more = lands_and_acts(rt, shop, me, parcel, seat);
+                if more > 0 {
+                    acts += more;
                 }
             }
         }
@@ -148,33 +149,33 @@ pub fn serve<S: Shop, G: Gate, R: Threads + Wait + Sync>(
     unreachable!()
 }
 
-/// Lands the parcel and acts, and says whether an act was counted.
+/// Lands the parcel and acts, and answers how many acts were counted.
 fn lands_and_acts<S: Shop, R: Threads + Wait + Sync>(
     rt: &R,
     shop: &S,
     me: u32,
     parcel: &S::Parcel,
     seat: &mut S::Seat,
-) -> bool
+) -> u64
     requires me { (1 ≤ me) × (me ≤ S.processors shop.now) }
     requires whose { S.whose seat.old ≡ me }
     requires worked { S.worked shop.now parcel.now }
-    ensures count { HasGiven result (S.count seat.old) (S.count seat.new) }
-    ensures fits { result ≡ true → S.count seat.new < 2 ^ 64 }
+    ensures count { S.count seat.new ≡ S.count seat.old + result }
+    ensures fits { 1 ≤ result → S.count seat.new < 2 ^ 64 }
     ensures leaves { S.leaves seat.new ≡ S.leaves seat.old }
     ensures parts { S.parts seat.new ≡ S.parts seat.old }
     ensures whose { S.whose seat.new ≡ S.whose seat.old }
 {
     match shop.land(rt, me, parcel) {
         Landing::Landed(pass) => match shop.act(rt, me, pass, seat) {
-            Acted::Went => true,
-            Acted::Waits => true,
-            Acted::NotOut => false,
-            Acted::Over => false,
-            Acted::NoMemory => false,
+            (Acted::Went, before) => before + 1,
+            (Acted::Waits, before) => before + 1,
+            (Acted::NotOut, before) => before,
+            (Acted::Over, before) => before,
+            (Acted::NoMemory, before) => before,
         },
-        Landing::Stale => false,
-        Landing::NotOut => false,
-        Landing::Over => false,
+        Landing::Stale => 0,
+        Landing::NotOut => 0,
+        Landing::Over => 0,
     }
 }

@@ -1,8 +1,7 @@
 use Rattle.std.specs.Prelude.{slice_set}
-use Rattle.std.proofs.Common.{◌≡◌, refl, sym, ap, subst, ◌∙◌, true≢false, ℕ, ◌+◌, ◌-◌, ◌≤◌, ◌<◌, true, false, List, [], ◌++◌, length, take, get_or, None, arith}
+use Rattle.std.proofs.Common.{◌≡◌, refl, sym, ap, subst, ◌∙◌, ℕ, ◌+◌, ◌-◌, ◌≤◌, ◌<◌, true, false, List, [], ◌++◌, length, take, get_or, None, arith}
 use Rattle.std.proofs.lemmas.List.{length-take-le, with_items_is}
 use Rattle.b67_deeds.specs.declared.Letter.{Letter}
-use Rattle.b67_plant.specs.declared.TheConstants.{NOTES}
 use Rattle.b67_schedule.specs.Schedules.{Kept as Schedule}
 use Rattle.b67_ready.specs.Ready.{counted_times}
 use Rattle.b67_joining.specs.Joining.{joining}
@@ -19,29 +18,23 @@ use Rattle.b67_stands.proofs.Acting.{Given, stands_after}
 use Rattle.b67_stands.proofs.Turns.{turned, Grown}
 use Rattle.b67_plant.proofs.Lacking.{lacked_after}
 use Rattle.b67_plant.proofs.Entered.{budget_is, counted_spent, letters_entries, once, given, entered, entered_once, entered_is, queue_fits}
-use Rattle.b67_plant.proofs.Many.{one_picked, same_queue, counts_none, counts_one, number, less, operators_few, entries_few, started_same, spent_few, acts_on, stands_then, last_performs, entries_then, grown_by, is_many, letter_noted, first_few, first_within}
-use Rattle.b67_plant.proofs.Plant.enter_many.Goals.{then-many, else-many}
+use Rattle.b67_plant.proofs.Many.{one_picked, same_queue, counts_none, counts_one, number, less, operators_few, entries_few, started_same, spent_few, acts_on, stands_then, last_performs, entries_then, grown_by, letter_noted, first_few, first_within}
 use Rattle.b67_plant.proofs.Plant.enter_many.Goals as goal
 
-pub perform_most-entered-requires-clause-some : goal.perform_most-entered-requires-clause-some
-perform_most-entered-requires-clause-some g c = elim c.if-many.branch [ then-many w ↦ omega (arith, w.most-is) | else-many w ↦ omega (arith, w.most-is) ]
-
 pub perform_most-entered-requires-clause-room : goal.perform_most-entered-requires-clause-room
-perform_most-entered-requires-clause-room g c =
-    let few : c.if-many.most ≤ NOTES = elim c.if-many.branch [ then-many w ↦ omega (arith, w.most-is) | else-many w ↦ omega (arith, w.most-is) ] in
-    omega (arith, few, ap length c.deref_mut.ensures.value, c.self.invariant.7)
+perform_most-entered-requires-clause-room g c = omega (arith, c.requires.few, ap length c.deref_mut.ensures.value, c.self.invariant.7)
 
 pub slice_bounds-push_many-end : goal.slice_bounds-push_many-end
 slice_bounds-push_many-end g c =
     let notes : List Letter = c.perform_most-entered.new.notes in
     let whole = with_items_is c.self.inside.notes notes (c.perform_most-entered.ensures.size ∙ c.deref_mut.ensures.len) in
     sym (length-take-le c.perform_most-entered.result.entries c.deref.result.now
-    (omega (arith, c.perform_most-entered.ensures.performs.few, first_within notes c.if-many.most, ap length (c.deref.ensures.value ∙ whole))))
+    (omega (arith, c.perform_most-entered.ensures.performs.few, first_within notes c.args.most, ap length (c.deref.ensures.value ∙ whole))))
 
 pub index-requires : goal.index-requires
 index-requires g c =
     let notes : List Letter = c.perform_most-entered.new.notes in
-    omega (arith, c.perform_most-entered.ensures.performs.few, first_within notes c.if-many.most, c.perform_most-entered.ensures.size, c.deref_mut.ensures.len)
+    omega (arith, c.perform_most-entered.ensures.performs.few, first_within notes c.args.most, c.perform_most-entered.ensures.size, c.deref_mut.ensures.len)
 
 pub perform_most-entered-requires-clause-count : goal.perform_most-entered-requires-clause-count
 perform_most-entered-requires-clause-count g c =
@@ -78,13 +71,11 @@ push_many-requires-clause-room g c =
     let going : answer_of g.N.Named.budget old ≡ None = subst (λ (s : Running). answer_of g.N.Named.budget s ≡ None) (sym c.self.view_is) c.requires.going in
     let held : 1 ≤ holder_of c.self.inside.out.items c.args.process = subst (λ (s : Running). 1 ≤ holder_of s.out c.args.process) (sym c.self.view_is) c.requires.out in
     let notes : List Letter = c.perform_most-entered.new.notes in
-    let most = c.if-many.most in
+    let most = c.args.most in
     let part : List Letter = take most notes in
-    let one : c.args.many ≡ false → most ≤ 1 =
-    λ f. elim c.if-many.branch [ then-many w ↦ absurd (true≢false (sym w.if-many.true ∙ f)) | else-many w ↦ omega (arith, w.most-is) ] in
     let alone : 1 < length part → c.self.inside.ready.waiting ≡ [] =
     λ h. subst (λ (s : Running). s.waiting ≡ []) (sym c.self.view_is)
-    (c.requires.alone (is_many c.args.many most notes one h)) in
+    (c.requires.alone (omega (arith, h, first_few notes most))) in
     let first = one_picked g.P.Rule.pick g.N.Named.pick c.self.inside.ready.rule g.met.P.Rule.within i.4 in
     omega (arith, entries_few g.N.Named.code g.N.Named.budget g.N.Named.pick old c.args.process part c.self.inside.budget c.perform_most-entered.result c.perform_most-entered.new.machine i.1 i.0 going held alone i.2 i.3 first c.perform_most-entered.ensures.performs, operators_few g.N.Named.code g.N.Named.budget g.N.Named.pick old c.args.process part c.self.inside.budget c.perform_most-entered.result c.perform_most-entered.new.machine i.1 i.0 going held alone i.2 i.3 first c.perform_most-entered.ensures.performs, letters_entries g.N.Named.code g.N.Named.budget old i.0, first_few c.deref.result.now c.perform_most-entered.result.entries, spent_few g.N.Named.code g.N.Named.budget g.N.Named.pick old c.args.process part c.self.inside.budget c.perform_most-entered.result c.perform_most-entered.new.machine i.1 i.0 going held alone i.2 i.3 first c.perform_most-entered.ensures.performs, less g.N.Named.code g.N.Named.budget g.N.Named.pick old c.args.process part c.self.inside.budget c.perform_most-entered.result c.perform_most-entered.new.machine i.1 i.0 going held alone i.2 i.3 first c.perform_most-entered.ensures.performs, i.6)
 
@@ -104,13 +95,11 @@ push_many-requires-clause-least g c =
     let going : answer_of g.N.Named.budget old ≡ None = subst (λ (s : Running). answer_of g.N.Named.budget s ≡ None) (sym c.self.view_is) c.requires.going in
     let held : 1 ≤ holder_of c.self.inside.out.items c.args.process = subst (λ (s : Running). 1 ≤ holder_of s.out c.args.process) (sym c.self.view_is) c.requires.out in
     let notes : List Letter = c.perform_most-entered.new.notes in
-    let most = c.if-many.most in
+    let most = c.args.most in
     let part : List Letter = take most notes in
-    let one : c.args.many ≡ false → most ≤ 1 =
-    λ f. elim c.if-many.branch [ then-many w ↦ absurd (true≢false (sym w.if-many.true ∙ f)) | else-many w ↦ omega (arith, w.most-is) ] in
     let alone : 1 < length part → c.self.inside.ready.waiting ≡ [] =
     λ h. subst (λ (s : Running). s.waiting ≡ []) (sym c.self.view_is)
-    (c.requires.alone (is_many c.args.many most notes one h)) in
+    (c.requires.alone (omega (arith, h, first_few notes most))) in
     let first = one_picked g.P.Rule.pick g.N.Named.pick c.self.inside.ready.rule g.met.P.Rule.within i.4 in
     (number g.N.Named.code g.N.Named.budget g.N.Named.pick old c.args.process part c.self.inside.budget c.perform_most-entered.result c.perform_most-entered.new.machine i.1 i.0 going held alone i.2 i.3 first c.perform_most-entered.ensures.performs).0
 
@@ -130,13 +119,11 @@ push_many-requires-clause-greatest g c =
     let going : answer_of g.N.Named.budget old ≡ None = subst (λ (s : Running). answer_of g.N.Named.budget s ≡ None) (sym c.self.view_is) c.requires.going in
     let held : 1 ≤ holder_of c.self.inside.out.items c.args.process = subst (λ (s : Running). 1 ≤ holder_of s.out c.args.process) (sym c.self.view_is) c.requires.out in
     let notes : List Letter = c.perform_most-entered.new.notes in
-    let most = c.if-many.most in
+    let most = c.args.most in
     let part : List Letter = take most notes in
-    let one : c.args.many ≡ false → most ≤ 1 =
-    λ f. elim c.if-many.branch [ then-many w ↦ absurd (true≢false (sym w.if-many.true ∙ f)) | else-many w ↦ omega (arith, w.most-is) ] in
     let alone : 1 < length part → c.self.inside.ready.waiting ≡ [] =
     λ h. subst (λ (s : Running). s.waiting ≡ []) (sym c.self.view_is)
-    (c.requires.alone (is_many c.args.many most notes one h)) in
+    (c.requires.alone (omega (arith, h, first_few notes most))) in
     let first = one_picked g.P.Rule.pick g.N.Named.pick c.self.inside.ready.rule g.met.P.Rule.within i.4 in
     let n = number g.N.Named.code g.N.Named.budget g.N.Named.pick old c.args.process part c.self.inside.budget c.perform_most-entered.result c.perform_most-entered.new.machine i.1 i.0 going held alone i.2 i.3 first c.perform_most-entered.ensures.performs in
     omega (arith, n.1)
@@ -157,13 +144,11 @@ push_many-requires-clause-actions g c =
     let going : answer_of g.N.Named.budget old ≡ None = subst (λ (s : Running). answer_of g.N.Named.budget s ≡ None) (sym c.self.view_is) c.requires.going in
     let held : 1 ≤ holder_of c.self.inside.out.items c.args.process = subst (λ (s : Running). 1 ≤ holder_of s.out c.args.process) (sym c.self.view_is) c.requires.out in
     let notes : List Letter = c.perform_most-entered.new.notes in
-    let most = c.if-many.most in
+    let most = c.args.most in
     let part : List Letter = take most notes in
-    let one : c.args.many ≡ false → most ≤ 1 =
-    λ f. elim c.if-many.branch [ then-many w ↦ absurd (true≢false (sym w.if-many.true ∙ f)) | else-many w ↦ omega (arith, w.most-is) ] in
     let alone : 1 < length part → c.self.inside.ready.waiting ≡ [] =
     λ h. subst (λ (s : Running). s.waiting ≡ []) (sym c.self.view_is)
-    (c.requires.alone (is_many c.args.many most notes one h)) in
+    (c.requires.alone (omega (arith, h, first_few notes most))) in
     let first = one_picked g.P.Rule.pick g.N.Named.pick c.self.inside.ready.rule g.met.P.Rule.within i.4 in
     omega (arith, letters_entries g.N.Named.code g.N.Named.budget old i.0, first_few c.deref.result.now c.perform_most-entered.result.entries, less g.N.Named.code g.N.Named.budget g.N.Named.pick old c.args.process part c.self.inside.budget c.perform_most-entered.result c.perform_most-entered.new.machine i.1 i.0 going held alone i.2 i.3 first c.perform_most-entered.ensures.performs, spent_few g.N.Named.code g.N.Named.budget g.N.Named.pick old c.args.process part c.self.inside.budget c.perform_most-entered.result c.perform_most-entered.new.machine i.1 i.0 going held alone i.2 i.3 first c.perform_most-entered.ensures.performs, entries_few g.N.Named.code g.N.Named.budget g.N.Named.pick old c.args.process part c.self.inside.budget c.perform_most-entered.result c.perform_most-entered.new.machine i.1 i.0 going held alone i.2 i.3 first c.perform_most-entered.ensures.performs, operators_few g.N.Named.code g.N.Named.budget g.N.Named.pick old c.args.process part c.self.inside.budget c.perform_most-entered.result c.perform_most-entered.new.machine i.1 i.0 going held alone i.2 i.3 first c.perform_most-entered.ensures.performs, i.3, budget_is)
 
@@ -183,13 +168,11 @@ take_again-requires g c =
     let going : answer_of g.N.Named.budget old ≡ None = subst (λ (s : Running). answer_of g.N.Named.budget s ≡ None) (sym c.self.view_is) c.requires.going in
     let held : 1 ≤ holder_of c.self.inside.out.items c.args.process = subst (λ (s : Running). 1 ≤ holder_of s.out c.args.process) (sym c.self.view_is) c.requires.out in
     let notes : List Letter = c.perform_most-entered.new.notes in
-    let most = c.if-many.most in
+    let most = c.args.most in
     let part : List Letter = take most notes in
-    let one : c.args.many ≡ false → most ≤ 1 =
-    λ f. elim c.if-many.branch [ then-many w ↦ absurd (true≢false (sym w.if-many.true ∙ f)) | else-many w ↦ omega (arith, w.most-is) ] in
     let alone : 1 < length part → c.self.inside.ready.waiting ≡ [] =
     λ h. subst (λ (s : Running). s.waiting ≡ []) (sym c.self.view_is)
-    (c.requires.alone (is_many c.args.many most notes one h)) in
+    (c.requires.alone (omega (arith, h, first_few notes most))) in
     let first = one_picked g.P.Rule.pick g.N.Named.pick c.self.inside.ready.rule g.met.P.Rule.within i.4 in
     λ some. alone (omega (arith, some, c.perform_most-entered.ensures.performs.few))
 
@@ -209,13 +192,11 @@ overflow_add-seat g c =
     let going : answer_of g.N.Named.budget old ≡ None = subst (λ (s : Running). answer_of g.N.Named.budget s ≡ None) (sym c.self.view_is) c.requires.going in
     let held : 1 ≤ holder_of c.self.inside.out.items c.args.process = subst (λ (s : Running). 1 ≤ holder_of s.out c.args.process) (sym c.self.view_is) c.requires.out in
     let notes : List Letter = c.perform_most-entered.new.notes in
-    let most = c.if-many.most in
+    let most = c.args.most in
     let part : List Letter = take most notes in
-    let one : c.args.many ≡ false → most ≤ 1 =
-    λ f. elim c.if-many.branch [ then-many w ↦ absurd (true≢false (sym w.if-many.true ∙ f)) | else-many w ↦ omega (arith, w.most-is) ] in
     let alone : 1 < length part → c.self.inside.ready.waiting ≡ [] =
     λ h. subst (λ (s : Running). s.waiting ≡ []) (sym c.self.view_is)
-    (c.requires.alone (is_many c.args.many most notes one h)) in
+    (c.requires.alone (omega (arith, h, first_few notes most))) in
     let first = one_picked g.P.Rule.pick g.N.Named.pick c.self.inside.ready.rule g.met.P.Rule.within i.4 in
     omega (arith, c.args.seat.now.counted, c.audit.ensures.bound, i.0.acts, spent_few g.N.Named.code g.N.Named.budget g.N.Named.pick old c.args.process part c.self.inside.budget c.perform_most-entered.result c.perform_most-entered.new.machine i.1 i.0 going held alone i.2 i.3 first c.perform_most-entered.ensures.performs, entries_few g.N.Named.code g.N.Named.budget g.N.Named.pick old c.args.process part c.self.inside.budget c.perform_most-entered.result c.perform_most-entered.new.machine i.1 i.0 going held alone i.2 i.3 first c.perform_most-entered.ensures.performs, operators_few g.N.Named.code g.N.Named.budget g.N.Named.pick old c.args.process part c.self.inside.budget c.perform_most-entered.result c.perform_most-entered.new.machine i.1 i.0 going held alone i.2 i.3 first c.perform_most-entered.ensures.performs, i.3, budget_is)
 
@@ -235,13 +216,11 @@ invariant_of-self g c =
     let going : answer_of g.N.Named.budget old ≡ None = subst (λ (s : Running). answer_of g.N.Named.budget s ≡ None) (sym c.self.view_is) c.requires.going in
     let held : 1 ≤ holder_of c.self.inside.out.items c.args.process = subst (λ (s : Running). 1 ≤ holder_of s.out c.args.process) (sym c.self.view_is) c.requires.out in
     let notes : List Letter = c.perform_most-entered.new.notes in
-    let most = c.if-many.most in
+    let most = c.args.most in
     let part : List Letter = take most notes in
-    let one : c.args.many ≡ false → most ≤ 1 =
-    λ f. elim c.if-many.branch [ then-many w ↦ absurd (true≢false (sym w.if-many.true ∙ f)) | else-many w ↦ omega (arith, w.most-is) ] in
     let alone : 1 < length part → c.self.inside.ready.waiting ≡ [] =
     λ h. subst (λ (s : Running). s.waiting ≡ []) (sym c.self.view_is)
-    (c.requires.alone (is_many c.args.many most notes one h)) in
+    (c.requires.alone (omega (arith, h, first_few notes most))) in
     let first = one_picked g.P.Rule.pick g.N.Named.pick c.self.inside.ready.rule g.met.P.Rule.within i.4 in
     let s : Schedule = c.push_many.new.self in
     let whole = with_items_is c.self.inside.notes notes (c.perform_most-entered.ensures.size ∙ c.deref_mut.ensures.len) in
@@ -304,13 +283,11 @@ returns-then-not-is_action-clause-acts g c =
     let going : answer_of g.N.Named.budget old ≡ None = subst (λ (s : Running). answer_of g.N.Named.budget s ≡ None) (sym c.self.view_is) c.requires.going in
     let held : 1 ≤ holder_of c.self.inside.out.items c.args.process = subst (λ (s : Running). 1 ≤ holder_of s.out c.args.process) (sym c.self.view_is) c.requires.out in
     let notes : List Letter = c.perform_most-entered.new.notes in
-    let most = c.if-many.most in
+    let most = c.args.most in
     let part : List Letter = take most notes in
-    let one : c.args.many ≡ false → most ≤ 1 =
-    λ f. elim c.if-many.branch [ then-many w ↦ absurd (true≢false (sym w.if-many.true ∙ f)) | else-many w ↦ omega (arith, w.most-is) ] in
     let alone : 1 < length part → c.self.inside.ready.waiting ≡ [] =
     λ h. subst (λ (s : Running). s.waiting ≡ []) (sym c.self.view_is)
-    (c.requires.alone (is_many c.args.many most notes one h)) in
+    (c.requires.alone (omega (arith, h, first_few notes most))) in
     let first = one_picked g.P.Rule.pick g.N.Named.pick c.self.inside.ready.rule g.met.P.Rule.within i.4 in
     let s : Schedule = c.push_many.new.self in
     let whole = with_items_is c.self.inside.notes notes (c.perform_most-entered.ensures.size ∙ c.deref_mut.ensures.len) in
@@ -342,8 +319,6 @@ returns-then-not-is_action-clause-acts g c =
     let is : written ≡ new =
     ap (λ (k : ℕ). record written { acts = k }) same_acts ∙ ap (λ (ws : List ℕ). record new { waiting = ws; takes = c.take_again.new.self.takes }) kept
     ∙ ap (λ (k : ℕ). record new { takes = k }) takes in (
-      c.perform_most-entered.result.entries,
-      (λ f. omega (arith, c.perform_most-entered.ensures.performs.few, first_few notes most, one f)),
       c.perform_most-entered.result.last,
       subst (λ (z : Running). ActsMany g.N.Named.pick g.N.Named.budget z c.args.process c.perform_most-entered.result.entries c.perform_most-entered.result.last written) c.self.view_is (record {
         between = mid;
@@ -351,10 +326,21 @@ returns-then-not-is_action-clause-acts g c =
         last = subst (ActsOnce g.N.Named.budget mid c.args.process c.perform_most-entered.result.last) (sym is) acts;
       }),
       c.answer_to-answer.ensures,
-      subst (λ a. IsActed a (c.args.seat.now.count + c.perform_most-entered.result.entries) (c.args.seat.now.count + c.from-2.result)) (sym c.answer_to-answer.ensures)
-          (subst (λ (k : ℕ). IsActed (answer_to c.perform_most-entered.result.last.done) (c.args.seat.now.count + c.perform_most-entered.result.entries) (c.args.seat.now.count + k)) (sym c.from-2.ensures)
-          (counts_none c.perform_most-entered.result.last.done (c.args.seat.now.count + c.perform_most-entered.result.entries) none)),
     )
+
+pub returns-then-not-is_action-clause-one : goal.returns-then-not-is_action-clause-one
+returns-then-not-is_action-clause-one g c =
+    λ one. omega (arith, c.perform_most-entered.ensures.performs.few, first_few c.perform_most-entered.new.notes c.args.most, one)
+
+pub returns-clause-one : goal.returns-clause-one
+returns-clause-one g c = λ one. omega (arith, c.perform_most-entered.ensures.performs.few, first_few c.perform_most-entered.new.notes c.args.most, one)
+
+pub returns-then-not-is_action-clause-count : goal.returns-then-not-is_action-clause-count
+returns-then-not-is_action-clause-count g c =
+    let none : is_action c.perform_most-entered.result.last.done ≡ false = sym c.is_action.ensures ∙ c.if-not-is_action.true in
+    subst (λ a. IsActed a (c.args.seat.now.count + c.perform_most-entered.result.entries) (c.args.seat.now.count + c.from-2.result)) (sym c.answer_to-answer.ensures)
+    (subst (λ (k : ℕ). IsActed (answer_to c.perform_most-entered.result.last.done) (c.args.seat.now.count + c.perform_most-entered.result.entries) (c.args.seat.now.count + k)) (sym c.from-2.ensures)
+    (counts_none c.perform_most-entered.result.last.done (c.args.seat.now.count + c.perform_most-entered.result.entries) none))
 
 pub push-requires-clause-room : goal.push-requires-clause-room
 push-requires-clause-room g c =
@@ -372,13 +358,11 @@ push-requires-clause-room g c =
     let going : answer_of g.N.Named.budget old ≡ None = subst (λ (s : Running). answer_of g.N.Named.budget s ≡ None) (sym c.self.view_is) c.requires.going in
     let held : 1 ≤ holder_of c.self.inside.out.items c.args.process = subst (λ (s : Running). 1 ≤ holder_of s.out c.args.process) (sym c.self.view_is) c.requires.out in
     let notes : List Letter = c.perform_most-entered.new.notes in
-    let most = c.if-many.most in
+    let most = c.args.most in
     let part : List Letter = take most notes in
-    let one : c.args.many ≡ false → most ≤ 1 =
-    λ f. elim c.if-many.branch [ then-many w ↦ absurd (true≢false (sym w.if-many.true ∙ f)) | else-many w ↦ omega (arith, w.most-is) ] in
     let alone : 1 < length part → c.self.inside.ready.waiting ≡ [] =
     λ h. subst (λ (s : Running). s.waiting ≡ []) (sym c.self.view_is)
-    (c.requires.alone (is_many c.args.many most notes one h)) in
+    (c.requires.alone (omega (arith, h, first_few notes most))) in
     let first = one_picked g.P.Rule.pick g.N.Named.pick c.self.inside.ready.rule g.met.P.Rule.within i.4 in
     let s : Schedule = c.push_many.new.self in
     let whole = with_items_is c.self.inside.notes notes (c.perform_most-entered.ensures.size ∙ c.deref_mut.ensures.len) in
@@ -409,13 +393,11 @@ push-requires-clause-greatest g c =
     let going : answer_of g.N.Named.budget old ≡ None = subst (λ (s : Running). answer_of g.N.Named.budget s ≡ None) (sym c.self.view_is) c.requires.going in
     let held : 1 ≤ holder_of c.self.inside.out.items c.args.process = subst (λ (s : Running). 1 ≤ holder_of s.out c.args.process) (sym c.self.view_is) c.requires.out in
     let notes : List Letter = c.perform_most-entered.new.notes in
-    let most = c.if-many.most in
+    let most = c.args.most in
     let part : List Letter = take most notes in
-    let one : c.args.many ≡ false → most ≤ 1 =
-    λ f. elim c.if-many.branch [ then-many w ↦ absurd (true≢false (sym w.if-many.true ∙ f)) | else-many w ↦ omega (arith, w.most-is) ] in
     let alone : 1 < length part → c.self.inside.ready.waiting ≡ [] =
     λ h. subst (λ (s : Running). s.waiting ≡ []) (sym c.self.view_is)
-    (c.requires.alone (is_many c.args.many most notes one h)) in
+    (c.requires.alone (omega (arith, h, first_few notes most))) in
     let first = one_picked g.P.Rule.pick g.N.Named.pick c.self.inside.ready.rule g.met.P.Rule.within i.4 in
     let n = number g.N.Named.code g.N.Named.budget g.N.Named.pick old c.args.process part c.self.inside.budget c.perform_most-entered.result c.perform_most-entered.new.machine i.1 i.0 going held alone i.2 i.3 first c.perform_most-entered.ensures.performs in
     omega (arith, n.1)
@@ -436,13 +418,11 @@ push-requires-clause-least g c =
     let going : answer_of g.N.Named.budget old ≡ None = subst (λ (s : Running). answer_of g.N.Named.budget s ≡ None) (sym c.self.view_is) c.requires.going in
     let held : 1 ≤ holder_of c.self.inside.out.items c.args.process = subst (λ (s : Running). 1 ≤ holder_of s.out c.args.process) (sym c.self.view_is) c.requires.out in
     let notes : List Letter = c.perform_most-entered.new.notes in
-    let most = c.if-many.most in
+    let most = c.args.most in
     let part : List Letter = take most notes in
-    let one : c.args.many ≡ false → most ≤ 1 =
-    λ f. elim c.if-many.branch [ then-many w ↦ absurd (true≢false (sym w.if-many.true ∙ f)) | else-many w ↦ omega (arith, w.most-is) ] in
     let alone : 1 < length part → c.self.inside.ready.waiting ≡ [] =
     λ h. subst (λ (s : Running). s.waiting ≡ []) (sym c.self.view_is)
-    (c.requires.alone (is_many c.args.many most notes one h)) in
+    (c.requires.alone (omega (arith, h, first_few notes most))) in
     let first = one_picked g.P.Rule.pick g.N.Named.pick c.self.inside.ready.rule g.met.P.Rule.within i.4 in
     (number g.N.Named.code g.N.Named.budget g.N.Named.pick old c.args.process part c.self.inside.budget c.perform_most-entered.result c.perform_most-entered.new.machine i.1 i.0 going held alone i.2 i.3 first c.perform_most-entered.ensures.performs).0
 
@@ -462,13 +442,11 @@ push-requires-clause-actions g c =
     let going : answer_of g.N.Named.budget old ≡ None = subst (λ (s : Running). answer_of g.N.Named.budget s ≡ None) (sym c.self.view_is) c.requires.going in
     let held : 1 ≤ holder_of c.self.inside.out.items c.args.process = subst (λ (s : Running). 1 ≤ holder_of s.out c.args.process) (sym c.self.view_is) c.requires.out in
     let notes : List Letter = c.perform_most-entered.new.notes in
-    let most = c.if-many.most in
+    let most = c.args.most in
     let part : List Letter = take most notes in
-    let one : c.args.many ≡ false → most ≤ 1 =
-    λ f. elim c.if-many.branch [ then-many w ↦ absurd (true≢false (sym w.if-many.true ∙ f)) | else-many w ↦ omega (arith, w.most-is) ] in
     let alone : 1 < length part → c.self.inside.ready.waiting ≡ [] =
     λ h. subst (λ (s : Running). s.waiting ≡ []) (sym c.self.view_is)
-    (c.requires.alone (is_many c.args.many most notes one h)) in
+    (c.requires.alone (omega (arith, h, first_few notes most))) in
     let first = one_picked g.P.Rule.pick g.N.Named.pick c.self.inside.ready.rule g.met.P.Rule.within i.4 in
     let s : Schedule = c.push_many.new.self in
     let whole = with_items_is c.self.inside.notes notes (c.perform_most-entered.ensures.size ∙ c.deref_mut.ensures.len) in
@@ -499,13 +477,11 @@ index_mut-requires g c =
     let going : answer_of g.N.Named.budget old ≡ None = subst (λ (s : Running). answer_of g.N.Named.budget s ≡ None) (sym c.self.view_is) c.requires.going in
     let held : 1 ≤ holder_of c.self.inside.out.items c.args.process = subst (λ (s : Running). 1 ≤ holder_of s.out c.args.process) (sym c.self.view_is) c.requires.out in
     let notes : List Letter = c.perform_most-entered.new.notes in
-    let most = c.if-many.most in
+    let most = c.args.most in
     let part : List Letter = take most notes in
-    let one : c.args.many ≡ false → most ≤ 1 =
-    λ f. elim c.if-many.branch [ then-many w ↦ absurd (true≢false (sym w.if-many.true ∙ f)) | else-many w ↦ omega (arith, w.most-is) ] in
     let alone : 1 < length part → c.self.inside.ready.waiting ≡ [] =
     λ h. subst (λ (s : Running). s.waiting ≡ []) (sym c.self.view_is)
-    (c.requires.alone (is_many c.args.many most notes one h)) in
+    (c.requires.alone (omega (arith, h, first_few notes most))) in
     let first = one_picked g.P.Rule.pick g.N.Named.pick c.self.inside.ready.rule g.met.P.Rule.within i.4 in
     let n = number g.N.Named.code g.N.Named.budget g.N.Named.pick old c.args.process part c.self.inside.budget c.perform_most-entered.result c.perform_most-entered.new.machine i.1 i.0 going held alone i.2 i.3 first c.perform_most-entered.ensures.performs in
     omega (arith, n.0, n.1, i.0.holders)
@@ -526,13 +502,11 @@ join_queue-requires-clause-room g c =
     let going : answer_of g.N.Named.budget old ≡ None = subst (λ (s : Running). answer_of g.N.Named.budget s ≡ None) (sym c.self.view_is) c.requires.going in
     let held : 1 ≤ holder_of c.self.inside.out.items c.args.process = subst (λ (s : Running). 1 ≤ holder_of s.out c.args.process) (sym c.self.view_is) c.requires.out in
     let notes : List Letter = c.perform_most-entered.new.notes in
-    let most = c.if-many.most in
+    let most = c.args.most in
     let part : List Letter = take most notes in
-    let one : c.args.many ≡ false → most ≤ 1 =
-    λ f. elim c.if-many.branch [ then-many w ↦ absurd (true≢false (sym w.if-many.true ∙ f)) | else-many w ↦ omega (arith, w.most-is) ] in
     let alone : 1 < length part → c.self.inside.ready.waiting ≡ [] =
     λ h. subst (λ (s : Running). s.waiting ≡ []) (sym c.self.view_is)
-    (c.requires.alone (is_many c.args.many most notes one h)) in
+    (c.requires.alone (omega (arith, h, first_few notes most))) in
     let first = one_picked g.P.Rule.pick g.N.Named.pick c.self.inside.ready.rule g.met.P.Rule.within i.4 in
     let s : Schedule = c.push_many.new.self in
     let whole = with_items_is c.self.inside.notes notes (c.perform_most-entered.ensures.size ∙ c.deref_mut.ensures.len) in
@@ -574,13 +548,11 @@ join_queue-requires-clause-few g c =
     let going : answer_of g.N.Named.budget old ≡ None = subst (λ (s : Running). answer_of g.N.Named.budget s ≡ None) (sym c.self.view_is) c.requires.going in
     let held : 1 ≤ holder_of c.self.inside.out.items c.args.process = subst (λ (s : Running). 1 ≤ holder_of s.out c.args.process) (sym c.self.view_is) c.requires.out in
     let notes : List Letter = c.perform_most-entered.new.notes in
-    let most = c.if-many.most in
+    let most = c.args.most in
     let part : List Letter = take most notes in
-    let one : c.args.many ≡ false → most ≤ 1 =
-    λ f. elim c.if-many.branch [ then-many w ↦ absurd (true≢false (sym w.if-many.true ∙ f)) | else-many w ↦ omega (arith, w.most-is) ] in
     let alone : 1 < length part → c.self.inside.ready.waiting ≡ [] =
     λ h. subst (λ (s : Running). s.waiting ≡ []) (sym c.self.view_is)
-    (c.requires.alone (is_many c.args.many most notes one h)) in
+    (c.requires.alone (omega (arith, h, first_few notes most))) in
     let first = one_picked g.P.Rule.pick g.N.Named.pick c.self.inside.ready.rule g.met.P.Rule.within i.4 in
     let s : Schedule = c.push_many.new.self in
     let whole = with_items_is c.self.inside.notes notes (c.perform_most-entered.ensures.size ∙ c.deref_mut.ensures.len) in
@@ -622,13 +594,11 @@ overflow_add-seat-2 g c =
     let going : answer_of g.N.Named.budget old ≡ None = subst (λ (s : Running). answer_of g.N.Named.budget s ≡ None) (sym c.self.view_is) c.requires.going in
     let held : 1 ≤ holder_of c.self.inside.out.items c.args.process = subst (λ (s : Running). 1 ≤ holder_of s.out c.args.process) (sym c.self.view_is) c.requires.out in
     let notes : List Letter = c.perform_most-entered.new.notes in
-    let most = c.if-many.most in
+    let most = c.args.most in
     let part : List Letter = take most notes in
-    let one : c.args.many ≡ false → most ≤ 1 =
-    λ f. elim c.if-many.branch [ then-many w ↦ absurd (true≢false (sym w.if-many.true ∙ f)) | else-many w ↦ omega (arith, w.most-is) ] in
     let alone : 1 < length part → c.self.inside.ready.waiting ≡ [] =
     λ h. subst (λ (s : Running). s.waiting ≡ []) (sym c.self.view_is)
-    (c.requires.alone (is_many c.args.many most notes one h)) in
+    (c.requires.alone (omega (arith, h, first_few notes most))) in
     let first = one_picked g.P.Rule.pick g.N.Named.pick c.self.inside.ready.rule g.met.P.Rule.within i.4 in
     let s : Schedule = c.push_many.new.self in
     let whole = with_items_is c.self.inside.notes notes (c.perform_most-entered.ensures.size ∙ c.deref_mut.ensures.len) in
@@ -659,13 +629,11 @@ invariant_of-self-2 g c =
     let going : answer_of g.N.Named.budget old ≡ None = subst (λ (s : Running). answer_of g.N.Named.budget s ≡ None) (sym c.self.view_is) c.requires.going in
     let held : 1 ≤ holder_of c.self.inside.out.items c.args.process = subst (λ (s : Running). 1 ≤ holder_of s.out c.args.process) (sym c.self.view_is) c.requires.out in
     let notes : List Letter = c.perform_most-entered.new.notes in
-    let most = c.if-many.most in
+    let most = c.args.most in
     let part : List Letter = take most notes in
-    let one : c.args.many ≡ false → most ≤ 1 =
-    λ f. elim c.if-many.branch [ then-many w ↦ absurd (true≢false (sym w.if-many.true ∙ f)) | else-many w ↦ omega (arith, w.most-is) ] in
     let alone : 1 < length part → c.self.inside.ready.waiting ≡ [] =
     λ h. subst (λ (s : Running). s.waiting ≡ []) (sym c.self.view_is)
-    (c.requires.alone (is_many c.args.many most notes one h)) in
+    (c.requires.alone (omega (arith, h, first_few notes most))) in
     let first = one_picked g.P.Rule.pick g.N.Named.pick c.self.inside.ready.rule g.met.P.Rule.within i.4 in
     let s : Schedule = c.push_many.new.self in
     let whole = with_items_is c.self.inside.notes notes (c.perform_most-entered.ensures.size ∙ c.deref_mut.ensures.len) in
@@ -737,13 +705,11 @@ returns-clause-acts g c =
     let going : answer_of g.N.Named.budget old ≡ None = subst (λ (s : Running). answer_of g.N.Named.budget s ≡ None) (sym c.self.view_is) c.requires.going in
     let held : 1 ≤ holder_of c.self.inside.out.items c.args.process = subst (λ (s : Running). 1 ≤ holder_of s.out c.args.process) (sym c.self.view_is) c.requires.out in
     let notes : List Letter = c.perform_most-entered.new.notes in
-    let most = c.if-many.most in
+    let most = c.args.most in
     let part : List Letter = take most notes in
-    let one : c.args.many ≡ false → most ≤ 1 =
-    λ f. elim c.if-many.branch [ then-many w ↦ absurd (true≢false (sym w.if-many.true ∙ f)) | else-many w ↦ omega (arith, w.most-is) ] in
     let alone : 1 < length part → c.self.inside.ready.waiting ≡ [] =
     λ h. subst (λ (s : Running). s.waiting ≡ []) (sym c.self.view_is)
-    (c.requires.alone (is_many c.args.many most notes one h)) in
+    (c.requires.alone (omega (arith, h, first_few notes most))) in
     let first = one_picked g.P.Rule.pick g.N.Named.pick c.self.inside.ready.rule g.met.P.Rule.within i.4 in
     let s : Schedule = c.push_many.new.self in
     let whole = with_items_is c.self.inside.notes notes (c.perform_most-entered.ensures.size ∙ c.deref_mut.ensures.len) in
@@ -786,8 +752,6 @@ returns-clause-acts g c =
     c.join_queue.new.ready.takes c.self.inside.leaves.total c.join_queue.new.ready.waiting out n.0 started
     (c.join_queue.ensures.waiting ∙ ap (λ (ws : List ℕ). ws ++ joining c.started-before.result c.perform_most-entered.new.machine.image c.args.process c.perform_most-entered.new.machine.released) kept) refl
     (c.join_queue.ensures.takes ∙ takes) refl in (
-      c.perform_most-entered.result.entries,
-      (λ f. omega (arith, c.perform_most-entered.ensures.performs.few, first_few notes most, one f)),
       c.perform_most-entered.result.last,
       subst (λ (z : Running). ActsMany g.N.Named.pick g.N.Named.budget z c.args.process c.perform_most-entered.result.entries c.perform_most-entered.result.last written) c.self.view_is (record {
         between = mid;
@@ -795,10 +759,14 @@ returns-clause-acts g c =
         last = subst (ActsOnce g.N.Named.budget mid c.args.process c.perform_most-entered.result.last) (sym is) acts;
       }),
       c.answer_to-answer.ensures,
-      subst (λ a. IsActed a (c.args.seat.now.count + c.perform_most-entered.result.entries) (c.args.seat.now.count + c.from-2.result + 1)) (sym c.answer_to-answer.ensures)
-          (subst (λ (k : ℕ). IsActed (answer_to c.perform_most-entered.result.last.done) (c.args.seat.now.count + c.perform_most-entered.result.entries) (c.args.seat.now.count + k + 1)) (sym c.from-2.ensures)
-          (counts_one c.perform_most-entered.result.last.done (c.args.seat.now.count + c.perform_most-entered.result.entries) done)),
     )
+
+pub returns-clause-count : goal.returns-clause-count
+returns-clause-count g c =
+    let done : is_action c.perform_most-entered.result.last.done ≡ true = sym c.is_action.ensures ∙ c.if-not-is_action.false in
+    subst (λ a. IsActed a (c.args.seat.now.count + c.perform_most-entered.result.entries) (c.args.seat.now.count + c.from-2.result + 1)) (sym c.answer_to-answer.ensures)
+    (subst (λ (k : ℕ). IsActed (answer_to c.perform_most-entered.result.last.done) (c.args.seat.now.count + c.perform_most-entered.result.entries) (c.args.seat.now.count + k + 1)) (sym c.from-2.ensures)
+    (counts_one c.perform_most-entered.result.last.done (c.args.seat.now.count + c.perform_most-entered.result.entries) done))
 
 pub returns-then-not-is_action-clause-fits : goal.returns-then-not-is_action-clause-fits
 returns-then-not-is_action-clause-fits g c =
@@ -816,13 +784,11 @@ returns-then-not-is_action-clause-fits g c =
     let going : answer_of g.N.Named.budget old ≡ None = subst (λ (s : Running). answer_of g.N.Named.budget s ≡ None) (sym c.self.view_is) c.requires.going in
     let held : 1 ≤ holder_of c.self.inside.out.items c.args.process = subst (λ (s : Running). 1 ≤ holder_of s.out c.args.process) (sym c.self.view_is) c.requires.out in
     let notes : List Letter = c.perform_most-entered.new.notes in
-    let most = c.if-many.most in
+    let most = c.args.most in
     let part : List Letter = take most notes in
-    let one : c.args.many ≡ false → most ≤ 1 =
-    λ f. elim c.if-many.branch [ then-many w ↦ absurd (true≢false (sym w.if-many.true ∙ f)) | else-many w ↦ omega (arith, w.most-is) ] in
     let alone : 1 < length part → c.self.inside.ready.waiting ≡ [] =
     λ h. subst (λ (s : Running). s.waiting ≡ []) (sym c.self.view_is)
-    (c.requires.alone (is_many c.args.many most notes one h)) in
+    (c.requires.alone (omega (arith, h, first_few notes most))) in
     let first = one_picked g.P.Rule.pick g.N.Named.pick c.self.inside.ready.rule g.met.P.Rule.within i.4 in
     omega (arith, c.args.seat.now.counted, c.audit.ensures.bound, i.0.acts, spent_few g.N.Named.code g.N.Named.budget g.N.Named.pick old c.args.process part c.self.inside.budget c.perform_most-entered.result c.perform_most-entered.new.machine i.1 i.0 going held alone i.2 i.3 first c.perform_most-entered.ensures.performs, entries_few g.N.Named.code g.N.Named.budget g.N.Named.pick old c.args.process part c.self.inside.budget c.perform_most-entered.result c.perform_most-entered.new.machine i.1 i.0 going held alone i.2 i.3 first c.perform_most-entered.ensures.performs, operators_few g.N.Named.code g.N.Named.budget g.N.Named.pick old c.args.process part c.self.inside.budget c.perform_most-entered.result c.perform_most-entered.new.machine i.1 i.0 going held alone i.2 i.3 first c.perform_most-entered.ensures.performs, i.3, budget_is, c.from.ensures)
 
@@ -842,12 +808,10 @@ returns-clause-fits g c =
     let going : answer_of g.N.Named.budget old ≡ None = subst (λ (s : Running). answer_of g.N.Named.budget s ≡ None) (sym c.self.view_is) c.requires.going in
     let held : 1 ≤ holder_of c.self.inside.out.items c.args.process = subst (λ (s : Running). 1 ≤ holder_of s.out c.args.process) (sym c.self.view_is) c.requires.out in
     let notes : List Letter = c.perform_most-entered.new.notes in
-    let most = c.if-many.most in
+    let most = c.args.most in
     let part : List Letter = take most notes in
-    let one : c.args.many ≡ false → most ≤ 1 =
-    λ f. elim c.if-many.branch [ then-many w ↦ absurd (true≢false (sym w.if-many.true ∙ f)) | else-many w ↦ omega (arith, w.most-is) ] in
     let alone : 1 < length part → c.self.inside.ready.waiting ≡ [] =
     λ h. subst (λ (s : Running). s.waiting ≡ []) (sym c.self.view_is)
-    (c.requires.alone (is_many c.args.many most notes one h)) in
+    (c.requires.alone (omega (arith, h, first_few notes most))) in
     let first = one_picked g.P.Rule.pick g.N.Named.pick c.self.inside.ready.rule g.met.P.Rule.within i.4 in
     omega (arith, c.args.seat.now.counted, c.audit.ensures.bound, i.0.acts, spent_few g.N.Named.code g.N.Named.budget g.N.Named.pick old c.args.process part c.self.inside.budget c.perform_most-entered.result c.perform_most-entered.new.machine i.1 i.0 going held alone i.2 i.3 first c.perform_most-entered.ensures.performs, entries_few g.N.Named.code g.N.Named.budget g.N.Named.pick old c.args.process part c.self.inside.budget c.perform_most-entered.result c.perform_most-entered.new.machine i.1 i.0 going held alone i.2 i.3 first c.perform_most-entered.ensures.performs, operators_few g.N.Named.code g.N.Named.budget g.N.Named.pick old c.args.process part c.self.inside.budget c.perform_most-entered.result c.perform_most-entered.new.machine i.1 i.0 going held alone i.2 i.3 first c.perform_most-entered.ensures.performs, i.3, budget_is, c.from.ensures)

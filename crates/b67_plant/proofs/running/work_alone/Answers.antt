@@ -16,13 +16,13 @@ pub turns-preserved : goal.turns-preserved
 turns-preserved g c =
     turns_by_one g.N.Named.code g.N.Named.budget g.N.Named.pick c.turns.plant c.pick.new.self c.in-Some-pick.process c.requires.sound c.requires.most
     c.answer.ensures.stands c.turns.invariant (sym c.answer.ensures.value ∙ c.in_default.is) c.in-Some-pick.ensures.picked c.in-Some-pick.ensures.out
-    c.enter_many-acted.ensures.acts.0 c.enter_many-acted.ensures.acts.2 c.enter_many-acted.new.self c.enter_many-acted.ensures.acts.3
+    c.enter_many-acted.result.1 c.enter_many-acted.ensures.acts.0 c.enter_many-acted.new.self c.enter_many-acted.ensures.acts.1
 
 pub turns-smaller : goal.turns-smaller
 turns-smaller g c =
     turns_less g.N.Named.code g.N.Named.budget g.N.Named.pick c.turns.plant c.pick.new.self c.in-Some-pick.process c.requires.sound c.requires.most
     c.answer.ensures.stands c.turns.invariant (sym c.answer.ensures.value ∙ c.in_default.is) c.in-Some-pick.ensures.picked c.in-Some-pick.ensures.out
-    c.enter_many-acted.ensures.acts.0 c.enter_many-acted.ensures.acts.2 c.enter_many-acted.new.self c.enter_many-acted.ensures.acts.3
+    c.enter_many-acted.result.1 c.enter_many-acted.ensures.acts.0 c.enter_many-acted.new.self c.enter_many-acted.ensures.acts.1
 
 pub unreachable-requires : goal.unreachable-requires
 unreachable-requires g c =
