@@ -2,4 +2,5 @@ mod Leading
 mod Lines
 mod Moving
 mod Notes
+mod OneReading
 mod Tried

@@ -74,3 +74,11 @@ pub record IsBadLine (text : List ℕ) (number : ℕ) : Type 0 where
 abbrev pub Refuses : List ℕ → BadCommands → Type 0
 Refuses text (BadLine number) = IsBadLine text number
 Refuses text NoMemory = Unit {0}
+
+-- ---- what is said of texts
+
+-- A text whose lines are commands has no bad line, and another one has one that is the first.
+abbrev pub TextsHaveOneReading : Type 0
+TextsHaveOneReading =
+    ((text : List ℕ) (commands : List Command) (line : ℕ) → AreCommands text commands → IsBadLine text line → ⊥)
+    × ((text : List ℕ) (one other : ℕ) → IsBadLine text one → IsBadLine text other → one ≡ other)

@@ -1,0 +1,6 @@
+mod Alike
+mod Assembling
+mod Leads
+mod Onward
+mod Together
+mod Whole
