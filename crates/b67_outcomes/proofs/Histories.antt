@@ -1,8 +1,8 @@
--- A state has one history, and its entries are performed one after another.
-use Rattle.std.proofs.Common.{◌≡◌, refl, sym, ap, subst, ◌∙◌, ℕ, zero, suc, ◌+◌, ◌-◌, ◌<◌, ◌≤◌, Bool, true, false, List, [], ◌∷◌, ◌++◌, length, drop, Some, append_assoc, append-nil, arith}
-use Rattle.std.specs.Prelude.{slice_get}
+-- A number has one history, and its entries are performed one after another.
+use Rattle.std.proofs.Common.{◌≡◌, refl, sym, ap, subst, ◌∙◌, ℕ, zero, suc, ◌+◌, ◌-◌, ◌<◌, ◌≤◌, Bool, true, false, List, [], ◌∷◌, ◌++◌, length, drop, Some, append_assoc, append-nil, below_more, Result, Ok, Err, arith}
+use Rattle.std.specs.Prelude.{slice_get, IfOk}
 use Rattle.std.specs.List.{All}
-use Rattle.std.proofs.lemmas.List.{drop_all}
+use Rattle.std.proofs.lemmas.List.{drop_all, length_push}
 use Rattle.std.proofs.lemmas.List.Elements.{All-cons}
 use Rattle.std.proofs.lemmas.Option.{slice_get_within, same_Some, none-some}
 use Rattle.b67_segment.specs.declared.code.Code.{Code}
@@ -12,16 +12,31 @@ use Rattle.b67_table.specs.Ending.{may_act}
 use Rattle.b67_table.specs.Runs.{Entry, Runs, begin, entry}
 use Rattle.b67_outcomes.specs.declared.found.Step.{Step}
 use Rattle.b67_outcomes.specs.Entering.{Enters, IsNumber, LeadsTo, Leads}
-use Rattle.b67_outcomes.specs.Finding.{History, first, later, IsLed}
+use Rattle.b67_outcomes.specs.Finding.{History, first, later, IsLed, AreLed}
 use Rattle.b67_outcomes.proofs.Determined.{entry_one, no_entry, led_one}
 
--- ---- histories of states
+-- ---- lists
+
+pub stays : {X : Type 0} (xs more : List X) (k : ℕ) (x : X) → slice_get xs k ≡ Some x → slice_get (xs ++ more) k ≡ Some x
+stays [] more k x e = absurd (none-some x e)
+stays (y ∷ xs) more zero x e = e
+stays (y ∷ xs) more (suc k) x e = stays xs more k x e
+
+pub last_is : {X : Type 0} (xs : List X) (x : X) → slice_get (xs ++ x ∷ []) (length xs) ≡ Some x
+last_is [] x = refl
+last_is (y ∷ xs) x = last_is xs x
+
+-- ---- histories
+
+pub history_stays : (xs more : List Step) (k : ℕ) (h : List ℕ) → History xs k h → History (xs ++ more) k h
+history_stays xs more k h first = first
+history_stays xs more k h (later {n = n} {step = s} {h = r} there before rest) = later (stays xs more n s there) before (history_stays xs more s.before r rest)
 
 pub history_within : (steps : List Step) (k : ℕ) (h : List ℕ) → History steps k h → k ≤ length steps
 history_within steps k h first = omega arith
 history_within steps k h (later {n = n} {step = s} there before rest) = let within = slice_get_within steps n s there in omega (arith, within)
 
--- the last step of a state's history
+-- the last step of a history
 pub record LastStep (steps : List Step) (k : ℕ) (h : List ℕ) : Type 0 where
   pub step : Step
   pub there : slice_get steps (k - 1) ≡ Some step
@@ -91,7 +106,7 @@ history_short steps k h (later {step = s} {h = r} there before rest) = let short
 
 -- ---- the numbers of processes
 
-drop_next : (h : List ℕ) (i p : ℕ) → slice_get h i ≡ Some p → drop i h ≡ p ∷ drop (suc i) h
+pub drop_next : (h : List ℕ) (i p : ℕ) → slice_get h i ≡ Some p → drop i h ≡ p ∷ drop (suc i) h
 drop_next [] i p e = absurd (none-some p e)
 drop_next (q ∷ h) zero p e = ap (λ (z : ℕ). z ∷ h) (same_Some q p e)
 drop_next (q ∷ h) (suc i) p e = drop_next h i p e
@@ -166,3 +181,54 @@ next_led code h i left p a b r on l there at e =
     let same = led_one code (drop (suc i) h) x.from a x.before here in
     subst (λ (z : Image). LeadsTo code (drop i h) z)
     (entered code p a b r x.count x.to e (subst (λ (z : Image). Entry code p z x.count x.to) same x.is)) x.after
+
+-- ---- the steps of a path
+
+-- a run of the path has one of each part of it
+pub part_led : (code : Code) (path : List ℕ) (i : ℕ) (img : Image) → LeadsTo code path img → Leads code (drop i path)
+part_led code path i img l = by path l.0 i img l.1
+  where
+    by : (path counts : List ℕ) (i : ℕ) (img : Image) → Runs code path counts img → Leads code (drop i path)
+    by path counts zero img r = (img, (counts, r))
+    by [] counts (suc i) img begin = (first_image, ([], begin))
+    by (p ∷ path) counts (suc i) img (entry {counts = c} {a = a} r e) = by path c i a r
+
+led_stays : (code : Code) (xs more : List Step) (k : ℕ) → IsLed code xs k → IsLed code (xs ++ more) k
+led_stays code xs more k x = record { history = x.history; image = x.image; is = history_stays xs more k x.history x.is; leads = x.leads }
+
+pub new_history : (xs : List Step) (s : Step) (h : List ℕ) → History xs s.before h → History (xs ++ s ∷ []) (suc (length xs)) (s.process ∷ h)
+new_history xs s h is = later (last_is xs s) (history_within xs s.before h is) (history_stays xs (s ∷ []) s.before h is)
+
+-- so each is led where one step more is added
+pub new_led : (code : Code) (xs : List Step) (s : Step) (h : List ℕ) → AreLed code xs → History xs s.before h → Leads code (s.process ∷ h)
+    → AreLed code (xs ++ s ∷ [])
+new_led code xs s h led is leads k within =
+    below_more (λ (q : ℕ). IsLed code (xs ++ s ∷ []) q) (suc (length xs))
+    (λ (q : ℕ) (lt : q < suc (length xs)). led_stays code xs (s ∷ []) q (led q (omega (arith, lt))))
+    (record { history = s.process ∷ h; image = leads.0; is = new_history xs s h is; leads = leads.1 })
+    k (omega (arith, within, length_push xs s))
+
+-- a step more of a path
+pub path_next : (old xs ys : List Step) (path : List ℕ) (left : ℕ) (s : Step) → 0 < left → ys ≡ xs ++ s ∷ [] → slice_get path (left - 1) ≡ Some s.process
+    → History xs s.before (drop left path) → ((more : List Step) × (xs ≡ old ++ more))
+    → ((code : Code) (img : Image) → LeadsTo code path img → AreLed code old → AreLed code xs)
+    → History ys (suc (length xs)) (drop (left - 1) path) × ((more : List Step) × (ys ≡ old ++ more))
+    × ((code : Code) (img : Image) → LeadsTo code path img → AreLed code old → AreLed code ys)
+path_next old xs ys path left s positive same there is more led =
+    let on : suc (left - 1) ≡ left = omega (arith, positive) in
+    let next : drop (left - 1) path ≡ s.process ∷ drop left path =
+    drop_next path (left - 1) s.process there ∙ ap (λ (k : ℕ). s.process ∷ drop k path) on in (
+      subst (λ (z : List Step). History z (suc (length xs)) (drop (left - 1) path)) (sym same)
+          (subst (λ (h : List ℕ). History (xs ++ s ∷ []) (suc (length xs)) h) (sym next) (new_history xs s (drop left path) is)),
+      (more.0 ++ s ∷ [], same ∙ ap (λ (z : List Step). z ++ s ∷ []) more.1 ∙ append_assoc old more.0 (s ∷ [])),
+      λ code img l of.
+          subst (λ (z : List Step). AreLed code z) (sym same)
+          (new_led code xs s (drop left path) (led code img l of) is
+          (subst (λ (h : List ℕ). Leads code h) next (part_led code path (left - 1) img l))),
+    )
+
+-- ---- answers
+
+pub ok_map : {A E : Type 0} (r : Result A E) (P Q : A → Type 0) → ((a : A) → P a → Q a) → IfOk r P → IfOk r Q
+ok_map (Ok a) P Q f x = f a x
+ok_map (Err e) P Q f x = x

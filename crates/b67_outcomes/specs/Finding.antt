@@ -1,23 +1,27 @@
 -- What a search for everything to which runs lead has found, and when that is all.
-use Rattle.std.specs.Prelude.{◌≡◌, ℕ, suc, ◌+◌, ◌<◌, ◌≤◌, true, false, List, [], ◌∷◌, ◌++◌, length, Some, slice_get}
+use Rattle.std.specs.Prelude.{◌≡◌, ℕ, suc, ◌≤◌, true, false, List, [], ◌∷◌, ◌++◌, length, Some, slice_get}
 use Rattle.b67_segment.specs.declared.code.Code.{Code}
 use Rattle.b67_table.specs.Image.{Image}
-use Rattle.b67_table.specs.Ending.{may_act}
+use Rattle.b67_table.specs.Ending.{ImageEnd, image_end, may_act}
+use Rattle.b67_table.specs.Table.{stack_length}
 use Rattle.b67_table.specs.Runs.{Runs, Entry}
+use Rattle.b67_outcomes.specs.declared.found.TheConstants.{MOST_STEPS}
 use Rattle.b67_outcomes.specs.declared.found.Step.{Step}
+use Rattle.b67_outcomes.specs.declared.found.State.{State}
 use Rattle.b67_outcomes.specs.declared.found.Limit.{Limit}
 use Rattle.b67_outcomes.specs.declared.found.Found.{Found}
 use Rattle.b67_outcomes.specs.Entering.{Stops, LeadsTo}
+use Rattle.b67_outcomes.specs.Settling.{Settles}
 
--- ---- states
+-- ---- histories
 
--- Whose entries lead to the state of a number, the last first: none to the first one, and to another one those of a state of a lesser number,
--- after which it was found, and the one by which it was found.
+-- The history of a number, the last entry first: 0 is that of the history without entries, and another history ends with an entry after one of a
+-- lesser number.
 pub data History (steps : List Step) : ℕ → List ℕ → Type 0 where
   first : History steps 0 []
   later : {n : ℕ} {step : Step} {h : List ℕ} → slice_get steps n ≡ Some step → step.before ≤ n → History steps step.before h → History steps (suc n) (step.process ∷ h)
 
--- the state has a history, and that has a run
+-- there is a history of the number, and it has a run
 pub record IsLed (code : Code) (steps : List Step) (number : ℕ) : Type 0 where
   pub history : List ℕ
   pub image : Image
@@ -28,16 +32,27 @@ pub record IsLed (code : Code) (steps : List Step) (number : ℕ) : Type 0 where
 abbrev pub AreLed : Code → List Step → Type 0
 AreLed code steps = (number : ℕ) → number ≤ length steps → IsLed code steps number
 
+-- ---- states
+
+-- a state has the history of this number
+abbrev pub IsState : List State → ℕ → Type 0
+IsState states number = (k : ℕ) × (s : State) × (slice_get states k ≡ Some s) × (s.number ≡ number)
+
+-- the history of each state is there
+abbrev pub AreStates : List Step → List State → Type 0
+AreStates steps states = (k : ℕ) (s : State) → slice_get states k ≡ Some s → s.number ≤ length steps
+
 -- the image is that of a state
-pub record IsKept (code : Code) (steps : List Step) (img : Image) : Type 0 where
+pub record IsKept (code : Code) (steps : List Step) (states : List State) (img : Image) : Type 0 where
   pub number : ℕ
   pub history : List ℕ
+  pub state : IsState states number
   pub is : History steps number history
   pub leads : LeadsTo code history img
 
 -- ---- the stack limit
 
--- the process comes to the stack limit after the state
+-- the process comes to the stack limit after the history
 pub record IsStop (code : Code) (steps : List Step) (l : Limit) : Type 0 where
   pub history : List ℕ
   pub image : Image
@@ -51,52 +66,87 @@ pub record IsStop (code : Code) (steps : List Step) (l : Limit) : Type 0 where
 abbrev pub AreStops : Code → List Step → List Limit → Type 0
 AreStops code steps limits = (k : ℕ) (l : Limit) → slice_get limits k ≡ Some l → IsStop code steps l
 
--- it is noted that the process does so after the state
+-- it is noted that the process does so after the history
 abbrev pub IsNoted : List Limit → ℕ → ℕ → Type 0
 IsNoted limits number p = (k : ℕ) × (l : Limit) × (slice_get limits k ≡ Some l) × (l.state ≡ number) × (l.process ≡ p)
 
--- it is noted that it does so after a state of this image
-pub record IsStopKept (code : Code) (found : Found) (img : Image) (p : ℕ) : Type 0 where
-  pub number : ℕ
-  pub history : List ℕ
-  pub is : History found.steps.items number history
-  pub leads : LeadsTo code history img
-  pub noted : IsNoted found.limits.items number p
-
 -- ---- the search
 
--- All that is kept comes of runs, and with the first state there are at most so many; a search that was cut has as many.
+-- All that is kept comes of runs, and there are at most so many states; a search that was cut has as many.
 pub record IsSearched (code : Code) (most : ℕ) (found : Found) : Type 0 where
   pub led : AreLed code found.steps.items
+  pub states : AreStates found.steps.items found.states.items
   pub stops : AreStops code found.steps.items found.limits.items
-  pub few : length found.steps.items < most
-  pub cause : found.cut ≡ true → length found.steps.items + 1 ≡ most
+  pub short : length found.steps.items ≤ MOST_STEPS
+  pub few : length found.states.items ≤ most
+  pub cause : found.cut ≡ true → length found.states.items ≡ most
 
--- the state is kept after the others that an entry of the process after this one has led to
-abbrev pub HoldsStep : List Step → ℕ → ℕ → List Step → Type 0
-HoldsStep old before process new = (step : Step) × (new ≡ old ++ step ∷ []) × (step.before ≡ before) × (step.process ≡ process)
+-- the path is the history of this number, its steps stand after the others, and each of them comes of a run where the path does
+pub record HoldsPath (old : List Step) (path : List ℕ) (number : ℕ) (new : List Step) : Type 0 where
+  pub more : List Step
+  pub steps : new ≡ old ++ more
+  pub is : History new number path
+  pub short : length new ≤ MOST_STEPS
+  pub led : (code : Code) (img : Image) → LeadsTo code path img → AreLed code old → AreLed code new
+
+-- and a state has this history
+pub record HoldsState (old : Found) (path : List ℕ) (new : Found) : Type 0 where
+  pub state : State
+  pub path_held : HoldsPath old.steps.items path state.number new.steps.items
+  pub states : new.states.items ≡ old.states.items ++ state ∷ []
+  pub limits : new.limits.items ≡ old.limits.items
+  pub cut : new.cut ≡ old.cut
 
 -- what was kept and noted is so still, and a search that was cut is
 pub record Grows (old new : Found) : Type 0 where
   pub more : List Step
   pub steps : new.steps.items ≡ old.steps.items ++ more
+  pub more_states : List State
+  pub states : new.states.items ≡ old.states.items ++ more_states
   pub more_limits : List Limit
   pub limits : new.limits.items ≡ old.limits.items ++ more_limits
   pub cut : new.cut ≡ false → old.cut ≡ false
 
--- what an entry of the process after the state leads to is kept, and where it comes to the stack limit that is noted
-pub record IsFollowed (code : Code) (found : Found) (number : ℕ) (history : List ℕ) (p : ℕ) : Type 0 where
-  pub entries : (a b : Image) (n : ℕ) → LeadsTo code history a → Entry code p a n b → IsKept code found.steps.items b
-  pub stops : (a quiet : Image) → LeadsTo code history a → may_act a p ≡ true → Stops code p a quiet → IsNoted found.limits.items number p
+module _ (code : Code) (Local : Image → ℕ → Type 0) where
+  -- an image is kept to which entries that can be performed at once lead from this one
+  pub record IsArrived (found : Found) (img : Image) : Type 0 where
+    pub image : Image
+    pub settles : Settles code Local img image
+    pub kept : IsKept code found.steps.items found.states.items image
 
--- so it is with each process
-pub record IsExpanded (code : Code) (found : Found) (number : ℕ) : Type 0 where
-  pub history : List ℕ
-  pub is : History found.steps.items number history
-  pub each : (p : ℕ) → IsFollowed code found number history p
+  -- so it is after an entry of the process after the history, and where it comes to the stack limit that is noted
+  pub record IsFollowed (found : Found) (number : ℕ) (history : List ℕ) (p : ℕ) : Type 0 where
+    pub entries : (a b : Image) (n : ℕ) → LeadsTo code history a → Entry code p a n b → IsArrived found b
+    pub stops : (a quiet : Image) → LeadsTo code history a → may_act a p ≡ true → Stops code p a quiet → IsNoted found.limits.items number p
 
--- each run leads to the image of a state, and each process that comes to the stack limit is noted
+  -- so it is with each process
+  pub record IsExpanded (found : Found) (number : ℕ) : Type 0 where
+    pub history : List ℕ
+    pub is : History found.steps.items number history
+    pub each : (p : ℕ) → IsFollowed found number history p
+
+-- ---- all
+
+-- an image with this output and this end is that of a state
+pub record IsEndKept (code : Code) (found : Found) (output : List (List ℕ)) (e : ImageEnd) : Type 0 where
+  pub image : Image
+  pub kept : IsKept code found.steps.items found.states.items image
+  pub output_is : image.output ≡ output
+  pub ends : image_end image ≡ Some e
+
+-- it is noted that the process comes to the stack limit, with so many words, after a state with this output
+pub record IsStopKept (code : Code) (found : Found) (output : List (List ℕ)) (p words : ℕ) : Type 0 where
+  pub image : Image
+  pub quiet : Image
+  pub kept : IsKept code found.steps.items found.states.items image
+  pub output_is : image.output ≡ output
+  pub stops : Stops code p image quiet
+  pub words_are : stack_length p quiet ≡ words
+  pub noted : IsNoted found.limits.items kept.number p
+
+-- the end of each run is that of a state, and each process that comes to the stack limit is noted
 pub record AreAll (code : Code) (found : Found) : Type 0 where
-  pub images : (history counts : List ℕ) (img : Image) → Runs code history counts img → IsKept code found.steps.items img
+  pub ends : (history counts : List ℕ) (img : Image) (e : ImageEnd) → Runs code history counts img → image_end img ≡ Some e
+      → IsEndKept code found img.output e
   pub stops : (history counts : List ℕ) (img quiet : Image) (p : ℕ) → Runs code history counts img → may_act img p ≡ true → Stops code p img quiet
-      → IsStopKept code found img p
+      → IsStopKept code found img.output p (stack_length p quiet)

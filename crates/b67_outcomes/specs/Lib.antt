@@ -1,2 +1,3 @@
 pub mod Entering
+pub mod Settling
 pub mod Finding

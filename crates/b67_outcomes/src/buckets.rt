@@ -4,7 +4,7 @@ use std::alloc::{AllocError, Global};
 /// How many buckets there are.
 pub const BUCKETS: usize = 1_048_576;
 
-/// For each bucket the state that was kept last in it, and 0 where there is none.
+/// For each bucket how many states there were when its last one was kept, and 0 where there is none.
 #[derive(Drop)]
 pub struct Buckets {
     newest: Vec<u32>,
@@ -18,7 +18,7 @@ impl Buckets {
         })
     }
 
-    /// The state that was kept last in the bucket of this number.
+    /// How many states there were when the last one was kept in the bucket of this number.
     pub fn newest(&self, hash: u64) -> u32 {
         match self.newest.get((hash % BUCKETS as u64) as usize) {
             Some(state) => *state,
@@ -26,10 +26,10 @@ impl Buckets {
         }
     }
 
-    /// The state is the newest in the bucket of this number.
-    pub fn put(&mut self, hash: u64, state: u32) {
+    /// The last of so many states is the newest in the bucket of this number.
+    pub fn put(&mut self, hash: u64, states: u32) {
         if let Some(newest) = self.newest.get_mut((hash % BUCKETS as u64) as usize) {
-            *newest = state;
+            *newest = states;
         }
     }
 }

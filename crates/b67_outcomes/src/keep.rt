@@ -1,142 +1,97 @@
-// What an entry leads to is looked for among what is kept, and is kept where it is not there.
-ghost use Rattle.std.specs.Prelude.{◌≡◌, ◌+◌, ◌<◌, ◌≤◌, ◌^◌, true, false, length, IfOk};
-ghost use Rattle.b67_table.specs.Ending.{may_act};
-ghost use Rattle.b67_outcomes.specs.Entering.{LeadsTo};
-ghost use Rattle.b67_outcomes.specs.Finding.{AreLed, Grows, History, HoldsStep, IsFollowed, IsKept, IsSearched};
+// Where a search has come to is looked for among what is kept, and is kept where it is not there.
+ghost use Rattle.std.specs.Prelude.{◌≡◌, ◌+◌, ◌<◌, ◌≤◌, ◌^◌, true, drop, length, IfOk};
+ghost use Rattle.b67_outcomes.specs.declared.found.TheConstants.{MOST_STEPS};
+ghost use Rattle.b67_outcomes.specs.Finding.{AreLed, AreStates, History, HoldsPath, HoldsState, IsKept};
 
 use crate::buckets::Buckets;
+use crate::found::MOST_STEPS;
 use crate::walking::{history_of, perform};
-use crate::{Found, Limit, Step, Walker};
+use crate::{Found, State, Step, Walker};
 use std::alloc::{AllocError, Global};
 
-// Tests that the image of a machine is that of a state which is kept, from this one on in its bucket.
-fn is_kept<W: Walker>(
+/// Tests that the image of a machine is that of a state which is kept, from this one on in its bucket.
+pub fn is_kept<W: Walker>(
     alloc: Global,
     walker: &W,
     second: &mut W,
     steps: &[Step],
+    states: &[State],
     newest: u32,
 ) -> Result<bool, AllocError>
     requires codes { W.code second.old ≡ W.code walker.now }
     requires led { AreLed (W.code walker.now) steps.now }
+    requires states { AreStates steps.now states.now }
     ensures code { W.code second.new ≡ W.code second.old }
-    ensures kept { IfOk result (λ kept. kept ≡ true → IsKept (W.code walker.now) steps.now (W.image walker.now)) }
+    ensures kept { IfOk result (λ kept. kept ≡ true → IsKept (W.code walker.now) steps.now states.now (W.image walker.now)) }
 {
     let hash = walker.hash();
     let mut at = newest;
-    'older: while at > 0 && at as usize <= steps.len() {
-        let step = steps[at as usize - 1];
-        if step.hash == hash {
-            let history = history_of(alloc, steps, at)?;
+    'older: while at > 0 && at as usize <= states.len() {
+        let state = states[at as usize - 1];
+        if state.hash == hash {
+            let history = history_of(alloc, steps, state.number)?;
             perform(second, history.as_slice())?;
             if walker.same(second) {
                 return Ok(true);
             }
         }
-        if step.older >= at {
+        if state.older >= at {
             return Ok(false);
         }
-        at = step.older;
+        at = state.older;
     }
     Ok(false)
 }
 
-// Keeps the state that an entry of the process after this state has led to.
-fn keep(
+// Adds the first entries of a path, so many, the last of them first, after the history of this number, and answers the number of the path.
+fn add_steps(
     steps: &mut Vec<Step>,
+    number: u32,
+    path: &[u32],
+    more: usize,
+) -> Result<u32, AllocError>
+    requires within { more ≤ length path.now }
+    requires is { History steps.old.items number (drop more path.now) }
+    requires short { length steps.old.items ≤ MOST_STEPS }
+    ensures { IfOk result (λ number. HoldsPath steps.old.items path.now number steps.new.items) }
+{
+    let mut at = number;
+    let mut left = more;
+    'entries: while left > 0 {
+        if steps.len() >= MOST_STEPS {
+            return Err(AllocError);
+        }
+        left -= 1;
+        steps.push(Step {
+            before: at,
+            process: path[left],
+        })?;
+        at = steps.len() as u32;
+    }
+    Ok(at)
+}
+
+/// Keeps the state to which a path has led, whose last entries, the first `more` of the path, were performed after the history of this number.
+pub fn keep(
+    found: &mut Found,
     buckets: &mut Buckets,
-    before: u32,
-    process: u32,
+    number: u32,
+    path: &[u32],
+    more: usize,
     hash: u64,
 ) -> Result<(), AllocError>
-    requires few { length steps.old.items + 1 < 2 ^ 32 }
-    ensures { IfOk result (λ u. HoldsStep steps.old.items before process steps.new.items) }
+    requires within { more ≤ length path.now }
+    requires is { History found.old.steps.items number (drop more path.now) }
+    requires short { length found.old.steps.items ≤ MOST_STEPS }
+    requires few { length found.old.states.items + 1 < 2 ^ 32 }
+    ensures { IfOk result (λ u. HoldsState found.old path.now found.new) }
 {
-    steps.push(Step {
-        before,
-        process,
+    let at = add_steps(&mut found.steps, number, path, more)?;
+    found.states.push(State {
+        number: at,
         older: buckets.newest(hash),
         hash,
     })?;
-    buckets.put(hash, steps.len() as u32);
+    buckets.put(hash, found.states.len() as u32);
     Ok(())
-}
-
-// An entry of the process is performed on a machine that stands at this state. What it leads to is kept, or that the process comes to the
-// stack limit.
-fn find<W: Walker>(
-    alloc: Global,
-    walker: &mut W,
-    second: &mut W,
-    found: &mut Found,
-    buckets: &mut Buckets,
-    number: u32,
-    history: &[u32],
-    process: u32,
-    most: u32,
-) -> Result<(), AllocError>
-    requires codes { W.code second.old ≡ W.code walker.old }
-    requires searched { IsSearched (W.code walker.old) most found.old }
-    requires is { History found.old.steps.items number history.now }
-    requires stands { LeadsTo (W.code walker.old) history.now (W.image walker.old) }
-    requires may { may_act (W.image walker.old) process ≡ true }
-    ensures code { W.code walker.new ≡ W.code walker.old }
-    ensures second { W.code second.new ≡ W.code second.old }
-    ensures grows { IfOk result (λ u. Grows found.old found.new) }
-    ensures searched { IfOk result (λ u. IsSearched (W.code walker.old) most found.new) }
-    ensures followed { IfOk result (λ u. found.new.cut ≡ false → IsFollowed (W.code walker.old) found.new number history.now process) }
-{
-    let entered = walker.enter(process)?;
-    if !entered {
-        found.limits.push(Limit {
-            state: number,
-            process,
-        })?;
-        return Ok(());
-    }
-    let hash = walker.hash();
-    let newest = buckets.newest(hash);
-    let kept = is_kept(alloc, walker, second, found.steps.as_slice(), newest)?;
-    if kept {
-        return Ok(());
-    }
-    if found.steps.len() + 1 >= most as usize {
-        found.cut = true;
-        return Ok(());
-    }
-    keep(&mut found.steps, buckets, number, process, hash)?;
-    Ok(())
-}
-
-/// A process is followed from this state, on a machine that stands there: what its entry leads to is kept, or that it comes to the
-/// stack limit. The machine stands there again.
-pub fn follow<W: Walker>(
-    alloc: Global,
-    walker: &mut W,
-    second: &mut W,
-    found: &mut Found,
-    buckets: &mut Buckets,
-    number: u32,
-    history: &[u32],
-    process: u32,
-    most: u32,
-) -> Result<(), AllocError>
-    requires codes { W.code second.old ≡ W.code walker.old }
-    requires searched { IsSearched (W.code walker.old) most found.old }
-    requires is { History found.old.steps.items number history.now }
-    requires stands { LeadsTo (W.code walker.old) history.now (W.image walker.old) }
-    ensures code { W.code walker.new ≡ W.code walker.old }
-    ensures second { W.code second.new ≡ W.code second.old }
-    ensures grows { IfOk result (λ u. Grows found.old found.new) }
-    ensures searched { IfOk result (λ u. IsSearched (W.code walker.old) most found.new) }
-    ensures stands { IfOk result (λ u. LeadsTo (W.code walker.old) history.now (W.image walker.new)) }
-    ensures followed { IfOk result (λ u. found.new.cut ≡ false → IsFollowed (W.code walker.old) found.new number history.now process) }
-{
-    if !walker.may_act(process) {
-        return Ok(());
-    }
-    find(
-        alloc, walker, second, found, buckets, number, history, process, most,
-    )?;
-    perform(walker, history)
 }

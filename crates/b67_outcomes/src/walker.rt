@@ -14,6 +14,9 @@ pub trait Walker: Drop {
 
     ghost image: { Self → Image };
 
+    /// The next entry of a process may be performed at once.
+    ghost Local: { Code → Image → ℕ → Type 0 };
+
     /// The machine before its first operator.
     fn restart(&mut self) -> Result<(), AllocError>
         ensures code { code self.new ≡ code self.old }
@@ -36,6 +39,14 @@ pub trait Walker: Drop {
         ensures code { code self.new ≡ code self.old }
         ensures number { IsNumber process }
         ensures entered { IfOk result (λ entered. Enters (code self.old) process (image self.old) entered (image self.new)) };
+
+    /// Tests that the next entry of a process that may act is local, in an image to which a run leads. `false` says nothing.
+    fn is_local(&mut self, process: u32) -> Result<bool, AllocError>
+        requires may { may_act (image self.old) process ≡ true }
+        requires reached { IsReached (code self.old) (image self.old) }
+        ensures code { code self.new ≡ code self.old }
+        ensures stays { image self.new ≡ image self.old }
+        ensures is { IfOk result (λ is. is ≡ true → Local (code self.old) (image self.old) process) };
 
     /// Tests that the images are the same. `false` says nothing.
     fn same(&self, other: &Self) -> bool

@@ -1,2 +1,2 @@
 mod Telling
-mod Outcomes
+pub mod Outcomes

@@ -24,7 +24,7 @@ use Rattle.b67_faithful.specs.Faithful.{Faithful, ComesToLimit}
 use Rattle.b67_outcomes.specs.declared.found.Found.{Found}
 use Rattle.b67_outcomes.specs.Entering.{LeadsTo}
 use Rattle.b67_outcomes.specs.Finding.{AreAll}
-use Rattle.b67_outcomes_all.specs.Sources.{KeptAreLegal, KeptTellAll, StopsAreLimits, IsLimitNoted, IsToldIn, Tells}
+use Rattle.b67_outcomes_all.specs.Sources.{KeptAreLegal, KeptTellAll, StopsAreLimits, IsLimitNoted, IsToldIn}
 
 -- ---- worlds within a legal schedule
 
@@ -113,23 +113,40 @@ one_tail code (suc k) from p a b n e plains = next stay (one_tail code k (from +
 
 -- ---- all of them
 
-pub told : (tree : PProgram) (code : Code) (found : Found) → Faithful tree code → AreAll code found → (schedule : List ℕ) (w : World) → run tree schedule ≡ Some w
-    → (img : Image) → TableRun code schedule [] img → IsToldIn code found w
-told tree code found f all schedule w e img t =
+-- the end of an image is that of its world
+image_ended : (i : Option ImageEnd) (end : meaning.End) → end_as i ≡ Some end → (e : ImageEnd) × (i ≡ Some e)
+image_ended None end x = absurd (none-some end x)
+image_ended (Some e) end x = (e, refl)
+
+pub told : (tree : PProgram) (code : Code) (found : Found) → Faithful tree code → AreAll code found → (schedule : List ℕ) (w : World) (end : meaning.End)
+    → run tree schedule ≡ Some w → meaning.end_of w ≡ Some end → (img : Image) → TableRun code schedule [] img → IsToldIn code found w
+told tree code found f all schedule w end legal ends img t =
     let agrees = f.follows.legal schedule [] img t in
-    let same : agrees.world ≡ w = same_Some agrees.world w (sym agrees.is ∙ e) in
+    let same : agrees.world ≡ w = same_Some agrees.world w (sym agrees.is ∙ legal) in
+    let shown : meaning.end_of w ≡ end_as (image_end img) = subst (λ (x : World). meaning.end_of x ≡ end_as (image_end img)) same agrees.shows.ends in
+    let e = image_ended (image_end img) end (sym shown ∙ ends) in
+    let tails = no_tails code 1 t.before_tails img t.after in
+    let x = all.ends t.history t.counts img e.0 (subst (λ (y : Image). Runs code t.history t.counts y) tails t.runs) e.1 in
     record {
-      image = t.before_tails;
-      is_kept = all.images t.history t.counts t.before_tails t.runs;
-      tells = subst (λ (x : Image). Tells w x) (sym (no_tails code 1 t.before_tails img t.after))
-          (subst (λ (x : World). Tells x img) same (record { output = agrees.shows.output; ends = agrees.shows.ends }));
+      image = x.image;
+      is_kept = x.kept;
+      tells = record {
+        output = x.output_is ∙ subst (λ (y : World). img.output ≡ y.output) same agrees.shows.output;
+        ends = shown ∙ ap end_as (e.1 ∙ sym x.ends);
+      };
     }
+
+-- where a legal schedule comes to the stack limit, the process may act there
+pub may_there : (tree : PProgram) (code : Code) → Faithful tree code → (schedule : List ℕ) (w : World) → run tree schedule ≡ Some w → (c : ComesToLimit code schedule)
+    → may_act c.image c.next ≡ true
+may_there tree code f schedule w e c =
+    let agrees = f.follows.legal c.before [] c.image c.run in
+    let goes = next_goes tree c.before c.next c.later w agrees.world (subst (λ (h : List ℕ). run tree h ≡ Some w) c.split e) agrees.is in
+    sym (may_both code agrees.world c.image c.next agrees.shows) ∙ goes
 
 noted : (tree : PProgram) (code : Code) (found : Found) → Faithful tree code → AreAll code found → (schedule : List ℕ) (w : World) → run tree schedule ≡ Some w
     → ComesToLimit code schedule → IsLimitNoted code found schedule
 noted tree code found f all schedule w e c =
-    let agrees = f.follows.legal c.before [] c.image c.run in
-    let goes = next_goes tree c.before c.next c.later w agrees.world (subst (λ (h : List ℕ). run tree h ≡ Some w) c.split e) agrees.is in
     let same = no_tails code 1 c.run.before_tails c.image c.run.after in
     record {
       before = c.before;
@@ -138,18 +155,19 @@ noted tree code found f all schedule w e c =
       split = c.split;
       image = c.image;
       run = c.run;
+      words = _;
       noted =
           all.stops c.run.history c.run.counts c.image c.quiet c.next (subst (λ (x : Image). Runs code c.run.history c.run.counts x) same c.run.runs)
-          (sym (may_both code agrees.world c.image c.next agrees.shows) ∙ goes) (record { count = c.plain; plains = c.plains; at_limit = c.stops });
+          (may_there tree code f schedule w e c) (record { count = c.plain; plains = c.plains; at_limit = c.stops });
     }
 
-by_case : (tree : PProgram) (code : Code) (found : Found) → Faithful tree code → AreAll code found → (schedule : List ℕ) (w : World) → run tree schedule ≡ Some w
-    → ((img : Image) × TableRun code schedule [] img) ⊎ ComesToLimit code schedule → IsToldIn code found w ⊎ IsLimitNoted code found schedule
-by_case tree code found f all schedule w e (inl x) = inl (told tree code found f all schedule w e x.0 x.1)
-by_case tree code found f all schedule w e (inr x) = inr (noted tree code found f all schedule w e x)
+by_case : (tree : PProgram) (code : Code) (found : Found) → Faithful tree code → AreAll code found → (schedule : List ℕ) (w : World) (end : meaning.End)
+    → run tree schedule ≡ Some w → meaning.end_of w ≡ Some end → ((img : Image) × TableRun code schedule [] img) ⊎ ComesToLimit code schedule → IsToldIn code found w ⊎ IsLimitNoted code found schedule
+by_case tree code found f all schedule w end e ends (inl x) = inl (told tree code found f all schedule w end e ends x.0 x.1)
+by_case tree code found f all schedule w end e ends (inr x) = inr (noted tree code found f all schedule w e x)
 
 pub tells_all : KeptTellAll
-tells_all tree code found f all schedule w e = by_case tree code found f all schedule w e (f.follows.whole schedule (w, e))
+tells_all tree code found f all schedule w end e ends = by_case tree code found f all schedule w end e ends (f.follows.whole schedule (w, e))
 
 -- ---- and no other
 

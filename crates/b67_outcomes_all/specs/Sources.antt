@@ -2,7 +2,7 @@
 use Rattle.std.specs.Prelude.{◌≡◌, ◌⊎◌, ℕ, ◌<◌, ◌≤◌, true, List, [], ◌∷◌, ◌++◌, length, reverse, Some, slice_get}
 use Rattle.algol_tree.specs.Plain.{PProgram}
 use Rattle.algol_meaning.specs.World.{World}
-use Rattle.algol_meaning.specs.Run.{run, end_of, may_go}
+use Rattle.algol_meaning.specs.Run.{run, end_of, may_go, End}
 use Rattle.b67_segment.specs.declared.code.Code.{Code}
 use Rattle.b67_store.specs.Store.{stack_limit}
 use Rattle.b67_table.specs.Image.{Image}
@@ -26,7 +26,7 @@ pub record Tells (w : World) (img : Image) : Type 0 where
 -- an image that is kept has the output and the end of the world
 pub record IsToldIn (code : Code) (found : Found) (w : World) : Type 0 where
   pub image : Image
-  pub is_kept : IsKept code found.steps.items image
+  pub is_kept : IsKept code found.steps.items found.states.items image
   pub tells : Tells w image
 
 -- it is noted that an entry of the schedule comes to the stack limit, after the entries before it
@@ -37,12 +37,13 @@ pub record IsLimitNoted (code : Code) (found : Found) (schedule : List ℕ) : Ty
   pub split : schedule ≡ before ++ next ∷ later
   pub image : Image
   pub run : TableRun code before [] image
-  pub noted : IsStopKept code found image next
+  pub words : ℕ
+  pub noted : IsStopKept code found image.output next words
 
 abbrev pub KeptTellAll : Type 0
 KeptTellAll =
-    (tree : PProgram) (code : Code) (found : Found) → Faithful tree code → AreAll code found → (schedule : List ℕ) (w : World) → run tree schedule ≡ Some w
-    → IsToldIn code found w ⊎ IsLimitNoted code found schedule
+    (tree : PProgram) (code : Code) (found : Found) → Faithful tree code → AreAll code found → (schedule : List ℕ) (w : World) (end : End)
+    → run tree schedule ≡ Some w → end_of w ≡ Some end → IsToldIn code found w ⊎ IsLimitNoted code found schedule
 
 -- ---- and no other
 
@@ -52,7 +53,7 @@ pub record IsLegalTo (tree : PProgram) (schedule : List ℕ) (img : Image) : Typ
   pub legal : run tree schedule ≡ Some world
   pub tells : Tells world img
 
--- the state's history, the last entry first, is that of a legal schedule
+-- the history of the number, the last entry first, is that of a legal schedule
 pub record IsLegalState (tree : PProgram) (code : Code) (found : Found) (number : ℕ) : Type 0 where
   pub history : List ℕ
   pub image : Image

@@ -4,14 +4,14 @@
 ghost use Rattle.b67_outcomes_all.specs.Outcomes.{ToldAreAll};
 ghost use Rattle.b67_outcomes_all.specs.Sources.{KeptAreLegal, KeptTellAll, StopsAreLimits};
 
-/// Law: where all that runs of a faithful code lead to is kept, each legal schedule of the source comes to the output and the end of a state
-/// that is kept, or it is noted which of its entries comes to the stack limit.
+/// Law: where all that runs of a faithful code come to is kept, each legal schedule of the source that comes to an end comes to the output and the end of
+/// a state that is kept, or it is noted which of its entries comes to the stack limit.
 #[tactic(auto, using(crate::proofs::Telling::tells_all))]
 pub fn kept_tell_all()
     ensures { KeptTellAll }
 {}
 
-/// Law: the schedule of each state that is kept is legal for the source, and its image has the output and the end of the source under it.
+/// Law: the schedule of each state that is kept, and of each entry on the way to it, is legal for the source, and its image has the output and the end of the source under it.
 #[tactic(auto, using(crate::proofs::Telling::are_legal))]
 pub fn kept_are_legal()
     ensures { KeptAreLegal }

@@ -26,8 +26,8 @@ pub processes-init : goal.processes-init
 processes-init g c = (
   c.perform.ensures.code,
   refl,
-  same_grows c.args.found.now _ refl refl refl,
-  same_searched (g.W.Walker.code c.args.walker.now) c.args.most c.args.found.now _ c.requires.searched refl refl refl,
+  same_grows c.args.found.now _ refl refl refl (λ e. e),
+  same_searched (g.W.Walker.code c.args.walker.now) c.args.most c.args.found.now _ c.requires.searched refl refl refl c.requires.searched.cause,
   subst (λ (h : List ℕ). LeadsTo (g.W.Walker.code c.args.walker.now) h (g.W.Walker.image c.perform.new.walker)) c.as_slice-2.ensures.value
       c.in_ok-perform.ensures.led,
   λ e p one below. absurd (omega (arith, one, below)),
@@ -50,11 +50,11 @@ processes-preserved g c =
       subst (λ (k : Code). IsSearched k c.args.most c.follow.new.found) i.0 c.in_ok-follow.ensures.searched,
       subst (λ (h : List ℕ). LeadsTo (g.W.Walker.code c.args.walker.now) h (g.W.Walker.image c.follow.new.walker)) c.as_slice-in-processes.ensures.value
           (subst (λ (k : Code). LeadsTo k c.as_slice-in-processes.result.now (g.W.Walker.image c.follow.new.walker)) i.0 c.in_ok-follow.ensures.stands),
-      followed_next (g.W.Walker.code c.args.walker.now) c.processes.found c.follow.new.found c.args.number c.in_ok-history.history.items c.processes.process
+      followed_next (g.W.Walker.code c.args.walker.now) (g.W.Walker.Local (g.W.Walker.code c.args.walker.now)) c.processes.found c.follow.new.found c.args.number c.in_ok-history.history.items c.processes.process
           c.in_ok-follow.ensures.grows i.5
-          (λ e. subst (λ (h : List ℕ). IsFollowed (g.W.Walker.code c.args.walker.now) c.follow.new.found c.args.number h c.processes.process)
+          (λ e. subst (λ (h : List ℕ). IsFollowed (g.W.Walker.code c.args.walker.now) (g.W.Walker.Local (g.W.Walker.code c.args.walker.now)) c.follow.new.found c.args.number h c.processes.process)
           c.as_slice-in-processes.ensures.value
-          (subst (λ (k : Code). IsFollowed k c.follow.new.found c.args.number c.as_slice-in-processes.result.now c.processes.process) i.0
+          (subst (λ (k : Code). IsFollowed k (g.W.Walker.Local k) c.follow.new.found c.args.number c.as_slice-in-processes.result.now c.processes.process) i.0
           (c.in_ok-follow.ensures.followed e))),
       omega arith,
       omega (arith, c.processes-test.true),
@@ -63,7 +63,7 @@ processes-preserved g c =
 pub returns-clause-expanded : goal.returns-clause-expanded
 returns-clause-expanded g c = λ e.
     let is = subst (λ (xs : List Step). History xs c.args.number c.in_ok-history.history.items) c.as_slice.ensures.value c.in_ok-history.ensures in
-    expanded_by (g.W.Walker.code c.args.walker.now) c.processes.found c.args.number c.in_ok-history.history.items (g.W.Walker.image c.perform.new.walker)
+    expanded_by (g.W.Walker.code c.args.walker.now) (g.W.Walker.Local (g.W.Walker.code c.args.walker.now)) c.processes.found c.args.number c.in_ok-history.history.items (g.W.Walker.image c.perform.new.walker)
     c.processes-processes.result c.processes.process
     (grown_history c.args.found.now c.processes.found c.args.number c.in_ok-history.history.items c.processes.invariant.2 is)
     (subst (λ (h : List ℕ). LeadsTo (g.W.Walker.code c.args.walker.now) h (g.W.Walker.image c.perform.new.walker)) c.as_slice-2.ensures.value

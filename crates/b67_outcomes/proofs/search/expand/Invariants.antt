@@ -9,7 +9,8 @@ invariant-processes g l =
     (g.W.Walker.code l.walker ≡ g.W.Walker.code l.fn.walker) × (g.W.Walker.code l.second ≡ g.W.Walker.code l.fn.second)
     × Grows l.fn.found l.found × IsSearched (g.W.Walker.code l.fn.walker) l.most l.found
     × LeadsTo (g.W.Walker.code l.fn.walker) l.history.items (g.W.Walker.image l.walker)
-    × (l.found.cut ≡ false → (p : ℕ) → 1 ≤ p → p < l.process → IsFollowed (g.W.Walker.code l.fn.walker) l.found l.number l.history.items p)
+    × (l.found.cut ≡ false → (p : ℕ) → 1 ≤ p → p < l.process
+    → IsFollowed (g.W.Walker.code l.fn.walker) (g.W.Walker.Local (g.W.Walker.code l.fn.walker)) l.found l.number l.history.items p)
     × (1 ≤ l.process) × (l.process ≤ l.processes + 1)
 
 abbrev pub decreases-processes : goal.decreases-processes

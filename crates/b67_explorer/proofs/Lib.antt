@@ -1,0 +1,5 @@
+mod Performed
+mod Followed
+mod Owned
+mod Touched
+mod Assembled

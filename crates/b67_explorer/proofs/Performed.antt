@@ -1,0 +1,138 @@
+-- From what a machine performs to entries of its code.
+use Rattle.std.proofs.Common.{◌≡◌, sym, ap, subst, ◌∙◌, ℕ, ◌≤◌, length, All, Bool, true, false, true≢false, not, Option, Some, None, is_some}
+use Rattle.std.proofs.lemmas.Option.{same_Some, none-some}
+use Rattle.b67_num.specs.declared.FaultKind.{FaultKind}
+use Rattle.b67_segment.specs.declared.TheConstants.{MOST_SEGMENT_WORDS}
+use Rattle.b67_segment.specs.declared.code.Code.{Code}
+use Rattle.b67_segment.specs.declared.code.Segment.{Segment}
+use Rattle.b67_listing.specs.Listings.{IsListable}
+use Rattle.b67_list.specs.Numbered.{numbered}
+use Rattle.b67_table.specs.Image.{Image, is_able}
+use Rattle.b67_table.specs.Ending.{ImageEnd, image_end, goes_on, may_act, failed}
+use Rattle.b67_table.specs.Ending as image_ends
+use Rattle.b67_table.specs.Outcome.{gives, faults, limit}
+use Rattle.b67_table.specs.Runs.{Plains, acts, fails}
+use Rattle.b67_table.specs.Runs as runs
+use Rattle.b67_table.specs.Table.{table, plain, length_in}
+use Rattle.b67_action.specs.declared.done.Done.{Done}
+use Rattle.b67_action.specs.declared.done.Done.TheVariants as dones
+use Rattle.b67_machine.specs.declared.entry.Performed.{Performed}
+use Rattle.b67_machine.specs.declared.reads.End.{End}
+use Rattle.b67_machine.specs.declared.reads.End.TheVariants as ends
+use Rattle.b67_machine.specs.Kept.{Kept}
+use Rattle.b67_machine.specs.Reads.{end_by, limit_end, machine_end, shown, shown_end}
+use Rattle.b67_machine.specs.Stepping.{Acts, StepsBy, Follows, Goes, Performs}
+use Rattle.b67_outcomes.specs.Entering.{Enters}
+use Rattle.b67_explorer.specs.Entries.{entered_by}
+
+-- an entry is performed, or the process comes to the stack limit; nothing is said where neither is so
+abbrev EntersAs : Code → ℕ → Image → Done → Image → Type 0
+EntersAs code p a dones.Went b = Enters code p a true b
+EntersAs code p a dones.Waits b = Enters code p a true b
+EntersAs code p a dones.Ended b = Enters code p a true b
+EntersAs code p a (dones.Fault kind) b = Enters code p a true b
+EntersAs code p a (dones.Interrupt kind) b = Unit {0}
+EntersAs code p a dones.StackLimit b = Enters code p a false b
+EntersAs code p a dones.NoMemory b = Unit {0}
+
+-- which of the two it is
+which : (code : Code) (p : ℕ) (a b : Image) (d : Done) (e : Bool) → EntersAs code p a d b → entered_by (Some d) ≡ Some e → Enters code p a e b
+which code p a b dones.Went e x same = subst (λ (z : Bool). Enters code p a z b) (same_Some true e same) x
+which code p a b dones.Waits e x same = subst (λ (z : Bool). Enters code p a z b) (same_Some true e same) x
+which code p a b dones.Ended e x same = subst (λ (z : Bool). Enters code p a z b) (same_Some true e same) x
+which code p a b (dones.Fault kind) e x same = subst (λ (z : Bool). Enters code p a z b) (same_Some true e same) x
+which code p a b (dones.Interrupt kind) e x same = absurd (none-some e same)
+which code p a b dones.StackLimit e x same = subst (λ (z : Bool). Enters code p a z b) (same_Some false e same) x
+which code p a b dones.NoMemory e x same = absurd (none-some e same)
+
+module _ (old : Kept) (p n : ℕ) (quiet : Kept) (may : may_act old.image p ≡ true) (goes : Goes old p n quiet) where
+  same_code : quiet.code ≡ old.code
+  same_code = ap (λ (k : Kept). k.code) goes.others
+
+  entered : (new : Image) → runs.Acts quiet.code p quiet.image new → Enters old.code p old.image true new
+  entered new action =
+      (n, record { may = may; quiet = quiet.image; plains = goes.performed; action = subst (λ (c : Code). runs.Acts c p quiet.image new) same_code action })
+
+  gone : (new acted : Image) → plain quiet.code quiet.image p ≡ false → table quiet.code quiet.image p ≡ gives acted → new ≡ acted → Enters old.code p old.image true new
+  gone new acted e t same = entered new (subst (λ (x : Image). runs.Acts quiet.code p quiet.image x) (sym same) (acts e t))
+
+  failing : (new acted : Image) (kind : FaultKind) → table quiet.code quiet.image p ≡ faults kind → acted ≡ quiet.image → new ≡ failed acted p kind
+      → Enters old.code p old.image true new
+  failing new acted kind t left same =
+      entered new (subst (λ (x : Image). runs.Acts quiet.code p quiet.image x) (sym (same ∙ ap (λ (x : Image). failed x p kind) left)) (fails kind t))
+
+  by_act : (d : Done) (new : Kept) → plain quiet.code quiet.image p ≡ false → Acts quiet p d new → EntersAs old.code p old.image d new.image
+  unfolding failed
+  by_act dones.Went new e a = gone new.image a.acted e a.came.0 a.image
+  by_act dones.Waits new e a = gone new.image a.acted e a.came.0 a.image
+  by_act dones.Ended new e a = gone new.image a.acted e a.came.0 a.image
+  by_act (dones.Fault kind) new e a = failing new.image a.acted kind a.came.0 a.came.1 a.image
+  by_act (dones.Interrupt kind) new e a = tt
+  by_act dones.StackLimit new e a =
+      subst (λ (x : Image). Enters old.code p old.image false x) (sym (a.image ∙ a.came.1))
+      (record { count = n; plains = goes.performed; at_limit = subst (λ (c : Code). table c quiet.image p ≡ limit) same_code a.came.0 })
+  by_act dones.NoMemory new e a = tt
+
+  by_step : (b : Bool) (d : Done) (new : Kept) → plain quiet.code quiet.image p ≡ false → StepsBy b quiet p d new → EntersAs old.code p old.image d new.image
+  by_step true d new e s = subst (λ (x : Done). EntersAs old.code p old.image x new.image) (sym s.0) tt
+  by_step false d new e s = by_act d new e s
+
+  by_follow : (most : ℕ) (o : Option Done) (new : Kept) (b : Bool) → Follows quiet p n most o new → entered_by o ≡ Some b → Enters old.code p old.image b new.image
+  by_follow most None new b f e = absurd (none-some b e)
+  by_follow most (Some d) new b f e = which old.code p old.image new.image d b (by_step quiet.lacked d new f.1 f.2) e
+
+pub entered_as : (old : Kept) (p most : ℕ) (performed : Performed) (new : Kept) (b : Bool) → may_act old.image p ≡ true → Performs old p most performed new
+    → entered_by performed.done ≡ Some b → Enters old.code p old.image b new.image
+entered_as old p most performed new b may k e = by_follow old p performed.plain k.between may k.plains most performed.done new b k.then e
+
+-- a process that may act is able
+pub is_able_there : (img : Image) (p : ℕ) → may_act img p ≡ true → is_able (numbered img.states p) ≡ true
+unfolding may_act
+is_able_there img p e = by (image_end img) e
+  where
+    by : (o : Option ImageEnd) → goes_on o (is_able (numbered img.states p)) ≡ true → is_able (numbered img.states p) ≡ true
+    by None f = f
+    by (Some x) f = absurd (true≢false (sym f))
+
+-- how many words a machine at the stack limit says
+pub words_said : (m : Kept) (p q words : ℕ) → m.limit ≡ Some p → machine_end m ≡ Some (ends.StackLimit q words) → words ≡ length_in (numbered m.image.regs p)
+words_said m p q words at e = by (image_end m.image) e
+  where
+    words_of : Option End → ℕ
+    words_of None = words
+    words_of (Some ends.Finished) = words
+    words_of (Some (ends.Fault kind r)) = words
+    words_of (Some ends.AllWaiting) = words
+    words_of (Some (ends.StackLimit r w)) = w
+
+    by : (o : Option ImageEnd) → end_by o m ≡ Some (ends.StackLimit q words) → words ≡ length_in (numbered m.image.regs p)
+    by (Some image_ends.finished) f = cc
+    by (Some (image_ends.faulted kind r)) f = cc
+    by (Some image_ends.all_waiting) f = cc
+    by None f = ap words_of (sym f ∙ ap (λ (o : Option ℕ). limit_end o m.image.regs) at)
+
+-- a process may act where the image has no end and it is able
+pub may_then : (img : Image) (p : ℕ) (end : Option End) (none able : Bool) → is_some end ≡ not none → none ≡ true → end ≡ shown_end (image_end img)
+    → able ≡ is_able (numbered img.states p) → able ≡ may_act img p
+unfolding may_act
+may_then img p end none able told going e same = by (image_end img) end none e told going
+  where
+    by : (o : Option ImageEnd) (x : Option End) (b : Bool) → x ≡ shown_end o → is_some x ≡ not b → b ≡ true → able ≡ goes_on o (is_able (numbered img.states p))
+    by None x b f t y = same
+    by (Some i) (Some x) true f t y = absurd (true≢false t)
+    by (Some i) (Some x) false f t y = absurd (true≢false (sym y))
+    by (Some i) None b f t y = absurd (none-some (shown i) f)
+
+-- and nowhere else
+pub may_else : (img : Image) (p : ℕ) (end : Option End) (none : Bool) → is_some end ≡ not none → none ≡ false → end ≡ shown_end (image_end img) → none ≡ may_act img p
+unfolding may_act
+may_else img p end none told no_end e = by (image_end img) end none e told no_end
+  where
+    by : (o : Option ImageEnd) (x : Option End) (b : Bool) → x ≡ shown_end o → is_some x ≡ not b → b ≡ false → b ≡ goes_on o (is_able (numbered img.states p))
+    by (Some i) x b f t y = y
+    by None None true f t y = absurd (true≢false y)
+    by None None false f t y = absurd (true≢false (sym t))
+    by None (Some x) b f t y = absurd (none-some x (sym f))
+
+pub segments_short : (code : Code) → IsListable code → All (λ (segment : Segment). length segment.words ≤ MOST_SEGMENT_WORDS) code.segments
+segments_short code listable = λ k first inside. (listable.segments k first inside).1.few

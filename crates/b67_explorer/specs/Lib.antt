@@ -1,0 +1,4 @@
+pub mod Entries
+pub mod Following
+pub mod Texts
+pub mod Cells

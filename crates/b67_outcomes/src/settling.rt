@@ -1,0 +1,87 @@
+// Entries that can be performed at once are performed.
+ghost use Rattle.std.specs.Prelude.{◌≡◌, ℕ, ◌++◌, List, IfOk, IfSome};
+ghost use Rattle.b67_outcomes.specs.Entering.{IsReached, LeadsTo};
+ghost use Rattle.b67_outcomes.specs.Settling.{CanSettle, IsOnly, Settles};
+
+use crate::Walker;
+use crate::walking::perform;
+use std::alloc::AllocError;
+
+// The process that may act, where it is the only one.
+fn only_one<W: Walker>(walker: &W) -> Option<u32>
+    ensures { IfSome result (IsOnly (W.image walker.now)) }
+{
+    let processes = walker.processes();
+    let mut found = None;
+    let mut process = 1;
+    'processes: while process <= processes {
+        if walker.may_act(process) {
+            if found.is_some() {
+                return None;
+            }
+            found = Some(process);
+        }
+        process += 1;
+    }
+    found
+}
+
+// The first process whose next entry is local.
+fn first_local<W: Walker>(walker: &mut W) -> Result<Option<u32>, AllocError>
+    requires reached { IsReached (W.code walker.old) (W.image walker.old) }
+    ensures code { W.code walker.new ≡ W.code walker.old }
+    ensures stays { W.image walker.new ≡ W.image walker.old }
+    ensures settles { IfOk result (λ found. IfSome found (CanSettle (W.Local (W.code walker.old)) (W.image walker.old))) }
+{
+    let processes = walker.processes();
+    let mut process = 1;
+    'processes: while process <= processes {
+        if walker.may_act(process) {
+            let local = walker.is_local(process)?;
+            if local {
+                return Ok(Some(process));
+            }
+        }
+        process += 1;
+    }
+    Ok(None)
+}
+
+// The process that may act, where it is the only one; else the first whose next entry is local.
+fn next_settled<W: Walker>(walker: &mut W) -> Result<Option<u32>, AllocError>
+    requires reached { IsReached (W.code walker.old) (W.image walker.old) }
+    ensures code { W.code walker.new ≡ W.code walker.old }
+    ensures stays { W.image walker.new ≡ W.image walker.old }
+    ensures settles { IfOk result (λ found. IfSome found (CanSettle (W.Local (W.code walker.old)) (W.image walker.old))) }
+{
+    let only = only_one(walker);
+    if only.is_some() {
+        return Ok(only);
+    }
+    first_local(walker)
+}
+
+/// Entries are performed that can be performed at once, at most so many, on a machine that stands after the entries of a path, the last first; the path
+/// goes on by them.
+pub fn settle<W: Walker>(walker: &mut W, path: &mut Vec<u32>, most: u32) -> Result<(), AllocError>
+    requires stands { LeadsTo (W.code walker.old) path.old.items (W.image walker.old) }
+    ensures code { W.code walker.new ≡ W.code walker.old }
+    ensures stands { IfOk result (λ u. LeadsTo (W.code walker.old) path.new.items (W.image walker.new)) }
+    ensures longer { IfOk result (λ u. (more : List ℕ) × (path.new.items ≡ more ++ path.old.items)) }
+    ensures settles { IfOk result (λ u. Settles (W.code walker.old) (W.Local (W.code walker.old)) (W.image walker.old) (W.image walker.new)) }
+{
+    let mut count = 0;
+    'entries: while count < most {
+        let next = next_settled(walker)?;
+        let Some(process) = next else {
+            return Ok(());
+        };
+        let entered = walker.enter(process)?;
+        if !entered {
+            return perform(walker, path.as_slice());
+        }
+        path.insert(0, process)?;
+        count += 1;
+    }
+    Ok(())
+}

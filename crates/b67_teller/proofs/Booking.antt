@@ -1,0 +1,166 @@
+-- What is told stays told, and each outcome once.
+use Rattle.std.proofs.Common.{◌≡◌, refl, sym, ap, subst, ◌∙◌, ℕ, zero, suc, ◌+◌, ◌<◌, ◌≤◌, false, true≢false, List, [], ◌∷◌, ◌++◌, length, append_assoc, append-nil, Contains, Some, arith, inl, inr}
+use Rattle.std.specs.Prelude.{◌⊎◌, slice_get}
+use Rattle.std.specs.List.{All}
+use Rattle.std.proofs.lemmas.Bool.{cases_lt}
+use Rattle.std.proofs.lemmas.List.{map-append}
+use Rattle.std.proofs.lemmas.Grind.{flat_map-append}
+use Rattle.std.proofs.lemmas.List.Elements.{All-push, Contains-append_left, Contains-push}
+use Rattle.std.proofs.lemmas.Option.{same_Some, none-some, slice_get_within}
+use Rattle.b67_segment.specs.declared.code.Code.{Code}
+use Rattle.b67_schedule.specs.declared.reading.Given.{Given}
+use Rattle.b67_told.specs.declared.TheConstants.{MOST_TEXT_BYTES}
+use Rattle.b67_told.specs.declared.Outcome.{Outcome}
+use Rattle.b67_told.specs.declared.Told.{Told}
+use Rattle.b67_told.specs.Telling.{outcomes_in, IsTold, AreDifferent}
+use Rattle.b67_told.specs.Texts.{told_text, told_texts}
+use Rattle.b67_outcomes.specs.declared.found.State.{State}
+use Rattle.b67_outcomes.specs.declared.found.Limit.{Limit}
+use Rattle.b67_outcomes.specs.declared.found.Found.{Found}
+use Rattle.b67_teller.specs.declared.book.Book.{Book}
+use Rattle.b67_teller.specs.Following.{IsLong}
+use Rattle.b67_teller.specs.Books.{IsConfirmed, IsTooLong, IsFull, IsBook, HasOther, Grows, IsAdded, IsStateTold, IsLimitTold, AreLimitsTold}
+
+-- ---- what was told
+
+pub grows_none : (b : Book) → Grows b b
+grows_none b = record { more = []; told = sym (append-nil b.told.items); cut = λ e. e }
+
+pub grows_more : (a b c : Book) → Grows a b → Grows b c → Grows a c
+grows_more a b c g h =
+    record {
+      more = g.more ++ h.more;
+      told = h.told ∙ ap (λ (z : List Told). z ++ h.more) g.told ∙ append_assoc a.told.items g.more h.more;
+      cut = λ e. g.cut (h.cut e);
+    }
+
+pub told_stays : (a b : Book) (o : Outcome) → Grows a b → IsTold a.told.items o → IsTold b.told.items o
+told_stays a b o g t =
+    subst (λ (z : List Told). IsTold z o) (sym g.told)
+    (subst (λ (z : List Outcome). Contains z o) (sym (map-append (λ (x : Told). x.outcome) a.told.items g.more))
+    (Contains-append_left (outcomes_in a.told.items) (outcomes_in g.more) o t))
+
+pub state_stays : (code : Code) (found : Found) (a b : Book) (number : ℕ) → Grows a b → IsStateTold code found a.told.items number → IsStateTold code found b.told.items number
+state_stays code found a b number g t = λ h img e is leads there. told_stays a b _ g (t h img e is leads there)
+
+pub limits_stay : (code : Code) (found : Found) (a b : Book) (to : ℕ) → Grows a b → AreLimitsTold code found a.told.items to → AreLimitsTold code found b.told.items to
+limits_stay code found a b to g t = λ k l below there h img quiet is leads stops. told_stays a b _ g (t k l below there h img quiet is leads stops)
+
+pub limits_next : (code : Code) (found : Found) (told : List Told) (at : ℕ) (l : Limit) → slice_get found.limits.items at ≡ Some l → AreLimitsTold code found told at
+    → IsLimitTold code found told l → AreLimitsTold code found told (at + 1)
+limits_next code found told at l there before here k m below is = by (cases_lt k at)
+  where
+    by : (k < at) ⊎ (at ≤ k) → IsLimitTold code found told m
+    by (inl less) = before k m less is
+    by (inr more) =
+        let same : at ≡ k = omega (arith, more, below) in
+        subst (λ (z : Limit). IsLimitTold code found told z) (same_Some l m (sym there ∙ ap (λ (i : ℕ). slice_get found.limits.items i) same ∙ is)) here
+
+-- the outcomes of the states before a place are told
+abbrev pub AreStatesTold : Code → Found → List Told → ℕ → Type 0
+AreStatesTold code found told to = (k : ℕ) (s : State) → k < to → slice_get found.states.items k ≡ Some s → IsStateTold code found told s.number
+
+pub states_stay : (code : Code) (found : Found) (a b : Book) (to : ℕ) → Grows a b → AreStatesTold code found a.told.items to → AreStatesTold code found b.told.items to
+states_stay code found a b to g before k s below there = state_stays code found a b s.number g (before k s below there)
+
+pub states_next : (code : Code) (found : Found) (told : List Told) (at : ℕ) (s : State) → slice_get found.states.items at ≡ Some s → AreStatesTold code found told at
+    → IsStateTold code found told s.number → AreStatesTold code found told (at + 1)
+states_next code found told at s there before here k m below is = by (cases_lt k at)
+  where
+    by : (k < at) ⊎ (at ≤ k) → IsStateTold code found told m.number
+    by (inl less) = before k m less is
+    by (inr more) =
+        let same : at ≡ k = omega (arith, more, below) in
+        subst (λ (z : State). IsStateTold code found told z.number) (same_Some s m (sym there ∙ ap (λ (i : ℕ). slice_get found.states.items i) same ∙ is)) here
+
+pub none_told : (code : Code) (found : Found) (told : List Told) → AreLimitsTold code found told 0
+none_told code found told k l below = absurd (omega (arith, below))
+
+-- ---- lists
+
+push_cases : {X : Type 0} (xs : List X) (x y : X) (k : ℕ) → slice_get (xs ++ x ∷ []) k ≡ Some y → (slice_get xs k ≡ Some y) ⊎ ((k ≡ length xs) × (x ≡ y))
+push_cases [] x y zero e = inr (refl, same_Some x y e)
+push_cases [] x y (suc k) e = absurd (none-some y e)
+push_cases (w ∷ xs) x y zero e = inl e
+push_cases (w ∷ xs) x y (suc k) e = by (push_cases xs x y k e)
+  where
+    by : (slice_get xs k ≡ Some y) ⊎ ((k ≡ length xs) × (x ≡ y)) → (slice_get (w ∷ xs) (suc k) ≡ Some y) ⊎ ((suc k ≡ length (w ∷ xs)) × (x ≡ y))
+    by (inl f) = inl f
+    by (inr f) = let same = f.0 in inr (omega (arith, same), f.1)
+
+contained : (told : List Told) (k : ℕ) (y : Told) → slice_get told k ≡ Some y → IsTold told y.outcome
+contained [] k y e = absurd (none-some y e)
+contained (z ∷ told) zero y e = (0, omega arith, ap (λ (x : Told). x.outcome) (same_Some z y e))
+contained (z ∷ told) (suc k) y e = let c = contained told k y e in (suc c.0, let within = c.1 in omega (arith, within), c.2)
+
+-- ---- one more outcome
+
+module _ (E : Code → Given → Outcome → Type 0) (code : Code) where
+  pub book_begun : (b : Book) → b.told.items ≡ [] → b.text.items ≡ [] → b.cut ≡ false → IsBook E code b
+  book_begun b told text cut =
+      record {
+        confirmed = subst (λ (z : List Told). All (IsConfirmed E code) z) (sym told) (λ k d below. absurd (omega (arith, below)));
+        different = λ j k x y less at e. absurd (none-some x (sym (ap (λ (z : List Told). slice_get z j) told) ∙ at));
+        text = text ∙ sym (ap told_texts told);
+        short = let none = ap (λ (z : List ℕ). length z) text in omega (arith, none);
+        cause = λ e. absurd (true≢false (sym e ∙ cut));
+      }
+
+  -- one that is left out
+  pub book_cut : (old new : Book) → IsBook E code old → new.told.items ≡ old.told.items → new.text.items ≡ old.text.items
+      → IsTooLong code old.told.items ⊎ IsFull E code old.told.items → IsBook E code new
+  book_cut old new b told text cause =
+      record {
+        confirmed = subst (λ (z : List Told). All (IsConfirmed E code) z) (sym told) b.confirmed;
+        different = subst (λ (z : List Told). AreDifferent z) (sym told) b.different;
+        text = text ∙ b.text ∙ sym (ap told_texts told);
+        short = let same = ap (λ (z : List ℕ). length z) text in let short = b.short in omega (arith, same, short);
+        cause = λ e. subst (λ (z : List Told). IsTooLong code z ⊎ IsFull E code z) (sym told) cause;
+      }
+
+  pub left_out : (old new : Book) (x : Told) → IsBook E code old → IsConfirmed E code x → (IsTold old.told.items x.outcome → ⊥)
+      → IsAdded old.told.items old.text.items x new.told.items new.text.items false → IsBook E code new
+  left_out old new x b confirmed other a =
+      let long = a.2 in
+      let same = ap (λ (z : List ℕ). length z) b.text in
+      book_cut old new b a.0 a.1 (inr (record { item = x; confirmed = confirmed; other = other; long = omega (arith, long, same) }))
+
+  pub book_spent : (old new : Book) (schedule : List ℕ) → IsBook E code old → new.told.items ≡ old.told.items → new.text.items ≡ old.text.items
+      → HasOther code schedule old.told.items → IsLong code schedule → IsBook E code new
+  book_spent old new schedule b told text h long =
+      book_cut old new b told text (inl (record { schedule = schedule; outcome = h.outcome; has = h.has; other = h.other; long = long }))
+
+  pub book_added : (old new : Book) (x : Told) → IsBook E code old → new.told.items ≡ old.told.items ++ x ∷ [] → new.text.items ≡ old.text.items ++ told_text x
+      → length new.text.items ≤ MOST_TEXT_BYTES → new.cut ≡ false → IsConfirmed E code x → (IsTold old.told.items x.outcome → ⊥) → IsBook E code new
+  book_added old new x b told text short cut confirmed other =
+      record {
+        confirmed = subst (λ (z : List Told). All (IsConfirmed E code) z) (sym told) (All-push (IsConfirmed E code) old.told.items x b.confirmed confirmed);
+        different = λ j k y z less at e.
+            differ j k y z less (push_cases old.told.items x y j (sym (ap (λ (w : List Told). slice_get w j) told) ∙ at))
+            (push_cases old.told.items x z k (sym (ap (λ (w : List Told). slice_get w k) told) ∙ e));
+        text =
+            text ∙ ap (λ (z : List ℕ). z ++ told_text x) b.text ∙ ap (λ (z : List ℕ). told_texts old.told.items ++ z) (sym (append-nil (told_text x)))
+            ∙ sym (flat_map-append (λ (y : Told). told_text y) old.told.items (x ∷ [])) ∙ sym (ap told_texts told);
+        short = short;
+        cause = λ e. absurd (true≢false (sym e ∙ cut));
+      }
+    where
+      differ : (j k : ℕ) (y z : Told) → j < k → (slice_get old.told.items j ≡ Some y) ⊎ ((j ≡ length old.told.items) × (x ≡ y))
+          → (slice_get old.told.items k ≡ Some z) ⊎ ((k ≡ length old.told.items) × (x ≡ z)) → y.outcome ≡ z.outcome → ⊥
+      differ j k y z less (inl f) (inl g) = b.different j k y z less f g
+      differ j k y z less (inr f) (inl g) = let within = slice_get_within old.told.items k z g in let at = f.0 in absurd (omega (arith, less, within, at))
+      differ j k y z less (inr f) (inr g) = let at = f.0 in let also = g.0 in absurd (omega (arith, less, at, also))
+      differ j k y z less (inl f) (inr g) = λ same.
+          other (subst (λ (o : Outcome). IsTold old.told.items o) (same ∙ sym (ap (λ (w : Told). w.outcome) g.1)) (contained old.told.items j y f))
+
+-- the one that was added is told
+pub now_told : (told new : List Told) (x : Told) → new ≡ told ++ x ∷ [] → IsTold new x.outcome
+now_told told new x same =
+    subst (λ (z : List Told). IsTold z x.outcome) (sym same)
+    (subst (λ (z : List Outcome). Contains z x.outcome) (sym (map-append (λ (y : Told). y.outcome) told (x ∷ []))) (Contains-push (outcomes_in told) x.outcome))
+
+pub added_grows : (old new : Book) (x : Told) → new.told.items ≡ old.told.items ++ x ∷ [] → new.cut ≡ old.cut → Grows old new
+added_grows old new x told cut = record { more = x ∷ []; told = told; cut = λ e. sym cut ∙ e }
+
+pub same_grows : (old new : Book) → new.told.items ≡ old.told.items → (new.cut ≡ false → old.cut ≡ false) → Grows old new
+same_grows old new told cut = record { more = []; told = told ∙ sym (append-nil old.told.items); cut = cut }

@@ -1,0 +1,4 @@
+mod Leading
+mod Booking
+mod Replays
+mod States

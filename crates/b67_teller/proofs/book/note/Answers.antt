@@ -1,0 +1,61 @@
+use Rattle.std.proofs.Common.{refl, sym, subst, Bool, true≢false}
+use Rattle.b67_schedule.specs.Giving.{given_entries}
+use Rattle.b67_told.specs.declared.Outcome.{Outcome}
+use Rattle.b67_told.specs.declared.Told.{Told}
+use Rattle.b67_told.specs.Telling.{IsTold}
+use Rattle.b67_teller.specs.Following.{IsOutcomeEnd}
+use Rattle.b67_teller.specs.Books.{IsAdded}
+use Rattle.b67_teller.proofs.Booking.{same_grows, added_grows, left_out, book_added, book_spent, now_told}
+use Rattle.b67_teller.proofs.Replays.{own_outcome, long_run, same_one}
+use Rattle.b67_teller.proofs.book.note.Goals as goal
+
+pub returns-in-BudgetSpent : goal.returns-in-BudgetSpent
+returns-in-BudgetSpent g c =
+    let x = c.in_ok-outcome.outcome in
+    let h = c.requires.other in
+    let long = long_run (g.T.Walker.code c.args.teller.now) (given_entries c.args.given) x h.outcome h.has c.in_ok-outcome.ensures.followed c.in-BudgetSpent.is in
+    record {
+      code = c.replay.ensures.code;
+      grows = same_grows c.args.book.now _ refl (λ e. absurd (true≢false e));
+      book = book_spent g.T.Teller.Explained (g.T.Walker.code c.args.teller.now) c.args.book.now _ (given_entries c.args.given) c.requires.book refl refl h long;
+      told = λ e. absurd (true≢false e);
+    }
+
+pub returns-then-not-added : goal.returns-then-not-added
+returns-then-not-added g c =
+    let x = c.in_ok-outcome.outcome in
+    let item : Told = record { outcome = x; schedule = c.args.given } in
+    let h = c.requires.other in
+    let a =
+    subst (λ (b : Bool). IsAdded c.args.book.now.told.items c.args.book.now.text.items item c.add.new.told.items c.add.new.text.items b) c.if-not-added.true
+    c.in_ok-added.ensures in
+    let one = same_one (g.T.Walker.code c.args.teller.now) (given_entries c.args.given) x h.outcome h.has c.in_ok-outcome.ensures.followed c.in_default.not-BudgetSpent in
+    let own = subst (λ (o : Outcome). IsOutcomeEnd o.end) (sym one) (own_outcome (g.T.Walker.code c.args.teller.now) (given_entries c.args.given) h.outcome h.has) in
+    record {
+      code = c.replay.ensures.code;
+      grows = same_grows c.args.book.now _ a.0 (λ e. absurd (true≢false e));
+      book = left_out g.T.Teller.Explained (g.T.Walker.code c.args.teller.now) c.args.book.now _ item c.requires.book
+          (record { explained = c.in_ok-outcome.ensures.explained; own = own }) (λ t. h.other (subst (λ (o : Outcome). IsTold c.args.book.now.told.items o) one t)) a;
+      told = λ e. absurd (true≢false e);
+    }
+
+pub returns-else-not-added : goal.returns-else-not-added
+returns-else-not-added g c =
+    let x = c.in_ok-outcome.outcome in
+    let item : Told = record { outcome = x; schedule = c.args.given } in
+    let h = c.requires.other in
+    let a =
+    subst (λ (b : Bool). IsAdded c.args.book.now.told.items c.args.book.now.text.items item c.add.new.told.items c.add.new.text.items b) c.if-not-added.false
+    c.in_ok-added.ensures in
+    let one = same_one (g.T.Walker.code c.args.teller.now) (given_entries c.args.given) x h.outcome h.has c.in_ok-outcome.ensures.followed c.in_default.not-BudgetSpent in
+    let own = subst (λ (o : Outcome). IsOutcomeEnd o.end) (sym one) (own_outcome (g.T.Walker.code c.args.teller.now) (given_entries c.args.given) h.outcome h.has) in
+    record {
+      code = c.replay.ensures.code;
+      grows = added_grows c.args.book.now _ item a.0 refl;
+      book = book_added g.T.Teller.Explained (g.T.Walker.code c.args.teller.now) c.args.book.now _ item c.requires.book a.0 a.1 a.2 c.requires.open
+          (record { explained = c.in_ok-outcome.ensures.explained; own = own }) (λ t. h.other (subst (λ (o : Outcome). IsTold c.args.book.now.told.items o) one t));
+      told = λ e o has.
+          subst (λ (y : Outcome). IsTold c.add.new.told.items y)
+          (same_one (g.T.Walker.code c.args.teller.now) (given_entries c.args.given) x o has c.in_ok-outcome.ensures.followed c.in_default.not-BudgetSpent)
+          (now_told c.args.book.now.told.items c.add.new.told.items item a.0);
+    }

@@ -1,0 +1,20 @@
+use Rattle.std.proofs.Common.{sym, subst, ◌∙◌}
+use Rattle.b67_segment.specs.declared.code.Code.{Code}
+use Rattle.b67_table.specs.Image.{Image}
+use Rattle.b67_outcomes.specs.Entering.{Leads, Stops}
+use Rattle.b67_outcomes.proofs.Determined.{led_one}
+use Rattle.b67_teller.proofs.telling.words_at.Goals as goal
+
+pub stop-requires-clause-may : goal.stop-requires-clause-may
+stop-requires-clause-may g c = c.requires.may (g.T.Walker.image c.perform.new.walker) c.in_ok-perform.ensures.led
+
+pub perform-requires-2 : goal.perform-requires-2
+perform-requires-2 g c =
+    record { leads = subst (λ (k : Code). Leads k c.args.history.now) (sym (c.stop.ensures.code ∙ c.perform.ensures.code)) c.requires.leads }
+
+pub returns-clause-words : goal.returns-clause-words
+returns-clause-words g c = λ img quiet leads stops.
+    c.in_ok-words.ensures.words quiet
+    (subst (λ (k : Code). Stops k c.args.process (g.T.Walker.image c.perform.new.walker) quiet) (sym c.perform.ensures.code)
+    (subst (λ (x : Image). Stops (g.T.Walker.code c.args.teller.now) c.args.process x quiet)
+    (led_one (g.T.Walker.code c.args.teller.now) c.args.history.now img (g.T.Walker.image c.perform.new.walker) leads c.in_ok-perform.ensures.led) stops))

@@ -1,0 +1,221 @@
+//! The outcomes of states and of stack limits.
+ghost use Rattle.std.specs.Prelude.{◌≡◌, ◌<◌, ◌≤◌, ◌∷◌, true, false, length, All, IfOk};
+ghost use Rattle.b67_list.specs.Numbered.{numbered};
+ghost use Rattle.b67_schedule.specs.Schedules.{most};
+ghost use Rattle.b67_table.specs.Image.{Image};
+ghost use Rattle.b67_table.specs.Ending.{may_act};
+ghost use Rattle.b67_table.specs.Table.{length_in};
+ghost use Rattle.b67_outcomes.specs.Entering.{IsNumber, Leads, LeadsTo, Stops};
+ghost use Rattle.b67_outcomes.specs.Finding.{AreLed, AreStates, AreStops, IsStop};
+ghost use Rattle.b67_teller.specs.Books.{IsBook, Grows, IsStateTold, IsLimitTold, AreLimitsTold, IsSettled, IsOpen, AreTold};
+
+use crate::Teller;
+use crate::book::{Book, note};
+use b67_list::Line;
+use b67_outcomes::{Found, Limit, Step, history_of, perform};
+use b67_report::EndWords;
+use b67_told::{Told, is_told, schedule_of};
+use std::alloc::{AllocError, Global};
+
+// Tests that there is no end, or that this output with it is told.
+fn is_settled(told: &[Told], output: &[Line], end: Option<EndWords>) -> bool
+    ensures yes { result ≡ true → IsSettled told.now output.now end }
+    ensures no { result ≡ false → IsOpen told.now output.now end }
+{
+    match end {
+        None => true,
+        Some(end) => is_told(told, output, end),
+    }
+}
+
+// The outcome of a state is told, where its image has an end.
+fn tell_state<T: Teller>(
+    alloc: Global,
+    teller: &mut T,
+    found: &Found,
+    book: &mut Book,
+    number: u32,
+) -> Result<(), AllocError>
+    requires known { T.Known (T.code teller.old) }
+    requires led { AreLed (T.code teller.old) found.now.steps.items }
+    requires few { length found.now.steps.items < most }
+    requires there { number ≤ length found.now.steps.items }
+    requires book { IsBook T.Explained (T.code teller.old) book.old }
+    ensures code { T.code teller.new ≡ T.code teller.old }
+    ensures grows { IfOk result (λ u. Grows book.old book.new) }
+    ensures book { IfOk result (λ u. IsBook T.Explained (T.code teller.old) book.new) }
+    ensures told { IfOk result (λ u. book.new.cut ≡ false → IsStateTold (T.code teller.old) found.now book.new.told.items number) }
+{
+    if book.cut {
+        return Ok(());
+    }
+    let steps = found.steps.as_slice();
+    let history = history_of(alloc, steps, number)?;
+    let entries = history.as_slice();
+    perform(teller, entries)?;
+    let told = book.told.as_slice();
+    let output = teller.output();
+    let end = teller.end();
+    if is_settled(told, output, end) {
+        return Ok(());
+    }
+    let given = schedule_of(alloc, entries)?;
+    note(alloc, teller, book, given)
+}
+
+// How many words the stack of the process has where it comes to the stack limit after these entries. The machine stands after them again.
+fn words_at<T: Teller>(teller: &mut T, history: &[u32], process: u32) -> Result<u32, AllocError>
+    requires leads { Leads (T.code teller.old) history.now }
+    requires may { (img : Image) → LeadsTo (T.code teller.old) history.now img → may_act img process ≡ true }
+    ensures code { T.code teller.new ≡ T.code teller.old }
+    ensures led { IfOk result (λ words. LeadsTo (T.code teller.old) history.now (T.image teller.new)) }
+    ensures numbers { IfOk result (λ words. All IsNumber history.now) }
+    ensures number { IfOk result (λ words. IsNumber process) }
+    ensures words { IfOk result (λ words. (img quiet : Image) → LeadsTo (T.code teller.old) history.now img → Stops (T.code teller.old) process img quiet → words ≡ length_in (numbered quiet.regs process)) }
+{
+    perform(teller, history)?;
+    let words = teller.stop(process)?;
+    perform(teller, history)?;
+    Ok(words)
+}
+
+// The history with one more entry, of the process.
+fn longer(alloc: Global, history: &[u32], process: u32) -> Result<Vec<u32>, AllocError>
+    requires numbers { All IsNumber history.now }
+    requires number { IsNumber process }
+    ensures is { IfOk result (λ longer. longer.items ≡ process ∷ history.now) }
+    ensures numbers { IfOk result (λ longer. All IsNumber longer.items) }
+{
+    let mut longer = Vec::new(alloc);
+    longer.push(process)?;
+    longer.extend_from_slice(history)?;
+    Ok(longer)
+}
+
+// The outcome of a process that comes to the stack limit after a state is told.
+fn tell_limit<T: Teller>(
+    alloc: Global,
+    teller: &mut T,
+    found: &Found,
+    book: &mut Book,
+    limit: Limit,
+) -> Result<(), AllocError>
+    requires known { T.Known (T.code teller.old) }
+    requires stop { IsStop (T.code teller.old) found.now.steps.items limit }
+    requires few { length found.now.steps.items < most }
+    requires book { IsBook T.Explained (T.code teller.old) book.old }
+    ensures code { T.code teller.new ≡ T.code teller.old }
+    ensures grows { IfOk result (λ u. Grows book.old book.new) }
+    ensures book { IfOk result (λ u. IsBook T.Explained (T.code teller.old) book.new) }
+    ensures told { IfOk result (λ u. book.new.cut ≡ false → IsLimitTold (T.code teller.old) found.now book.new.told.items limit) }
+{
+    if book.cut {
+        return Ok(());
+    }
+    let steps = found.steps.as_slice();
+    let before = history_of(alloc, steps, limit.state)?;
+    let entries = before.as_slice();
+    let words = words_at(teller, entries, limit.process)?;
+    let told = book.told.as_slice();
+    let output = teller.output();
+    let end = EndWords::StackLimit {
+        process: limit.process,
+        words,
+    };
+    if is_told(told, output, end) {
+        return Ok(());
+    }
+    let history = longer(alloc, entries, limit.process)?;
+    let given = schedule_of(alloc, history.as_slice())?;
+    note(alloc, teller, book, given)
+}
+
+// The outcomes of the stack limits from this place to that one are told.
+fn tell_limits<T: Teller>(
+    alloc: Global,
+    teller: &mut T,
+    found: &Found,
+    book: &mut Book,
+    from: usize,
+    to: usize,
+) -> Result<(), AllocError>
+    requires known { T.Known (T.code teller.old) }
+    requires stops { AreStops (T.code teller.old) found.now.steps.items found.now.limits.items }
+    requires few { length found.now.steps.items < most }
+    requires order { from ≤ to }
+    requires within { to ≤ length found.now.limits.items }
+    requires book { IsBook T.Explained (T.code teller.old) book.old }
+    requires before { book.old.cut ≡ false → AreLimitsTold (T.code teller.old) found.now book.old.told.items from }
+    ensures code { T.code teller.new ≡ T.code teller.old }
+    ensures grows { IfOk result (λ u. Grows book.old book.new) }
+    ensures book { IfOk result (λ u. IsBook T.Explained (T.code teller.old) book.new) }
+    ensures told { IfOk result (λ u. book.new.cut ≡ false → AreLimitsTold (T.code teller.old) found.now book.new.told.items to) }
+{
+    let mut at = from;
+    'limits: while at < to {
+        tell_limit(alloc, teller, found, book, found.limits[at])?;
+        at += 1;
+    }
+    Ok(())
+}
+
+// The entry by which the state at this place was found, before any that was settled: its steps stand after those of the state before it.
+fn first_step(found: &Found, place: usize) -> Option<Step> {
+    if place == 0 || place > found.states.len() {
+        return None;
+    }
+    let before = found.states[place - 1].number as usize;
+    found.steps.get(before).copied()
+}
+
+// The place of the first stack limit, from this one on, that was not noted before the state at this place was found.
+fn limits_before(found: &Found, from: usize, place: usize) -> usize
+    requires { from ≤ length found.now.limits.items }
+    ensures least { from ≤ result }
+    ensures most { result ≤ length found.now.limits.items }
+{
+    let Some(step) = first_step(found, place) else {
+        return from;
+    };
+    let mut at = from;
+    'limits: while at < found.limits.len() {
+        let limit = found.limits[at];
+        if limit.state > step.before
+            || (limit.state == step.before && limit.process > step.process)
+        {
+            return at;
+        }
+        at += 1;
+    }
+    at
+}
+
+/// The outcomes of all states whose images have an end and of all stack limits that are noted, each told once, in the order in which they
+/// were found.
+pub fn tell<T: Teller>(alloc: Global, teller: &mut T, found: &Found) -> Result<Book, AllocError>
+    requires known { T.Known (T.code teller.old) }
+    requires led { AreLed (T.code teller.old) found.now.steps.items }
+    requires states { AreStates found.now.steps.items found.now.states.items }
+    requires stops { AreStops (T.code teller.old) found.now.steps.items found.now.limits.items }
+    requires few { length found.now.steps.items < most }
+    ensures book { IfOk result (IsBook T.Explained (T.code teller.old)) }
+    ensures told { IfOk result (λ book. book.cut ≡ false → AreTold (T.code teller.old) found.now book.told.items) }
+{
+    let mut book = Book {
+        told: Vec::new(alloc),
+        text: Vec::new(alloc),
+        cut: false,
+    };
+    let mut at = 0;
+    let mut place = 0;
+    'states: while place < found.states.len() {
+        let to = limits_before(found, at, place);
+        tell_limits(alloc, teller, found, &mut book, at, to)?;
+        let number = found.states[place].number;
+        tell_state(alloc, teller, found, &mut book, number)?;
+        at = to;
+        place += 1;
+    }
+    tell_limits(alloc, teller, found, &mut book, at, found.limits.len())?;
+    Ok(book)
+}
