@@ -1,5 +1,5 @@
 -- From what a part of the top call found to the answer.
-use Rattle.std.proofs.Common.{◌≡◌, ◌⊎◌, inl, inr, ℕ, ◌<◌, ◌≤◌, List, length, Option, Some, None, Result, Ok, Err, refl, sym, subst}
+use Rattle.std.proofs.Common.{◌≡◌, ◌⊎◌, inl, inr, ℕ, ◌<◌, ◌≤◌, List, length, Option, None, Result, Ok, Err, refl, sym, subst}
 use Rattle.std.specs.Prelude.{◌≢◌, IfSome, IfOk}
 use Rattle.std.specs.declared.alloc.AllocError.{AllocError}
 use Rattle.std.specs.Io.KnownBytes.{IsAtEnd}
@@ -11,7 +11,7 @@ use Rattle.b67_io.specs.Faults.{Rose}
 use Rattle.b67_io.specs.Writing.{WroteFront}
 use Rattle.b67_io.specs.declared.writing.WriteAll.{WriteAll}
 use Rattle.b67_io.specs.declared.writing.WriteAll.TheVariants as writes
-use Rattle.b67_words.specs.Grammar.{WordsMean, run as run_command, check as check_command, list as list_command, replay as replay_command, judge as judge_command, race as race_command, dump as dump_command, exec as exec_command, trial as trial_command, meant}
+use Rattle.b67_words.specs.Grammar.{WordsMean, run as run_command, check as check_command, list as list_command, replay as replay_command, judge as judge_command, race as race_command, dump as dump_command, console as console_command, outcomes as outcomes_command, exec as exec_command, trial as trial_command, meant}
 use Rattle.b67_limits.specs.declared.TheConstants.{MOST_BUDGET, MOST_PROCESSORS}
 use Rattle.b67_words.specs.declared.Rule.{Rule}
 use Rattle.b67_words.specs.declared.Task.{Task}
@@ -38,7 +38,8 @@ use Rattle.b67_desk.specs.declared.asking.Job.{Job}
 use Rattle.b67_desk.specs.declared.asking.Asked.{Asked}
 use Rattle.b67_desk.specs.declared.asking.Asked.TheVariants as asked
 use Rattle.b67_desk.specs.declared.asking.Found.TheVariants as found
-use Rattle.b67_desk.specs.Answers.{order_of, usage_text, refused_text, listing_text, status_of, Workers, by_one, by_all, Runs, ran, Lists, listed, trial_text, Tries, tried, AnswersTree, IsSourceOf, IsRefusedAt, RefusedOr, refused, accepted, IsDivided, AnswersBytes, ReadsInput, AnswersInput, long_part, divided, most_bytes, AnswersSource, too_long, too_long_text, read, Reading, Untouched, AnswersCommand, Answers, usage, answered, ReadsIfAsked, Writing, HasAnswer, write_fault}
+use Rattle.b67_desk.specs.Answers.{order_of, usage_text, refused_text, listing_text, Workers, by_one, by_all, Runs, ran, Lists, listed, trial_text, Tries, tried, AnswersTree, IsSourceOf, IsRefusedAt, RefusedOr, refused, accepted, IsDivided, AnswersBytes, ReadsInput, AnswersInput, long_part, divided, most_bytes, AnswersSource, too_long, too_long_text, read, Reading, Untouched, AnswersCommand, Answers, usage, answered, ReadsIfAsked, Writing, HasAnswer, write_fault}
+use Rattle.b67_desk.specs.Ends.{status_of}
 use Rattle.b67_desk.specs.Calls.{IsReported, Asks, settled, InRange, IsFound, SourceAsked, CommandAsked, CallAsked, CallAnswered, IsUsage, IsRefusal, IsReportAnswer, IsTrialAnswer, IsRunAnswer, IsTooLong}
 
 -- ---- what is asked for
@@ -134,6 +135,8 @@ in_range words command (meant ws meaning (replay_command first b f)) = (f.least,
 in_range words command (meant ws meaning judge_command) = tt
 in_range words command (meant ws meaning race_command) = tt
 in_range words command (meant ws meaning (dump_command number k f)) = tt
+in_range words command (meant ws meaning console_command) = tt
+in_range words command (meant ws meaning (outcomes_command number n f)) = (f.least, f.greatest)
 in_range words command (meant ws meaning (exec_command first b f)) = (f.least, f.greatest)
 in_range words command (meant ws meaning (trial_command first n f)) = tt
 

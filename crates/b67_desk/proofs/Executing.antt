@@ -13,8 +13,9 @@ use Rattle.b67_desk.specs.declared.status.Code.TheVariants.{OfText}
 use Rattle.b67_desk.specs.declared.status.Status.{Status}
 use Rattle.b67_desk.specs.declared.status.Status.TheVariants as status
 use Rattle.b67_desk.specs.declared.asking.Answer.{Answer}
-use Rattle.b67_desk.specs.Answers.{refused_text, status_by, line_start, Execs, unassembled, executed}
+use Rattle.b67_desk.specs.Answers.{refused_text, line_start, Execs, unassembled, executed}
 use Rattle.b67_desk.specs.Calls.{IsRefusal}
+use Rattle.b67_desk.specs.Ends.{status_by}
 
 pub refused_so : (budget : ℕ) (bytes : List ℕ) (refusal : Refusal) (result : Result Answer AllocError) → IsRefusedText bytes refusal
     → IfOk result (IsRefusal (line_start refusal.line) (OfText refusal.rule)) → IfOk result (λ a. Execs budget bytes a.text.items a.status)

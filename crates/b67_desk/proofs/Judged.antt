@@ -1,5 +1,5 @@
 -- From what is found of a report to the answer.
-use Rattle.std.proofs.Common.{arith, ◌≡◌, refl, sym, ap, ◌∙◌, subst, ℕ, ◌+◌, ◌-◌, ◌≤◌, List, ◌∷◌, length, Option, Some, None, Result, Ok, Err}
+use Rattle.std.proofs.Common.{arith, ◌≡◌, refl, sym, ap, ◌∙◌, subst, ℕ, ◌+◌, ◌≤◌, List, ◌∷◌, length, Option, Some, None, Result, Ok, Err}
 use Rattle.std.specs.Prelude.{◌≢◌, IfOk}
 use Rattle.std.specs.declared.alloc.AllocError.{AllocError}
 use Rattle.std.proofs.lemmas.List.{length-append}
@@ -59,6 +59,8 @@ most_of_all (OnSource (tasks.Replay budget)) = omega arith
 most_of_all (OnSource tasks.Judge) = omega arith
 most_of_all (OnSource tasks.Race) = omega arith
 most_of_all (OnSource (tasks.Dump entries)) = omega arith
+most_of_all (OnSource tasks.Console) = omega arith
+most_of_all (OnSource (tasks.Outcomes n)) = omega arith
 most_of_all (Exec budget) = omega arith
 most_of_all (Trial n) = omega arith
 

@@ -4,5 +4,7 @@ pub mod Judged
 pub mod JudgedJust
 pub mod Answering
 pub mod Followed
+pub mod Commanding
+pub mod Wholes
 pub mod Told
 pub mod Executing

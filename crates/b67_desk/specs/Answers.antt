@@ -12,7 +12,7 @@ use Rattle.b67_io.specs.Faults.{Rose}
 use Rattle.b67_limits.specs.declared.TheConstants.{MOST_BUDGET}
 use Rattle.b67_words.specs.declared.Rule.{Rule}
 use Rattle.b67_words.specs.declared.Rule.TheVariants as rules
-use Rattle.b67_words.specs.declared.Task.TheVariants.{Run, Check, Replay, Judge, Race, Dump}
+use Rattle.b67_words.specs.declared.Task.TheVariants.{Run, Check, Replay, Judge, Race, Dump, Console, Outcomes}
 use Rattle.b67_words.specs.declared.Task.TheVariants.{List as ListCode}
 use Rattle.b67_words.specs.declared.Words.{Words}
 use Rattle.b67_words.specs.declared.Words.TheVariants.{OnSource, Exec, Trial}
@@ -28,8 +28,6 @@ use Rattle.b67_schedule.specs.declared.reading.Given.{Given}
 use Rattle.b67_schedule.specs.Giving.{IsTextOf}
 use Rattle.b67_schedule.specs.Reading.{IsGivenText}
 use Rattle.b67_report.specs.declared.Report.{Report}
-use Rattle.b67_report.specs.declared.EndWords.{EndWords}
-use Rattle.b67_report.specs.declared.EndWords.TheVariants as ends
 use Rattle.b67_report.specs.Texts.{ReportText, line_text, head_text, lines_text, end_words}
 use Rattle.b67_listing.specs.Listings.{ListingText}
 use Rattle.b67_segment.specs.declared.code.Code.{Code}
@@ -43,14 +41,15 @@ use Rattle.b67_explain.specs.Shared.{ExplainsShared}
 use Rattle.b67_asm.specs.declared.refusal.Refusal.{Refusal}
 use Rattle.b67_asm.specs.Codes.{number_of}
 use Rattle.b67_asm.specs.Assembling.{Assembles, IsRefusedText}
-use Rattle.b67_exec.specs.declared.Stopped.{Stopped}
-use Rattle.b67_exec.specs.declared.Stopped.TheVariants as stopped
 use Rattle.b67_exec.specs.Turns.{exec_run}
 use Rattle.b67_exec.specs.Texts.{exec_text}
 use Rattle.b67_desk.specs.declared.status.Code.{Code as RefusalCode}
 use Rattle.b67_desk.specs.declared.status.Code.TheVariants.{OfSource, OfText}
 use Rattle.b67_desk.specs.declared.status.Status.{Status}
 use Rattle.b67_desk.specs.declared.status.Status.TheVariants as status
+use Rattle.b67_desk.specs.Ends.{status_of, status_by}
+use Rattle.b67_desk.specs.Consoling.{InTwo, OrBadConsole, Consoled}
+use Rattle.b67_desk.specs.Exploring.{Explores}
 use Rattle.b67_desk.specs.Judging.{OrBadReport, OrUnjust, SaysJust, TellsRaces}
 use Rattle.b67_desk.specs.Showing.{Dumped}
 
@@ -107,6 +106,7 @@ form_of (OnSource (Replay budget)) = with_text (codes "%%SCHEDULE")
 form_of (OnSource Judge) = with_text (codes "%%REPORT")
 form_of (OnSource Race) = with_text (codes "%%REPORT")
 form_of (OnSource (Dump entries)) = with_text (codes "%%SCHEDULE")
+form_of (OnSource Console) = with_text (codes "%%SCHEDULE")
 form_of command = record { mark = None; most = MOST_SOURCE_BYTES }
 
 -- the source in the bytes that are read, and the text after it: where there is a mark those of the two parts, else all is the source
@@ -123,16 +123,6 @@ abbrev pub most_bytes : Words → ℕ
 most_bytes command = (form_of command).most
 
 -- ---- a source
-
-abbrev pub status_of : EndWords → Status
-status_of ends.Finished = status.Finished
-status_of (ends.Fault kind process) = status.Fault kind process
-status_of ends.AllWaiting = status.AllWaiting
-status_of ends.BudgetSpent = status.BudgetSpent
-status_of (ends.StackLimit process words) = status.StackLimit process words
-status_of ends.ScheduleEnded = status.ScheduleEnded
-status_of (ends.Illegal entry) = status.Illegal entry
-status_of (ends.Differs entry) = status.Differs entry
 
 -- what a source that is checked is answered by: it is said to be accepted
 abbrev pub SaysAccepted : List ℕ → Status → Type 0
@@ -206,6 +196,8 @@ AnswersTree by (OnSource (Replay budget)) beside input tree = OrBadSchedule besi
 AnswersTree by (OnSource Judge) beside input tree = OrBadReport beside input (λ report. OrUnjust tree report SaysJust)
 AnswersTree by (OnSource Race) beside input tree = OrBadReport beside input (λ report. OrUnjust tree report (TellsRaces tree report))
 AnswersTree by (OnSource (Dump entries)) beside input tree = OrBadSchedule beside input (Dumped entries tree)
+AnswersTree by (OnSource Console) beside input tree = InTwo beside (λ schedule commands. OrBadSchedule schedule input (λ given. OrBadConsole commands (Consoled tree given)))
+AnswersTree by (OnSource (Outcomes n)) beside input tree = Explores n tree
 AnswersTree by (Trial n) beside input tree = Tries input tree
 AnswersTree by (Exec budget) beside input tree = λ text s. ⊥
 
@@ -233,15 +225,6 @@ pub data AnswersBytes (by : Workers) (command : Words) (bytes : List ℕ) : List
       length source ≤ MOST_SOURCE_BYTES → RefusedOr source (AnswersTree by command schedule (length bytes)) text s → AnswersBytes by command bytes text s
 
 -- ---- a text of code
-
--- the status under which a run by turns is told
-abbrev pub status_by : Stopped → Status
-status_by stopped.Finished = status.Finished
-status_by (stopped.Fault kind process) = status.Fault kind process
-status_by stopped.AllWaiting = status.AllWaiting
-status_by (stopped.Interrupt kind process) = status.Interrupt kind process
-status_by (stopped.StackLimit process words) = status.StackLimit process words
-status_by stopped.BudgetSpent = status.BudgetSpent
 
 -- the start of a line
 abbrev pub line_start : ℕ → Spot

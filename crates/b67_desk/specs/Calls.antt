@@ -11,8 +11,9 @@ use Rattle.algol_tree.specs.Plain.{PProgram}
 use Rattle.algol_tree.specs.declared.token.Spot.{Spot}
 use Rattle.b67_io.specs.Faults.{Rose}
 use Rattle.b67_limits.specs.declared.TheConstants.{MOST_BUDGET, MOST_PROCESSORS}
+use Rattle.b67_words.specs.declared.TheConstants.{MOST_STATES}
 use Rattle.b67_words.specs.declared.Words.{Words}
-use Rattle.b67_words.specs.declared.Task.TheVariants.{Run, Replay}
+use Rattle.b67_words.specs.declared.Task.TheVariants.{Run, Replay, Outcomes}
 use Rattle.b67_words.specs.declared.Words.TheVariants.{OnSource, Exec}
 use Rattle.b67_words.specs.declared.BadWords.{BadWords}
 use Rattle.b67_words.specs.declared.BadWords.TheVariants as broken
@@ -41,7 +42,8 @@ use Rattle.b67_desk.specs.declared.status.Code.{Code as RefusalCode}
 use Rattle.b67_desk.specs.declared.status.Code.TheVariants.{OfSource}
 use Rattle.b67_desk.specs.declared.status.Status.{Status}
 use Rattle.b67_desk.specs.declared.status.Status.TheVariants as statuses
-use Rattle.b67_desk.specs.Answers.{usage_text, refused_text, too_long_text, bad_schedule_text, trial_text, status_of, Workers, ExplainsBy, IsBadSchedule, IsGiven, IsRefusedAt, IsSourceOf, ReadsInput, AnswersSource, AnswersCommand, Answers, Reading, Untouched, ReadsIfAsked, Unreadable}
+use Rattle.b67_desk.specs.Answers.{usage_text, refused_text, too_long_text, bad_schedule_text, trial_text, Workers, ExplainsBy, IsBadSchedule, IsGiven, IsRefusedAt, IsSourceOf, ReadsInput, AnswersSource, AnswersCommand, Answers, Reading, Untouched, ReadsIfAsked, Unreadable}
+use Rattle.b67_desk.specs.Ends.{status_of}
 use Rattle.b67_desk.specs.Showing.{status_shown}
 
 -- ---- refusals
@@ -141,6 +143,7 @@ IsUsage bad (Err why.NoMemory) = Unit {0}
 abbrev pub InRange : Words → Type 0
 InRange (OnSource (Run processors budget rule)) = (1 ≤ processors) × (processors ≤ MOST_PROCESSORS) × (1 ≤ budget) × (budget ≤ MOST_BUDGET)
 InRange (OnSource (Replay budget)) = (1 ≤ budget) × (budget ≤ MOST_BUDGET)
+InRange (OnSource (Outcomes n)) = (1 ≤ n) × (n ≤ MOST_STATES)
 InRange (Exec budget) = (1 ≤ budget) × (budget ≤ MOST_BUDGET)
 InRange command = Unit {0}
 

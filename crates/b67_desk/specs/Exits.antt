@@ -23,3 +23,5 @@ exit_status (status.Differs entry) = 14
 exit_status (status.Interrupt kind process) = 15
 exit_status (status.Unjust verdict) = 16
 exit_status (status.BadReport byte) = 17
+exit_status (status.BadConsole line) = 18
+exit_status status.Cut = 20

@@ -1,6 +1,10 @@
 pub mod Answers
 pub mod Calls
+pub mod Commanded
+pub mod Consoling
+pub mod Ends
 pub mod Exits
+pub mod Exploring
 pub mod Judged
 pub mod JudgedJust
 pub mod Judging

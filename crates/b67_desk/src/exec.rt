@@ -3,7 +3,8 @@
 ghost use Rattle.std.specs.Prelude.{◌≡◌, ◌≤◌, IfOk, length};
 ghost use Rattle.algol_tree.specs.declared.TheConstants.{MOST_SOURCE_BYTES};
 ghost use Rattle.b67_limits.specs.declared.TheConstants.{MOST_BUDGET};
-ghost use Rattle.b67_desk.specs.Answers.{Execs, status_by};
+ghost use Rattle.b67_desk.specs.Answers.{Execs};
+ghost use Rattle.b67_desk.specs.Ends.{status_by};
 
 use crate::asking::Answer;
 use crate::status::{Code, Status};

@@ -21,7 +21,7 @@ use std::alloc::{AllocError, Global};
 
 /// What a text beside a source tells of a schedule.
 #[derive(Drop)]
-enum Course {
+pub enum Course {
     /// This.
     Told(Given),
     /// It tells none, or there is no text at all, and this is the answer.
@@ -39,7 +39,11 @@ fn refuse_schedule(alloc: Global, byte: u64) -> Result<Answer, AllocError>
 }
 
 /// What a text beside a source tells of a schedule, in an input of so many bytes, or the refusal of the text.
-fn read_course(alloc: Global, schedule: Option<&[u8]>, input: usize) -> Result<Course, AllocError>
+pub fn read_course(
+    alloc: Global,
+    schedule: Option<&[u8]>,
+    input: usize,
+) -> Result<Course, AllocError>
     ensures { IfOk result (IsCourse (option_copied schedule.entry) input) }
 {
     let Some(text) = schedule else {

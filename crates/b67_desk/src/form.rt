@@ -34,9 +34,11 @@ pub fn form_of(command: Words) -> Form
     ensures most { result.most ≡ (form_of command).most }
 {
     match command {
-        Words::OnSource(Task::Replay { .. } | Task::Dump { .. }) => with_text(b"%%SCHEDULE"),
+        Words::OnSource(Task::Replay { .. } | Task::Dump { .. } | Task::Console) => {
+            with_text(b"%%SCHEDULE")
+        }
         Words::OnSource(Task::Judge | Task::Race) => with_text(b"%%REPORT"),
-        Words::OnSource(Task::Run { .. } | Task::Check | Task::List)
+        Words::OnSource(Task::Run { .. } | Task::Check | Task::List | Task::Outcomes { .. })
         | Words::Exec { .. }
         | Words::Trial { .. } => Form {
             mark: None,

@@ -2,7 +2,9 @@
 #![tactic(auto)]
 
 mod asking;
+mod consoling;
 mod exec;
+mod exploring;
 mod following;
 mod form;
 mod judging;

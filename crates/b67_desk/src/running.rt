@@ -14,6 +14,8 @@ ghost use Rattle.b67_explain.specs.Shared.{ExplainsShared};
 ghost use Rattle.b67_explain.specs.Telling.{CanBeTold};
 ghost use Rattle.b67_desk.specs.Answers.{by_one, order_of};
 ghost use Rattle.b67_desk.specs.Calls.{CanBeMade, IsLeft, IsReported};
+ghost use Rattle.b67_desk.specs.Commanded.{IsPerformed};
+ghost use Rattle.b67_desk.specs.Consoling.{IsWhole};
 
 use crate::asking::Job;
 use b67_explain::{acts_of, report_of};
@@ -127,7 +129,8 @@ pub fn replay_report(
     requires most { budget ≤ MOST_BUDGET }
     requires runs { HasRuns given.now }
     requires faithful { (tree : PProgram) × Faithful tree code }
-    ensures { IfOk result (λ report. (tree : PProgram) → Faithful tree code → ExplainsReplay tree given.now budget report) }
+    ensures explained { IfOk result (λ report. (tree : PProgram) → Faithful tree code → ExplainsReplay tree given.now budget report) }
+    ensures whole { IfOk result (λ report. IsWhole report.end → IsPerformed code given.now report) }
 {
     let lines = listing(alloc, &code)?;
     let mut machine = Machine::load(alloc, code, FlatCore::new(alloc))?;

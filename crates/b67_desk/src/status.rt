@@ -56,6 +56,10 @@ pub enum Status {
     Unjust { verdict: Verdict },
     /// The report text is no report from this byte on.
     BadReport { byte: u64 },
+    /// This line of the commands after a schedule, counted from 1, is the first that is no command, or one more than there may be.
+    BadConsole { line: u32 },
+    /// Outcomes are told, and some may be missing.
+    Cut,
 }
 
 impl Status {
@@ -82,6 +86,8 @@ impl Status {
             Status::Interrupt { .. } => 15,
             Status::Unjust { .. } => 16,
             Status::BadReport { .. } => 17,
+            Status::BadConsole { .. } => 18,
+            Status::Cut => 20,
         }
     }
 }

@@ -2,6 +2,7 @@
 
 ghost use Rattle.std.specs.Prelude.{◌≡◌, ◌++◌, IfOk, OnOk};
 ghost use Rattle.b67_desk.specs.Answers.{usage_words, usage_text, code_words, refused_text, accepted_text, too_long_text, bad_schedule_text, listing_text, trial_text};
+ghost use Rattle.b67_desk.specs.Consoling.{bad_console_text};
 
 use crate::status::Code;
 use algol_tree::{Spot, rule_letter, rule_number};
@@ -77,6 +78,16 @@ pub fn bad_schedule_line(alloc: Global, byte: u64) -> Result<Vec<u8>, AllocError
 {
     let mut text = Vec::new(alloc);
     push_number(&mut text, b"BAD SCHEDULE ", byte)?;
+    text.extend_from_slice(b"\n")?;
+    Ok(text)
+}
+
+/// The line of a text of commands that is bad at a line.
+pub fn bad_console_line(alloc: Global, line: u32) -> Result<Vec<u8>, AllocError>
+    ensures { IfOk result (λ text. text.items ≡ bad_console_text line) }
+{
+    let mut text = Vec::new(alloc);
+    push_number(&mut text, b"BAD CONSOLE ", line)?;
     text.extend_from_slice(b"\n")?;
     Ok(text)
 }

@@ -243,20 +243,21 @@ fn write_answer<K: Sink>(sink: &mut K, answer: Result<Answer, Unanswered>) -> St
 /// `words` are the words after the program's name; the commands are `run P B`, `run P B --rule=R`, `replay B` and `exec B`
 /// with P of 1 to [`MOST_PROCESSORS`](b67_limits::MOST_PROCESSORS) processors, a budget B of 1 to [`MOST_BUDGET`](b67_limits::MOST_BUDGET)
 /// operators and a rule of dispatch R, `check`, `list`, `judge`, `race`, `dump K` with a number K of 0 to [`MOST_ENTRIES`](b67_words::MOST_ENTRIES)
-/// entries, and `trial N` with a number N of 0 to [`MOST_TRIAL`](b67_words::MOST_TRIAL).
-/// `source` gives the bytes of an ALGOL source, at most [`MOST_SOURCE_BYTES`] of them, and is read to its end. Under `replay` and `dump` it gives at
+/// entries, `console`, `outcomes N` with a number N of 1 to [`MOST_STATES`](b67_words::MOST_STATES) states, and `trial N` with a number N of 0
+/// to [`MOST_TRIAL`](b67_words::MOST_TRIAL).
+/// `source` gives the bytes of an ALGOL source, at most [`MOST_SOURCE_BYTES`] of them, and is read to its end. Under `replay`, `dump` and `console` it gives at
 /// most [`MOST_INPUT_BYTES`](b67_parts::MOST_INPUT_BYTES): after the source a record that is exactly `%%SCHEDULE`, and after that the text of the schedule to be
-/// followed. Under `judge` and `race` it gives as many: after the source a record that is exactly `%%REPORT`, and after that the text of a
-/// report. Under `exec` it gives a text of code in place of a source. Under `trial` nothing is read, and the source is the one that is
+/// followed; under `console` a record that is exactly `%%CONSOLE` ends that text, and lines of commands come after it. Under `judge` and `race` it
+/// gives as many: after the source a record that is exactly `%%REPORT`, and after that the text of a report. Under `exec` it gives a text of code in place of a source. Under `trial` nothing is read, and the source is the one that is
 /// made from the number. `sink` gets the answer whole: the report of the run, the listing of the code, the word ACCEPTED, what a run by
 /// turns says, what a trial says, that a report is just or what is wrong with it, its races, the cells after the first entries of a schedule,
-/// or one line of refusal. It returns on every input.
+/// what the commands of a console show, the outcomes of the source, or one line of refusal. It returns on every input.
 ///
 /// The first of these that holds is the answer. `Usage` comes exactly where the words break the grammar, names the first word
 /// that does, and nothing is read. `ReadFault` comes only where the source's count of faults rose, and nothing is written.
 /// `TooLong` comes exactly where there are too many bytes, or too many of the source part. `Refused` comes exactly where the
 /// source is not accepted, with the first place that breaks a rule and the rule's code.
-/// `BadSchedule` comes on `replay` and `dump` exactly where there is no such record, at the length of the input, or where the schedule text
+/// `BadSchedule` comes on `replay`, `dump` and `console` exactly where there is no such record, at the length of the input, or where the schedule text
 /// is none, at the length of its longest front that begins one. Else `check` and `list` end with `Finished`, and `run` and
 /// `replay` are reported: `Finished`, `Fault` or `AllWaiting` where the run has that end, and on `replay` no entry is left;
 /// `BudgetSpent` where the operators came to the budget first, and `StackLimit` where a stack would have too many words; and on
@@ -265,6 +266,12 @@ fn write_answer<K: Sink>(sink: &mut K, answer: Result<Answer, Unanswered>) -> St
 /// gives no letters.
 /// On `dump` `Illegal` comes exactly where one of the first K entries can not be performed, and is told by itself; the entries after them are
 /// not judged, and letters are passed over. Else it ends with `Finished`, and shows the cells after them, or after all where there are fewer.
+/// On `console` `BadConsole` comes exactly where a line after the schedule is the first that is no command, or the first of too many, and names
+/// it; the first line where there is no such record. Else the schedule is replayed under the greatest budget. Where not all of it is
+/// performed, the answer is that report, and its status; else it ends with `Finished`, and shows what the commands ask for, of the code that this
+/// report lists.
+/// On `outcomes` the outcomes of the source are told: with `Finished` exactly where the text says that they are all, and with `Cut` where it says that
+/// others may be missing, since N states are kept, a run is too long for a replay, or the text would be too long.
 /// `BadReport` comes on `judge` and `race` as `BadSchedule` on `replay`, of the report's text. `Unjust` comes there exactly where what the
 /// report says is not so of the source, with what is wrong with it. Else they end with `Finished`, and `race` tells each race of the source
 /// under the report's schedule.

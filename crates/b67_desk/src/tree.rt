@@ -3,11 +3,14 @@
 ghost use Rattle.std.specs.Prelude.{◌≡◌, ◌≤◌, IfOk, option_copied};
 ghost use Rattle.algol_tree.specs.Image.{program as plain};
 ghost use Rattle.b67_limits.specs.declared.TheConstants.{MOST_BUDGET, MOST_PROCESSORS};
-ghost use Rattle.b67_desk.specs.Answers.{AnswersTree, SaysAccepted, Runs, Lists, Tries, status_of};
+ghost use Rattle.b67_desk.specs.Answers.{AnswersTree, SaysAccepted, Runs, Lists, Tries};
 ghost use Rattle.b67_desk.specs.Calls.{Asks, InRange, IsRefusal, IsReportAnswer, IsTrialAnswer};
+ghost use Rattle.b67_desk.specs.Ends.{status_of};
 ghost use Rattle.b67_desk.specs.Judged.{IsShort};
 
 use crate::asking::{Answer, Asked, Job, settled};
+use crate::consoling::answer_console;
+use crate::exploring::answer_outcomes;
 use crate::following::{answer_dump, answer_replay};
 use crate::judging::{answer_judge, answer_race};
 use crate::running::run_report;
@@ -150,5 +153,7 @@ pub fn ask_tree(
         Task::Judge => settled(answer_judge(alloc, text, input, checked)),
         Task::Race => settled(answer_race(alloc, text, input, checked)),
         Task::Dump { entries } => settled(answer_dump(alloc, entries, text, input, checked)),
+        Task::Console => settled(answer_console(alloc, text, input, checked)),
+        Task::Outcomes { most } => settled(answer_outcomes(alloc, most, checked)),
     }
 }

@@ -3,14 +3,14 @@ use Rattle.std.proofs.Common.{◌≡◌, ◌≢◌, ◌⊎◌, inl, inr, ℕ, �
 use Rattle.std.specs.Prelude.{codes}
 use Rattle.std.proofs.lemmas.Fmt.{decimal_digit, decimal_injective}
 use Rattle.b67_limits.specs.declared.TheConstants.{MOST_BUDGET, MOST_PROCESSORS}
-use Rattle.b67_words.specs.declared.TheConstants.{MOST_SEED, MOST_TRIAL, MOST_ENTRIES}
+use Rattle.b67_words.specs.declared.TheConstants.{MOST_SEED, MOST_TRIAL, MOST_ENTRIES, MOST_STATES}
 use Rattle.b67_words.specs.declared.Rule.{Rule}
 use Rattle.b67_words.specs.declared.Rule.TheVariants.{Fifo, Lifo, Seed}
 use Rattle.b67_words.specs.declared.Words.{Words}
 use Rattle.b67_words.specs.declared.Task.TheVariants as tasks
-use Rattle.b67_words.specs.declared.Task.TheVariants.{Run, Check, Replay, Judge, Race, Dump}
+use Rattle.b67_words.specs.declared.Task.TheVariants.{Run, Check, Replay, Judge, Race, Dump, Console, Outcomes}
 use Rattle.b67_words.specs.declared.Words.TheVariants.{OnSource, Exec, Trial}
-use Rattle.b67_words.specs.Grammar.{IsNumber, IsFromZero, IsRule, fifo, lifo, seed, NameRule, IsCommand, run, check, list, replay, judge, race, dump, exec, trial, BeginCommand, IsWhole}
+use Rattle.b67_words.specs.Grammar.{IsNumber, IsFromZero, IsRule, fifo, lifo, seed, NameRule, IsCommand, run, check, list, replay, judge, race, dump, console, outcomes, exec, trial, BeginCommand, IsWhole}
 
 -- the word is a command by itself, which means this
 pub data IsAlone (name : List ℕ) (meaning : Words) : Type 0 where
@@ -18,11 +18,13 @@ pub data IsAlone (name : List ℕ) (meaning : Words) : Type 0 where
   is_list : name ≡ codes "list" → meaning ≡ OnSource tasks.List → IsAlone name meaning
   is_judge : name ≡ codes "judge" → meaning ≡ OnSource Judge → IsAlone name meaning
   is_race : name ≡ codes "race" → meaning ≡ OnSource Race → IsAlone name meaning
+  is_console : name ≡ codes "console" → meaning ≡ OnSource Console → IsAlone name meaning
 
--- the word with a budget after it is a command, which means this
-pub data IsBudgeted (name : List ℕ) (b : ℕ) (meaning : Words) : Type 0 where
-  is_replay : name ≡ codes "replay" → meaning ≡ OnSource (Replay b) → IsBudgeted name b meaning
-  is_exec : name ≡ codes "exec" → meaning ≡ Exec b → IsBudgeted name b meaning
+-- the word with a number after it, from 1 to the greatest, is a command, which means this
+pub data IsBudgeted (name : List ℕ) (most b : ℕ) (meaning : Words) : Type 0 where
+  is_replay : name ≡ codes "replay" → most ≡ MOST_BUDGET → meaning ≡ OnSource (Replay b) → IsBudgeted name most b meaning
+  is_exec : name ≡ codes "exec" → most ≡ MOST_BUDGET → meaning ≡ Exec b → IsBudgeted name most b meaning
+  is_outcomes : name ≡ codes "outcomes" → most ≡ MOST_STATES → meaning ≡ OnSource (Outcomes b) → IsBudgeted name most b meaning
 
 -- the word with a number after it, from 0 to the greatest, is a command, which means this
 pub data IsNumbered (name : List ℕ) (most n : ℕ) (meaning : Words) : Type 0 where
@@ -33,7 +35,7 @@ pub data IsNumbered (name : List ℕ) (most n : ℕ) (meaning : Words) : Type 0 
 pub data Form (words : List (List ℕ)) (meaning : Words) : Type 0 where
   a_run : (processors budget : List ℕ) (last : List (List ℕ)) (p b : ℕ) (rule : Rule) → words ≡ codes "run" ∷ processors ∷ budget ∷ last →
       IsNumber MOST_PROCESSORS processors p → IsNumber MOST_BUDGET budget b → NameRule last rule → meaning ≡ OnSource (Run p b rule) → Form words meaning
-  a_budget : (name budget : List ℕ) (b : ℕ) → words ≡ name ∷ budget ∷ [] → IsNumber MOST_BUDGET budget b → IsBudgeted name b meaning → Form words meaning
+  a_budget : (name budget : List ℕ) (most b : ℕ) → words ≡ name ∷ budget ∷ [] → IsNumber most budget b → IsBudgeted name most b meaning → Form words meaning
   a_from_zero : (name number : List ℕ) (most n : ℕ) → words ≡ name ∷ number ∷ [] → IsFromZero most number n → IsNumbered name most n meaning → Form words meaning
   a_word : (name : List ℕ) → words ≡ name ∷ [] → IsAlone name meaning → Form words meaning
 
@@ -43,10 +45,12 @@ form_of _ _ check = a_word (codes "check") refl (is_check refl refl)
 form_of _ _ list = a_word (codes "list") refl (is_list refl refl)
 form_of _ _ judge = a_word (codes "judge") refl (is_judge refl refl)
 form_of _ _ race = a_word (codes "race") refl (is_race refl refl)
-form_of _ _ (replay budget b s) = a_budget (codes "replay") budget b refl s (is_replay refl refl)
+form_of _ _ console = a_word (codes "console") refl (is_console refl refl)
+form_of _ _ (replay budget b s) = a_budget (codes "replay") budget MOST_BUDGET b refl s (is_replay refl refl refl)
 form_of _ _ (trial number n is) = a_from_zero (codes "trial") number MOST_TRIAL n refl is (is_trial refl refl refl)
 form_of _ _ (dump number n is) = a_from_zero (codes "dump") number MOST_ENTRIES n refl is (is_dump refl refl refl)
-form_of _ _ (exec budget b s) = a_budget (codes "exec") budget b refl s (is_exec refl refl)
+form_of _ _ (exec budget b s) = a_budget (codes "exec") budget MOST_BUDGET b refl s (is_exec refl refl refl)
+form_of _ _ (outcomes number n s) = a_budget (codes "outcomes") number MOST_STATES n refl s (is_outcomes refl refl refl)
 
 -- ---- the names of the commands are told apart by their first two letters
 
@@ -70,50 +74,90 @@ record NotAlone (n : ℕ) : Type 0 where
   list : 213 ≢ n
   judge : 223 ≢ n
   race : 211 ≢ n
+  console : 210 ≢ n
 
 alone_apart : {B : Type 0} (name : List ℕ) (meaning : Words) (n : ℕ) → IsAlone name meaning → weight name ≡ n → NotAlone n → B
 alone_apart name meaning n (is_check e m) w not = apart name 203 n (weigh name (codes "check") 203 e refl) w not.check
 alone_apart name meaning n (is_list e m) w not = apart name 213 n (weigh name (codes "list") 213 e refl) w not.list
 alone_apart name meaning n (is_judge e m) w not = apart name 223 n (weigh name (codes "judge") 223 e refl) w not.judge
 alone_apart name meaning n (is_race e m) w not = apart name 211 n (weigh name (codes "race") 211 e refl) w not.race
+alone_apart name meaning n (is_console e m) w not = apart name 210 n (weigh name (codes "console") 210 e refl) w not.console
 
-budget_weight : (name : List ℕ) (b : ℕ) (meaning : Words) → IsBudgeted name b meaning → (weight name ≡ 215) ⊎ (weight name ≡ 221)
-budget_weight name b meaning (is_replay e m) = inl (weigh name (codes "replay") 215 e refl)
-budget_weight name b meaning (is_exec e m) = inr (weigh name (codes "exec") 221 e refl)
+budget_weight : (name : List ℕ) (most b : ℕ) (meaning : Words) → IsBudgeted name most b meaning → (weight name ≡ 215) ⊎ ((weight name ≡ 221) ⊎ (weight name ≡ 228))
+budget_weight name most b meaning (is_replay e f m) = inl (weigh name (codes "replay") 215 e refl)
+budget_weight name most b meaning (is_exec e f m) = inr (inl (weigh name (codes "exec") 221 e refl))
+budget_weight name most b meaning (is_outcomes e f m) = inr (inr (weigh name (codes "outcomes") 228 e refl))
 
 pub alone_letter : (name : List ℕ) (meaning : Words) → IsAlone name meaning → 99 ≤ get_or name 0 0
 alone_letter name meaning (is_check e m) = let first = letter name (codes "check") 0 99 e refl in omega (arith, first)
 alone_letter name meaning (is_list e m) = let first = letter name (codes "list") 0 108 e refl in omega (arith, first)
 alone_letter name meaning (is_judge e m) = let first = letter name (codes "judge") 0 106 e refl in omega (arith, first)
 alone_letter name meaning (is_race e m) = let first = letter name (codes "race") 0 114 e refl in omega (arith, first)
+alone_letter name meaning (is_console e m) = let first = letter name (codes "console") 0 99 e refl in omega (arith, first)
 
-pub budget_letter : (name : List ℕ) (b : ℕ) (meaning : Words) → IsBudgeted name b meaning → 101 ≤ get_or name 0 0
-budget_letter name b meaning (is_replay e m) = let first = letter name (codes "replay") 0 114 e refl in omega (arith, first)
-budget_letter name b meaning (is_exec e m) = let first = letter name (codes "exec") 0 101 e refl in omega (arith, first)
+pub budget_letter : (name : List ℕ) (most b : ℕ) (meaning : Words) → IsBudgeted name most b meaning → 101 ≤ get_or name 0 0
+budget_letter name most b meaning (is_replay e f m) = let first = letter name (codes "replay") 0 114 e refl in omega (arith, first)
+budget_letter name most b meaning (is_exec e f m) = let first = letter name (codes "exec") 0 101 e refl in omega (arith, first)
+budget_letter name most b meaning (is_outcomes e f m) = let first = letter name (codes "outcomes") 0 111 e refl in omega (arith, first)
 
 pub run_not_alone : {B : Type 0} (name : List ℕ) (meaning : Words) → IsAlone name meaning → name ≡ codes "run" → B
 run_not_alone name meaning is e = alone_apart name meaning 231 is (weigh name (codes "run") 231 e refl)
-    (record { check = λ p. omega arith; list = λ p. omega arith; judge = λ p. omega arith; race = λ p. omega arith })
+    (record { check = λ p. omega arith; list = λ p. omega arith; judge = λ p. omega arith; race = λ p. omega arith; console = λ p. omega arith })
 
-pub budget_not_alone : {B : Type 0} (name : List ℕ) (b : ℕ) (one other : Words) → IsBudgeted name b one → IsAlone name other → B
-budget_not_alone {B = B} name b one other is also = by (budget_weight name b one is)
+pub budget_not_alone : {B : Type 0} (name : List ℕ) (most b : ℕ) (one other : Words) → IsBudgeted name most b one → IsAlone name other → B
+budget_not_alone {B = B} name most b one other is also = by (budget_weight name most b one is)
   where
-    by : (weight name ≡ 215) ⊎ (weight name ≡ 221) → B
+    by : (weight name ≡ 215) ⊎ ((weight name ≡ 221) ⊎ (weight name ≡ 228)) → B
     by (inl w) = alone_apart name other 215 also w
-        (record { check = λ p. omega arith; list = λ p. omega arith; judge = λ p. omega arith; race = λ p. omega arith })
-    by (inr w) = alone_apart name other 221 also w
-        (record { check = λ p. omega arith; list = λ p. omega arith; judge = λ p. omega arith; race = λ p. omega arith })
+        (record { check = λ p. omega arith; list = λ p. omega arith; judge = λ p. omega arith; race = λ p. omega arith; console = λ p. omega arith })
+    by (inr (inl w)) = alone_apart name other 221 also w
+        (record { check = λ p. omega arith; list = λ p. omega arith; judge = λ p. omega arith; race = λ p. omega arith; console = λ p. omega arith })
+    by (inr (inr w)) = alone_apart name other 228 also w
+        (record { check = λ p. omega arith; list = λ p. omega arith; judge = λ p. omega arith; race = λ p. omega arith; console = λ p. omega arith })
 
--- the name of a command that a budget follows has another weight
-budget_apart : {B : Type 0} (name : List ℕ) (b : ℕ) (meaning : Words) (n : ℕ) → IsBudgeted name b meaning → weight name ≡ n → 215 ≢ n → 221 ≢ n → B
-budget_apart {B = B} name b meaning n is w h k = by (budget_weight name b meaning is)
+-- the name of a command that a number from 1 on follows has another weight
+record NotBudgeted (n : ℕ) : Type 0 where
+  replay : 215 ≢ n
+  exec : 221 ≢ n
+  outcomes : 228 ≢ n
+
+budget_apart : {B : Type 0} (name : List ℕ) (most b : ℕ) (meaning : Words) (n : ℕ) → IsBudgeted name most b meaning → weight name ≡ n → NotBudgeted n → B
+budget_apart {B = B} name most b meaning n is w not = by (budget_weight name most b meaning is)
   where
-    by : (weight name ≡ 215) ⊎ (weight name ≡ 221) → B
-    by (inl v) = apart name 215 n v w h
-    by (inr v) = apart name 221 n v w k
+    by : (weight name ≡ 215) ⊎ ((weight name ≡ 221) ⊎ (weight name ≡ 228)) → B
+    by (inl v) = apart name 215 n v w not.replay
+    by (inr (inl v)) = apart name 221 n v w not.exec
+    by (inr (inr v)) = apart name 228 n v w not.outcomes
 
-pub budget_not_run : {B : Type 0} (name : List ℕ) (b : ℕ) (meaning : Words) → IsBudgeted name b meaning → name ≡ codes "run" → B
-budget_not_run name b meaning is e = budget_apart name b meaning 231 is (weigh name (codes "run") 231 e refl) (λ p. omega arith) (λ p. omega arith)
+pub budget_not_run : {B : Type 0} (name : List ℕ) (most b : ℕ) (meaning : Words) → IsBudgeted name most b meaning → name ≡ codes "run" → B
+budget_not_run name most b meaning is e = budget_apart name most b meaning 231 is (weigh name (codes "run") 231 e refl)
+    (record { replay = λ p. omega arith; exec = λ p. omega arith; outcomes = λ p. omega arith })
+
+-- the greatest number after such a name is from 1 to below what a word of 64 bits holds, and there is one for each name
+pub budget_small : (name : List ℕ) (most b : ℕ) (meaning : Words) → IsBudgeted name most b meaning → most < 2 ^ 64
+budget_small name most b meaning (is_replay e f m) = rw f (omega arith)
+budget_small name most b meaning (is_exec e f m) = rw f (omega arith)
+budget_small name most b meaning (is_outcomes e f m) = rw f (omega arith)
+
+replay_or_exec : {B : Type 0} (name : List ℕ) → name ≡ codes "replay" → name ≡ codes "exec" → B
+replay_or_exec name e f = apart name 215 221 (weigh name (codes "replay") 215 e refl) (weigh name (codes "exec") 221 f refl) (λ p. omega arith)
+
+replay_or_outcomes : {B : Type 0} (name : List ℕ) → name ≡ codes "replay" → name ≡ codes "outcomes" → B
+replay_or_outcomes name e f = apart name 215 228 (weigh name (codes "replay") 215 e refl) (weigh name (codes "outcomes") 228 f refl) (λ p. omega arith)
+
+exec_or_outcomes : {B : Type 0} (name : List ℕ) → name ≡ codes "exec" → name ≡ codes "outcomes" → B
+exec_or_outcomes name e f = apart name 221 228 (weigh name (codes "exec") 221 e refl) (weigh name (codes "outcomes") 228 f refl) (λ p. omega arith)
+
+pub same_budget : (name : List ℕ) (most greatest b k : ℕ) (one other : Words) → IsBudgeted name most b one → IsBudgeted name greatest k other → most ≡ greatest
+same_budget name most greatest b k one other (is_replay e f m) (is_replay g h n) = f ∙ sym h
+same_budget name most greatest b k one other (is_replay e f m) (is_exec g h n) = replay_or_exec name e g
+same_budget name most greatest b k one other (is_replay e f m) (is_outcomes g h n) = replay_or_outcomes name e g
+same_budget name most greatest b k one other (is_exec e f m) (is_replay g h n) = replay_or_exec name g e
+same_budget name most greatest b k one other (is_exec e f m) (is_exec g h n) = f ∙ sym h
+same_budget name most greatest b k one other (is_exec e f m) (is_outcomes g h n) = exec_or_outcomes name e g
+same_budget name most greatest b k one other (is_outcomes e f m) (is_replay g h n) = replay_or_outcomes name g e
+same_budget name most greatest b k one other (is_outcomes e f m) (is_exec g h n) = exec_or_outcomes name g e
+same_budget name most greatest b k one other (is_outcomes e f m) (is_outcomes g h n) = f ∙ sym h
 
 -- the name of a command that a number follows is none of the others
 number_weight : (name : List ℕ) (most n : ℕ) (meaning : Words) → IsNumbered name most n meaning → (weight name ≡ 230) ⊎ (weight name ≡ 217)
@@ -131,21 +175,21 @@ number_not_run {B = B} name most n meaning is e = by (number_weight name most n 
     by (inl v) = apart name 230 231 v (weigh name (codes "run") 231 e refl) (λ p. omega arith)
     by (inr v) = apart name 217 231 v (weigh name (codes "run") 231 e refl) (λ p. omega arith)
 
-pub number_not_budgeted : {B : Type 0} (name : List ℕ) (b most n : ℕ) (one other : Words) → IsBudgeted name b one → IsNumbered name most n other → B
-number_not_budgeted {B = B} name b most n one other is also = by (number_weight name most n other also)
+pub number_not_budgeted : {B : Type 0} (name : List ℕ) (greatest b most n : ℕ) (one other : Words) → IsBudgeted name greatest b one → IsNumbered name most n other → B
+number_not_budgeted {B = B} name greatest b most n one other is also = by (number_weight name most n other also)
   where
     by : (weight name ≡ 230) ⊎ (weight name ≡ 217) → B
-    by (inl v) = budget_apart name b one 230 is v (λ p. omega arith) (λ p. omega arith)
-    by (inr v) = budget_apart name b one 217 is v (λ p. omega arith) (λ p. omega arith)
+    by (inl v) = budget_apart name greatest b one 230 is v (record { replay = λ p. omega arith; exec = λ p. omega arith; outcomes = λ p. omega arith })
+    by (inr v) = budget_apart name greatest b one 217 is v (record { replay = λ p. omega arith; exec = λ p. omega arith; outcomes = λ p. omega arith })
 
 pub number_not_alone : {B : Type 0} (name : List ℕ) (most n : ℕ) (one other : Words) → IsNumbered name most n one → IsAlone name other → B
 number_not_alone {B = B} name most n one other is also = by (number_weight name most n one is)
   where
     by : (weight name ≡ 230) ⊎ (weight name ≡ 217) → B
     by (inl v) = alone_apart name other 230 also v
-        (record { check = λ p. omega arith; list = λ p. omega arith; judge = λ p. omega arith; race = λ p. omega arith })
+        (record { check = λ p. omega arith; list = λ p. omega arith; judge = λ p. omega arith; race = λ p. omega arith; console = λ p. omega arith })
     by (inr v) = alone_apart name other 217 also v
-        (record { check = λ p. omega arith; list = λ p. omega arith; judge = λ p. omega arith; race = λ p. omega arith })
+        (record { check = λ p. omega arith; list = λ p. omega arith; judge = λ p. omega arith; race = λ p. omega arith; console = λ p. omega arith })
 
 -- the greatest number after such a name is below what a word of 64 bits holds, and there is one for each name
 pub number_small : (name : List ℕ) (most n : ℕ) (meaning : Words) → IsNumbered name most n meaning → most < 2 ^ 64
@@ -167,13 +211,16 @@ same_numbered name most greatest n k one other same (is_trial e f m) (is_dump g 
 same_numbered name most greatest n k one other same (is_dump e f m) (is_trial g h l) = trial_or_dump name g e
 same_numbered name most greatest n k one other same (is_dump e f m) (is_dump g h l) = m ∙ ap (λ (x : ℕ). OnSource (Dump x)) same ∙ sym l
 
-pub same_budgeted : (name : List ℕ) (b k : ℕ) (one other : Words) → b ≡ k → IsBudgeted name b one → IsBudgeted name k other → one ≡ other
-same_budgeted name b k one other same (is_replay e m) (is_replay f n) = m ∙ ap (λ (x : ℕ). OnSource (Replay x)) same ∙ sym n
-same_budgeted name b k one other same (is_replay e m) (is_exec f n) =
-    apart name 215 221 (weigh name (codes "replay") 215 e refl) (weigh name (codes "exec") 221 f refl) (λ p. omega arith)
-same_budgeted name b k one other same (is_exec e m) (is_replay f n) =
-    apart name 221 215 (weigh name (codes "exec") 221 e refl) (weigh name (codes "replay") 215 f refl) (λ p. omega arith)
-same_budgeted name b k one other same (is_exec e m) (is_exec f n) = m ∙ ap (λ (x : ℕ). Exec x) same ∙ sym n
+pub same_budgeted : (name : List ℕ) (most greatest b k : ℕ) (one other : Words) → b ≡ k → IsBudgeted name most b one → IsBudgeted name greatest k other → one ≡ other
+same_budgeted name most greatest b k one other same (is_replay e f m) (is_replay g h n) = m ∙ ap (λ (x : ℕ). OnSource (Replay x)) same ∙ sym n
+same_budgeted name most greatest b k one other same (is_replay e f m) (is_exec g h n) = replay_or_exec name e g
+same_budgeted name most greatest b k one other same (is_replay e f m) (is_outcomes g h n) = replay_or_outcomes name e g
+same_budgeted name most greatest b k one other same (is_exec e f m) (is_replay g h n) = replay_or_exec name g e
+same_budgeted name most greatest b k one other same (is_exec e f m) (is_exec g h n) = m ∙ ap (λ (x : ℕ). Exec x) same ∙ sym n
+same_budgeted name most greatest b k one other same (is_exec e f m) (is_outcomes g h n) = exec_or_outcomes name e g
+same_budgeted name most greatest b k one other same (is_outcomes e f m) (is_replay g h n) = replay_or_outcomes name g e
+same_budgeted name most greatest b k one other same (is_outcomes e f m) (is_exec g h n) = exec_or_outcomes name g e
+same_budgeted name most greatest b k one other same (is_outcomes e f m) (is_outcomes g h n) = m ∙ ap (λ (x : ℕ). OnSource (Outcomes x)) same ∙ sym n
 
 -- a word that is a command by itself means one
 pub same_alone : (name : List ℕ) (one other : Words) → IsAlone name one → IsAlone name other → one ≡ other
@@ -193,6 +240,15 @@ same_alone name one other (is_judge e m) (is_race f n) = apart name 223 211 (wei
 same_alone name one other (is_race e m) (is_check f n) = apart name 211 203 (weigh name (codes "race") 211 e refl) (weigh name (codes "check") 203 f refl) (λ p. omega arith)
 same_alone name one other (is_race e m) (is_list f n) = apart name 211 213 (weigh name (codes "race") 211 e refl) (weigh name (codes "list") 213 f refl) (λ p. omega arith)
 same_alone name one other (is_race e m) (is_judge f n) = apart name 211 223 (weigh name (codes "race") 211 e refl) (weigh name (codes "judge") 223 f refl) (λ p. omega arith)
+same_alone name one other (is_console e m) (is_console f n) = m ∙ sym n
+same_alone name one other (is_check e m) (is_console f n) = apart name 203 210 (weigh name (codes "check") 203 e refl) (weigh name (codes "console") 210 f refl) (λ p. omega arith)
+same_alone name one other (is_console e m) (is_check f n) = apart name 210 203 (weigh name (codes "console") 210 e refl) (weigh name (codes "check") 203 f refl) (λ p. omega arith)
+same_alone name one other (is_list e m) (is_console f n) = apart name 213 210 (weigh name (codes "list") 213 e refl) (weigh name (codes "console") 210 f refl) (λ p. omega arith)
+same_alone name one other (is_console e m) (is_list f n) = apart name 210 213 (weigh name (codes "console") 210 e refl) (weigh name (codes "list") 213 f refl) (λ p. omega arith)
+same_alone name one other (is_judge e m) (is_console f n) = apart name 223 210 (weigh name (codes "judge") 223 e refl) (weigh name (codes "console") 210 f refl) (λ p. omega arith)
+same_alone name one other (is_console e m) (is_judge f n) = apart name 210 223 (weigh name (codes "console") 210 e refl) (weigh name (codes "judge") 223 f refl) (λ p. omega arith)
+same_alone name one other (is_race e m) (is_console f n) = apart name 211 210 (weigh name (codes "race") 211 e refl) (weigh name (codes "console") 210 f refl) (λ p. omega arith)
+same_alone name one other (is_console e m) (is_race f n) = apart name 210 211 (weigh name (codes "console") 210 e refl) (weigh name (codes "race") 211 f refl) (λ p. omega arith)
 
 -- ---- what follows the name of a command
 
@@ -212,30 +268,34 @@ pub record AfterRun (rest : List (List ℕ)) : Type 0 where
 run_form : (rest : List (List ℕ)) (meaning : Words) → Form (codes "run" ∷ rest) meaning → AfterRun rest
 run_form rest meaning (a_run processors budget last p b rule e f s n m) =
     record { processors = processors; budget = budget; last = last; p = p; b = b; rule = rule; are = cc; first = f; second = s; named = n }
-run_form rest meaning (a_budget name budget b e s is) = budget_not_run name b meaning is (let same : name ≡ codes "run" = cc in same)
+run_form rest meaning (a_budget name budget most b e s is) = budget_not_run name most b meaning is (let same : name ≡ codes "run" = cc in same)
 run_form rest meaning (a_from_zero name number most n e f is) = number_not_run name most n meaning is (let same : name ≡ codes "run" = cc in same)
 run_form rest meaning (a_word name e is) = run_not_alone name meaning is (let same : name ≡ codes "run" = cc in same)
 
 pub after_run : (rest : List (List ℕ)) (meaning : Words) → IsCommand (codes "run" ∷ rest) meaning → AfterRun rest
 after_run rest meaning is = run_form rest meaning (form_of (codes "run" ∷ rest) meaning is)
 
--- the word after a name that a budget follows
-pub record AfterName (rest : List (List ℕ)) : Type 0 where
+-- the word after a name that a number from 1 on follows
+pub record AfterName (most : ℕ) (rest : List (List ℕ)) : Type 0 where
   pub budget : List ℕ
   pub b : ℕ
   pub are : rest ≡ budget ∷ []
-  pub first : IsNumber MOST_BUDGET budget b
+  pub first : IsNumber most budget b
 
-budget_form : (name : List ℕ) (k : ℕ) (one : Words) → IsBudgeted name k one → (rest : List (List ℕ)) (meaning : Words) → Form (name ∷ rest) meaning → AfterName rest
-budget_form name k one is rest meaning (a_run processors budget last p b rule e f s n m) = budget_not_run name k one is (let same : name ≡ codes "run" = cc in same)
-budget_form name k one is rest meaning (a_budget other budget b e s also) = record { budget = budget; b = b; are = cc; first = s }
-budget_form name k one is rest meaning (a_from_zero other number most n e f also) =
-    let same : other ≡ name = cc in number_not_budgeted name k most n one meaning is (subst (λ w. IsNumbered w most n meaning) same also)
-budget_form name k one is rest meaning (a_word other e also) =
-    let same : other ≡ name = cc in budget_not_alone name k one meaning is (subst (λ w. IsAlone w meaning) same also)
+budget_form : (name : List ℕ) (most k : ℕ) (one : Words) → IsBudgeted name most k one → (rest : List (List ℕ)) (meaning : Words) → Form (name ∷ rest) meaning → AfterName most rest
+budget_form name most k one is rest meaning (a_run processors budget last p b rule e f s n m) = budget_not_run name most k one is (let same : name ≡ codes "run" = cc in same)
+budget_form name most k one is rest meaning (a_budget other budget greatest b e s also) =
+    let named : other ≡ name = cc in
+    let same : greatest ≡ most = sym (same_budget name most greatest k b one meaning is (subst (λ w. IsBudgeted w greatest b meaning) named also)) in
+    record { budget = budget; b = b; are = cc; first = subst (λ m. IsNumber m budget b) same s }
+budget_form name most k one is rest meaning (a_from_zero other number greatest n e f also) =
+    let same : other ≡ name = cc in number_not_budgeted name most k greatest n one meaning is (subst (λ w. IsNumbered w greatest n meaning) same also)
+budget_form name most k one is rest meaning (a_word other e also) =
+    let same : other ≡ name = cc in budget_not_alone name most k one meaning is (subst (λ w. IsAlone w meaning) same also)
 
-pub after_name : (name : List ℕ) (k : ℕ) (one : Words) → IsBudgeted name k one → (rest : List (List ℕ)) (meaning : Words) → IsCommand (name ∷ rest) meaning → AfterName rest
-after_name name k one is rest meaning also = budget_form name k one is rest meaning (form_of (name ∷ rest) meaning also)
+pub after_name : (name : List ℕ) (most k : ℕ) (one : Words) → IsBudgeted name most k one → (rest : List (List ℕ)) (meaning : Words) → IsCommand (name ∷ rest) meaning →
+    AfterName most rest
+after_name name most k one is rest meaning also = budget_form name most k one is rest meaning (form_of (name ∷ rest) meaning also)
 
 -- the word after a name that a number follows
 pub record AfterNumbered (most : ℕ) (rest : List (List ℕ)) : Type 0 where
@@ -246,8 +306,8 @@ pub record AfterNumbered (most : ℕ) (rest : List (List ℕ)) : Type 0 where
 
 number_form : (name : List ℕ) (most k : ℕ) (one : Words) → IsNumbered name most k one → (rest : List (List ℕ)) (meaning : Words) → Form (name ∷ rest) meaning → AfterNumbered most rest
 number_form name most k one is rest meaning (a_run processors budget last p b rule e f s n m) = number_not_run name most k one is (let same : name ≡ codes "run" = cc in same)
-number_form name most k one is rest meaning (a_budget other budget b e s also) =
-    let same : other ≡ name = cc in number_not_budgeted name b most k meaning one (subst (λ w. IsBudgeted w b meaning) same also) is
+number_form name most k one is rest meaning (a_budget other budget greatest b e s also) =
+    let same : other ≡ name = cc in number_not_budgeted name greatest b most k meaning one (subst (λ w. IsBudgeted w greatest b meaning) same also) is
 number_form name most k one is rest meaning (a_from_zero other number greatest n e first also) =
     let named : other ≡ name = cc in
     let same : greatest ≡ most = sym (same_greatest name most greatest k n one meaning is (subst (λ w. IsNumbered w greatest n meaning) named also)) in
@@ -262,8 +322,8 @@ after_numbered name most k one is rest meaning also = number_form name most k on
 -- no word follows a command that is one word
 alone_form : (name word : List ℕ) (rest : List (List ℕ)) (one meaning : Words) → IsAlone name one → Form (name ∷ word ∷ rest) meaning → ⊥
 alone_form name word rest one meaning is (a_run processors budget last p b rule e f s n m) = run_not_alone name one is cc
-alone_form name word rest one meaning is (a_budget other budget b e s also) =
-    let same : other ≡ name = cc in budget_not_alone name b meaning one (subst (λ w. IsBudgeted w b meaning) same also) is
+alone_form name word rest one meaning is (a_budget other budget most b e s also) =
+    let same : other ≡ name = cc in budget_not_alone name most b meaning one (subst (λ w. IsBudgeted w most b meaning) same also) is
 alone_form name word rest one meaning is (a_from_zero other number most n e f also) =
     let same : other ≡ name = cc in number_not_alone name most n meaning one (subst (λ w. IsNumbered w most n meaning) same also) is
 alone_form name word rest one meaning is (a_word other e also) = cc
@@ -305,6 +365,9 @@ whole_judge = whole_alone (codes "judge") (OnSource Judge) judge (is_judge refl 
 pub whole_race : IsWhole (codes "race" ∷ []) (OnSource Race)
 whole_race = whole_alone (codes "race") (OnSource Race) race (is_race refl refl)
 
+pub whole_console : IsWhole (codes "console" ∷ []) (OnSource Console)
+whole_console = whole_alone (codes "console") (OnSource Console) console (is_console refl refl)
+
 pub whole_run : (processors budget word : List ℕ) (p b : ℕ) (rule : Rule) → IsNumber MOST_PROCESSORS processors p → IsNumber MOST_BUDGET budget b → IsRule word rule →
     IsWhole (codes "run" ∷ processors ∷ budget ∷ word ∷ []) (OnSource (Run p b rule))
 whole_run processors budget word p b rule f s n = record {
@@ -316,9 +379,9 @@ whole_run processors budget word p b rule f s n = record {
       subst (λ (ws : List (List ℕ)). NameRule ws after.rule) same after.named;
 }
 
-pub whole_budget : (name budget : List ℕ) (b : ℕ) (meaning : Words) → IsBudgeted name b meaning → IsCommand (name ∷ budget ∷ []) meaning → IsWhole (name ∷ budget ∷ []) meaning
-whole_budget name budget b meaning budgeted is =
-    record { is = is; last = λ word (more, m, also). let e = (after_name name b meaning budgeted (budget ∷ word ∷ more) m also).are in cc }
+pub whole_budget : (name budget : List ℕ) (most b : ℕ) (meaning : Words) → IsBudgeted name most b meaning → IsCommand (name ∷ budget ∷ []) meaning → IsWhole (name ∷ budget ∷ []) meaning
+whole_budget name budget most b meaning budgeted is =
+    record { is = is; last = λ word (more, m, also). let e = (after_name name most b meaning budgeted (budget ∷ word ∷ more) m also).are in cc }
 
 pub whole_number : (name number : List ℕ) (most n : ℕ) (meaning : Words) → IsNumbered name most n meaning → IsCommand (name ∷ number ∷ []) meaning → IsWhole (name ∷ number ∷ []) meaning
 whole_number name number most n meaning numbered is =

@@ -13,14 +13,14 @@ use Rattle.b67_words.specs.declared.UsageKind.TheVariants.{Missing, Unknown, Bad
 use Rattle.b67_words.specs.declared.BadWords.{BadWords}
 use Rattle.b67_words.specs.declared.BadWords.TheVariants.{Usage}
 use Rattle.b67_words.specs.Grammar.{IsNumber, IsFromZero, IsRule, NameRule, IsCommand, BeginCommand, Wants, command, numeral, named as rule_named, nothing, Breaks, missing, wrong, WordsMean, meant, broken}
-use Rattle.b67_words.proofs.Commands.{IsAlone, IsBudgeted, IsNumbered, Form, a_run, a_budget, a_from_zero, a_word, form_of, alone_letter, budget_letter, number_letter, run_not_alone, budget_not_alone, budget_not_run, number_not_run, number_not_budgeted, number_not_alone, number_small, same_budgeted, same_numbered, same_alone, begin_check, rule_first, same_name}
+use Rattle.b67_words.proofs.Commands.{IsAlone, IsBudgeted, IsNumbered, Form, a_run, a_budget, a_from_zero, a_word, form_of, alone_letter, budget_letter, number_letter, run_not_alone, budget_not_alone, budget_not_run, number_not_run, number_not_budgeted, number_not_alone, number_small, budget_small, same_budgeted, same_numbered, same_alone, begin_check, rule_first, same_name}
 use Rattle.b67_words.proofs.Reading.{begins}
 use Rattle.b67_words.proofs.Numbers.{first_digit, digit_first}
 
 -- ---- a command has one meaning
 
-same_number : (most : ℕ) (word : List ℕ) (n k : ℕ) → most < 2 ^ 64 → IsNumber most word n → IsNumber most word k → n ≡ k
-same_number most word n k small a b = decimal_injective n k (omega (arith, a.greatest)) (omega (arith, b.greatest)) (sym a.written ∙ b.written)
+same_number : (most greatest : ℕ) (word : List ℕ) (n k : ℕ) → most < 2 ^ 64 → greatest < 2 ^ 64 → IsNumber most word n → IsNumber greatest word k → n ≡ k
+same_number most greatest word n k small little a b = decimal_injective n k (omega (arith, a.greatest)) (omega (arith, b.greatest)) (sym a.written ∙ b.written)
 
 same_from_zero : (most greatest : ℕ) (word : List ℕ) (n k : ℕ) → most < 2 ^ 64 → greatest < 2 ^ 64 → IsFromZero most word n → IsFromZero greatest word k → n ≡ k
 same_from_zero most greatest word n k small little a b = decimal_injective n k (omega (arith, a.greatest)) (omega (arith, b.greatest)) (sym a.written ∙ b.written)
@@ -31,38 +31,39 @@ same_form words a b (a_run processors budget last p n rule e f s u m) (a_run oth
     let first : others ≡ processors = cc in
     let second : other ≡ budget = cc in
     let third : more ≡ last = cc in
-    let one : p ≡ q = same_number MOST_PROCESSORS processors p q (omega arith) f (subst (λ w. IsNumber MOST_PROCESSORS w q) first g) in
-    let two : n ≡ k = same_number MOST_BUDGET budget n k (omega arith) s (subst (λ w. IsNumber MOST_BUDGET w k) second t) in
+    let one : p ≡ q = same_number MOST_PROCESSORS MOST_PROCESSORS processors p q (omega arith) (omega arith) f (subst (λ w. IsNumber MOST_PROCESSORS w q) first g) in
+    let two : n ≡ k = same_number MOST_BUDGET MOST_BUDGET budget n k (omega arith) (omega arith) s (subst (λ w. IsNumber MOST_BUDGET w k) second t) in
     let named : rule ≡ by = same_name last rule by u (subst (λ (ws : List (List ℕ)). NameRule ws by) third v) in
     m ∙ ap (λ x. OnSource (Run x n rule)) one ∙ ap (λ x. OnSource (Run q x rule)) two ∙ ap (λ (x : Rule). OnSource (Run q k x)) named ∙ sym l
-same_form words a b (a_run processors budget last p n rule e f s u m) (a_budget name other k also t is) =
-    let same = sym e ∙ also in budget_not_run name k b is (let word : name ≡ codes "run" = cc in word)
+same_form words a b (a_run processors budget last p n rule e f s u m) (a_budget name other most k also t is) =
+    let same = sym e ∙ also in budget_not_run name most k b is (let word : name ≡ codes "run" = cc in word)
 same_form words a b (a_run processors budget last p n rule e f s u m) (a_from_zero name number most k also g is) =
     let same = sym e ∙ also in number_not_run name most k b is (let word : name ≡ codes "run" = cc in word)
 same_form words a b (a_run processors budget last p n rule e f s u m) (a_word name also is) =
     let same = sym e ∙ also in run_not_alone name b is (let word : name ≡ codes "run" = cc in word)
-same_form words a b (a_budget name budget n e s is) (a_run others other more q k by also g t v l) =
-    let same = sym e ∙ also in budget_not_run name n a is (let word : name ≡ codes "run" = cc in word)
-same_form words a b (a_budget name budget n e s is) (a_budget word other k also t too) =
+same_form words a b (a_budget name budget most n e s is) (a_run others other more q k by also g t v l) =
+    let same = sym e ∙ also in budget_not_run name most n a is (let word : name ≡ codes "run" = cc in word)
+same_form words a b (a_budget name budget most n e s is) (a_budget word other greatest k also t too) =
     let same = sym e ∙ also in
     let first : other ≡ budget = cc in
-    let one : n ≡ k = same_number MOST_BUDGET budget n k (omega arith) s (subst (λ w. IsNumber MOST_BUDGET w k) first t) in
     let named : word ≡ name = cc in
-    same_budgeted name n k a b one is (subst (λ w. IsBudgeted w k b) named too)
-same_form words a b (a_budget name budget n e s is) (a_from_zero other number most k also t too) =
+    let of_name = subst (λ w. IsBudgeted w greatest k b) named too in
+    let one : n ≡ k = same_number most greatest budget n k (budget_small name most n a is) (budget_small name greatest k b of_name) s (subst (λ w. IsNumber greatest w k) first t) in
+    same_budgeted name most greatest n k a b one is of_name
+same_form words a b (a_budget name budget most n e s is) (a_from_zero other number greatest k also t too) =
     let same = sym e ∙ also in
     let named : other ≡ name = cc in
-    number_not_budgeted name n most k a b is (subst (λ w. IsNumbered w most k b) named too)
-same_form words a b (a_budget name budget n e s is) (a_word other also too) =
+    number_not_budgeted name most n greatest k a b is (subst (λ w. IsNumbered w greatest k b) named too)
+same_form words a b (a_budget name budget most n e s is) (a_word other also too) =
     let same = sym e ∙ also in
     let named : other ≡ name = cc in
-    budget_not_alone name n a b is (subst (λ w. IsAlone w b) named too)
+    budget_not_alone name most n a b is (subst (λ w. IsAlone w b) named too)
 same_form words a b (a_from_zero name number most n e f is) (a_run others other more q k by also g t v l) =
     let same = sym e ∙ also in number_not_run name most n a is (let word : name ≡ codes "run" = cc in word)
-same_form words a b (a_from_zero name number most n e f is) (a_budget other budget k also t too) =
+same_form words a b (a_from_zero name number most n e f is) (a_budget other budget greatest k also t too) =
     let same = sym e ∙ also in
     let named : name ≡ other = cc in
-    number_not_budgeted other k most n b a too (subst (λ w. IsNumbered w most n a) named is)
+    number_not_budgeted other greatest k most n b a too (subst (λ w. IsNumbered w most n a) named is)
 same_form words a b (a_from_zero name number most n e f is) (a_from_zero other digits greatest k also g too) =
     let same = sym e ∙ also in
     let named : other ≡ name = cc in
@@ -76,10 +77,10 @@ same_form words a b (a_from_zero name number most n e f is) (a_word other also t
     number_not_alone name most n a b is (subst (λ w. IsAlone w b) named too)
 same_form words a b (a_word name e is) (a_run others other more q k by also g t v l) =
     let same = sym e ∙ also in run_not_alone name a is (let word : name ≡ codes "run" = cc in word)
-same_form words a b (a_word name e is) (a_budget other budget k also t too) =
+same_form words a b (a_word name e is) (a_budget other budget most k also t too) =
     let same = sym e ∙ also in
     let named : name ≡ other = cc in
-    budget_not_alone other k b a too (subst (λ w. IsAlone w a) named is)
+    budget_not_alone other most k b a too (subst (λ w. IsAlone w a) named is)
 same_form words a b (a_word name e is) (a_from_zero other number most k also g too) =
     let same = sym e ∙ also in
     let named : name ≡ other = cc in
@@ -96,10 +97,10 @@ number_form word rest meaning low (a_run processors budget last p b rule e f s n
     let same : word ≡ codes "run" = cc in
     let high : get_or word 0 0 ≡ 114 = rw same refl in
     absurd (omega arith)
-number_form word rest meaning low (a_budget name budget b e s is) =
+number_form word rest meaning low (a_budget name budget most b e s is) =
     let same : word ≡ name = cc in
     let first : get_or word 0 0 ≡ get_or name 0 0 = ap (λ (w : List ℕ). get_or w 0 0) same in
-    let high = budget_letter name b meaning is in
+    let high = budget_letter name most b meaning is in
     absurd (omega arith)
 number_form word rest meaning low (a_from_zero name number most n e f is) =
     let same : word ≡ name = cc in
@@ -133,20 +134,20 @@ rule_place : (words : List (List ℕ)) (word : List ℕ) (rest : List (List ℕ)
 rule_place [] word rest meaning rule is form = number_form word rest meaning (omega (arith, rule_first word rule is)) form
 rule_place (a ∷ []) word rest meaning rule is (a_run processors budget last p b by e f s n m) =
     let same : processors ≡ word = cc in no_rule MOST_PROCESSORS word p rule (omega arith) (subst (λ w. IsNumber MOST_PROCESSORS w p) same f) is
-rule_place (a ∷ []) word rest meaning rule is (a_budget name budget b e s also) =
-    let same : budget ≡ word = cc in no_rule MOST_BUDGET word b rule (omega arith) (subst (λ w. IsNumber MOST_BUDGET w b) same s) is
+rule_place (a ∷ []) word rest meaning rule is (a_budget name budget most b e s also) =
+    let same : budget ≡ word = cc in no_rule most word b rule (budget_small name most b meaning also) (subst (λ w. IsNumber most w b) same s) is
 rule_place (a ∷ []) word rest meaning rule is (a_from_zero name number most n e f also) =
     let same : number ≡ word = cc in no_rule_from_zero most word n rule (number_small name most n meaning also) (subst (λ w. IsFromZero most w n) same f) is
 rule_place (a ∷ []) word rest meaning rule is (a_word name e also) = cc
 rule_place (a ∷ c ∷ []) word rest meaning rule is (a_run processors budget last p b by e f s n m) =
     let same : budget ≡ word = cc in no_rule MOST_BUDGET word b rule (omega arith) (subst (λ w. IsNumber MOST_BUDGET w b) same s) is
-rule_place (a ∷ c ∷ []) word rest meaning rule is (a_budget name budget b e s also) = cc
+rule_place (a ∷ c ∷ []) word rest meaning rule is (a_budget name budget most b e s also) = cc
 rule_place (a ∷ c ∷ []) word rest meaning rule is (a_from_zero name number most n e f also) = cc
 rule_place (a ∷ c ∷ []) word rest meaning rule is (a_word name e also) = cc
 rule_place (a ∷ c ∷ d ∷ []) word rest meaning rule is form = refl
 rule_place (a ∷ c ∷ d ∷ x ∷ more) word rest meaning rule is (a_run processors budget last p b by e f s n m) =
     let same : last ≡ x ∷ (more ++ word ∷ rest) = cc in absurd (none_after x more word rest by (subst (λ (ws : List (List ℕ)). NameRule ws by) same n))
-rule_place (a ∷ c ∷ d ∷ x ∷ more) word rest meaning rule is (a_budget name budget b e s also) = cc
+rule_place (a ∷ c ∷ d ∷ x ∷ more) word rest meaning rule is (a_budget name budget most b e s also) = cc
 rule_place (a ∷ c ∷ d ∷ x ∷ more) word rest meaning rule is (a_from_zero name number most n e f also) = cc
 rule_place (a ∷ c ∷ d ∷ x ∷ more) word rest meaning rule is (a_word name e also) = cc
 
@@ -161,7 +162,7 @@ number_not_fourth (a ∷ []) word rest meaning n is three form = absurd (omega (
 number_not_fourth (a ∷ c ∷ []) word rest meaning n is three form = absurd (omega (arith, three))
 number_not_fourth (a ∷ c ∷ d ∷ []) word rest meaning n is three (a_run processors budget last p b by e f s u m) =
     let same : last ≡ word ∷ rest = cc in named_fourth word rest n by is (subst (λ (ws : List (List ℕ)). NameRule ws by) same u)
-number_not_fourth (a ∷ c ∷ d ∷ []) word rest meaning n is three (a_budget name budget b e s also) = cc
+number_not_fourth (a ∷ c ∷ d ∷ []) word rest meaning n is three (a_budget name budget most b e s also) = cc
 number_not_fourth (a ∷ c ∷ d ∷ []) word rest meaning n is three (a_from_zero name number most k e f also) = cc
 number_not_fourth (a ∷ c ∷ d ∷ []) word rest meaning n is three (a_word name e also) = cc
 number_not_fourth (a ∷ c ∷ d ∷ x ∷ more) word rest meaning n is three form = absurd (omega (arith, three))

@@ -5,18 +5,18 @@ use Rattle.std.proofs.lemmas.List.{append_assoc, append-nil, length-append, take
 use Rattle.std.proofs.lemmas.Option.{get_or_from_slice_get, slice_get_within}
 use Rattle.std.proofs.Math.Seq.{get_or-append_seam, take-append_seam, take-length}
 use Rattle.b67_limits.specs.declared.TheConstants.{MOST_BUDGET, MOST_PROCESSORS}
-use Rattle.b67_words.specs.declared.TheConstants.{MOST_TRIAL, MOST_ENTRIES}
+use Rattle.b67_words.specs.declared.TheConstants.{MOST_TRIAL, MOST_ENTRIES, MOST_STATES}
 use Rattle.b67_words.specs.declared.Rule.{Rule}
 use Rattle.b67_words.specs.declared.Rule.TheVariants.{Fifo}
 use Rattle.b67_words.specs.declared.Words.{Words}
 use Rattle.b67_words.specs.declared.Task.TheVariants as tasks
-use Rattle.b67_words.specs.declared.Task.TheVariants.{Run, Check, Replay, Judge, Race, Dump}
+use Rattle.b67_words.specs.declared.Task.TheVariants.{Run, Check, Replay, Judge, Race, Dump, Console, Outcomes}
 use Rattle.b67_words.specs.declared.Words.TheVariants.{OnSource, Exec, Trial}
 use Rattle.b67_words.specs.declared.BadWords.{BadWords}
 use Rattle.b67_words.specs.declared.BadWords.TheVariants.{Usage}
 use Rattle.b67_words.specs.declared.UsageKind.TheVariants.{Missing, Unknown, BadNumber, BadRule, Extra}
-use Rattle.b67_words.specs.Grammar.{IsNumber, IsFromZero, IsRule, fifo, NameRule, IsCommand, run, replay, dump, exec, trial, BeginCommand, IsWhole, BeginWhole, command, numeral, named as rule_named, nothing, missing, wrong, WordsMean, meant, broken, NumberStandsAt, IsRuleOrNone, RuleStandsAt}
-use Rattle.b67_words.proofs.Commands.{Form, a_run, a_budget, a_from_zero, a_word, IsAlone, is_check, is_list, is_judge, is_race, IsBudgeted, is_replay, is_exec, IsNumbered, is_trial, is_dump, form_of, begin_nothing, begin_run, one, one_from_zero, after_run, after_name, after_numbered, whole_run, whole_budget, whole_number, whole_check, whole_list, whole_judge, whole_race}
+use Rattle.b67_words.specs.Grammar.{IsNumber, IsFromZero, IsRule, fifo, NameRule, IsCommand, run, replay, dump, outcomes, exec, trial, BeginCommand, IsWhole, BeginWhole, command, numeral, named as rule_named, nothing, missing, wrong, WordsMean, meant, broken, NumberStandsAt, IsRuleOrNone, RuleStandsAt}
+use Rattle.b67_words.proofs.Commands.{Form, a_run, a_budget, a_from_zero, a_word, IsAlone, is_check, is_list, is_judge, is_race, is_console, IsBudgeted, is_replay, is_exec, is_outcomes, IsNumbered, is_trial, is_dump, form_of, begin_nothing, begin_run, one, one_from_zero, after_run, after_name, after_numbered, whole_run, whole_budget, whole_number, whole_check, whole_list, whole_judge, whole_race, whole_console}
 
 -- the words begin with these
 abbrev pub GoOn : List (List ℕ) → List (List ℕ) → Type 0
@@ -121,41 +121,49 @@ begin_whole front words meaning (rest, e) is =
     subst (λ ws. BeginWhole ws (length front) meaning) (sym e)
     record { given = omega arith; whole = subst (λ ws. IsWhole ws meaning) (sym (take-append_seam front rest)) is }
 
--- a command of a name and a budget
-module _ (name : List ℕ) (meaning : ℕ → Words) (named : (b : ℕ) → IsBudgeted name b (meaning b))
-    (command_of : (budget : List ℕ) (b : ℕ) → IsNumber MOST_BUDGET budget b → IsCommand (name ∷ budget ∷ []) (meaning b)) where
-  awaits_name : Awaits (name ∷ []) (IsNumber MOST_BUDGET)
+-- a command of a name and a number from 1 on
+module _ (name : List ℕ) (most : ℕ) (some : 1 ≤ most) (meaning : ℕ → Words) (named : (b : ℕ) → IsBudgeted name most b (meaning b))
+    (command_of : (budget : List ℕ) (b : ℕ) → IsNumber most budget b → IsCommand (name ∷ budget ∷ []) (meaning b)) where
+  awaits_name : Awaits (name ∷ []) (IsNumber most)
   awaits_name = record {
-    unfinished = λ m is. let e = (after_name name 1 (meaning 1) (named 1) [] m is).are in cc;
-    begun = ([], meaning 1, command_of (codes "1") 1 (one MOST_BUDGET (omega arith)));
-    only = λ word (more, m, is). let words = after_name name 1 (meaning 1) (named 1) (word ∷ more) m is in let e = words.are in let same : words.budget ≡ word = cc in
-        (words.b, subst (λ w. IsNumber MOST_BUDGET w words.b) same words.first);
+    unfinished = λ m is. let e = (after_name name most 1 (meaning 1) (named 1) [] m is).are in cc;
+    begun = ([], meaning 1, command_of (codes "1") 1 (one most some));
+    only = λ word (more, m, is). let words = after_name name most 1 (meaning 1) (named 1) (word ∷ more) m is in let e = words.are in let same : words.budget ≡ word = cc in
+        (words.b, subst (λ w. IsNumber most w words.b) same words.first);
   }
 
-  budget_broken : (words : List (List ℕ)) (bad : BadWords) → slice_get words 0 ≡ Some name → NumberStandsAt (IsNumber MOST_BUDGET) words 1 (Err bad) → WordsMean words (Err bad)
-  budget_broken words bad h n = number_broken (name ∷ []) words (IsNumber MOST_BUDGET) bad awaits_name (starts name words h) n
+  budget_broken : (words : List (List ℕ)) (bad : BadWords) → slice_get words 0 ≡ Some name → NumberStandsAt (IsNumber most) words 1 (Err bad) → WordsMean words (Err bad)
+  budget_broken words bad h n = number_broken (name ∷ []) words (IsNumber most) bad awaits_name (starts name words h) n
 
-  begin_budget_whole : (words : List (List ℕ)) (b : ℕ) → slice_get words 0 ≡ Some name → NumberStandsAt (IsNumber MOST_BUDGET) words 1 (Ok b) → BeginWhole words 2 (meaning b)
+  begin_budget_whole : (words : List (List ℕ)) (b : ℕ) → slice_get words 0 ≡ Some name → NumberStandsAt (IsNumber most) words 1 (Ok b) → BeginWhole words 2 (meaning b)
   begin_budget_whole words b h f =
-      let first = number_read (name ∷ []) words (IsNumber MOST_BUDGET) b (starts name words h) f in
+      let first = number_read (name ∷ []) words (IsNumber most) b (starts name words h) f in
       begin_whole (name ∷ first.word ∷ []) words (meaning b) first.on
-      (whole_budget name first.word b (meaning b) (named b) (command_of first.word b first.is))
+      (whole_budget name first.word most b (meaning b) (named b) (command_of first.word b first.is))
 
 pub replay_broken : (words : List (List ℕ)) (bad : BadWords) → slice_get words 0 ≡ Some (codes "replay") → NumberStandsAt (IsNumber MOST_BUDGET) words 1 (Err bad) →
     WordsMean words (Err bad)
-replay_broken = budget_broken (codes "replay") (λ b. OnSource (Replay b)) (λ b. is_replay refl refl) replay
+replay_broken = budget_broken (codes "replay") MOST_BUDGET (omega arith) (λ b. OnSource (Replay b)) (λ b. is_replay refl refl refl) replay
 
 pub exec_broken : (words : List (List ℕ)) (bad : BadWords) → slice_get words 0 ≡ Some (codes "exec") → NumberStandsAt (IsNumber MOST_BUDGET) words 1 (Err bad) →
     WordsMean words (Err bad)
-exec_broken = budget_broken (codes "exec") (λ b. Exec b) (λ b. is_exec refl refl) exec
+exec_broken = budget_broken (codes "exec") MOST_BUDGET (omega arith) (λ b. Exec b) (λ b. is_exec refl refl refl) exec
+
+pub outcomes_broken : (words : List (List ℕ)) (bad : BadWords) → slice_get words 0 ≡ Some (codes "outcomes") → NumberStandsAt (IsNumber MOST_STATES) words 1 (Err bad) →
+    WordsMean words (Err bad)
+outcomes_broken = budget_broken (codes "outcomes") MOST_STATES (omega arith) (λ n. OnSource (Outcomes n)) (λ n. is_outcomes refl refl refl) outcomes
 
 pub begin_replay_whole : (words : List (List ℕ)) (b : ℕ) → slice_get words 0 ≡ Some (codes "replay") → NumberStandsAt (IsNumber MOST_BUDGET) words 1 (Ok b) →
     BeginWhole words 2 (OnSource (Replay b))
-begin_replay_whole = begin_budget_whole (codes "replay") (λ b. OnSource (Replay b)) (λ b. is_replay refl refl) replay
+begin_replay_whole = begin_budget_whole (codes "replay") MOST_BUDGET (omega arith) (λ b. OnSource (Replay b)) (λ b. is_replay refl refl refl) replay
 
 pub begin_exec_whole : (words : List (List ℕ)) (b : ℕ) → slice_get words 0 ≡ Some (codes "exec") → NumberStandsAt (IsNumber MOST_BUDGET) words 1 (Ok b) →
     BeginWhole words 2 (Exec b)
-begin_exec_whole = begin_budget_whole (codes "exec") (λ b. Exec b) (λ b. is_exec refl refl) exec
+begin_exec_whole = begin_budget_whole (codes "exec") MOST_BUDGET (omega arith) (λ b. Exec b) (λ b. is_exec refl refl refl) exec
+
+pub begin_outcomes_whole : (words : List (List ℕ)) (n : ℕ) → slice_get words 0 ≡ Some (codes "outcomes") → NumberStandsAt (IsNumber MOST_STATES) words 1 (Ok n) →
+    BeginWhole words 2 (OnSource (Outcomes n))
+begin_outcomes_whole = begin_budget_whole (codes "outcomes") MOST_STATES (omega arith) (λ n. OnSource (Outcomes n)) (λ n. is_outcomes refl refl refl) outcomes
 
 -- a command of a name and a number from 0 on
 module _ (name : List ℕ) (most : ℕ) (some : 1 ≤ most) (meaning : ℕ → Words) (named : (n : ℕ) → IsNumbered name most n (meaning n))
@@ -204,6 +212,9 @@ begin_judge_whole words h = begin_whole (codes "judge" ∷ []) words (OnSource J
 
 pub begin_race_whole : (words : List (List ℕ)) → slice_get words 0 ≡ Some (codes "race") → BeginWhole words 1 (OnSource Race)
 begin_race_whole words h = begin_whole (codes "race" ∷ []) words (OnSource Race) (starts (codes "race") words h) whole_race
+
+pub begin_console_whole : (words : List (List ℕ)) → slice_get words 0 ≡ Some (codes "console") → BeginWhole words 1 (OnSource Console)
+begin_console_whole words h = begin_whole (codes "console" ∷ []) words (OnSource Console) (starts (codes "console") words h) whole_console
 
 -- ---- after a whole command
 
@@ -326,6 +337,8 @@ pub record NamesNone (word : List ℕ) : Type 0 where
   pub not_judge : word ≢ codes "judge"
   pub not_race : word ≢ codes "race"
   pub not_dump : word ≢ codes "dump"
+  pub not_console : word ≢ codes "console"
+  pub not_outcomes : word ≢ codes "outcomes"
   pub not_exec : word ≢ codes "exec"
   pub not_trial : word ≢ codes "trial"
 
@@ -334,10 +347,12 @@ not_alone word meaning none (is_check e m) = none.not_check e
 not_alone word meaning none (is_list e m) = none.not_list e
 not_alone word meaning none (is_judge e m) = none.not_judge e
 not_alone word meaning none (is_race e m) = none.not_race e
+not_alone word meaning none (is_console e m) = none.not_console e
 
-not_budgeted : (word : List ℕ) (b : ℕ) (meaning : Words) → NamesNone word → IsBudgeted word b meaning → ⊥
-not_budgeted word b meaning none (is_replay e m) = none.not_replay e
-not_budgeted word b meaning none (is_exec e m) = none.not_exec e
+not_budgeted : (word : List ℕ) (most b : ℕ) (meaning : Words) → NamesNone word → IsBudgeted word most b meaning → ⊥
+not_budgeted word most b meaning none (is_replay e f m) = none.not_replay e
+not_budgeted word most b meaning none (is_exec e f m) = none.not_exec e
+not_budgeted word most b meaning none (is_outcomes e f m) = none.not_outcomes e
 
 not_numbered : (word : List ℕ) (most n : ℕ) (meaning : Words) → NamesNone word → IsNumbered word most n meaning → ⊥
 not_numbered word most n meaning none (is_trial e f m) = none.not_trial e
@@ -345,7 +360,8 @@ not_numbered word most n meaning none (is_dump e f m) = none.not_dump e
 
 no_command : (word : List ℕ) (rest : List (List ℕ)) (meaning : Words) → NamesNone word → Form (word ∷ rest) meaning → ⊥
 no_command word rest meaning none (a_run processors budget last p b rule e f s n m) = none.not_run cc
-no_command word rest meaning none (a_budget name budget b e s is) = let same : name ≡ word = cc in not_budgeted word b meaning none (subst (λ w. IsBudgeted w b meaning) same is)
+no_command word rest meaning none (a_budget name budget most b e s is) =
+    let same : name ≡ word = cc in not_budgeted word most b meaning none (subst (λ w. IsBudgeted w most b meaning) same is)
 no_command word rest meaning none (a_from_zero name number most n e f is) =
     let same : name ≡ word = cc in not_numbered word most n meaning none (subst (λ w. IsNumbered w most n meaning) same is)
 no_command word rest meaning none (a_word name e is) = let same : name ≡ word = cc in not_alone word meaning none (subst (λ w. IsAlone w meaning) same is)
@@ -356,7 +372,7 @@ unknown_given word rest none =
 
 no_words : (meaning : Words) → Form [] meaning → ⊥
 no_words meaning (a_run processors budget last p b rule e f s n m) = cc
-no_words meaning (a_budget name budget b e s is) = cc
+no_words meaning (a_budget name budget most b e s is) = cc
 no_words meaning (a_from_zero name number most n e f is) = cc
 no_words meaning (a_word name e is) = cc
 

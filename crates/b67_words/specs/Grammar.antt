@@ -2,12 +2,12 @@
 use Rattle.std.specs.Prelude.{◌≡◌, ◌⊎◌, ℕ, ◌+◌, ◌≤◌, List, [], ◌∷◌, ◌++◌, length, take, codes, slice_get, Option, Some, None, Result, Ok, Err}
 use Rattle.std.specs.Fmt.{decimal}
 use Rattle.b67_limits.specs.declared.TheConstants.{MOST_BUDGET, MOST_PROCESSORS}
-use Rattle.b67_words.specs.declared.TheConstants.{MOST_SEED, MOST_TRIAL, MOST_ENTRIES}
+use Rattle.b67_words.specs.declared.TheConstants.{MOST_SEED, MOST_TRIAL, MOST_ENTRIES, MOST_STATES}
 use Rattle.b67_words.specs.declared.Rule.{Rule}
 use Rattle.b67_words.specs.declared.Rule.TheVariants.{Fifo, Lifo, Seed}
 use Rattle.b67_words.specs.declared.Words.{Words}
 use Rattle.b67_words.specs.declared.Task.TheVariants as tasks
-use Rattle.b67_words.specs.declared.Task.TheVariants.{Run, Check, Replay, Judge, Race, Dump}
+use Rattle.b67_words.specs.declared.Task.TheVariants.{Run, Check, Replay, Judge, Race, Dump, Console, Outcomes}
 use Rattle.b67_words.specs.declared.Words.TheVariants.{OnSource, Exec, Trial}
 use Rattle.b67_words.specs.declared.UsageKind.{UsageKind}
 use Rattle.b67_words.specs.declared.UsageKind.TheVariants.{Missing, Unknown, BadNumber, BadRule, Extra}
@@ -47,6 +47,8 @@ pub data IsCommand : List (List ℕ) → Words → Type 0 where
   judge : IsCommand (codes "judge" ∷ []) (OnSource Judge)
   race : IsCommand (codes "race" ∷ []) (OnSource Race)
   dump : (number : List ℕ) (k : ℕ) → IsFromZero MOST_ENTRIES number k → IsCommand (codes "dump" ∷ number ∷ []) (OnSource (Dump k))
+  console : IsCommand (codes "console" ∷ []) (OnSource Console)
+  outcomes : (number : List ℕ) (n : ℕ) → IsNumber MOST_STATES number n → IsCommand (codes "outcomes" ∷ number ∷ []) (OnSource (Outcomes n))
   exec : (budget : List ℕ) (b : ℕ) → IsNumber MOST_BUDGET budget b → IsCommand (codes "exec" ∷ budget ∷ []) (Exec b)
   trial : (number : List ℕ) (n : ℕ) → IsFromZero MOST_TRIAL number n → IsCommand (codes "trial" ∷ number ∷ []) (Trial n)
 

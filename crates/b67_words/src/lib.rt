@@ -4,7 +4,7 @@
 ghost use Rattle.std.specs.Prelude.{◌≡◌, ◌≢◌, ◌+◌, ◌^◌, ◌<◌, ◌≤◌, ℕ, List, Result, map, length, codes, slice_get, slice_index, Some, IsTrue, ◌↔◌};
 ghost use Rattle.std.specs.String.{string_bytes};
 ghost use Rattle.b67_limits.specs.declared.TheConstants.{MOST_BUDGET, MOST_PROCESSORS};
-ghost use Rattle.b67_words.specs.declared.TheConstants.{MOST_SEED, MOST_TRIAL, MOST_ENTRIES};
+ghost use Rattle.b67_words.specs.declared.TheConstants.{MOST_SEED, MOST_TRIAL, MOST_ENTRIES, MOST_STATES};
 ghost use Rattle.b67_words.specs.Grammar.{WordsMean, BeginWhole, IsNumber, IsNumberOrNone, IsFromZero, IsFromZeroOrNone, NumberStandsAt, IsRuleOrNone, RuleStandsAt};
 
 use b67_limits::{MOST_BUDGET, MOST_PROCESSORS};
@@ -18,6 +18,9 @@ pub const MOST_TRIAL: u32 = 500;
 
 /// The greatest number of entries after which a dump can be asked for.
 pub const MOST_ENTRIES: u32 = 999_999_999;
+
+/// The greatest number of states in which outcomes can be looked for.
+pub const MOST_STATES: u64 = 1_000_000;
 
 /// A rule of dispatch: which of those who wait for a processor is taken.
 #[derive(Clone, Copy, PartialEq, Eq, Debug)]
@@ -55,6 +58,12 @@ pub enum Task {
     /// `dump K`: show its cells after the first K entries of the schedule that stands after it, K from 0 to [`MOST_ENTRIES`].
     Dump {
         entries: u32,
+    },
+    /// `console`: run it under the schedule that stands after it, and show what the commands after the schedule ask for.
+    Console,
+    /// `outcomes N`: tell what its runs can come to, under all schedules, keeping N states at most, from 1 to [`MOST_STATES`].
+    Outcomes {
+        most: u64,
     },
 }
 
@@ -115,6 +124,8 @@ pub fn read_words(words: &[String]) -> Result<Words, BadWords>
         "judge" => whole(words, 1, Words::OnSource(Task::Judge)),
         "race" => whole(words, 1, Words::OnSource(Task::Race)),
         "dump" => read_dump(words),
+        "console" => whole(words, 1, Words::OnSource(Task::Console)),
+        "outcomes" => read_outcomes(words),
         "exec" => read_exec(words),
         "trial" => read_trial(words),
         _ => Err(BadWords::Usage {
@@ -152,6 +163,15 @@ fn read_replay(words: &[String]) -> Result<Words, BadWords>
 {
     let budget = number_at(words, 1, MOST_BUDGET)?;
     whole(words, 2, Words::OnSource(Task::Replay { budget }))
+}
+
+/// `outcomes N`, where the first word is `outcomes`.
+fn read_outcomes(words: &[String]) -> Result<Words, BadWords>
+    requires { slice_get (map string_bytes words.now) 0 ≡ Some (codes "outcomes") }
+    ensures { WordsMean (map string_bytes words.now) result }
+{
+    let most = number_at(words, 1, MOST_STATES)?;
+    whole(words, 2, Words::OnSource(Task::Outcomes { most }))
 }
 
 /// `exec B`, where the first word is `exec`.
@@ -301,10 +321,11 @@ fn from_zero(text: &str, most: u32) -> Option<u32>
     }
 }
 
-/// Law: the numbers of this crate, which the words of a command are defined with: the greatest seed has 32 bits; the greatest numbers of a trial and of a
-/// dump are of this project's profile, as docs/LANGUAGE.md has them.
+/// Law: the numbers of this crate, which the words of a command are defined with: the greatest seed has 32 bits; the greatest numbers of a trial, of a
+/// dump and of outcomes are of this project's profile, as docs/LANGUAGE.md has them.
 pub fn numbers_are_told()
     ensures seed { MOST_SEED + 1 ≡ 2 ^ 32 }
     ensures trial { MOST_TRIAL ≡ 500 }
     ensures entries { MOST_ENTRIES ≡ 999999999 }
+    ensures states { MOST_STATES ≡ 1000000 }
 {}

@@ -1,7 +1,7 @@
 use Rattle.std.proofs.Common.{sym, ◌∙◌}
 use Rattle.std.specs.Prelude.{codes}
 use Rattle.b67_words.proofs.read_words.Goals as goal
-use Rattle.b67_words.proofs.Reading.{none_given_of, unknown_given_of, named, begin_check_whole, begin_list_whole, begin_judge_whole, begin_race_whole}
+use Rattle.b67_words.proofs.Reading.{none_given_of, unknown_given_of, named, begin_check_whole, begin_list_whole, begin_judge_whole, begin_race_whole, begin_console_whole}
 
 pub returns-in_default : goal.returns-in_default
 returns-in_default c = none_given_of _ c.args.words.now (sym c.in_default.ensures.value)
@@ -16,6 +16,8 @@ returns-in_default-as_str c =
       not_judge = λ e. c.in_default-as_str.not-judge (c.as_str.ensures.value ∙ e);
       not_race = λ e. c.in_default-as_str.not-race (c.as_str.ensures.value ∙ e);
       not_dump = λ e. c.in_default-as_str.not-dump (c.as_str.ensures.value ∙ e);
+      not_console = λ e. c.in_default-as_str.not-console (c.as_str.ensures.value ∙ e);
+      not_outcomes = λ e. c.in_default-as_str.not-outcomes (c.as_str.ensures.value ∙ e);
       not_exec = λ e. c.in_default-as_str.not-exec (c.as_str.ensures.value ∙ e);
       not_trial = λ e. c.in_default-as_str.not-trial (c.as_str.ensures.value ∙ e);
     })
@@ -35,3 +37,7 @@ whole-requires-in-judge-clause-whole c =
 pub whole-requires-in-race-clause-whole : goal.whole-requires-in-race-clause-whole
 whole-requires-in-race-clause-whole c =
     begin_race_whole _ (named _ c.args.words.now c.in-Some.command.now (codes "race") (sym c.in-Some.ensures.value) (sym c.as_str.ensures.value ∙ c.in-race.is))
+
+pub whole-requires-in-console-clause-whole : goal.whole-requires-in-console-clause-whole
+whole-requires-in-console-clause-whole c =
+    begin_console_whole _ (named _ c.args.words.now c.in-Some.command.now (codes "console") (sym c.in-Some.ensures.value) (sym c.as_str.ensures.value ∙ c.in-console.is))

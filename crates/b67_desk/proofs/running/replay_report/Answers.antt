@@ -8,6 +8,7 @@ use Rattle.b67_machine.proofs.Loading.{none_in}
 use Rattle.b67_desk.specs.Calls.{IsLeft}
 use Rattle.b67_explain.proofs.Explained.{can_be_told}
 use Rattle.b67_desk.proofs.Told.{segments_short, replay_answered}
+use Rattle.b67_desk.proofs.Wholes.{whole_is_performed}
 use Rattle.b67_desk.proofs.running.replay_report.Goals as goal
 
 pub load-requires-clause-stacks : goal.load-requires-clause-stacks
@@ -19,13 +20,23 @@ load-requires-clause-rows c = none_in _ c.new.ensures.rows
 pub load-requires-clause-segments : goal.load-requires-clause-segments
 load-requires-clause-segments c = segments_short c.args.code c.requires.faithful.1.listable
 
-pub returns : goal.returns
-returns c =
+pub returns-clause-explained : goal.returns-clause-explained
+returns-clause-explained c =
     let done = c.replay-answer.new.done in
     let m = c.replay-answer.new.self in
     replay_answered c.args.code c.args.given.now c.args.budget m c.replay-answer.result done
     (subst (λ (k : Code). Replays k c.args.given.now c.args.budget done m c.replay-answer.result) c.in_ok-machine.ensures.code c.replay-answer.ensures.replays)
     c.in_ok-lines.lines c.left_report.result
+    (subst (λ (n : ℕ). IfOk c.left_report.result (IsLeft m c.replay-answer.result c.in_ok-lines.lines n done)) c.in_ok-acts.ensures.acts.each c.left_report.ensures.left)
+    c.in_ok-lines.ensures
+
+pub returns-clause-whole : goal.returns-clause-whole
+returns-clause-whole c =
+    let done = c.replay-answer.new.done in
+    let m = c.replay-answer.new.self in
+    whole_is_performed c.args.code c.args.given.now c.args.budget m c.replay-answer.result done
+    (subst (λ (k : Code). Replays k c.args.given.now c.args.budget done m c.replay-answer.result) c.in_ok-machine.ensures.code c.replay-answer.ensures.replays)
+    c.requires.most c.in_ok-lines.lines c.left_report.result
     (subst (λ (n : ℕ). IfOk c.left_report.result (IsLeft m c.replay-answer.result c.in_ok-lines.lines n done)) c.in_ok-acts.ensures.acts.each c.left_report.ensures.left)
     c.in_ok-lines.ensures
 

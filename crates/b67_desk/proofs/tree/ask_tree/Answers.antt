@@ -60,3 +60,20 @@ returns-in-Dump c =
     task_asks c.args.task task beside c.args.input tree c.settled-in-Dump.result c.in-Dump.is
     (settled_asks (λ by. AnswersTree by (OnSource task) beside c.args.input tree) c.answer_dump.result c.settled-in-Dump.result c.settled-in-Dump.ensures
     (λ by. c.answer_dump.ensures))
+
+pub returns-in-Console : goal.returns-in-Console
+returns-in-Console c =
+    let beside = option_copied c.args.text in
+    let tree = plain c.args.checked.now.program in
+    task_asks c.args.task tasks.Console beside c.args.input tree c.settled-in-Console.result c.in-Console.is
+    (settled_asks (λ by. AnswersTree by (OnSource tasks.Console) beside c.args.input tree) c.answer_console.result c.settled-in-Console.result c.settled-in-Console.ensures
+    (λ by. c.answer_console.ensures))
+
+pub returns-in-Outcomes : goal.returns-in-Outcomes
+returns-in-Outcomes c =
+    let beside = option_copied c.args.text in
+    let tree = plain c.args.checked.now.program in
+    let task : Task = tasks.Outcomes c.in-Outcomes.most in
+    task_asks c.args.task task beside c.args.input tree c.settled-in-Outcomes.result c.in-Outcomes.is
+    (settled_asks (λ by. AnswersTree by (OnSource task) beside c.args.input tree) c.answer_outcomes.result c.settled-in-Outcomes.result c.settled-in-Outcomes.ensures
+    (λ by. c.answer_outcomes.ensures))
