@@ -106,13 +106,13 @@ impl Shop for Bench {
         _me: u32,
         _pass: Leave,
         seat: &mut Stool,
-    ) -> Acted {
+    ) -> (Acted, u64) {
         self.note(5);
         if seat.acts == u64::MAX {
-            return Acted::NotOut;
+            return (Acted::NotOut, 0);
         }
         seat.acts += 1;
-        Acted::Went
+        (Acted::Went, 0)
     }
 }
 

@@ -10,12 +10,12 @@ pub load-requires-clause-rows : goal.load-requires-clause-rows
 load-requires-clause-rows c = none_in _ c.new.ensures.rows
 
 pub load-requires-clause-segments : goal.load-requires-clause-segments
-load-requires-clause-segments c = segments_short c.in_ok-code.code c.in_ok-code.ensures.listable
+load-requires-clause-segments c = segments_short c.in_ok-code.code c.in_ok-code.ensures.faithful.listable
 
 pub returns-clause-sound : goal.returns-clause-sound
 returns-clause-sound c =
-    (kept_short c.in_ok-code.code c.in_ok-machine.machine.code (program c.args.checked.now.program) c.in_ok-code.ensures c.in_ok-machine.ensures.code).0
+    (kept_short c.in_ok-code.code c.in_ok-machine.machine.code (program c.args.checked.now.program) c.in_ok-code.ensures.faithful c.in_ok-machine.ensures.code).0
 
 pub returns-clause-segments : goal.returns-clause-segments
 returns-clause-segments c =
-    (kept_short c.in_ok-code.code c.in_ok-machine.machine.code (program c.args.checked.now.program) c.in_ok-code.ensures c.in_ok-machine.ensures.code).1
+    (kept_short c.in_ok-code.code c.in_ok-machine.machine.code (program c.args.checked.now.program) c.in_ok-code.ensures.faithful c.in_ok-machine.ensures.code).1
