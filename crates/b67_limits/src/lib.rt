@@ -2,7 +2,7 @@
 #![tactic(auto)]
 
 ghost use Rattle.std.specs.Prelude.{◌≡◌};
-ghost use Rattle.b67_limits.specs.declared.TheConstants.{OUTER_LEVEL, MOST_LEVEL, MOST_BLOCK_CELLS, MOST_FRAME_CELLS, MOST_PROCEDURES, MOST_ELEMENTS, MOST_PROCESSES, MOST_EVENTS, MOST_BUDGET, MOST_STRETCH, MOST_PROCESSORS};
+ghost use Rattle.b67_limits.specs.declared.TheConstants.{OUTER_LEVEL, MOST_LEVEL, MOST_BLOCK_CELLS, MOST_FRAME_CELLS, MOST_PROCEDURES, MOST_ELEMENTS, MOST_PROCESSES, MOST_EVENTS, MOST_BUDGET, MOST_STRETCH, MOST_PROCESSORS, MOST_LETTERS, MOST_OWN_WORDS, MOST_RUN};
 
 /// The level of the outer block: the program's own, under which level 0 is the system's.
 pub const OUTER_LEVEL: u8 = 2;
@@ -39,6 +39,15 @@ pub const MOST_STRETCH: u64 = 64;
 /// The greatest number of processors of a run.
 pub const MOST_PROCESSORS: u64 = 8;
 
+/// The most entries of a parcel, which a processor works on outside the lock, and the most turns that it takes under one hold of the lock.
+pub const MOST_LETTERS: usize = 1_024;
+
+/// The most words of a stack of which a parcel has a copy whole.
+pub const MOST_OWN_WORDS: u32 = 1_024;
+
+/// The most operators of a parcel that may have entries.
+pub const MOST_RUN: u32 = 4_096;
+
 /// Law: the numbers of this crate, which the language and the machine are defined with. The deepest level, the cells of a frame and the procedures
 /// are as many as five, nine and ten bits of a control word have; the level of the outer block is 2, above the system's; the others are this
 /// project's profile. docs/LANGUAGE.md and docs/MACHINE.md have them.
@@ -54,4 +63,7 @@ pub fn numbers_are_told()
     ensures budget { MOST_BUDGET ≡ 4194304 }
     ensures stretch { MOST_STRETCH ≡ 64 }
     ensures processors { MOST_PROCESSORS ≡ 8 }
+    ensures letters { MOST_LETTERS ≡ 1024 }
+    ensures own { MOST_OWN_WORDS ≡ 1024 }
+    ensures run { MOST_RUN ≡ 4096 }
 {}
