@@ -9,6 +9,7 @@ use Rattle.algol_tree.specs.declared.token.Spot.{Spot}
 use Rattle.algol_tree.specs.contracts.token.SpotOrd.TheImpl.{ghosts}
 use Rattle.algol_tree.specs.Blocks.{same_spot}
 use Rattle.algol_frames.specs.declared.found.Block.{Block}
+use Rattle.algol_frames.specs.ByLine.{placed_in}
 use Rattle.algol_frames.specs.declared.found.Cell.{Cell}
 use Rattle.algol_frames.specs.declared.found.Content.TheVariants as content
 use Rattle.algol_frames.specs.declared.found.Use.{Use}
@@ -42,7 +43,7 @@ module _ (f g : ℕ → Spot → Option Couple) (same : (q : ℕ) (spot : Spot) 
 
 pub laid : (blocks : List Block) (table : BTreeMap ℕ (Vec Cell Global)) (cells : List Cell) (uses : List Use) (frames held : List (BTreeMap Spot Couple)) →
     frames ≡ held → ((q : ℕ) (spot : Spot) → framed_in held q spot ≡ laid_in blocks table q spot) → (s : Scopes) →
-    ((q : Spot) → get ghosts.cmp s.declared q ≡ declared_from (framed_in frames) uses q) →
+    ((q : Spot) → placed_in s.declared.lines.items q ≡ declared_from (framed_in frames) uses q) →
     ((q : Spot) → get ghosts.cmp s.results q ≡ result_from (framed_in frames) 0 blocks q) →
     ((q : Spot) → get ghosts.cmp s.actuals q ≡ actual_from (framed_in frames) cells q) → s.levels.items ≡ levels_of blocks →
     ((q : Spot) → get ghosts.cmp s.parameters q ≡ parameters_from uses q) → ((q : Spot) → get ghosts.cmp s.numbers q ≡ number_from 0 blocks q) →

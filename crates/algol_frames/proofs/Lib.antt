@@ -1,3 +1,4 @@
 pub mod Noting
 pub mod Frames
 pub mod Laid
+mod ByLine

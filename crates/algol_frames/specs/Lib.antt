@@ -1,3 +1,4 @@
+pub mod ByLine
 pub mod Answers
 pub mod Framing
 pub mod Laying

@@ -6,9 +6,11 @@ ghost use Rattle.std.specs.BTreeMap.{get};
 ghost use Rattle.algol_tree.specs.declared.TheConstants.{MOST_BLOCK_CELLS};
 ghost use Rattle.algol_tree.specs.declared.token.Spot as token;
 ghost use Rattle.algol_tree.specs.contracts.token.SpotOrd.TheImpl.{ghosts};
+ghost use Rattle.algol_frames.specs.ByLine.{placed_in};
 ghost use Rattle.algol_frames.specs.Framing.{cells_in};
 ghost use Rattle.algol_frames.specs.Laying.{Adds, AreLaid, actual_from, couple_from, declared_from, framed_in, laid_in, laid_out, levels_of, number_from, parameters_from, result_from, those_holding};
 
+use crate::by_line::ByLine;
 use crate::found::{Block, Cell, Content, Use};
 use crate::limits::{Cells, cells_of};
 use crate::scopes::{Couple, Declared, Scopes};
@@ -103,29 +105,11 @@ fn couple_in(frames: &[Frame], block: usize, spot: Spot) -> Option<Couple>
 
 // ---- what is found in frames
 
-/// The declaration stands under the place, unless one stands there already.
-fn add_declared(
-    table: &mut BTreeMap<Spot, Declared>,
-    spot: Spot,
-    declared: Declared,
-) -> Result<(), AllocError>
-    ensures { OnOk result (Adds table.old table.new spot (Some declared)) }
-{
-    if !table.contains_key(&spot) {
-        table.insert(spot, declared)?;
-    }
-    Ok(())
-}
-
 /// The declaration that each name means, by the place of the name.
-fn declared(
-    alloc: Global,
-    frames: &[Frame],
-    uses: &[Use],
-) -> Result<BTreeMap<Spot, Declared>, AllocError>
-    ensures { IfOk result (λ table. (q : token.Spot) → get ghosts.cmp table q ≡ declared_from (framed_in frames.now) uses.now q) }
+fn declared(alloc: Global, frames: &[Frame], uses: &[Use]) -> Result<ByLine, AllocError>
+    ensures { IfOk result (λ table. (q : token.Spot) → placed_in table.lines.items q ≡ declared_from (framed_in frames.now) uses.now q) }
 {
-    let mut declared = BTreeMap::new(alloc);
+    let mut declared = ByLine::new(alloc);
     'uses: for found in uses {
         let declaration = Declared {
             spot: found.declared,
@@ -134,7 +118,7 @@ fn declared(
             sort: found.sort,
             couple: couple_in(frames, found.block, found.declared),
         };
-        add_declared(&mut declared, found.spot, declaration)?;
+        declared.add(alloc, found.spot, declaration)?;
     }
     Ok(declared)
 }

@@ -3,6 +3,7 @@
 #![tactic(auto)]
 
 mod broken;
+mod by_line;
 mod found;
 mod layout;
 mod limits;

@@ -3,6 +3,7 @@
 ghost use Rattle.std.specs.Prelude.{◌≡◌, option_copied};
 ghost use Rattle.algol_frames.specs.Answers.{declaration_of, actual_of, result_of, level_in, number_of, parameters_of};
 
+use crate::by_line::ByLine;
 use algol_sorts::Sort;
 use algol_tree::{List, Spot};
 use std::collections::BTreeMap;
@@ -29,7 +30,7 @@ pub struct Declared {
 /// blocks.
 #[derive(Drop)]
 pub struct Scopes {
-    pub(crate) declared: BTreeMap<Spot, Declared>,
+    pub(crate) declared: ByLine,
     pub(crate) actuals: BTreeMap<Spot, Couple>,
     pub(crate) results: BTreeMap<Spot, Couple>,
     pub(crate) levels: Vec<u8>,
@@ -42,7 +43,7 @@ impl Scopes {
     pub fn declaration(&self, spot: Spot) -> Option<&Declared>
         ensures { option_copied result ≡ declaration_of self.now spot }
     {
-        self.declared.get(&spot)
+        self.declared.get(spot)
     }
 
     /// The couple of the actual that has a cell and whose first token stands there.

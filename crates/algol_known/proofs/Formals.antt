@@ -34,6 +34,23 @@ pub say-new : (at new : List ℕ → Option Bool) (name q : List ℕ) (value : B
 say-new at new name q value h n =
     kept-new (at q) (new q) (bytes_eq name q) value (λ e. ap (λ z. is_some (at z)) (sym ((bytes_eq-Decides name q).0 e)) ∙ h) n
 
+none-named : (o : Option Bool) (value : Bool) → o ≡ kept o false value
+none-named (Some x) value = refl
+none-named None value = refl
+
+-- something was said of it before, which is put back
+pub say-again : (at middle new : List ℕ → Option Bool) (name q : List ℕ) (value b : Bool) → at name ≡ Some b → middle q ≡ cond (bytes_eq name q) (Some value) (at q) →
+    new q ≡ cond (bytes_eq name q) (Some b) (middle q) → new q ≡ kept (at q) (bytes_eq name q) value
+say-again at middle new name q value b said first second = decide (bytes_eq name q) refl
+  where
+    decide : (named : Bool) → bytes_eq name q ≡ named → new q ≡ kept (at q) (bytes_eq name q) value
+    decide true e =
+        second ∙ ap (λ z. cond z (Some b) (middle q)) e
+        ∙ sym (ap (λ o. kept o true value) (ap at (sym ((bytes_eq-Decides name q).0 e)) ∙ said)) ∙ sym (ap (λ z. kept (at q) z value) e)
+    decide false e =
+        second ∙ ap (λ z. cond z (Some b) (middle q)) e ∙ first ∙ ap (λ z. cond z (Some value) (at q)) e ∙ none-named (at q) value
+        ∙ sym (ap (λ z. kept (at q) z value) e)
+
 -- ---- a list of names
 
 kept-twice : (old : Option Bool) (b rest value : Bool) → kept (kept old b value) rest value ≡ kept old (if b then true else rest) value

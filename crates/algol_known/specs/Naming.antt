@@ -1,25 +1,21 @@
 -- The names that a block makes known, as tables of them.
 use Rattle.std.specs.Prelude.{◌≡◌, ℕ, Bool, false, ◌||◌, is_some, List, Option, Some, None}
 use Rattle.std.specs.Borrow.{Bor}
-use Rattle.std.specs.Ordering.{nat_cmp}
-use Rattle.std.specs.Cmp.Lexicographic.{slice_cmp}
-use Rattle.std.specs.BTreeMap.{BTreeMap, get_by}
+use Rattle.std.specs.BTreeMap.{BTreeMap}
 use Rattle.std.specs.Map.{update}
 use Rattle.std.specs.Str.{bytes_eq}
+use Rattle.algol_sorts.specs.declared.key.Key.{Key}
+pub use Rattle.algol_sorts.specs.Tables.{under}
 use Rattle.algol_known.specs.declared.known.Entry.{Entry}
 use Rattle.algol_known.specs.declared.known.Seen.{Seen}
 use Rattle.algol_known.specs.declared.known.Seen.TheVariants as seen
 
--- what a table has under a name
-abbrev pub under : {X : Type 0} → BTreeMap (Bor (List ℕ)) X → List ℕ → Option X
-under table name = get_by (λ k. slice_cmp nat_cmp name k.now) table
-
 -- declarations by their names
 abbrev pub Table : Type 0
-Table = BTreeMap (Bor (List ℕ)) Entry
+Table = BTreeMap Key Entry
 
 abbrev pub entry_in : Table → List ℕ → Option Entry
-entry_in table name = get_by (λ k. slice_cmp nat_cmp name k.now) table
+entry_in table name = under table name
 
 -- a table with no name
 abbrev pub IsBare : Table → Type 0

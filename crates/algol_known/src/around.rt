@@ -60,7 +60,7 @@ fn is_by_name(mode: Option<Sort>) -> bool
 }
 
 /// The declaration of the name in these blocks.
-fn look_up(blocks: &[Names], name: &[u8]) -> Option<Entry>
+fn look_up<'p>(blocks: &[Names<'p>], name: &'p [u8]) -> Option<Entry>
     ensures { result ≡ looked_up (reverse blocks.now) seens.All name.now }
 {
     let (innermost, outer) = blocks.split_last()?;
@@ -175,7 +175,7 @@ impl<'p> Around<'p> {
     }
 
     /// The declaration that a use of the name sees.
-    pub fn find(&self, name: &[u8], seen: Seen) -> Option<Entry>
+    pub fn find(&self, name: &'p [u8], seen: Seen) -> Option<Entry>
         ensures { result ≡ looked_up (open_blocks self.now) seen name.now }
     {
         match self.innermost.here(name, seen) {
@@ -211,7 +211,7 @@ impl<'p> Around<'p> {
     }
 
     /// Whether what is known under the name of this heading is its FORWARD, in the innermost block.
-    pub fn is_announced(&self, h: &Heading) -> bool
+    pub fn is_announced(&self, h: &'p Heading) -> bool
         ensures { result ≡ is_announced (looked_up (open_blocks self.now) seens.All h.now.name.name) self.now.innermost.block h.now.name.spot }
     {
         match self.find(h.name.name.bytes(), Seen::All) {
@@ -241,7 +241,7 @@ impl<'p> Around<'p> {
     }
 
     /// Whether the actual is the name of a simple variable or parameter.
-    fn is_plain(&self, e: &Expr, seen: Seen) -> bool
+    fn is_plain(&self, e: &'p Expr, seen: Seen) -> bool
         ensures { (a : Surroundings) → Sees self.now seen a → cells.has_cell (expr e.now) name_parameter a ≡ not result }
     {
         match e {
@@ -259,7 +259,7 @@ impl<'p> Around<'p> {
     }
 
     /// Whether an actual for such a parameter has a cell: it is by name, and not the name of a simple variable or parameter.
-    pub fn has_cell(&self, e: &Expr, mode: Option<Sort>, seen: Seen) -> bool
+    pub fn has_cell(&self, e: &'p Expr, mode: Option<Sort>, seen: Seen) -> bool
         ensures { (f : Option Formal) (a : Surroundings) → Sees self.now seen a → mode ≡ mode_given f → result ≡ cells.has_cell (expr e.now) f a }
     {
         is_by_name(mode) && !self.is_plain(e, seen)

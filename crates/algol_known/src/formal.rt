@@ -1,6 +1,6 @@
 //! Parameters, as a call sees them.
 
-ghost use Rattle.std.specs.Prelude.{◌≡◌, ℕ, List, false, map, None, IfOk, OnOk};
+ghost use Rattle.std.specs.Prelude.{◌≡◌, ℕ, List, false, is_some, map, None, IfOk, OnOk};
 ghost use Rattle.std.specs.Str.{bytes_eq};
 ghost use Rattle.algol_tree.specs.Sorts.{is_named_in, formals_of};
 ghost use Rattle.algol_sorts.specs.Specified.{SaysAll};
@@ -8,23 +8,27 @@ ghost use Rattle.algol_known.specs.Naming.{under};
 ghost use Rattle.algol_known.specs.Passing.{kept, said};
 ghost use Rattle.algol_known.specs.Seeing.{mode_of};
 
-use algol_sorts::{Sort, Specified};
+use algol_sorts::{Key, Sort, Specified, found};
 use algol_tree::{Heading, Named};
 use std::alloc::{AllocError, Global};
 use std::collections::BTreeMap;
 
 /// A table of names, with what is said of each.
-pub type Said<'p> = BTreeMap<&'p [u8], bool>;
+pub type Said<'p> = BTreeMap<Key<'p>, bool>;
 
-/// The name has this, unless something is said of it before.
-pub fn say<'p>(table: &mut Said<'p>, name: &'p [u8], value: bool) -> Result<(), AllocError>
-    ensures { OnOk result ((q : List ℕ) → under table.new q ≡ kept (under table.old q) (bytes_eq name.now q) value) }
+/// The name has this, unless something is said of it before. Answers whether something is.
+pub fn say<'p>(table: &mut Said<'p>, name: &'p [u8], value: bool) -> Result<bool, AllocError>
+    ensures said { OnOk result ((q : List ℕ) → under table.new q ≡ kept (under table.old q) (bytes_eq name.now q) value) }
+    ensures before { IfOk result (λ before. before ≡ is_some (under table.old name.now)) }
 {
-    if table.contains_key(name) {
-        return Ok(());
+    let key = Key::of(name);
+    match table.insert(key, value)? {
+        None => Ok(false),
+        Some(before) => {
+            table.insert(key, before)?;
+            Ok(true)
+        }
     }
-    table.insert(name, value)?;
-    Ok(())
 }
 
 /// The same of each name of a list.
@@ -54,10 +58,10 @@ pub fn no_names<'p>(alloc: Global) -> Said<'p>
 }
 
 /// What is said of the name, `false` where nothing is.
-pub fn is_said(table: &Said, name: &[u8]) -> bool
+pub fn is_said<'p>(table: &Said<'p>, name: &'p [u8]) -> bool
     ensures { result ≡ said (under table.now name.now) false }
 {
-    match table.get(name) {
+    match found(table, name) {
         None => false,
         Some(value) => *value,
     }
@@ -72,10 +76,10 @@ pub fn modes(alloc: Global, heading: &Heading) -> Result<Vec<Sort>, AllocError>
 }
 
 /// The same, by what is said of their names.
-fn modes_by(
+fn modes_by<'p>(
     alloc: Global,
-    heading: &Heading,
-    specified: &Specified,
+    heading: &'p Heading,
+    specified: &Specified<'p>,
 ) -> Result<Vec<Sort>, AllocError>
     requires { SaysAll specified.now heading.now }
     ensures { IfOk result (λ found. found.items ≡ map mode_of (formals_of heading.now)) }

@@ -3,7 +3,7 @@
 ghost use Rattle.std.specs.Prelude.{◌≡◌, OnOk, Some};
 ghost use Rattle.algol_known.specs.Naming.{IsBare, Puts, entry_in, seen_under, has_name};
 
-use algol_sorts::Sort;
+use algol_sorts::{Key, Sort, found};
 use algol_tree::Spot;
 use std::alloc::{AllocError, Global};
 use std::collections::BTreeMap;
@@ -38,8 +38,8 @@ pub enum Seen {
 pub struct Names<'p> {
     pub block: usize,
     pub typed: Option<&'p [u8]>,
-    pub parameters: BTreeMap<&'p [u8], Entry>,
-    pub declared: BTreeMap<&'p [u8], Entry>,
+    pub parameters: BTreeMap<Key<'p>, Entry>,
+    pub declared: BTreeMap<Key<'p>, Entry>,
 }
 
 impl<'p> Names<'p> {
@@ -58,43 +58,41 @@ impl<'p> Names<'p> {
     }
 
     /// A declaration of the name.
-    #[tactic(auto, using(crate::proofs::Tables::puts))]
     pub fn declare(&mut self, name: &'p [u8], entry: Entry) -> Result<(), AllocError>
         ensures puts { OnOk result (Puts self.old.declared self.new.declared name.now entry) }
         ensures parameters { self.new.parameters ≡ self.old.parameters }
         ensures block { self.new.block ≡ self.old.block }
         ensures typed { self.new.typed ≡ self.old.typed }
     {
-        self.declared.insert(name, entry)?;
+        self.declared.insert(Key::of(name), entry)?;
         Ok(())
     }
 
     /// A parameter of the name.
-    #[tactic(auto, using(crate::proofs::Tables::puts))]
     pub fn declare_parameter(&mut self, name: &'p [u8], entry: Entry) -> Result<(), AllocError>
         ensures puts { OnOk result (Puts self.old.parameters self.new.parameters name.now entry) }
         ensures declared { self.new.declared ≡ self.old.declared }
         ensures block { self.new.block ≡ self.old.block }
         ensures typed { self.new.typed ≡ self.old.typed }
     {
-        self.parameters.insert(name, entry)?;
+        self.parameters.insert(Key::of(name), entry)?;
         Ok(())
     }
 
     /// The parameter of that name.
-    pub fn parameter(&self, name: &[u8]) -> Option<Entry>
+    pub fn parameter(&self, name: &'p [u8]) -> Option<Entry>
         ensures { result ≡ entry_in self.now.parameters name.now }
     {
-        self.parameters.get(name).copied()
+        found(&self.parameters, name).copied()
     }
 
     /// The declaration of that name, also as a parameter, that the block has.
-    pub fn here(&self, name: &[u8], seen: Seen) -> Option<Entry>
+    pub fn here(&self, name: &'p [u8], seen: Seen) -> Option<Entry>
         ensures { result ≡ seen_under self.now.declared self.now.parameters seen name.now }
     {
         match seen {
             Seen::BeforeDeclarations => self.parameter(name),
-            Seen::All => match self.declared.get(name) {
+            Seen::All => match found(&self.declared, name) {
                 Some(entry) => Some(*entry),
                 None => self.parameter(name),
             },
@@ -102,7 +100,7 @@ impl<'p> Names<'p> {
     }
 
     /// Whether the block has the name: as a declaration, or as its result.
-    pub fn has(&self, name: &[u8]) -> bool
+    pub fn has(&self, name: &'p [u8]) -> bool
         ensures { result ≡ has_name self.now.typed self.now.declared self.now.parameters name.now }
     {
         match self.typed {

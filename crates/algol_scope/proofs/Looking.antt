@@ -2,10 +2,10 @@
 use Rattle.std.proofs.Common.{◌≡◌, ℕ, ◌+◌, ◌-◌, ◌<◌, ◌≤◌, Bool, true, false, cond, List, [], ◌∷◌, ◌++◌, length, drop, get_or, drop-cons, reverse, Option, Some, None, refl, ap, sym, ◌∙◌, subst, arith, length-append, zero, suc}
 use Rattle.std.proofs.lemmas.List.{reverse-append, length-reverse}
 use Rattle.std.specs.Prelude.{is_some, if◌then◌else◌}
-use Rattle.std.specs.Borrow.{Bor}
 use Rattle.std.specs.BTreeMap.{BTreeMap}
 use Rattle.std.specs.Map.{update}
 use Rattle.std.specs.Str.{bytes_eq}
+use Rattle.algol_sorts.specs.declared.key.Key.{Key}
 use Rattle.algol_tree.specs.declared.tree.Decl.{Decl}
 use Rattle.algol_tree.specs.declared.tree.Heading.{Heading}
 use Rattle.algol_tree.specs.Plain as tree
@@ -28,7 +28,7 @@ body-extends ps qs (Some x) (Some h) e b = (of-extends ps qs x h e b.0, b.1)
 body-extends ps qs None (Some h) e b = absurd b
 body-extends ps qs (Some x) None e b = absurd b
 
-pub bodies-extends : (ps qs : List Procedure) (table : BTreeMap (Bor (List ℕ)) Ahead) (later : PDecls) → Extends ps qs → HasBodies ps table later →
+pub bodies-extends : (ps qs : List Procedure) (table : BTreeMap Key Ahead) (later : PDecls) → Extends ps qs → HasBodies ps table later →
     HasBodies qs table later
 bodies-extends ps qs table later e b =
     record { bodies = λ q. body-extends ps qs (under table q) (body_of q later) e (b.bodies q) }
@@ -41,7 +41,7 @@ chosen ps old new x h l true false e n of has f = absurd (let clash : false ≡ 
 chosen ps old new x h l false true e n of has f = absurd (let clash : true ≡ false = e in cc)
 
 -- a procedure with its body comes before these declarations
-pub bodies-more : (ps qs : List Procedure) (old new : BTreeMap (Bor (List ℕ)) Ahead) (later : PDecls) (h : Heading) (s : PStmt) (name : List ℕ) (x : Ahead) → Extends ps qs →
+pub bodies-more : (ps qs : List Procedure) (old new : BTreeMap Key Ahead) (later : PDecls) (h : Heading) (s : PStmt) (name : List ℕ) (x : Ahead) → Extends ps qs →
     HasBodies ps old later → IsOf qs x h → x.has_body ≡ true → name ≡ h.name.name →
     ((q : List ℕ) → under new q ≡ update bytes_eq (under old) name (Some x) q) → HasBodies qs new (tree.decls (tree.procedure h s) later)
 bodies-more ps qs old new later h s name x e b of has n u =
@@ -61,7 +61,7 @@ found_ahead ps h later x y None l e k b = absurd (let clash : None ≡ Some x = 
 found_ahead ps h later x y (Some z) None e k b = absurd b
 
 -- the body of a FORWARD is among them
-pub ahead-found : (ps : List Procedure) (table : BTreeMap (Bor (List ℕ)) Ahead) (h : Heading) (later : PDecls) (x : Ahead) → HasBodies ps table later →
+pub ahead-found : (ps : List Procedure) (table : BTreeMap Key Ahead) (h : Heading) (later : PDecls) (x : Ahead) → HasBodies ps table later →
     under table h.name.name ≡ Some x → IsAhead ps (tree.forward h) later x
 ahead-found ps table h later x b k =
     found_ahead ps h later x x (under table h.name.name) (body_of h.name.name later) refl k (b.bodies h.name.name)
@@ -73,7 +73,7 @@ missing ps h x (Some z) l k b qs of has = absurd (let clash : Some z ≡ None = 
 missing ps h x None (Some g) k b qs of has = absurd b
 
 -- it is not
-pub ahead-missing : (ps qs : List Procedure) (table : BTreeMap (Bor (List ℕ)) Ahead) (h : Heading) (later : PDecls) (x : Ahead) → HasBodies ps table later →
+pub ahead-missing : (ps qs : List Procedure) (table : BTreeMap Key Ahead) (h : Heading) (later : PDecls) (x : Ahead) → HasBodies ps table later →
     under table h.name.name ≡ None → IsOf qs x h → x.has_body ≡ false → IsAhead qs (tree.forward h) later x
 ahead-missing ps qs table h later x b k of has =
     missing ps h x (under table h.name.name) (body_of h.name.name later) k (b.bodies h.name.name) qs of has
@@ -89,12 +89,12 @@ dropped (x ∷ xs) zero h = absurd (omega arith)
 dropped (x ∷ xs) (suc i) h = dropped xs i (omega arith)
 
 -- A walk from the last declaration to this one.
-pub record Backwards (first now : List Procedure) (table : BTreeMap (Bor (List ℕ)) Ahead) (left : List Decl) (found : List Ahead) : Type 0 where
+pub record Backwards (first now : List Procedure) (table : BTreeMap Key Ahead) (left : List Decl) (found : List Ahead) : Type 0 where
   pub more : Extends first now
   pub ahead : AreAhead now (decls left) (reverse found)
   pub bodies : HasBodies now table (decls left)
 
-pub backwards-none : (ps : List Procedure) (table : BTreeMap (Bor (List ℕ)) Ahead) (ds : List Decl) (i : ℕ) (found : List Ahead) → length ds ≤ i → found ≡ [] →
+pub backwards-none : (ps : List Procedure) (table : BTreeMap Key Ahead) (ds : List Decl) (i : ℕ) (found : List Ahead) → length ds ≤ i → found ≡ [] →
     ((q : List ℕ) → under table q ≡ None) → Backwards ps ps table (drop i ds) found
 backwards-none ps table ds i found h e bare =
     let P : List Decl → Type 0 = λ z. Backwards ps ps table z found in
@@ -107,7 +107,7 @@ backwards-none ps table ds i found h e bare =
       bodies = record { bodies = λ q. let R : Option Ahead → Type 0 = λ z. IsBody ps z None in subst R (sym (bare q)) tt };
     }))
 
-pub backwards-item : (first now new : List Procedure) (old table : BTreeMap (Bor (List ℕ)) Ahead) (ds : List Decl) (at : ℕ) (d : Decl) (found done : List Ahead) (x : Ahead) → 0 < at →
+pub backwards-item : (first now new : List Procedure) (old table : BTreeMap Key Ahead) (ds : List Decl) (at : ℕ) (d : Decl) (found done : List Ahead) (x : Ahead) → 0 < at →
     at ≤ length ds → d ≡ get_or ds (at - 1) d → done ≡ found ++ x ∷ [] → Backwards first now old (drop at ds) found → Extends now new →
     ((later : PDecls) → HasBodies now old later → IsAhead new (decl d) later x) →
     ((later : PDecls) → HasBodies now old later → HasBodies new table (tree.decls (decl d) later)) → Backwards first new table (drop (at - 1) ds) done
@@ -137,7 +137,7 @@ pub count-all : (found done : List Ahead) (at n : ℕ) → at ≤ 0 → done ≡
 count-all found done at n none put h =
     let e : length done ≡ length found = ap (λ z. length z) put ∙ length-reverse found in omega (arith, e, none, h)
 
-pub backwards-all : (first now : List Procedure) (table : BTreeMap (Bor (List ℕ)) Ahead) (ds : List Decl) (at : ℕ) (found done : List Ahead) → at ≤ 0 →
+pub backwards-all : (first now : List Procedure) (table : BTreeMap Key Ahead) (ds : List Decl) (at : ℕ) (found done : List Ahead) → at ≤ 0 →
     done ≡ reverse found → Backwards first now table (drop at ds) found → AreAhead now (decls ds) done
 backwards-all first now table ds at found done h e b =
     let z : at ≡ 0 = omega (arith, h) in
@@ -150,11 +150,11 @@ backwards-all first now table ds at found done h e b =
 pub ahead-by : (ps : List Procedure) (d : Decl) (p : PDecl) (later : PDecls) (x : Ahead) → decl d ≡ p → IsAhead ps p later x → IsAhead ps (decl d) later x
 ahead-by ps d p later x e h = let P : PDecl → Type 0 = λ z. IsAhead ps z later x in subst P (sym e) h
 
-pub bodies-by : (ps : List Procedure) (table : BTreeMap (Bor (List ℕ)) Ahead) (d : Decl) (p : PDecl) (later : PDecls) → decl d ≡ p →
+pub bodies-by : (ps : List Procedure) (table : BTreeMap Key Ahead) (d : Decl) (p : PDecl) (later : PDecls) → decl d ≡ p →
     HasBodies ps table (tree.decls p later) → HasBodies ps table (tree.decls (decl d) later)
 bodies-by ps table d p later e h = let P : PDecl → Type 0 = λ z. HasBodies ps table (tree.decls z later) in subst P (sym e) h
 
-pub bodies-of : (ps : List Procedure) (table : BTreeMap (Bor (List ℕ)) Ahead) (p : PDecl) (later : PDecls) → HasBodies ps table later →
+pub bodies-of : (ps : List Procedure) (table : BTreeMap Key Ahead) (p : PDecl) (later : PDecls) → HasBodies ps table later →
     ((name : List ℕ) → body_of name later ≡ body_of name (tree.decls p later)) → HasBodies ps table (tree.decls p later)
 bodies-of ps table p later b h =
     record { bodies = λ q. let P : Option Heading → Type 0 = λ z. IsBody ps (under table q) z in subst P (h q) (b.bodies q) }

@@ -1,7 +1,7 @@
 -- What the walk makes of declarations.
 use Rattle.std.specs.Prelude.{◌≡◌, ℕ, ◌++◌, true, List, [], ◌∷◌, length, is_some, if◌then◌else◌, Option, Some, None}
-use Rattle.std.specs.Borrow.{Bor}
 use Rattle.std.specs.BTreeMap.{BTreeMap}
+use Rattle.algol_sorts.specs.declared.key.Key.{Key}
 use Rattle.algol_tree.specs.declared.token.Spot.{Spot}
 use Rattle.algol_tree.specs.declared.tree.Heading.{Heading}
 use Rattle.algol_tree.specs.declared.tree.Named.{Named}
@@ -101,7 +101,7 @@ IsBody ps (Some x) (Some h) = IsOf ps x h × (x.has_body ≡ true)
 IsBody ps _ _ = ⊥
 
 -- the table has the procedures with a body among these declarations
-pub record HasBodies (ps : List Procedure) (table : BTreeMap (Bor (List ℕ)) Ahead) (later : PDecls) : Type 0 where
+pub record HasBodies (ps : List Procedure) (table : BTreeMap Key Ahead) (later : PDecls) : Type 0 where
   pub bodies : (name : List ℕ) → IsBody ps (under table name) (body_of name later)
 
 -- ---- procedures

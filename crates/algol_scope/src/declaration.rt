@@ -34,7 +34,7 @@ use crate::resolver::Resolver;
 use algol_frames::{Cell, Content, note_if};
 use algol_known::{Around, Class, modes, no_names};
 use algol_rules::{names_of, procedure_tokens};
-use algol_sorts::Sort;
+use algol_sorts::{Key, Sort, found};
 use algol_tree::{Code, Decl, Heading, Kind, List, MOST_SEGMENT_TOKENS, Named, Pair, Spot, Stmt};
 use std::alloc::{AllocError, Global};
 use std::collections::BTreeMap;
@@ -50,21 +50,21 @@ pub struct Ahead {
 }
 
 /// Procedures with a body, by their names.
-type Bodies<'p> = BTreeMap<&'p [u8], Ahead>;
+type Bodies<'p> = BTreeMap<Key<'p>, Ahead>;
 
 /// One more procedure with its body.
 fn remember<'p>(bodies: &mut Bodies<'p>, name: &'p [u8], ahead: Ahead) -> Result<(), AllocError>
     ensures { OnOk result ((q : List ℕ) → under bodies.new q ≡ update bytes_eq (under bodies.old) name.now (Some ahead) q) }
 {
-    bodies.insert(name, ahead)?;
+    bodies.insert(Key::of(name), ahead)?;
     Ok(())
 }
 
 /// The procedure with its body of this name.
-fn found_body(bodies: &Bodies, name: &[u8]) -> Option<Ahead>
+fn found_body<'p>(bodies: &Bodies<'p>, name: &'p [u8]) -> Option<Ahead>
     ensures { result ≡ under bodies.now name.now }
 {
-    bodies.get(name).copied()
+    found(bodies, name).copied()
 }
 
 /// The same from the last to the first.
@@ -94,11 +94,11 @@ fn no_procedure() -> Ahead {
 
 impl Findings {
     /// Cells of the innermost block at these names.
-    fn cells_at(
+    fn cells_at<'p>(
         &mut self,
-        ns: &[Named],
+        ns: &'p [Named],
         content: Content,
-        around: &Around,
+        around: &Around<'p>,
     ) -> Result<(), AllocError>
         ensures { OnOk result ((held : cells.Content) → content_of held ≡ content → Adds self.old [] (cells_for around.now.innermost.block held ns.now) [] self.new) }
     {
@@ -113,7 +113,7 @@ impl Findings {
     }
 
     /// Names that stand there and are known.
-    fn known_all(&mut self, ns: &[Named], around: &Around) -> Result<(), AllocError>
+    fn known_all<'p>(&mut self, ns: &'p [Named], around: &Around<'p>) -> Result<(), AllocError>
         ensures { OnOk result (Knows around.now self.old self.new (λ a. known_names a ns.now)) }
     {
         'names: for n in ns {
@@ -123,7 +123,11 @@ impl Findings {
     }
 
     /// The parameters of a procedure in its heading, where what is around is its own block.
-    fn known_in_heading(&mut self, h: &Heading, around: &Around) -> Result<(), AllocError>
+    fn known_in_heading<'p>(
+        &mut self,
+        h: &'p Heading,
+        around: &Around<'p>,
+    ) -> Result<(), AllocError>
         ensures { OnOk result (Knows around.now self.old self.new (known_in_heading h.now)) }
     {
         self.known_all(h.params.items().as_slice(), around)?;
@@ -135,7 +139,7 @@ impl Findings {
     }
 
     /// The cell of the result of a typed procedure, whose block is the innermost.
-    fn result_cell(&mut self, h: &Heading, around: &Around) -> Result<(), AllocError>
+    fn result_cell<'p>(&mut self, h: &'p Heading, around: &Around<'p>) -> Result<(), AllocError>
         ensures { OnOk result (Adds self.old [] (result_in around.now.innermost.block h.now) [] self.new) }
     {
         if h.kind.is_some() {
@@ -149,7 +153,7 @@ impl Findings {
     }
 
     /// The result and the parameters of a procedure, whose block is the innermost.
-    fn enter_heading(&mut self, h: &Heading, around: &Around) -> Result<(), AllocError>
+    fn enter_heading<'p>(&mut self, h: &'p Heading, around: &Around<'p>) -> Result<(), AllocError>
         ensures { OnOk result ((a : Surroundings) → Sees around.now seens.All a → Adds self.old [] (result_in around.now.innermost.block h.now ++ cells_for around.now.innermost.block cells.parameter h.now.params) (known_in_heading h.now a) self.new) }
     {
         self.known_in_heading(h, around)?;
@@ -324,7 +328,7 @@ impl<'p> Resolver<'p> {
         &mut self,
         kind: Kind,
         ns: &'p List<Named>,
-        pairs: &List<Pair>,
+        pairs: &'p List<Pair>,
     ) -> Result<(), AllocError>
         ensures { OnOk result ((later : PDecls) → Enters self.old self.new (decl_parts (tree.arrays kind ns.now (image.pairs pairs.now)) later) no_blocks (λ blocks. knowing blocks (tree.arrays kind ns.now (image.pairs pairs.now)) later)) }
     {
@@ -369,7 +373,7 @@ impl<'p> Resolver<'p> {
     }
 
     /// Notes whether the innermost block has the name before.
-    fn note_name(&mut self, n: &Named)
+    fn note_name(&mut self, n: &'p Named)
         ensures faults { self.new.findings.faults.first ≡ noted_all self.old.findings.faults.first (broken codes.DeclaredTwice (if_so (has_name self.old.around.innermost.typed self.old.around.innermost.declared self.old.around.innermost.parameters n.now.name) n.now.spot)) }
         ensures cells { self.new.findings.cells ≡ self.old.findings.cells }
         ensures uses { self.new.findings.uses ≡ self.old.findings.uses }
@@ -385,7 +389,7 @@ impl<'p> Resolver<'p> {
     }
 
     /// Whether the innermost block has the name of this heading before, and no FORWARD of it.
-    fn is_again(&self, h: &Heading) -> bool
+    fn is_again(&self, h: &'p Heading) -> bool
         ensures { result ≡ (not (is_announced (looked_up (open_blocks self.now.around) seens.All h.now.name.name) self.now.around.innermost.block h.now.name.spot) && has_name self.now.around.innermost.typed self.now.around.innermost.declared self.now.around.innermost.parameters h.now.name.name) }
     {
         !self.around.is_announced(h) && self.around.innermost.has(h.name.name.bytes())

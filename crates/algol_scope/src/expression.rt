@@ -24,10 +24,10 @@ use std::alloc::AllocError;
 
 /// What is told of parameters with a name that stands there and means this declaration: those of a procedure, with the name of the
 /// heading that declares it.
-fn parameters_told(
+fn parameters_told<'p>(
     spot: Spot,
     entry: Entry,
-    around: &Around,
+    around: &Around<'p>,
 ) -> Result<Option<List<Sort>>, AllocError>
     ensures { IfOk result (λ told. (d : Declared) → IsEntry around.now.procedures.items entry d → told ≡ parameters_here spot d) }
 {
@@ -53,7 +53,12 @@ fn use_by(spot: Spot, entry: Entry, parameters: Option<List<Sort>>) -> Use
 
 impl Findings {
     /// A use of the name, and what the name is declared as.
-    pub fn name(&mut self, n: &Named, around: &Around, seen: Seen) -> Result<Class, AllocError>
+    pub fn name<'p>(
+        &mut self,
+        n: &'p Named,
+        around: &Around<'p>,
+        seen: Seen,
+    ) -> Result<Class, AllocError>
         ensures walks { OnOk result (Walks around.now seen self.old self.new (λ a. at_name n.now a ∷ [])) }
         ensures class { IfOk result (λ class. (a : Surroundings) → Sees around.now seen a → IsClass around.now.procedures.items class (class_of a n.now)) }
     {
@@ -74,10 +79,10 @@ impl Findings {
     }
 
     /// The names of events, one after the other.
-    fn events(
+    fn events<'p>(
         &mut self,
-        events: &List<EventName>,
-        around: &Around,
+        events: &'p List<EventName>,
+        around: &Around<'p>,
         seen: Seen,
     ) -> Result<(), AllocError>
         ensures { OnOk result (Walks around.now seen self.old self.new (at_events events.now)) }
@@ -89,7 +94,7 @@ impl Findings {
     }
 
     /// A name that stands there, and what it means where it is known.
-    pub fn known(&mut self, n: &Named, around: &Around) -> Result<(), AllocError>
+    pub fn known<'p>(&mut self, n: &'p Named, around: &Around<'p>) -> Result<(), AllocError>
         ensures { OnOk result (Knows around.now self.old self.new (λ a. known_names a (n.now ∷ []))) }
     {
         if let Some(entry) = around.find(n.name.bytes(), Seen::All) {
@@ -100,11 +105,11 @@ impl Findings {
     }
 
     /// An actual for such a parameter: where it has a cell, its code is one level deeper than where it stands.
-    fn actual(
+    fn actual<'p>(
         &mut self,
-        e: &Expr,
+        e: &'p Expr,
         mode: Option<Sort>,
-        around: &Around,
+        around: &Around<'p>,
         seen: Seen,
     ) -> Result<(), AllocError>
         ensures { OnOk result ((blocks : List Block) (a : Surroundings) (f : Option Formal) → Sees around.now seen a → mode ≡ mode_given f → Finds blocks self.old (record { part = actual (expr e.now) f; around = a } ∷ []) self.new) }
@@ -125,11 +130,11 @@ impl Findings {
     }
 
     #[cycle(expressions)]
-    fn actuals(
+    fn actuals<'p>(
         &mut self,
-        es: &List<Expr>,
+        es: &'p List<Expr>,
         modes: &[Sort],
-        around: &Around,
+        around: &Around<'p>,
         seen: Seen,
     ) -> Result<(), AllocError>
         ensures { OnOk result (Passes around.now seen self.old self.new modes.now (exprs es.now)) }
@@ -142,7 +147,12 @@ impl Findings {
     }
 
     #[cycle(expressions)]
-    pub fn call(&mut self, c: &Call, around: &Around, seen: Seen) -> Result<(), AllocError>
+    pub fn call<'p>(
+        &mut self,
+        c: &'p Call,
+        around: &Around<'p>,
+        seen: Seen,
+    ) -> Result<(), AllocError>
         ensures { OnOk result (Walks around.now seen self.old self.new (λ a. at_name c.now.name a ∷ inside_actuals (exprs c.now.actuals) (formals_at a c.now.name) a)) }
     {
         let class = self.name(&c.name, around, seen)?;
@@ -150,7 +160,12 @@ impl Findings {
     }
 
     #[cycle(expressions)]
-    pub fn variable(&mut self, v: &Variable, around: &Around, seen: Seen) -> Result<(), AllocError>
+    pub fn variable<'p>(
+        &mut self,
+        v: &'p Variable,
+        around: &Around<'p>,
+        seen: Seen,
+    ) -> Result<(), AllocError>
         ensures { OnOk result (Walks around.now seen self.old self.new (λ a. at_name v.now.name a ∷ inside_list (exprs v.now.subs) a)) }
     {
         self.name(&v.name, around, seen)?;
@@ -158,7 +173,12 @@ impl Findings {
     }
 
     #[cycle(expressions)]
-    pub fn list(&mut self, es: &List<Expr>, around: &Around, seen: Seen) -> Result<(), AllocError>
+    pub fn list<'p>(
+        &mut self,
+        es: &'p List<Expr>,
+        around: &Around<'p>,
+        seen: Seen,
+    ) -> Result<(), AllocError>
         ensures { OnOk result (Walks around.now seen self.old self.new (inside_list (exprs es.now))) }
     {
         'expressions: for e in es.items() {
@@ -170,7 +190,12 @@ impl Findings {
     /// An expression, part by part in the order of the text. The right operand of two waits while the left one is gone over in its
     /// place, so that the length of a sum needs no room on the stack.
     #[cycle(expressions)]
-    pub fn expr(&mut self, e: &Expr, around: &Around, seen: Seen) -> Result<(), AllocError>
+    pub fn expr<'p>(
+        &mut self,
+        e: &'p Expr,
+        around: &Around<'p>,
+        seen: Seen,
+    ) -> Result<(), AllocError>
         ensures { OnOk result (Walks around.now seen self.old self.new (sites (expr e.now))) }
     {
         let mut waiting = Vec::new(*self.cells.allocator());
@@ -225,7 +250,7 @@ impl Findings {
     }
 
     /// The name of a task, where there is one.
-    fn task(&mut self, task: &Option<Named>, around: &Around) -> Result<(), AllocError>
+    fn task<'p>(&mut self, task: &'p Option<Named>, around: &Around<'p>) -> Result<(), AllocError>
         ensures { OnOk result (Walks around.now seens.All self.old self.new (task_parts task.now)) }
     {
         match task {
@@ -238,11 +263,11 @@ impl Findings {
     }
 
     /// PROCESS: the procedure's name, the task's, and the actuals.
-    pub fn process(
+    pub fn process<'p>(
         &mut self,
-        c: &Call,
-        task: &Option<Named>,
-        around: &Around,
+        c: &'p Call,
+        task: &'p Option<Named>,
+        around: &Around<'p>,
     ) -> Result<(), AllocError>
         ensures { OnOk result (Walks around.now seens.All self.old self.new (process_parts c.now.name task.now (exprs c.now.actuals))) }
     {
@@ -252,7 +277,7 @@ impl Findings {
     }
 
     /// A bound sees what is known before the declarations of its block.
-    pub fn bounds(&mut self, ps: &List<Pair>, around: &Around) -> Result<(), AllocError>
+    pub fn bounds<'p>(&mut self, ps: &'p List<Pair>, around: &Around<'p>) -> Result<(), AllocError>
         ensures { OnOk result (Walks around.now seens.BeforeDeclarations self.old self.new (sites_in_pairs (pairs ps.now))) }
     {
         'pairs: for pair in ps.items() {

@@ -33,7 +33,7 @@ pub fn is_named(h: &Heading) -> bool
 }
 
 /// Notes which of the names are no parameters.
-fn note_unknown(params: &Said, ns: &[Named], faults: &mut Faults)
+fn note_unknown<'p>(params: &Said<'p>, ns: &'p [Named], faults: &mut Faults)
     ensures { (h : Heading) → ((q : List ℕ) → said (under params.now q) false ≡ is_named_in h.params q) → faults.new.first ≡ noted_all faults.old.first (broken codes.UnknownName (places_if (is_no_parameter h) ns.now)) }
 {
     'names: for n in ns {
@@ -47,7 +47,7 @@ fn note_unknown(params: &Said, ns: &[Named], faults: &mut Faults)
 }
 
 /// Notes the names of specifications that are no parameters.
-fn note_unspecified(params: &Said, h: &Heading, faults: &mut Faults)
+fn note_unspecified<'p>(params: &Said<'p>, h: &'p Heading, faults: &mut Faults)
     requires { (q : List ℕ) → said (under params.now q) false ≡ is_named_in h.now.params q }
     ensures { faults.new.first ≡ noted_all faults.old.first (broken codes.UnknownName (places_if (is_no_parameter h.now) (specified h.now))) }
 {
@@ -68,7 +68,7 @@ pub fn unknown_in_heading(alloc: Global, h: &Heading, faults: &mut Faults) -> Re
 
 /// Notes which of the names the block has, or that stand before, here or in the table, into which all come.
 pub fn note_repeated<'p>(
-    names: &Names,
+    names: &Names<'p>,
     before: &mut Said<'p>,
     ns: &'p [Named],
     faults: &mut Faults,
@@ -78,22 +78,22 @@ pub fn note_repeated<'p>(
 {
     'names: for n in ns {
         let name = n.name.bytes();
+        let is_said = say(before, name, true)?;
         note_if(
-            is_before(names, before, name),
+            is_before(names, name, is_said),
             n.spot,
             Code::DeclaredTwice,
             faults,
         );
-        say(before, name, true)?;
     }
     Ok(())
 }
 
-/// Whether the block has the name, or the table.
-fn is_before(names: &Names, before: &Said, name: &[u8]) -> bool
-    ensures { result ≡ (has_name names.now.typed names.now.declared names.now.parameters name.now || is_some (under before.now name.now)) }
+/// Whether the block has the name, or the name is said before.
+fn is_before<'p>(names: &Names<'p>, name: &'p [u8], is_said: bool) -> bool
+    ensures { result ≡ (has_name names.now.typed names.now.declared names.now.parameters name.now || is_said) }
 {
-    names.has(name) || before.contains_key(name)
+    is_said || names.has(name)
 }
 
 /// Notes the parameters that stand twice, or have the name of their typed procedure.

@@ -77,32 +77,32 @@ impl<'p> Resolver<'p> {
     // ---- statements with no statement in them, and their parts
 
     /// A use of the name.
-    pub fn name(&mut self, n: &Named) -> Result<(), AllocError>
+    pub fn name(&mut self, n: &'p Named) -> Result<(), AllocError>
         ensures { OnOk result (Visits self.old self.new (λ blocks a. at_name n.now a ∷ []) no_blocks) }
     {
         self.findings.name(n, &self.around, Seen::All)?;
         Ok(())
     }
 
-    pub fn expr(&mut self, e: &Expr) -> Result<(), AllocError>
+    pub fn expr(&mut self, e: &'p Expr) -> Result<(), AllocError>
         ensures { OnOk result (Visits self.old self.new (λ blocks. sites (expr e.now)) no_blocks) }
     {
         self.findings.expr(e, &self.around, Seen::All)
     }
 
-    fn list(&mut self, es: &List<Expr>) -> Result<(), AllocError>
+    fn list(&mut self, es: &'p List<Expr>) -> Result<(), AllocError>
         ensures { OnOk result (Visits self.old self.new (λ blocks. inside_list (exprs es.now)) no_blocks) }
     {
         self.findings.list(es, &self.around, Seen::All)
     }
 
-    pub fn call(&mut self, c: &Call) -> Result<(), AllocError>
+    pub fn call(&mut self, c: &'p Call) -> Result<(), AllocError>
         ensures { OnOk result (Visits self.old self.new (λ blocks a. at_name c.now.name a ∷ inside_actuals (exprs c.now.actuals) (formals_at a c.now.name) a) no_blocks) }
     {
         self.findings.call(c, &self.around, Seen::All)
     }
 
-    pub fn assign(&mut self, v: &Variable, e: &Expr) -> Result<(), AllocError>
+    pub fn assign(&mut self, v: &'p Variable, e: &'p Expr) -> Result<(), AllocError>
         ensures { OnOk result ((listed : Bool) → Visits self.old self.new (stmt_parts (tree.assign (variable v.now) (expr e.now)) listed) no_blocks) }
     {
         self.name(&v.name)?;
@@ -111,13 +111,13 @@ impl<'p> Resolver<'p> {
     }
 
     /// PROCESS.
-    pub fn process(&mut self, c: &Call, task: &Option<Named>) -> Result<(), AllocError>
+    pub fn process(&mut self, c: &'p Call, task: &'p Option<Named>) -> Result<(), AllocError>
         ensures { OnOk result ((listed : Bool) → Visits self.old self.new (stmt_parts (tree.process (call c.now) task.now) listed) no_blocks) }
     {
         self.findings.process(c, task, &self.around)
     }
 
-    pub fn write(&mut self, file: &Named, items: &List<Expr>) -> Result<(), AllocError>
+    pub fn write(&mut self, file: &'p Named, items: &'p List<Expr>) -> Result<(), AllocError>
         ensures { OnOk result ((spot : Spot) (phrases : List PhraseText) (listed : Bool) → Visits self.old self.new (stmt_parts (tree.write file.now spot phrases (exprs items.now)) listed) no_blocks) }
     {
         self.name(file)?;
@@ -127,10 +127,10 @@ impl<'p> Resolver<'p> {
     /// The control variable of FOR, its first value, the step and the limit.
     pub fn counting(
         &mut self,
-        v: &Named,
-        first: &Expr,
-        step: &Expr,
-        last: &Expr,
+        v: &'p Named,
+        first: &'p Expr,
+        step: &'p Expr,
+        last: &'p Expr,
     ) -> Result<(), AllocError>
         ensures { OnOk result ((s : PStmt) (listed : Bool) → Visits self.old self.new (λ blocks a. here_stmt (tree.for v.now (expr first.now) (expr step.now) (expr last.now) s) listed a ∷ (sites (expr first.now) a ++ sites (expr step.now) a ++ sites (expr last.now) a)) no_blocks) }
     {

@@ -16,9 +16,9 @@ ghost use Rattle.algol_sites.specs.Wanting.{is_met};
 ghost use Rattle.algol_sites.specs.Expressing as rules;
 ghost use Rattle.algol_sites.specs.Expressing.{is_alone, miscounted_actuals, miscounted_subscripts, misplaced, misplaced_if, noted_actual, noted_call, noted_element, noted_here, noted_name, reference_of};
 
-use crate::told::{parameters_at, sort_at};
+use crate::told::{parameters_as, parameters_at, sort_at};
 use crate::types::{taken_by, type_of, want, want_if, want_numbers};
-use crate::wanted::{Wanted, note_if, want_event, want_events, want_name};
+use crate::wanted::{Wanted, is_unfit, note_if, want_event, want_events, want_name};
 use algol_frames::Scopes;
 use algol_rules::{Faults, boxed_expr, exprs_in, first_spot};
 use algol_sorts::Sort;
@@ -88,10 +88,16 @@ fn takes_some(sort: Sort, parameters: usize) -> bool
 fn read_name(scopes: &Scopes, name: &Named, faults: &mut Faults)
     ensures { (a : Surroundings) → Tells scopes.now a name.now → faults.new.first ≡ noted_name faults.old.first name.now a }
 {
-    want_name(scopes, name, Wanted::Read, Code::WrongType, faults);
-    let parameters = parameters_at(scopes, name).len();
+    let sort = sort_at(scopes, name);
     note_if(
-        takes_some(sort_at(scopes, name), parameters),
+        is_unfit(Wanted::Read, sort),
+        name.spot,
+        Code::WrongType,
+        faults,
+    );
+    let parameters = parameters_as(scopes, sort, name).len();
+    note_if(
+        takes_some(sort, parameters),
         name.spot,
         Code::WrongCount,
         faults,

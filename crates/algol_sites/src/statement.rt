@@ -23,7 +23,7 @@ use crate::expression::{
 };
 use crate::line::check_line;
 use crate::place::Place;
-use crate::told::{sort_at, spot_at};
+use crate::told::{sort_at, told_at};
 use crate::types::{element_type, read_type, want, want_if, want_numbers};
 use crate::wanted::{Wanted, note_if, want_event, want_name};
 use algol_frames::Scopes;
@@ -42,8 +42,8 @@ fn kind_if(answer: bool, kind: Option<Kind>) -> Option<Kind>
 fn name_side(scopes: &Scopes, place: &Place, name: &Named, value: &Expr, faults: &mut Faults)
     ensures { (a : Surroundings) → Tells scopes.now a name.now → TellsIn scopes.now a (expr value.now) → faults.new.first ≡ noted_name_side faults.old.first (can_take place.now.block place.now.around.items (rules.class_of a name.now)) name.now (expr value.now) a }
 {
-    let sort = sort_at(scopes, name);
-    let is_taken = place.is_assignable(sort, spot_at(scopes, name));
+    let (sort, declared) = told_at(scopes, name);
+    let is_taken = place.is_assignable(sort, declared);
     want_if(scopes, kind_if(is_taken, read_type(sort)), value, faults);
     note_if(!is_taken, name.spot, Code::NotAssignable, faults);
 }

@@ -1,7 +1,8 @@
 //! What the scopes tell of a name where it stands.
 
 ghost use Rattle.std.specs.Prelude.{◌≡◌, option_copied};
-ghost use Rattle.algol_sites.specs.Seen.{parameters_there, sort_there, sorts_or, spot_there};
+ghost use Rattle.algol_frames.specs.Answers.{parameters_of};
+ghost use Rattle.algol_sites.specs.Seen.{of_procedure, parameters_there, sort_there, sorts_or, spot_there};
 
 use algol_frames::Scopes;
 use algol_sorts::Sort;
@@ -18,12 +19,22 @@ pub fn sort_at(scopes: &Scopes, name: &Named) -> Sort
 }
 
 /// Where it is declared, a procedure by its heading with the body.
-pub fn spot_at(scopes: &Scopes, name: &Named) -> Spot
+fn spot_at(scopes: &Scopes, name: &Named) -> Spot
     ensures { result ≡ spot_there scopes.now name.now.spot }
 {
     match scopes.declaration(name.spot) {
         None => name.spot,
         Some(declared) => declared.spot,
+    }
+}
+
+/// What the name is declared as, and where.
+pub fn told_at(scopes: &Scopes, name: &Named) -> (Sort, Spot)
+    ensures { result ≡ (sort_there scopes.now name.now.spot, spot_there scopes.now name.now.spot) }
+{
+    match scopes.declaration(name.spot) {
+        None => (Sort::Unspecified, name.spot),
+        Some(declared) => (declared.sort, declared.spot),
     }
 }
 
@@ -41,7 +52,14 @@ fn sorts_of(sorts: Option<&List<Sort>>) -> &[Sort]
 pub fn parameters_at<'s>(scopes: &'s Scopes, name: &Named) -> &'s [Sort]
     ensures { result.now ≡ parameters_there scopes.now name.now.spot }
 {
-    match sort_at(scopes, name) {
+    parameters_as(scopes, sort_at(scopes, name), name)
+}
+
+/// The same of the name that is declared as this.
+pub fn parameters_as<'s>(scopes: &'s Scopes, sort: Sort, name: &Named) -> &'s [Sort]
+    ensures { result.now ≡ of_procedure sort (sorts_or (parameters_of scopes.now (spot_there scopes.now name.now.spot))) }
+{
+    match sort {
         Sort::Procedure(_) => sorts_of(scopes.parameters(spot_at(scopes, name))),
         _ => &[],
     }

@@ -84,7 +84,7 @@ pub fn note_if(is_broken: bool, spot: Spot, code: Code, faults: &mut Faults)
 }
 
 /// Whether something is declared, and not what is wanted.
-fn is_unfit(wanted: Wanted, sort: Sort) -> bool
+pub fn is_unfit(wanted: Wanted, sort: Sort) -> bool
     ensures { result ≡ (not (is_met wanted (class_seen sort)) && not (is_unspecified (class_seen sort))) }
 {
     !wanted.is_met_by(sort) && !matches!(sort, Sort::Unspecified)

@@ -2,11 +2,8 @@
 use Rattle.std.proofs.Common.{◌≡◌, ℕ, ◌+◌, ◌<◌, Bool, true, false, List, [], ◌∷◌, length, drop, get_or, is_some, Option, Some, refl, ap, sym, ◌∙◌, arith, drop-cons, suc}
 use Rattle.std.specs.Prelude.{◌==◌, ◌&&◌, if◌then◌else◌, cond}
 use Rattle.std.specs.Borrow.{Bor}
-use Rattle.std.specs.Ordering.{nat_cmp}
-use Rattle.std.specs.Cmp.Lexicographic.{slice_cmp}
 use Rattle.std.specs.Str.{bytes_eq}
 use Rattle.std.specs.BTreeMap as tree
-use Rattle.std.proofs.lemmas.Map.Text.{btree_map_updates_str}
 use Rattle.algol_tree.specs.declared.tree.Heading.{Heading}
 use Rattle.algol_tree.specs.declared.tree.Named.{Named}
 use Rattle.algol_tree.specs.declared.tree.Spec.{Spec}
@@ -17,8 +14,10 @@ use Rattle.algol_tree.specs.Sorts.{class_by, class_in, is_named_in, same_name, s
 use Rattle.algol_sorts.specs.declared.sort.Sort.{Sort}
 use Rattle.algol_sorts.specs.declared.heading.Specified.{Specified}
 use Rattle.algol_sorts.specs.Sorts.{parameter_by}
-use Rattle.algol_sorts.specs.Tables.{Table, under}
+use Rattle.algol_sorts.specs.declared.key.Key.{Key}
+use Rattle.algol_sorts.specs.Tables.{Table, end_of, under}
 use Rattle.algol_sorts.specs.Specified.{AreNamed, SaysAll, Specifies, or_unspecified, sort_in, sort_under, specified_as, valued}
+use Rattle.algol_sorts.proofs.Keys.{key_cmp, updates_key}
 
 straight : (xs ys : List ℕ) → bytes_eq xs ys ≡ same_name xs ys
 straight [] [] = refl
@@ -27,22 +26,22 @@ straight (x ∷ xs) [] = refl
 straight (x ∷ xs) (y ∷ ys) = ap (λ b. (x == y) && b) (straight xs ys)
 
 -- a table after one more name
-put : (name : Bor (List ℕ)) (old new : Table) (s : Sort) →
-    tree.UpdatesBy (λ x y. slice_cmp nat_cmp x.now y.now) (λ k. slice_cmp nat_cmp name.now k.now) old new (Some s) → (q : List ℕ) →
+put : (name : Bor (List ℕ)) (key : Key) (old new : Table) (s : Sort) → key ≡ record { end = end_of name.now; bytes = name } →
+    tree.UpdatesBy key_cmp (key_cmp key) old new (Some s) → (q : List ℕ) →
     sort_under new q ≡ (if same_name name.now q then s else sort_under old q)
-put name old new s u q =
-    ap or_unspecified (btree_map_updates_str name.now old new (Some s) u q) ∙ chosen (bytes_eq name.now q) s (under old q)
+put name key old new s k u q =
+    ap or_unspecified (updates_key name key old new (Some s) k u q) ∙ chosen (bytes_eq name.now q) s (under old q)
     ∙ ap (λ b. if b then s else sort_under old q) (straight name.now q)
   where
     chosen : (b : Bool) (s : Sort) (o : Option Sort) → or_unspecified (cond b (Some s) o) ≡ (if b then s else or_unspecified o)
     chosen true s o = refl
     chosen false s o = refl
 
-put-name : (name : Bor (List ℕ)) (old new : Table) (s : Sort) →
-    tree.UpdatesBy (λ x y. slice_cmp nat_cmp x.now y.now) (λ k. slice_cmp nat_cmp name.now k.now) old new (Some s) → (q : List ℕ) →
+put-name : (name : Bor (List ℕ)) (key : Key) (old new : Table) (s : Sort) → key ≡ record { end = end_of name.now; bytes = name } →
+    tree.UpdatesBy key_cmp (key_cmp key) old new (Some s) → (q : List ℕ) →
     is_some (under new q) ≡ (if same_name name.now q then true else is_some (under old q))
-put-name name old new s u q =
-    ap (λ o. is_some o) (btree_map_updates_str name.now old new (Some s) u q) ∙ chosen (bytes_eq name.now q) s (under old q)
+put-name name key old new s k u q =
+    ap (λ o. is_some o) (updates_key name key old new (Some s) k u q) ∙ chosen (bytes_eq name.now q) s (under old q)
     ∙ ap (λ b. if b then true else is_some (under old q)) (straight name.now q)
   where
     chosen : (b : Bool) (s : Sort) (o : Option Sort) → is_some (cond b (Some s) o) ≡ (if b then true else is_some o)
@@ -62,22 +61,22 @@ split xs i x h e =
     let next : suc i ≡ i + 1 = omega arith in
     drop-cons xs i x h ∙ ap (λ y. y ∷ drop (suc i) xs) (sym e) ∙ ap (λ n. x ∷ drop n xs) next
 
-pub name-step : (ns : List Named) (i : ℕ) (n : Named) (name : Bor (List ℕ)) (old new : Table) (s t : Sort) → i < length ns → n ≡ get_or ns i n →
-    name.now ≡ n.name → s ≡ t →
-    tree.UpdatesBy (λ x y. slice_cmp nat_cmp x.now y.now) (λ k. slice_cmp nat_cmp name.now k.now) old new (Some s) → (q : List ℕ) →
+pub name-step : (ns : List Named) (i : ℕ) (n : Named) (name : Bor (List ℕ)) (key : Key) (old new : Table) (s t : Sort) → i < length ns → n ≡ get_or ns i n →
+    name.now ≡ n.name → s ≡ t → key ≡ record { end = end_of name.now; bytes = name } →
+    tree.UpdatesBy key_cmp (key_cmp key) old new (Some s) → (q : List ℕ) →
     (if is_named_in (drop (i + 1) ns) q then t else sort_under new q) ≡ (if is_named_in (drop i ns) q then t else sort_under old q)
-name-step ns i n name old new s t h e p same u q =
-    ap (λ x. if is_named_in (drop (i + 1) ns) q then t else x) (put name old new s u q ∙ ap (λ x. if same_name name.now q then x else sort_under old q) same)
+name-step ns i n name key old new s t h e p same k u q =
+    ap (λ x. if is_named_in (drop (i + 1) ns) q then t else x) (put name key old new s k u q ∙ ap (λ x. if same_name name.now q then x else sort_under old q) same)
     ∙ joined (same_name name.now q) (is_named_in (drop (i + 1) ns) q) t (sort_under old q)
     ∙ ap (λ (w : List ℕ). if (if same_name w q then true else is_named_in (drop (i + 1) ns) q) then t else sort_under old q) p
     ∙ sym (ap (λ xs. if is_named_in xs q then t else sort_under old q) (split ns i n h e))
 
-pub value-step : (ns : List Named) (i : ℕ) (n : Named) (name : Bor (List ℕ)) (old new : Table) (s : Sort) → i < length ns → n ≡ get_or ns i n →
-    name.now ≡ n.name →
-    tree.UpdatesBy (λ x y. slice_cmp nat_cmp x.now y.now) (λ k. slice_cmp nat_cmp name.now k.now) old new (Some s) → (q : List ℕ) →
+pub value-step : (ns : List Named) (i : ℕ) (n : Named) (name : Bor (List ℕ)) (key : Key) (old new : Table) (s : Sort) → i < length ns → n ≡ get_or ns i n →
+    name.now ≡ n.name → key ≡ record { end = end_of name.now; bytes = name } →
+    tree.UpdatesBy key_cmp (key_cmp key) old new (Some s) → (q : List ℕ) →
     (if is_named_in (drop (i + 1) ns) q then true else is_some (under new q)) ≡ (if is_named_in (drop i ns) q then true else is_some (under old q))
-value-step ns i n name old new s h e p u q =
-    ap (λ x. if is_named_in (drop (i + 1) ns) q then true else x) (put-name name old new s u q)
+value-step ns i n name key old new s h e p k u q =
+    ap (λ x. if is_named_in (drop (i + 1) ns) q then true else x) (put-name name key old new s k u q)
     ∙ joined (same_name name.now q) (is_named_in (drop (i + 1) ns) q) true (is_some (under old q))
     ∙ ap (λ (w : List ℕ). if (if same_name w q then true else is_named_in (drop (i + 1) ns) q) then true else is_some (under old q)) p
     ∙ sym (ap (λ xs. if is_named_in xs q then true else is_some (under old q)) (split ns i n h e))

@@ -4,6 +4,7 @@ ghost use Rattle.std.specs.Prelude.{◌≡◌, ℕ, List, OnOk, IfOk, if◌then�
 ghost use Rattle.algol_tree.specs.Sorts.{specified_by};
 ghost use Rattle.algol_sorts.specs.Specified.{AreNamed, SaysAll, Specifies, sort_under, specified_as, told};
 
+use crate::key::{Key, found};
 use crate::sort::Sort;
 use algol_rules::names_of;
 use algol_tree::{Heading, Named, Spec};
@@ -11,7 +12,7 @@ use std::alloc::{AllocError, Global};
 use std::collections::BTreeMap;
 
 /// Sorts by names.
-type Sorts<'p> = BTreeMap<&'p [u8], Sort>;
+type Sorts<'p> = BTreeMap<Key<'p>, Sort>;
 
 /// What the parameters of a heading are declared as, by their names: what the specifications say, and which names are in VALUE.
 #[derive(Drop)]
@@ -36,7 +37,7 @@ fn specify<'p>(table: &mut Sorts<'p>, spec: &'p Spec) -> Result<(), AllocError>
     ensures { OnOk result ((name : List ℕ) → sort_under table.new name ≡ (if specified_by spec.now name then specified_as spec.now else sort_under table.old name)) }
 {
     'names: for named in names_of(spec) {
-        table.insert(named.name.bytes(), specified_as(spec))?;
+        table.insert(Key::of(named.name.bytes()), specified_as(spec))?;
     }
     Ok(())
 }
@@ -58,7 +59,7 @@ fn names_in<'p>(alloc: Global, names: &'p [Named]) -> Result<Sorts<'p>, AllocErr
 {
     let mut table: Sorts<'p> = BTreeMap::new(alloc);
     'names: for named in names {
-        table.insert(named.name.bytes(), Sort::Unspecified)?;
+        table.insert(Key::of(named.name.bytes()), Sort::Unspecified)?;
     }
     Ok(table)
 }
@@ -74,21 +75,21 @@ impl<'p> Specified<'p> {
     }
 
     /// What the specifications say of the name.
-    fn said(&self, name: &[u8]) -> Sort
+    fn said(&self, name: &'p [u8]) -> Sort
         ensures { result ≡ sort_under self.now.sorts name.now }
     {
-        match self.sorts.get(name) {
+        match found(&self.sorts, name) {
             None => Sort::Unspecified,
             Some(sort) => *sort,
         }
     }
 
     /// What the parameter of that name is declared as.
-    pub fn sort(&self, name: &[u8]) -> Sort
+    pub fn sort(&self, name: &'p [u8]) -> Sort
         ensures { result ≡ told self.now name.now }
     {
         let said = self.said(name);
-        if self.values.contains_key(name) {
+        if found(&self.values, name).is_some() {
             said.by_value()
         } else {
             said

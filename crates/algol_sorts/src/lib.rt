@@ -2,7 +2,9 @@
 #![tactic(auto)]
 
 mod heading;
+mod key;
 mod sort;
 
 pub use heading::Specified;
+pub use key::{Key, found};
 pub use sort::Sort;

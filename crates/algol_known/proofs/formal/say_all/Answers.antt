@@ -10,4 +10,4 @@ pub names-preserved : goal.names-preserved
 names-preserved c =
     λ q. say-step (under c.names.table q) (kept (under c.args.table.now q) (is_named_in c.args.names.now q) c.args.value)
     (under c.say.new.table q) c.args.names.now c.names.n-index c.n-item.result q c.args.value c.names-test.true c.n-item.is (c.names.invariant q)
-    (c.in_ok-say.ensures q ∙ ap (λ z. kept (under c.names.table q) (bytes_eq z q) c.args.value) c.bytes.ensures)
+    (c.in_ok-say.ensures.said q ∙ ap (λ z. kept (under c.names.table q) (bytes_eq z q) c.args.value) c.bytes.ensures)

@@ -1,4 +1,5 @@
 use Rattle.std.proofs.Common.{◌∙◌, ap, drop, refl, true}
+use Rattle.std.specs.Prelude.{◌||◌}
 use Rattle.std.specs.Str.{bytes_eq}
 use Rattle.std.proofs.lemmas.List.{drop_all}
 use Rattle.algol_tree.specs.Sorts.{is_named_in}
@@ -25,13 +26,16 @@ names-preserved c =
           λ seen known.
           repeats-item (has_name c.args.names.now.typed c.args.names.now.declared c.args.names.now.parameters) (under c.names.before)
           (under c.say.new.table) c.names.faults.first c.note_if.new.faults.first _ c.args.ns.now c.names.n-index c.n-item.result c.bytes-name.result.now
-          c.is_before.result c.names-test.true c.n-item.is c.bytes-name.ensures c.is_before.ensures c.note_if.ensures c.in_ok-say.ensures
+          c.is_before.result c.names-test.true c.n-item.is c.bytes-name.ensures
+          (c.is_before.ensures
+          ∙ ap (λ b. has_name c.args.names.now.typed c.args.names.now.declared c.args.names.now.parameters c.bytes-name.result.now || b) c.in_ok-is_said.ensures.before)
+          c.note_if.ensures c.in_ok-is_said.ensures.said
           (c.names.invariant.noted seen known);
       before =
           λ q.
           say-step (under c.names.before q) (kept (under c.args.before.now q) (is_named_in c.args.ns.now q) true) (under c.say.new.table q) c.args.ns.now
           c.names.n-index c.n-item.result q true c.names-test.true c.n-item.is (c.names.invariant.before q)
-          (c.in_ok-say.ensures q ∙ ap (λ z. kept (under c.names.before q) (bytes_eq z q) true) c.bytes-name.ensures);
+          (c.in_ok-is_said.ensures.said q ∙ ap (λ z. kept (under c.names.before q) (bytes_eq z q) true) c.bytes-name.ensures);
     }
 
 pub returns-clause-noted : goal.returns-clause-noted

@@ -6,8 +6,8 @@ use Rattle.algol_sorts.proofs.heading.names_in.Goals as goal
 
 pub names-preserved : goal.names-preserved
 names-preserved c = λ q.
-    value-step c.args.names.now c.names.named-index c.named-item.result c.bytes.result c.names.table c.insert.new.self sort.Unspecified
-    c.names-test.true c.named-item.is c.bytes.ensures c.in_ok-insert.ensures.updates q
+    value-step c.args.names.now c.names.named-index c.named-item.result c.bytes.result c.of.result c.names.table c.insert.new.self sort.Unspecified
+    c.names-test.true c.named-item.is c.bytes.ensures c.of.ensures c.in_ok-insert.ensures.updates q
     ∙ c.names.invariant q
 
 pub returns : goal.returns
