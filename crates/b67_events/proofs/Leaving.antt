@@ -1,22 +1,21 @@
 -- Who is released leaves all events.
-use Rattle.std.proofs.Common.{◌≡◌, ℕ, Bool, true, false, cond, not, ◌&&◌, ◌||◌, eqb, List, [], ◌∷◌, map, refl, sym, ap, ◌∙◌, inl, inr}
+use Rattle.std.proofs.Common.{◌≡◌, ℕ, Bool, true, false, cond, not, ◌&&◌, ◌||◌, eqb, List, [], ◌∷◌, map, refl, sym, ap, ◌∙◌, subst, inl, inr}
 use Rattle.std.specs.Prelude.{filter}
 use Rattle.std.proofs.lemmas.Bool.{cases_Bool, cond-true, cond-false, and_parts, and_from, and_left, both_ways, false_from_ne_true, not_from_true, not_from_false, eqb-true, eq-eqb, or_left, or_right}
 use Rattle.b67_word.specs.declared.Place.{Place}
 use Rattle.b67_deeds.specs.Events.{left_by}
-use Rattle.b67_events.specs.Events.{same_place, is_one_of, with_state, changed, withdrawn}
-use Rattle.b67_events.specs.Kept.{same_queue, stands_in, listed, Entry, shown, events_of, set_flags, with_happened, nobody_marked, marked, is_leaving, without_waiters}
+use Rattle.b67_events.specs.Events.{same_place, is_one_of, is_among, list_of, with_state, changed, withdrawn}
+use Rattle.b67_events.specs.Kept.{same_queue, stands_in, listed, Entry, shown, events_of, set_flags, with_happened, without_waiters, without_first, is_same, is_left, is_named, StandOnce}
 use Rattle.b67_events.specs.declared.Queue.{Queue}
 use Rattle.b67_events.specs.declared.Queue.TheVariants.{Waiters, Procurers}
 use Rattle.b67_events.specs.declared.Waiting.{Waiting}
 use Rattle.b67_events.proofs.Listed.{filter-kept}
-use Rattle.b67_events.proofs.Numbers.{AreFrom}
-use Rattle.b67_events.proofs.Marks.{marked-is}
 use Rattle.b67_events.proofs.Shown.{made-same, events-caused}
+use Rattle.b67_events.proofs.Stood.{first-is_filter, once-filter}
 
 module _ {X : Type 0} where
   -- a filter after another one is one by both tests
-  filter-twice : (a b c : X → Bool) → ((x : X) → c x ≡ (b x && a x)) → (xs : List X) → filter a (filter b xs) ≡ filter c xs
+  pub filter-twice : (a b c : X → Bool) → ((x : X) → c x ≡ (b x && a x)) → (xs : List X) → filter a (filter b xs) ≡ filter c xs
   filter-twice a b c both [] = refl
   filter-twice a b c both (x ∷ xs) = elim (cases_Bool (b x)) [
     | inl e ↦
@@ -33,7 +32,7 @@ module _ {X : Type 0} where
   filter-alike a b same [] = refl
   filter-alike a b same (x ∷ xs) = ap (λ t. cond t (x ∷ filter a xs) (filter a xs)) (same x) ∙ ap (λ ys. cond (b x) (x ∷ ys) ys) (filter-alike a b same xs)
 
-  filter-every : (a : X → Bool) → ((x : X) → a x ≡ true) → (xs : List X) → filter a xs ≡ xs
+  pub filter-every : (a : X → Bool) → ((x : X) → a x ≡ true) → (xs : List X) → filter a xs ≡ xs
   filter-every a all [] = refl
   filter-every a all (x ∷ xs) = cond-true (a x) (x ∷ filter a xs) (filter a xs) (all x) ∙ ap (λ ys. x ∷ ys) (filter-every a all xs)
 
@@ -128,39 +127,71 @@ events-withdrawn (p ∷ ps) ws fs =
     ∙ events-withdrawn ps (filter (stays_as p) ws) fs
     ∙ ap (events_of fs) (filter-twice (stays ps) (stays_as p) (stays (p ∷ ps)) (λ w. both_stay (same_queue Waiters w.queue) (eqb w.process p) (is_one_of ps w.process)) ws)
 
--- who waits for the event at a place goes in any case, where all who do are among these
-all_go : (at : Place) (ps : List ℕ) (ws : List Waiting) → ((q : ℕ) → is_one_of (listed Waiters at ws) q ≡ true → is_one_of ps q ≡ true)
-    → filter (stays ps) (filter (λ w. not (stands_in Waiters at w)) ws) ≡ filter (stays ps) ws
-all_go at ps [] all = refl
-all_go at ps (w ∷ ws) all =
-    let t = stands_in Waiters at w in
-    let others = filter (λ (v : Waiting). not (stands_in Waiters at v)) ws in
-    let there = filter (stands_in Waiters at) ws in
-    let numbers : List Waiting → List ℕ = map (λ v. v.process) in
-    elim (cases_Bool t) [
-      | inl e ↦
-          let waits : same_queue Waiters w.queue ≡ true = (and_parts (same_place at w.place) (same_queue Waiters w.queue) e).1 in
-          let is : listed Waiters at (w ∷ ws) ≡ w.process ∷ listed Waiters at ws = ap numbers (cond-true t (w ∷ there) there e) in
-          let among : is_one_of ps w.process ≡ true = all w.process (ap (λ qs. is_one_of qs w.process) is ∙ or_left (eqb w.process w.process) (is_one_of (listed Waiters at ws) w.process) (eq-eqb w.process w.process refl)) in
-          ap (filter (stays ps)) (cond-false (not t) (w ∷ others) others (not_from_true t e))
-          ∙ all_go at ps ws (λ q k. all q (ap (λ qs. is_one_of qs q) is ∙ or_right (eqb q w.process) (is_one_of (listed Waiters at ws) q) k))
-          ∙ sym (cond-false (stays ps w) (w ∷ filter (stays ps) ws) (filter (stays ps) ws) (not_from_true (leaves ps w) (and_from (same_queue Waiters w.queue) (is_one_of ps w.process) waits among)))
-      | inr e ↦
-          ap (filter (stays ps)) (cond-true (not t) (w ∷ others) others (not_from_false t e))
-          ∙ ap (λ ys. cond (stays ps w) (w ∷ ys) ys)
-          (all_go at ps ws (λ q k. all q (ap (λ vs. is_one_of (numbers vs) q) (cond-false t (w ∷ there) there e) ∙ k)))
-    ]
-
--- An event has happened, or has not; and those who waited for it are marked, and leave all events.
-pub events-released : (at : Place) (b : Bool) (n : ℕ) (fs : List Entry) (ws : List Waiting) → AreFrom n (listed Waiters at ws)
-    → events_of (set_flags at (with_happened b) fs) (filter (λ w. not (is_leaving (marked true (listed Waiters at ws) (nobody_marked n)) w)) ws)
+-- An event has happened, or has not; and those who waited for it leave all events.
+pub events-released : (at : Place) (b : Bool) (fs : List Entry) (ws : List Waiting)
+    → events_of (set_flags at (with_happened b) fs) (filter (stays (listed Waiters at ws)) (filter (λ w. not (stands_in Waiters at w)) ws))
     ≡ withdrawn (listed Waiters at ws) (changed at (with_state (without_waiters b)) (events_of fs ws))
-events-released at b n fs ws known =
+events-released at b fs ws =
     let ps = listed Waiters at ws in
-    let gs = set_flags at (with_happened b) fs in
-    ap (events_of gs)
-    (filter-alike (λ w. not (is_leaving (marked true ps (nobody_marked n)) w)) (stays ps)
-    (λ w. ap (λ m. not (same_queue Waiters w.queue && m)) (marked-is n ps w.process known)) ws
-    ∙ sym (all_go at ps ws (λ q k. k)))
-    ∙ sym (events-withdrawn ps (filter (λ w. not (stands_in Waiters at w)) ws) gs)
+    sym (events-withdrawn ps (filter (λ w. not (stands_in Waiters at w)) ws) (set_flags at (with_happened b) fs))
     ∙ ap (withdrawn ps) (events-caused at b fs ws)
+
+-- ---- by their lists
+
+-- one goes as this process that waits for this event, or for one of the others
+left_both : (q e s m : Bool) → not (q && (e && (s || m))) ≡ (not (e && (s && q)) && not (q && (e && m)))
+left_both true true true m = refl
+left_both true true false m = refl
+left_both true false s m = refl
+left_both false true true m = refl
+left_both false true false m = refl
+left_both false false s m = refl
+
+pub leave-step : (p : ℕ) (at : Place) (rest : List Place) (ws : List Waiting) → StandOnce ws
+    → filter (λ w. not (is_left p rest w)) (without_first (is_same (record { process = p; place = at; queue = Waiters })) ws)
+    ≡ filter (λ w. not (is_left p (at ∷ rest) w)) ws
+leave-step p at rest ws once =
+    let one : Waiting = record { process = p; place = at; queue = Waiters } in
+    ap (filter (λ w. not (is_left p rest w))) (first-is_filter one ws once)
+    ∙ filter-twice (λ w. not (is_left p rest w)) (λ w. not (is_same one w)) (λ w. not (is_left p (at ∷ rest) w))
+    (λ w. left_both (same_queue Waiters w.queue) (eqb w.process p) (same_place at w.place) (is_among rest w.place)
+    ∙ ap (λ e. not (e && (same_place at w.place && same_queue Waiters w.queue)) && not (is_left p rest w)) (eqb-turn w.process p)) ws
+
+pub once-left : (p : ℕ) (at : Place) (ws : List Waiting) → StandOnce ws → StandOnce (without_first (is_same (record { process = p; place = at; queue = Waiters })) ws)
+once-left p at ws once =
+    let one : Waiting = record { process = p; place = at; queue = Waiters } in
+    subst StandOnce (sym (first-is_filter one ws once)) (once-filter (λ w. not (is_same one w)) ws once)
+
+none_goes : (q e : Bool) → not (q && (e && false)) ≡ true
+none_goes true true = refl
+none_goes true false = refl
+none_goes false e = refl
+
+-- of no events nobody waits
+pub left-none : (p : ℕ) (places : List Place) (ws : List Waiting) → places ≡ [] → filter (λ w. not (is_left p places w)) ws ≡ ws
+left-none p places ws none =
+    ap (λ l. filter (λ w. not (is_left p l w)) ws) none ∙ filter-every (λ w. not (is_left p [] w)) (λ w. none_goes (same_queue Waiters w.queue) (eqb w.process p)) ws
+
+pub named-none : (ps : List ℕ) (lists : List (List Place)) (ws : List Waiting) → ps ≡ [] → filter (λ w. not (is_named ps lists w)) ws ≡ ws
+named-none ps lists ws none =
+    ap (λ l. filter (λ w. not (is_named l lists w)) ws) none ∙ filter-every (λ w. not (is_named [] lists w)) (λ w. none_stay (same_queue Waiters w.queue)) ws
+
+named_both : (q e o m : Bool) → not (q && ((e || o) && m)) ≡ (not (q && (e && m)) && not (q && (o && m)))
+named_both true true o true = refl
+named_both true true true false = refl
+named_both true true false false = refl
+named_both true false o m = refl
+named_both false e o m = refl
+
+list_where : (e : Bool) (a b : Bool) → (e ≡ true → a ≡ b) → (e && a) ≡ (e && b)
+list_where true a b h = h refl
+list_where false a b h = refl
+
+pub named-step : (p : ℕ) (rest : List ℕ) (lists : List (List Place)) (ws : List Waiting)
+    → filter (λ w. not (is_named rest lists w)) (filter (λ w. not (is_left p (list_of p lists) w)) ws) ≡ filter (λ w. not (is_named (p ∷ rest) lists w)) ws
+named-step p rest lists ws =
+    filter-twice (λ w. not (is_named rest lists w)) (λ w. not (is_left p (list_of p lists) w)) (λ w. not (is_named (p ∷ rest) lists w))
+    (λ w. named_both (same_queue Waiters w.queue) (eqb w.process p) (is_one_of rest w.process) (is_among (list_of w.process lists) w.place)
+    ∙ ap (λ k. not (same_queue Waiters w.queue && k) && not (is_named rest lists w))
+    (list_where (eqb w.process p) (is_among (list_of w.process lists) w.place) (is_among (list_of p lists) w.place)
+    (λ e. ap (λ n. is_among (list_of n lists) w.place) (eqb-true w.process p e)))) ws

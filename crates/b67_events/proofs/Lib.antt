@@ -1,9 +1,11 @@
 pub mod Listed
+pub mod Order
+pub mod Stood
+pub mod Named
 pub mod Places
 pub mod Shown
 pub mod Numbers
 pub mod Queued
-pub mod Marks
 pub mod Leaving
 pub mod Joined
 pub mod OfSeveral

@@ -68,6 +68,25 @@ list-set_at lists zero places low h = absurd (omega (arith, low))
 list-set_at lists (suc k) places low h =
     let same : suc k - 1 ≡ k = omega arith in ap (λ i. set lists i places) same ∙ list-set lists k places (omega (arith, h))
 
+pub list-at : (lists : List (List Place)) (p : ℕ) (d : List Place) → (p ≡ 0 → ⊥) → p - 1 < length lists → list_of p lists ≡ get_or lists (p - 1) d
+list-at lists zero d some h = absurd (some refl)
+list-at lists (suc k) d some h =
+    let same : suc k - 1 ≡ k = omega arith in at_index lists k (omega (arith, h)) ∙ ap (λ i. get_or lists i d) (sym same)
+  where
+    at_index : (ls : List (List Place)) (k : ℕ) → k < length ls → list_of (suc k) ls ≡ get_or ls k d
+    at_index [] k less = absurd (omega (arith, less))
+    at_index (l ∷ ls) zero less = refl
+    at_index (l ∷ ls) (suc k) less = at_index ls k (omega (arith, less))
+
+pub list-past : (lists : List (List Place)) (p : ℕ) → (p ≡ 0 → ⊥) → length lists ≤ p - 1 → list_of p lists ≡ []
+list-past lists zero some h = absurd (some refl)
+list-past lists (suc k) some h = past_index lists k (omega (arith, h))
+  where
+    past_index : (ls : List (List Place)) (k : ℕ) → length ls ≤ k → list_of (suc k) ls ≡ []
+    past_index [] k le = refl
+    past_index (l ∷ ls) zero le = absurd (omega (arith, le))
+    past_index (l ∷ ls) (suc k) le = past_index ls k (omega (arith, le))
+
 -- places are taken over one after the other
 pub taken-more : (xs ys : List Place) (i : ℕ) (d : Place) → i < length xs → i < length ys → take i xs ≡ take i ys
     → take (i + 1) (set xs i (get_or ys i d)) ≡ take (i + 1) ys

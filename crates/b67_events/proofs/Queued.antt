@@ -25,7 +25,7 @@ module _ {X : Type 0} where
         | inr e ↦ ap (list_any t) (cond-false (r x) (x ∷ filter r xs) (filter r xs) e) ∙ any-filter t r xs parts.1
       ]
 
-  any-first : (t u : X → Bool) (xs : List X) → list_any t xs ≡ false → list_any t (without_first u xs) ≡ false
+  pub any-first : (t u : X → Bool) (xs : List X) → list_any t xs ≡ false → list_any t (without_first u xs) ≡ false
   any-first t u [] h = refl
   any-first t u (x ∷ xs) h =
       let parts = or_parts (t x) (list_any t xs) h in

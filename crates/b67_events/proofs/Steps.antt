@@ -10,8 +10,8 @@ use Rattle.b67_deeds.specs.declared.EventAct.TheVariants as act
 use Rattle.b67_deeds.specs.Events.{EventState, joined, taken, queued, served, freed, passed_on}
 use Rattle.b67_deeds.specs.declared.EventTest.TheVariants as test
 use Rattle.b67_deeds.specs.Deeds.{acts, tests, Next, goes}
-use Rattle.b67_events.specs.Events.{Event, Events, same_place, event_at, is_open, state_of, happened_at, available_at, waiters_at, procurers_at, is_waiting, changed, with_state, changed_by, done_at, took, withdrawn, with_list, unlisted}
-use Rattle.b67_events.specs.Kept.{stands_in, listed, Entry, events_of, has_flags, set_flags, put, with_happened, with_available, without_first, nobody_marked, marked, is_leaving, without_waiters, numbers_of, joiners, IsKept, AreListed}
+use Rattle.b67_events.specs.Events.{Event, Events, same_place, event_at, is_open, state_of, happened_at, available_at, waiters_at, procurers_at, is_waiting, changed, with_state, changed_by, done_at, took, withdrawn}
+use Rattle.b67_events.specs.Kept.{stands_in, listed, Entry, events_of, has_flags, set_flags, put, with_happened, with_available, without_first, without_waiters, among, numbers_of, joiners, is_named, AreNamed, IsKept}
 use Rattle.b67_events.specs.Once.{times_in}
 use Rattle.b67_events.specs.declared.Took.TheVariants.{Went, Waits}
 use Rattle.b67_events.specs.declared.Flags.{Flags}
@@ -19,12 +19,11 @@ use Rattle.b67_events.specs.declared.Queue.TheVariants.{Waiters, Procurers}
 use Rattle.b67_events.specs.declared.Waiting.{Waiting}
 use Rattle.b67_events.proofs.Listed.{same_place-true}
 use Rattle.b67_events.proofs.Shown.{events-joined, events-queued, events-served, events-freed, events-flags, open-shown, list_of, list-shown}
-use Rattle.b67_events.proofs.Queued.{queued-filter, queued-first, queued-flags, queued-push, open-set, open-filter, open-less, open-put, apart-none, among-none, queued-known, listed-known, room-one, idle-is_not_among}
+use Rattle.b67_events.proofs.Queued.{queued-filter, queued-first, queued-flags, queued-push, open-set, open-filter, open-less, open-put, apart-none, among-none, queued-known, room-one, idle-is_not_among}
 use Rattle.b67_events.proofs.Numbers.{one_if, AreFrom, times-join, times-room, times-filter, times-first}
-use Rattle.b67_events.proofs.Marks.{unmarked-again}
 use Rattle.b67_events.proofs.Leaving.{events-released}
 use Rattle.b67_events.proofs.Joined.{queued-any, joiners-few}
-use Rattle.b67_events.proofs.OfSeveral.{list-length, unlisted-length}
+use Rattle.b67_events.proofs.Named.{released-is}
 
 abbrev pub held : List Event → List (List Place) → ℕ → Events
 held es ls n = record { events = es; lists = ls; room = n }
@@ -141,26 +140,7 @@ kept-wider fs ws n capacity more k wide =
 pub kept-one : (fs : List Entry) (ws : List Waiting) (n capacity : ℕ) (at : Place) → IsKept fs ws n capacity → length (listed Waiters at ws) ≤ n
 kept-one fs ws n capacity at k = room-one fs n Waiters at ws k.queued
 
-pub kept-known : (fs : List Entry) (ws : List Waiting) (n capacity : ℕ) (at : Place) → IsKept fs ws n capacity → AreFrom n (listed Waiters at ws)
-kept-known fs ws n capacity at k = listed-known fs n Waiters at ws k.queued
-
--- ---- the lists of those who wait for several, and the marks
-
-pub lists-wider : (ls : List (List Place)) (ms : List Bool) (n capacity more : ℕ) → AreListed ls ms n capacity → capacity ≤ more → AreListed ls ms n more
-lists-wider ls ms n capacity more k wide =
-    record { room = (let room : n ≤ capacity = k.room in omega (arith, room, wide)); known = k.known; unmarked = k.unmarked }
-
-pub lists-with : (ls : List (List Place)) (ms : List Bool) (n capacity p : ℕ) (places : List Place) → AreListed ls ms n capacity → p ≤ n
-    → AreListed (with_list ls p places) ms n capacity
-lists-with ls ms n capacity p places k high = record { room = k.room; known = list-length n ls p places high k.known; unmarked = k.unmarked }
-
-pub lists-without : (ls : List (List Place)) (ms : List Bool) (n capacity : ℕ) (ps : List ℕ) → AreListed ls ms n capacity → AreFrom n ps
-    → AreListed (unlisted ps ls) (marked false ps (marked true ps ms)) n capacity
-lists-without ls ms n capacity ps k known = record {
-  room = k.room;
-  known = (let long = unlisted-length ps ls in let short : length ls ≤ n = k.known in omega (arith, long, short));
-  unmarked = ap (λ bs. marked false ps (marked true ps bs)) k.unmarked ∙ unmarked-again n ps known;
-}
+-- ---- what changes the flags, and who goes
 
 pub kept-set : (at : Place) (change : Flags → Flags) (fs : List Entry) (ws : List Waiting) (n capacity : ℕ) → IsKept fs ws n capacity
     → IsKept (set_flags at change fs) ws n capacity
@@ -230,12 +210,17 @@ pub procurers-shown : (at : Place) (fs : List Entry) (ws : List Waiting) → is_
 procurers-shown at fs ws h =
     sym (list-shown Procurers at fs ws h) ∙ procurers_is (event_at at (events_of fs ws))
 
+-- who waits nowhere is not among those who wait
+pub kept-idle : (fs : List Entry) (ws : List Waiting) (n capacity p : ℕ) → IsKept fs ws n capacity → is_waiting p (events_of fs ws) ≡ false → among p ws ≡ false
+kept-idle fs ws n capacity p k idle = idle-is_not_among fs n ws p k.queued idle
+
 -- all who wait for an event are released, and leave all events
-pub event-released : (at : Place) (b : Bool) (fs : List Entry) (ws : List Waiting) (n capacity : ℕ) → IsKept fs ws n capacity → is_open at (events_of fs ws) ≡ true
-    → events_of (set_flags at (with_happened b) fs) (filter (λ w. not (is_leaving (marked true (listed Waiters at ws) (nobody_marked n)) w)) ws)
+pub event-released : (at : Place) (b : Bool) (fs : List Entry) (ws : List Waiting) (lists : List (List Place)) → AreNamed lists ws → is_open at (events_of fs ws) ≡ true
+    → events_of (set_flags at (with_happened b) fs) (filter (λ w. not (is_named (listed Waiters at ws) lists w)) (filter (λ w. not (stands_in Waiters at w)) ws))
     ≡ withdrawn (waiters_at at (events_of fs ws)) (changed at (with_state (without_waiters b)) (events_of fs ws))
-event-released at b fs ws n capacity k here =
-    events-released at b n fs ws (kept-known fs ws n capacity at k)
+event-released at b fs ws lists named here =
+    ap (events_of (set_flags at (with_happened b) fs)) (released-is at lists ws named)
+    ∙ events-released at b fs ws
     ∙ ap (λ ps. withdrawn ps (changed at (with_state (without_waiters b)) (events_of fs ws))) (woken-shown at fs ws here)
 
 passed-served : (xs : List ℕ) (p : ℕ) → slice_get xs 0 ≡ Some p → passed_on xs ≡ served

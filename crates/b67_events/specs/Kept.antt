@@ -1,12 +1,12 @@
--- How events are kept: the flags of each at its place, one list of all who wait, in order of arrival, and the places of those who wait for
--- several.
-use Rattle.std.specs.Prelude.{◌≡◌, ℕ, ◌+◌, ◌*◌, ◌<◌, ◌≤◌, Bool, true, false, ◌&&◌, ◌==◌, Option, Some, None, List, [], ◌∷◌, ◌++◌, map, filter, length, replicate, slice_get, slice_set, if◌then◌else◌, cond}
-use Rattle.std.specs.List.{list_any}
+-- How events are kept: the flags of each at its place, one list of all who wait, event by event and in order of arrival, and the places of
+-- those who wait for several.
+use Rattle.std.specs.Prelude.{◌≡◌, ◌⊎◌, ℕ, suc, ◌+◌, ◌*◌, ◌<◌, ◌≤◌, Bool, true, false, ◌&&◌, ◌==◌, nat_lt, nat_le, Option, Some, None, List, [], ◌∷◌, ◌++◌, map, filter, length, if◌then◌else◌, cond}
+use Rattle.std.specs.List.{list_any, AllByRecursion}
 use Rattle.std.specs.Map.{lookup}
 use Rattle.b67_word.specs.declared.Place.{Place}
 use Rattle.b67_limits.specs.declared.TheConstants.{MOST_EVENTS}
 use Rattle.b67_deeds.specs.Events.{EventState}
-use Rattle.b67_events.specs.Events.{Event, same_place, is_before, is_among}
+use Rattle.b67_events.specs.Events.{Event, same_place, is_before, is_one_of, is_among, list_of}
 use Rattle.b67_events.specs.Once.{times_in}
 use Rattle.b67_events.specs.declared.Flags.{Flags}
 use Rattle.b67_events.specs.declared.Queue.{Queue}
@@ -104,6 +104,47 @@ pub record IsKept (fs : List Entry) (ws : List Waiting) (n capacity : ℕ) : Typ
   pub few : (p : ℕ) → times_in p (numbers_of ws) ≤ MOST_EVENTS
   pub within : AreWithin fs
 
+-- ---- the order of those who wait
+
+abbrev pub rank_in : Queue → ℕ
+rank_in Waiters = 0
+rank_in Procurers = 1
+
+-- the number by which those stand who wait in this list of the event at a place: two for each displacement of a stack
+abbrev pub rank_at : Queue → Place → ℕ
+rank_at queue at = at.stack * 131072 + at.at * 2 + rank_in queue
+
+abbrev pub rank_of : Waiting → ℕ
+rank_of w = rank_at w.queue w.place
+
+-- Those who wait stand by their ranks, each at a displacement that a stack has.
+abbrev pub AreInOrder : List Waiting → Type 0
+AreInOrder [] = Unit {0}
+AreInOrder (w ∷ ws) = (w.place.at < 65536) × AllByRecursion (λ v. rank_of w ≤ rank_of v) ws × AreInOrder ws
+
+-- how many stand below a rank
+abbrev pub below : ℕ → List Waiting → ℕ
+below r [] = 0
+below r (w ∷ ws) = cond (nat_lt (rank_of w) r) (suc (below r ws)) 0
+
+-- whether one stands from a rank on, and below another
+abbrev pub is_ranked : ℕ → ℕ → Waiting → Bool
+is_ranked from to w = nat_le from (rank_of w) && nat_lt (rank_of w) to
+
+-- one stands before the first of a higher rank, and so after those who came to its list before it
+abbrev pub stand : Waiting → List Waiting → List Waiting
+stand one [] = one ∷ []
+stand one (w ∷ ws) = cond (nat_lt (rank_of one) (rank_of w)) (one ∷ w ∷ ws) (w ∷ stand one ws)
+
+abbrev pub stand_all : List Waiting → List Waiting → List Waiting
+stand_all [] ws = ws
+stand_all (one ∷ more) ws = stand_all more (stand one ws)
+
+-- no one stands among those who wait as one after it does
+abbrev pub StandOnce : List Waiting → Type 0
+StandOnce [] = Unit {0}
+StandOnce (w ∷ ws) = (stands_again w ws ≡ false) × StandOnce ws
+
 -- ---- several events
 
 -- an event that lets all go who wait for it has happened, or has not
@@ -117,27 +158,24 @@ joiners p seen (at ∷ places) =
     if is_among seen at then joiners p (seen ++ at ∷ []) places
     else record { process = p; place = at; queue = Waiters } ∷ joiners p (seen ++ at ∷ []) places
 
--- by the processes' numbers, whom an event releases
-abbrev pub nobody_marked : ℕ → List Bool
-nobody_marked n = replicate (n + 1) false
+-- whether one is this process and waits for one of these events to happen
+abbrev pub is_left : ℕ → List Place → Waiting → Bool
+is_left p places w = same_queue Waiters w.queue && (w.process == p && is_among places w.place)
 
-abbrev pub or_false : Option Bool → Bool
-or_false None = false
-or_false (Some b) = b
+-- whether one is one of these processes and waits for one of the several events that it has listed to happen
+abbrev pub is_named : List ℕ → List (List Place) → Waiting → Bool
+is_named ps lists w = same_queue Waiters w.queue && (is_one_of ps w.process && is_among (list_of w.process lists) w.place)
 
-abbrev pub is_marked : List Bool → ℕ → Bool
-is_marked marks p = or_false (slice_get marks p)
+abbrev pub waits_at : List Waiting → ℕ → Place → Type 0
+waits_at ws p at = is_one_of (listed Waiters at ws) p ≡ true
 
-abbrev pub marked : Bool → List ℕ → List Bool → List Bool
-marked mark [] marks = marks
-marked mark (p ∷ ps) marks = marked mark ps (slice_set marks p mark)
+-- A process that waits for two events to happen has listed them.
+abbrev pub AreNamed : List (List Place) → List Waiting → Type 0
+AreNamed lists ws =
+    (p : ℕ) (a b : Place) → waits_at ws p a → waits_at ws p b → (same_place a b ≡ true) ⊎ (is_among (list_of p lists) b ≡ true)
 
--- whether one who waits for an event to happen is marked
-abbrev pub is_leaving : List Bool → Waiting → Bool
-is_leaving marks w = same_queue Waiters w.queue && is_marked marks w.process
-
--- There is room for the places of all n processes, and nobody is marked.
-pub record AreListed (lists : List (List Place)) (marks : List Bool) (n capacity : ℕ) : Type 0 where
+-- There is room for the places of all n processes, and they are those for which each waits, where it waits for several.
+pub record AreListed (lists : List (List Place)) (ws : List Waiting) (n capacity : ℕ) : Type 0 where
   pub room : n ≤ capacity
   pub known : length lists ≤ n
-  pub unmarked : marks ≡ nobody_marked n
+  pub named : AreNamed lists ws

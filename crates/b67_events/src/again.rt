@@ -1,9 +1,8 @@
 // A kernel that is begun again, and compared with another one.
-ghost use Rattle.std.specs.Prelude.{◌≡◌, ◌≤◌, true, List, [], ◌∷◌, All, drop, length, IfSome, IfNone};
-ghost use Rattle.b67_events.specs.Kept.{Entry, events_of, listed};
+ghost use Rattle.std.specs.Prelude.{◌≡◌, true, []};
 
 use crate::several::Several;
-use crate::{Flags, Kernel, Queue, Waiting};
+use crate::{Flags, Kernel, Waiting};
 use b67_word::Place;
 use std::collections::BTreeMap;
 
@@ -14,57 +13,21 @@ fn same_flags(ours: &BTreeMap<Place, Flags>, theirs: &BTreeMap<Place, Flags>) ->
     ours == theirs
 }
 
-// The first, from a position on, who stands in this list of the event at a place, and the position after it.
-fn next_in(waiting: &Vec<Waiting>, from: usize, queue: Queue, at: Place) -> Option<(usize, u32)>
-    requires { from ≤ length waiting.now.items }
-    ensures some { IfSome result (λ found. listed queue at (drop from waiting.now.items) ≡ found.1 ∷ listed queue at (drop found.0 waiting.now.items)) }
-    ensures within { IfSome result (λ found. found.0 ≤ length waiting.now.items) }
-    ensures none { IfNone result (listed queue at (drop from waiting.now.items) ≡ []) }
+// Tests that the same processes wait for the same events, in the same order.
+fn same_queues(ours: &Vec<Waiting>, theirs: &Vec<Waiting>) -> bool
+    ensures { result ≡ true → ours.now.items ≡ theirs.now.items }
 {
-    'looking: for index in from..waiting.len() {
-        let one = waiting[index];
-        if one.is_in(queue, at) {
-            return Some((index + 1, one.process));
-        }
+    if ours.len() != theirs.len() {
+        return false;
     }
-    None
-}
-
-// Tests that the same processes stand in this list of the event at a place, in the same order.
-fn same_queue(ours: &Vec<Waiting>, theirs: &Vec<Waiting>, queue: Queue, at: Place) -> bool
-    ensures { result ≡ true → listed queue at ours.now.items ≡ listed queue at theirs.now.items }
-{
-    let mut next = 0;
-    'ours: for index in 0..ours.len() {
+    'queues: for index in 0..ours.len() {
         let one = ours[index];
-        if one.is_in(queue, at) {
-            match next_in(theirs, next, queue, at) {
-                Some((after, process)) if process == one.process => next = after,
-                _ => return false,
-            }
-        }
-    }
-    next_in(theirs, next, queue, at).is_none()
-}
-
-// Tests that each list in which one of ours stands has the same processes as that list of theirs.
-fn same_where_listed(ours: &Vec<Waiting>, theirs: &Vec<Waiting>) -> bool
-    ensures { result ≡ true → All (λ w. listed w.queue w.place ours.now.items ≡ listed w.queue w.place theirs.now.items) ours.now.items }
-{
-    'ours: for index in 0..ours.len() {
-        let one = ours[index];
-        if !same_queue(ours, theirs, one.queue, one.place) {
+        let other = theirs[index];
+        if one.process != other.process || !other.is_in(one.queue, one.place) {
             return false;
         }
     }
     true
-}
-
-// Tests that the lists of all events have the same processes, in whatever order these came to different lists.
-fn same_queues(ours: &Vec<Waiting>, theirs: &Vec<Waiting>) -> bool
-    ensures { result ≡ true → (entries : List Entry) → events_of entries ours.now.items ≡ events_of entries theirs.now.items }
-{
-    same_where_listed(ours, theirs) && same_where_listed(theirs, ours)
 }
 
 // Tests that each process waits for the same events, where it waits for several.

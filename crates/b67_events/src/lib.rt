@@ -11,16 +11,20 @@ ghost use Rattle.b67_deeds.specs.declared.EventAct.TheVariants as act;
 ghost use Rattle.b67_deeds.specs.declared.EventTest.TheVariants as test;
 ghost use Rattle.b67_deeds.specs.Deeds.{acts, tests, answers};
 ghost use Rattle.b67_events.specs.Events.{same_place, is_open, is_from, state_at, waiters_at, is_waiting, is_listed, changed, with_state, withdrawn, opened, closed_from, deed_at, done_at, took, unlisted, number_of, position_of, first_that, first_happened, waited_any, took_any};
-ghost use Rattle.b67_events.specs.Kept.{same_queue, stands_in, listed, flags_at, flag_of, has_flags, set_flags, with_happened, with_available, AreWithin, without_first, joiners, nobody_marked, is_marked, marked, is_leaving, without_waiters};
+ghost use Rattle.b67_events.specs.Kept.{stands_in, listed, flags_at, flag_of, has_flags, set_flags, with_happened, with_available, AreWithin, AreInOrder, StandOnce, rank_of, is_named, without_waiters};
 ghost use Rattle.b67_events.specs.Laws.{OneEventChanges, EventsStayApart};
 ghost use Rattle.b67_events.specs.Once.{EachWaitsOnce, ReleasedWaitNowhere};
 ghost use Rattle.b67_events.specs.Worked.{TwoEventsAtWork};
-ghost use Rattle.b67_events.specs.declared.Queue.TheVariants.{Waiters, Procurers};
+ghost use Rattle.b67_events.specs.declared.Queue.TheVariants.{Waiters};
 
 mod again;
+mod queues;
 mod several;
 
-use crate::several::{Several, is_among, locate, unlist_all, with_list};
+use crate::queues::{
+    dismiss, enqueue, forget, forget_from, gather, join_all, rank_at, serve, withdraw,
+};
+use crate::several::{Several, locate, unlist_all, with_list};
 use b67_limits::MOST_EVENTS;
 use b67_word::Place;
 use std::alloc::{AllocError, Global};
@@ -82,25 +86,23 @@ struct Waiting {
 pub struct Kernel {
     // In the order of their places.
     events: BTreeMap<Place, Flags>,
-    // All who wait, in order of arrival, once for each event; an event's lists are what it shows of this one.
+    // All who wait, once for each event, by the ranks of their lists, and in order of arrival in each of these.
     waiting: Vec<Waiting>,
     // By the processes' numbers from 1, as far as some process has waited for several.
     lists: Vec<Several>,
-    // By the processes' numbers, whom an event releases: nobody, between two calls.
-    marks: Vec<bool>,
     processes: u32,
 }
 
 impl Model for Kernel {
     ghost use Rattle.std.specs.Prelude.{vec_capacity};
     ghost use Rattle.b67_events.specs.Events.{Events};
-    ghost use Rattle.b67_events.specs.Kept.{events_of, IsKept, AreListed};
+    ghost use Rattle.b67_events.specs.Kept.{events_of, IsKept, AreListed, AreInOrder};
 
     ghost Value = { Events };
 
     ghost view = { λ k. record { events = events_of k.events.entries k.waiting.items; lists = k.lists.items; room = k.processes } };
 
-    ghost invariant = { λ k. IsKept k.events.entries k.waiting.items k.processes (vec_capacity k.waiting) × AreListed k.lists.items k.marks.items k.processes (vec_capacity k.lists) };
+    ghost invariant = { λ k. IsKept k.events.entries k.waiting.items k.processes (vec_capacity k.waiting) × AreListed k.lists.items k.waiting.items k.processes (vec_capacity k.lists) × AreInOrder k.waiting.items };
 }
 
 // Tests that two places are one.
@@ -131,14 +133,11 @@ impl Waiting {
             }
     }
 
-    // Tests that it waits for an event to happen.
-    fn is_waiter(&self) -> bool
-        ensures { result ≡ same_queue Waiters self.now.queue }
+    // The number by which it stands among those who wait.
+    fn rank(&self) -> u64
+        ensures { result ≡ rank_of self.now }
     {
-        match self.queue {
-            Queue::Waiters => true,
-            Queue::Procurers => false,
-        }
+        rank_at(self.queue, self.place)
     }
 }
 
@@ -237,31 +236,6 @@ fn remove_from(events: &mut BTreeMap<Place, Flags>, stack: u16, at: u32)
     }
 }
 
-// Takes all who wait for the event at a place out of the list.
-fn forget(waiting: &mut Vec<Waiting>, at: Place)
-    ensures kept { waiting.new.items ≡ filter (λ w. not (same_place w.place at)) waiting.old.items }
-    ensures capacity { vec_capacity waiting.old ≤ vec_capacity waiting.new }
-{
-    waiting.retain(|one| !is_at(one.place, at));
-}
-
-// Takes all who wait for the events of a stack at a displacement and above out of the list.
-fn forget_from(waiting: &mut Vec<Waiting>, stack: u16, at: u32)
-    ensures kept { waiting.new.items ≡ filter (λ w. not (is_from stack at w.place)) waiting.old.items }
-    ensures capacity { vec_capacity waiting.old ≤ vec_capacity waiting.new }
-{
-    waiting.retain(|one| !is_above(one.place, stack, at));
-}
-
-// Puts one who waits at the end of the list.
-fn enqueue(waiting: &mut Vec<Waiting>, one: Waiting)
-    requires { length waiting.old.items < vec_capacity waiting.old }
-    ensures items { waiting.new.items ≡ waiting.old.items ++ one ∷ [] }
-    ensures capacity { vec_capacity waiting.old ≤ vec_capacity waiting.new }
-{
-    waiting.push(one).unwrap();
-}
-
 // Puts a number at the end of those of who is released.
 fn wake(woken: &mut Vec<u32>, number: u32)
     requires { length woken.old.items < vec_capacity woken.old }
@@ -271,63 +245,14 @@ fn wake(woken: &mut Vec<u32>, number: u32)
     woken.push(number).unwrap();
 }
 
-// Puts those who wait for the event at a place to happen into `woken`.
-fn gather(waiting: &Vec<Waiting>, at: Place, woken: &mut Vec<u32>)
-    requires { length woken.old.items + length (listed Waiters at waiting.now.items) ≤ vec_capacity woken.old }
-    ensures woken { woken.new.items ≡ woken.old.items ++ listed Waiters at waiting.now.items }
-    ensures room { vec_capacity woken.old ≤ vec_capacity woken.new }
-{
-    'waiting: for index in 0..waiting.len() {
-        let one = waiting[index];
-        if one.is_in(Queue::Waiters, at) {
-            wake(woken, one.process);
-        }
-    }
-}
-
-// Marks these processes, or takes their marks away.
-fn mark_all(marks: &mut Vec<bool>, processes: &Vec<u32>, mark: bool)
-    ensures { marks.new.items ≡ marked mark processes.now.items marks.old.items }
-{
-    'marking: for index in 0..processes.len() {
-        let process = processes[index] as usize;
-        if process < marks.len() {
-            marks[process] = mark;
-        }
-    }
-}
-
-// Tests that a process is marked.
-fn is_marked(marks: &Vec<bool>, process: u32) -> bool
-    ensures { result ≡ is_marked marks.now.items process }
-{
-    match marks.get(process as usize) {
-        Some(mark) => *mark,
-        None => false,
-    }
-}
-
-// Takes those who are marked out of the lists of those who wait for an event to happen.
-fn withdraw(waiting: &mut Vec<Waiting>, marks: &Vec<bool>)
-    ensures kept { waiting.new.items ≡ filter (λ w. not (is_leaving marks.now.items w)) waiting.old.items }
-    ensures capacity { vec_capacity waiting.old ≤ vec_capacity waiting.new }
-{
-    waiting.retain(|one| !(one.is_waiter() && is_marked(marks, one.process)));
-}
-
 // Releases those who wait for the event at a place to happen: `woken` has them, and they wait for no event any more.
-fn release(
-    waiting: &mut Vec<Waiting>,
-    lists: &mut Vec<Several>,
-    marks: &mut Vec<bool>,
-    at: Place,
-    woken: &mut Woken,
-)
+fn release(waiting: &mut Vec<Waiting>, lists: &mut Vec<Several>, at: Place, woken: &mut Woken)
+    requires order { AreInOrder waiting.old.items }
+    requires once { StandOnce waiting.old.items }
     requires processes { length (listed Waiters at waiting.old.items) ≤ vec_capacity woken.old.processes }
     requires positions { length (listed Waiters at waiting.old.items) ≤ vec_capacity woken.old.positions }
-    ensures kept { waiting.new.items ≡ filter (λ w. not (is_leaving (marked true (listed Waiters at waiting.old.items) marks.old.items) w)) waiting.old.items }
+    ensures kept { waiting.new.items ≡ filter (λ w. not (is_named (listed Waiters at waiting.old.items) lists.old.items w)) (filter (λ w. not (stands_in Waiters at w)) waiting.old.items) }
     ensures lists { lists.new.items ≡ unlisted (listed Waiters at waiting.old.items) lists.old.items }
-    ensures marks { marks.new.items ≡ marked false (listed Waiters at waiting.old.items) (marked true (listed Waiters at waiting.old.items) marks.old.items) }
     ensures woken { woken.new.processes.items ≡ listed Waiters at waiting.old.items }
     ensures positions { woken.new.positions.items ≡ map (λ p. number_of (position_of at lists.old.items p)) (listed Waiters at waiting.old.items) }
     ensures capacity { (vec_capacity waiting.old ≤ vec_capacity waiting.new) × (vec_capacity lists.old ≤ vec_capacity lists.new) }
@@ -335,47 +260,11 @@ fn release(
 {
     woken.processes.clear();
     woken.positions.clear();
-    gather(waiting, at, &mut woken.processes);
+    let first = gather(waiting, at, &mut woken.processes);
     locate(lists, at, &woken.processes, &mut woken.positions);
-    mark_all(marks, &woken.processes, true);
-    withdraw(waiting, marks);
-    mark_all(marks, &woken.processes, false);
+    dismiss(waiting, first, at);
+    withdraw(waiting, lists, &woken.processes);
     unlist_all(lists, &woken.processes);
-}
-
-// Puts a process at the end of those who wait for each of these events to happen.
-fn join_all(waiting: &mut Vec<Waiting>, at: &[Place], process: u32)
-    requires { length waiting.old.items + length at.now ≤ vec_capacity waiting.old }
-    ensures waiting { waiting.new.items ≡ waiting.old.items ++ joiners process [] at.now }
-    ensures capacity { vec_capacity waiting.old ≤ vec_capacity waiting.new }
-{
-    'joining: for index in 0..at.len() {
-        let place = at[index];
-        if !is_among(&at[..index], place) {
-            enqueue(
-                waiting,
-                Waiting {
-                    process,
-                    place,
-                    queue: Queue::Waiters,
-                },
-            );
-        }
-    }
-}
-
-// Takes the first who waits to procure the event at a place out of the list, and gives it.
-fn serve(waiting: &mut Vec<Waiting>, at: Place) -> Option<u32>
-    ensures first { result ≡ slice_get (listed Procurers at waiting.old.items) 0 }
-    ensures rest { waiting.new.items ≡ without_first (stands_in Procurers at) waiting.old.items }
-    ensures capacity { vec_capacity waiting.old ≤ vec_capacity waiting.new }
-{
-    'serving: for index in 0..waiting.len() {
-        if waiting[index].is_in(Queue::Procurers, at) {
-            return Some(waiting.remove(index).process);
-        }
-    }
-    None
 }
 
 impl Kernel {
@@ -388,7 +277,6 @@ impl Kernel {
             events: BTreeMap::new(alloc),
             waiting: Vec::with_capacity(alloc, count * MOST_EVENTS as usize)?,
             lists: Vec::with_capacity(alloc, count)?,
-            marks: vec![in alloc; false; count + 1]?,
             processes,
         })
     }
@@ -475,13 +363,7 @@ impl Kernel {
         ensures room { (vec_capacity woken.old.processes ≤ vec_capacity woken.new.processes) × (vec_capacity woken.old.positions ≤ vec_capacity woken.new.positions) }
     {
         set_happened(&mut self.events, at, happened);
-        release(
-            &mut self.waiting,
-            &mut self.lists,
-            &mut self.marks,
-            at,
-            woken,
-        );
+        release(&mut self.waiting, &mut self.lists, at, woken);
     }
 
     /// Makes the event at a place happen, and releases all who wait for it, so that they wait for no other event

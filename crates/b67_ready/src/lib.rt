@@ -3,7 +3,8 @@
 //! Processes are put at the rear. A take removes the one at the place that the rule picks, and the others close up.
 #![tactic(auto)]
 
-ghost use Rattle.std.specs.Prelude.{◌≡◌, ℕ, ◌+◌, ◌<◌, ◌≤◌, ◌^◌, [], ◌∷◌, ◌++◌, IfOk, length, Option, Some, List, slice_get};
+ghost use Rattle.std.specs.Prelude.{◌≡◌, ℕ, ◌+◌, ◌<◌, ◌≤◌, ◌^◌, [], ◌∷◌, ◌++◌, IfOk, length, Option, Some, List, slice_get, remove};
+ghost use Rattle.std.specs.VecDeque.{deque_capacity};
 ghost use Rattle.b67_ready.specs.Ready.{Puts, Takes, TakesAgain, counted_times};
 ghost use Rattle.b67_ready.specs.Turning.{Move, taken, takes_in};
 
@@ -11,6 +12,7 @@ mod order;
 
 pub use order::{Order, numbers_are_told};
 use std::alloc::{AllocError, Global};
+use std::collections::VecDeque;
 use std::marker::Model;
 
 /// A rule of dispatch: which place of the queue the next take is of, by how many wait and how many takes there have been. It has no
@@ -32,22 +34,35 @@ pub trait Rule: Drop {
 #[derive(Drop)]
 pub struct Dispatcher<P: Rule> {
     rule: P,
-    waiting: Vec<u32>,
+    waiting: VecDeque<u32>,
     takes: u64,
 }
 
 impl<P: Rule> Model for Dispatcher<P> {
     ghost use Rattle.std.specs.Prelude.{◌<◌, ◌^◌, length};
-    ghost use Rattle.std.specs.Vec.{vec_capacity};
+    ghost use Rattle.std.specs.VecDeque.{deque_capacity};
     ghost use Rattle.b67_ready.specs.Ready.{Ready, ready_code};
 
     ghost Value = { Ready P };
 
     ghost coded = { ready_code P.code };
 
-    ghost view = { λ d. record { rule = d.rule; waiting = d.waiting.items; takes = d.takes; room = vec_capacity d.waiting } };
+    ghost view = { λ d. record { rule = d.rule; waiting = d.waiting.items; takes = d.takes; room = deque_capacity d.waiting } };
 
     ghost invariant = { λ d. length d.waiting.items < 2 ^ 32 };
+}
+
+// Removes the process at a place, and the others close up from the nearer end.
+fn take_at(waiting: &mut VecDeque<u32>, at: usize) -> u32
+    requires { at < length waiting.old.items }
+    ensures value { slice_get waiting.old.items at ≡ Some result }
+    ensures items { waiting.new.items ≡ remove waiting.old.items at }
+    ensures capacity { deque_capacity waiting.new ≡ deque_capacity waiting.old }
+{
+    if at == 0 {
+        return waiting.pop_front().unwrap();
+    }
+    waiting.remove(at).unwrap()
 }
 
 impl<P: Rule> Dispatcher<P> {
@@ -59,7 +74,7 @@ impl<P: Rule> Dispatcher<P> {
     {
         Ok(Dispatcher {
             rule,
-            waiting: Vec::with_capacity(alloc, room as usize)?,
+            waiting: VecDeque::with_capacity(alloc, room as usize)?,
             takes: 0,
         })
     }
@@ -70,7 +85,7 @@ impl<P: Rule> Dispatcher<P> {
         requires few { length self.old.waiting + 1 < 2 ^ 32 }
         ensures { Puts self.old process self.new }
     {
-        self.waiting.push(process).unwrap();
+        self.waiting.push_back(process).unwrap();
     }
 
     /// Removes the process at the place that the rule picks, and the others close up. None comes exactly where nobody waits, and then
@@ -83,7 +98,7 @@ impl<P: Rule> Dispatcher<P> {
         }
         let at = self.rule.pick(self.waiting.len() as u32, self.takes);
         self.takes = self.takes.saturating_add(1);
-        Some(self.waiting.remove(at as usize))
+        Some(take_at(&mut self.waiting, at as usize))
     }
 
     /// As if a process, whichever, were put and then taken, so many times: where nobody else waits, it is the one that the rule picks.

@@ -17,6 +17,7 @@ invariant_of-self c =
       rw c.set_available.ensures
           (kept-set c.args.at (with_available false) k.events.entries k.waiting.items k.processes (vec_capacity k.waiting) c.self.invariant.0),
       c.self.invariant.1,
+      c.self.invariant.2,
     )
 
 pub returns-then-is_available-clause-answer : goal.returns-then-is_available-clause-answer

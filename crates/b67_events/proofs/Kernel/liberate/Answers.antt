@@ -4,14 +4,22 @@ use Rattle.b67_events.specs.Events.{procurers_at}
 use Rattle.b67_events.specs.Kept.{stands_in, events_of, with_available}
 use Rattle.b67_events.specs.declared.Queue.TheVariants.{Procurers}
 use Rattle.b67_events.proofs.Steps.{held, kept-first, kept-set, kept-wider, procurers-shown, liberated-served, liberated-freed, first-taken}
+use Rattle.b67_events.proofs.Named.{lists-less, waits-first}
+use Rattle.b67_events.proofs.Order.{order-first}
 use Rattle.b67_events.proofs.Kernel.liberate.Goals as goal
+
+pub serve-requires : goal.serve-requires
+serve-requires c = c.self.invariant.2
 
 pub invariant_of-self : goal.invariant_of-self
 invariant_of-self c =
     let k = c.self.inside in
     let kept =
-    kept-first (stands_in Procurers c.args.at) k.events.entries k.waiting.items k.processes (vec_capacity k.waiting) c.self.invariant.0 in
-    (rw c.serve.ensures.rest (kept-wider _ _ _ _ _ kept c.serve.ensures.capacity), c.self.invariant.1)
+    kept-first (stands_in Procurers c.args.at) k.events.entries k.waiting.items k.processes (vec_capacity k.waiting) c.self.invariant.0 in (
+      rw c.serve.ensures.rest (kept-wider _ _ _ _ _ kept c.serve.ensures.capacity),
+      rw c.serve.ensures.rest (lists-less _ k.waiting.items _ _ _ c.self.invariant.1 (waits-first (stands_in Procurers c.args.at) k.waiting.items)),
+      rw c.serve.ensures.rest (order-first (stands_in Procurers c.args.at) k.waiting.items c.self.invariant.2),
+    )
 
 pub returns-in-Some-clause-answer : goal.returns-in-Some-clause-answer
 returns-in-Some-clause-answer c =
@@ -34,8 +42,11 @@ invariant_of-self-2 c =
     let k = c.self.inside in
     let set =
     kept-set c.args.at (with_available true) k.events.entries k.waiting.items k.processes (vec_capacity k.waiting) c.self.invariant.0 in
-    let kept = kept-first (stands_in Procurers c.args.at) _ _ _ _ set in
-    (rw (c.set_available.ensures, c.serve.ensures.rest) (kept-wider _ _ _ _ _ kept c.serve.ensures.capacity), c.self.invariant.1)
+    let kept = kept-first (stands_in Procurers c.args.at) _ _ _ _ set in (
+      rw (c.set_available.ensures, c.serve.ensures.rest) (kept-wider _ _ _ _ _ kept c.serve.ensures.capacity),
+      rw c.serve.ensures.rest (lists-less _ k.waiting.items _ _ _ c.self.invariant.1 (waits-first (stands_in Procurers c.args.at) k.waiting.items)),
+      rw c.serve.ensures.rest (order-first (stands_in Procurers c.args.at) k.waiting.items c.self.invariant.2),
+    )
 
 pub returns-clause-answer : goal.returns-clause-answer
 returns-clause-answer c =

@@ -6,6 +6,9 @@ use Rattle.b67_events.specs.declared.Waiting.{Waiting}
 use Rattle.b67_events.specs.declared.Queue.TheVariants.{Procurers}
 use Rattle.b67_events.proofs.Shown.{available-shown}
 use Rattle.b67_events.proofs.Steps.{held, kept-set, kept-room, kept-push, kept-wider, procure-goes, procure-waits, took-goes, took-waits}
+use Rattle.b67_events.proofs.Stood.{kept-stand, events-stand}
+use Rattle.b67_events.proofs.Named.{named-procure, lists-waiting}
+use Rattle.b67_events.proofs.Order.{order-stand}
 use Rattle.b67_events.proofs.Kernel.procure.Goals as goal
 
 went : (c : goal.After-set_available) → available_at c.args.at (events_of c.self.inside.events.entries c.self.inside.waiting.items) ≡ true
@@ -30,6 +33,7 @@ invariant_of-self c =
       rw c.set_available.ensures
           (kept-set c.args.at (with_available false) k.events.entries k.waiting.items k.processes (vec_capacity k.waiting) c.self.invariant.0),
       c.self.invariant.1,
+      c.self.invariant.2,
     )
 
 pub returns-then-is_available-clause-after : goal.returns-then-is_available-clause-after
@@ -38,8 +42,11 @@ returns-then-is_available-clause-after c =
     rw (← c.self.view_is, c.set_available.ensures)
     (ap (λ es. held es k.lists.items k.processes) (procure-goes c.args.at c.args.process k.events.entries k.waiting.items (went c)))
 
-pub enqueue-requires : goal.enqueue-requires
-enqueue-requires c =
+pub enqueue-requires-clause-order : goal.enqueue-requires-clause-order
+enqueue-requires-clause-order c = c.self.invariant.2
+
+pub enqueue-requires-clause-room : goal.enqueue-requires-clause-room
+enqueue-requires-clause-room c =
     let k = c.self.inside in
     let idle = rw (← c.self.view_is) at c.requires.idle in
     let process = rw (← c.self.view_is) at c.requires.process in
@@ -53,8 +60,11 @@ invariant_of-self-2 c =
     let process = rw (← c.self.view_is) at c.requires.process in
     let here = rw (← c.self.view_is) at c.requires.open in
     let one : Waiting = record { process = c.args.process; place = c.args.at; queue = Procurers } in
-    let kept = kept-push k.events.entries k.waiting.items k.processes (vec_capacity k.waiting) one c.self.invariant.0 process.0 process.1 here idle in
-    (rw c.enqueue.ensures.items (kept-wider _ _ _ _ _ kept c.enqueue.ensures.capacity), c.self.invariant.1)
+    let kept = kept-push k.events.entries k.waiting.items k.processes (vec_capacity k.waiting) one c.self.invariant.0 process.0 process.1 here idle in (
+      rw c.enqueue.ensures.items (kept-wider _ _ _ _ _ (kept-stand k.events.entries one k.waiting.items _ _ kept) c.enqueue.ensures.capacity),
+      rw c.enqueue.ensures.items (lists-waiting _ k.waiting.items _ _ _ c.self.invariant.1 (named-procure k.lists.items c.args.process c.args.at k.waiting.items c.self.invariant.1.named)),
+      rw c.enqueue.ensures.items (order-stand one k.waiting.items (omega (arith, c.well_formed)) c.self.invariant.2),
+    )
 
 pub returns-clause-answer : goal.returns-clause-answer
 returns-clause-answer c =
@@ -64,4 +74,6 @@ pub returns-clause-after : goal.returns-clause-after
 returns-clause-after c =
     let k = c.self.inside in
     rw (← c.self.view_is, c.enqueue.ensures.items)
-    (ap (λ es. held es k.lists.items k.processes) (procure-waits c.args.at c.args.process k.events.entries k.waiting.items (waits c)))
+    (ap (λ es. held es k.lists.items k.processes)
+    (events-stand k.events.entries (record { process = c.args.process; place = c.args.at; queue = Procurers }) k.waiting.items c.self.invariant.2
+    ∙ procure-waits c.args.at c.args.process k.events.entries k.waiting.items (waits c)))

@@ -12,6 +12,7 @@ invariant_of-self c =
       rw c.set_happened.ensures
           (kept-set c.args.at (with_happened false) k.events.entries k.waiting.items k.processes (vec_capacity k.waiting) c.self.invariant.0),
       c.self.invariant.1,
+      c.self.invariant.2,
     )
 
 pub returns : goal.returns

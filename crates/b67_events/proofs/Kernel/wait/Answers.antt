@@ -5,7 +5,10 @@ use Rattle.b67_events.specs.Kept.{events_of}
 use Rattle.b67_events.specs.declared.Waiting.{Waiting}
 use Rattle.b67_events.specs.declared.Queue.TheVariants.{Waiters}
 use Rattle.b67_events.proofs.Shown.{happened-shown}
-use Rattle.b67_events.proofs.Steps.{held, kept-room, kept-push, kept-wider, wait-goes, wait-waits, took-goes, took-waits}
+use Rattle.b67_events.proofs.Steps.{held, kept-room, kept-push, kept-wider, kept-idle, wait-goes, wait-waits, took-goes, took-waits}
+use Rattle.b67_events.proofs.Stood.{kept-stand, events-stand}
+use Rattle.b67_events.proofs.Named.{named-stand, lists-waiting}
+use Rattle.b67_events.proofs.Order.{order-stand}
 use Rattle.b67_events.proofs.Kernel.wait.Goals as goal
 
 went : (c : goal.Then-has_happened) → happened_at c.args.at (events_of c.self.inside.events.entries c.self.inside.waiting.items) ≡ true
@@ -29,8 +32,11 @@ returns-then-has_happened-clause-after c =
     let k = c.self.inside in
     rw (← c.self.view_is) (ap (λ es. held es k.lists.items k.processes) (wait-goes c.args.at c.args.process (events_of k.events.entries k.waiting.items) (went c)))
 
-pub enqueue-requires : goal.enqueue-requires
-enqueue-requires c =
+pub enqueue-requires-clause-order : goal.enqueue-requires-clause-order
+enqueue-requires-clause-order c = c.self.invariant.2
+
+pub enqueue-requires-clause-room : goal.enqueue-requires-clause-room
+enqueue-requires-clause-room c =
     let k = c.self.inside in
     let idle = rw (← c.self.view_is) at c.requires.idle in
     let process = rw (← c.self.view_is) at c.requires.process in
@@ -45,7 +51,11 @@ invariant_of-self c =
     let here = rw (← c.self.view_is) at c.requires.open in
     let one : Waiting = record { process = c.args.process; place = c.args.at; queue = Waiters } in
     let kept = kept-push k.events.entries k.waiting.items k.processes (vec_capacity k.waiting) one c.self.invariant.0 process.0 process.1 here idle in
-    (rw c.enqueue.ensures.items (kept-wider _ _ _ _ _ kept c.enqueue.ensures.capacity), c.self.invariant.1)
+    let free = kept-idle k.events.entries k.waiting.items k.processes (vec_capacity k.waiting) c.args.process c.self.invariant.0 idle in (
+      rw c.enqueue.ensures.items (kept-wider _ _ _ _ _ (kept-stand k.events.entries one k.waiting.items _ _ kept) c.enqueue.ensures.capacity),
+      rw c.enqueue.ensures.items (lists-waiting _ k.waiting.items _ _ _ c.self.invariant.1 (named-stand k.lists.items one k.waiting.items free c.self.invariant.1.named)),
+      rw c.enqueue.ensures.items (order-stand one k.waiting.items (omega (arith, c.well_formed)) c.self.invariant.2),
+    )
 
 pub returns-clause-answer : goal.returns-clause-answer
 returns-clause-answer c =
@@ -55,4 +65,6 @@ pub returns-clause-after : goal.returns-clause-after
 returns-clause-after c =
     let k = c.self.inside in
     rw (← c.self.view_is, c.enqueue.ensures.items)
-    (ap (λ es. held es k.lists.items k.processes) (wait-waits c.args.at c.args.process k.events.entries k.waiting.items (waits c)))
+    (ap (λ es. held es k.lists.items k.processes)
+    (events-stand k.events.entries (record { process = c.args.process; place = c.args.at; queue = Waiters }) k.waiting.items c.self.invariant.2
+    ∙ wait-waits c.args.at c.args.process k.events.entries k.waiting.items (waits c)))

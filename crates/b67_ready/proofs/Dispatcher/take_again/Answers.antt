@@ -1,4 +1,4 @@
-use Rattle.std.specs.Vec.{vec_capacity}
+use Rattle.std.specs.VecDeque.{deque_capacity}
 use Rattle.std.proofs.Common.{◌≡◌, ℕ, sym, ap, subst, arith}
 use Rattle.b67_ready.specs.Ready.{Ready, TakesAgain, counted_times}
 use Rattle.b67_ready.proofs.Again.{taken_again, counted_most}
@@ -13,12 +13,12 @@ returns-clause-counted g c =
       rule = c.self.inside.rule;
       waiting = c.self.inside.waiting.items;
       takes = c.saturating_add-self-inside.result;
-      room = vec_capacity c.self.inside.waiting;
+      room = deque_capacity c.self.inside.waiting;
     } ≡ record s { takes = counted_times c.args.times s.takes }) c.self.view_is (ap (λ (n : ℕ). record {
       rule = c.self.inside.rule;
       waiting = c.self.inside.waiting.items;
       takes = n;
-      room = vec_capacity c.self.inside.waiting;
+      room = deque_capacity c.self.inside.waiting;
     }) takes)
 
 pub returns-clause-again : goal.returns-clause-again
