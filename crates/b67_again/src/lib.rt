@@ -1,6 +1,6 @@
 //! Stores that are begun again, and compared with one another.
 //!
-//! A machine that is run from its first image many times keeps the memory of its store ([`Again::clear_from`]), and is compared with
+//! A machine that is run from its first image many times keeps its store ([`Again::clear_from`]), and is compared with
 //! another one by what their stores hold ([`Again::same`]).
 #![tactic(auto)]
 
@@ -10,7 +10,7 @@ use b67_store::Core;
 
 /// A store that gives up what was opened in it, and compares itself with another one of its kind.
 pub trait Again: Core {
-    /// Closes all rows, and all stacks from this number on, and leaves no places for them in the lists. It keeps its memory.
+    /// Closes all rows, and all stacks from this number on, and leaves no places for them in the lists. The memory of the rows is kept.
     fn clear_from(&mut self, stack: u16)
         ensures stacks { Self.stacks self.new ≡ take stack (Self.stacks self.old) }
         ensures rows { Self.rows self.new ≡ [] };

@@ -4,17 +4,13 @@ use Rattle.std.specs.Prelude.{◌⊎◌, slice_get}
 use Rattle.std.specs.List.{insert, remove}
 use Rattle.std.proofs.lemmas.Bool.{cases_eq}
 use Rattle.b67_store.proofs.StoreLaws.{opened_here, opened_others, changed_others, closed_here}
-use Rattle.b67_store.specs.Store.{at_number, opened_at, stack_limit}
-use Rattle.b67_flat.specs.declared.Holder.{Holder}
-use Rattle.b67_flat.specs.declared.Holder.TheVariants as of
+use Rattle.b67_store.specs.Store.{at_number, opened_at}
 use Rattle.b67_flat.specs.declared.Span.{Span}
-use Rattle.b67_flat.specs.declared.stack_table.HeldStack.{HeldStack}
 use Rattle.b67_flat.specs.declared.row_table.HeldRow.{HeldRow}
 use Rattle.b67_flat.specs.Spans.{end_of, Ascend, first_fit, span_for, opened, below, closed, IsOneOf}
-use Rattle.b67_flat.specs.Flat.{span_of_stack, span_of_row, IsHeld, AreSpans}
+use Rattle.b67_flat.specs.Flat.{span_of_row, IsHeld, AreSpans}
 use Rattle.b67_flat.proofs.Fits.{lt_true, lt_false, fit_within}
 use Rattle.b67_flat.proofs.Areas.{begins_past, some_same}
-use Rattle.b67_flat.proofs.Stores.{number_of, is_stack, differ}
 
 pub none_some : {X A : Type 0} (x : X) → None ≡ Some x → A
 none_some x e = absurd (search rules)
@@ -72,143 +68,69 @@ pub below_within : (spans : List Span) (t : Span) → Ascend 0 spans → IsOneOf
 below_within spans t a (j, e) = omega (arith, below_it 0 j spans t a e, there_is spans j t e)
 
 -- the new span is one of them
-pub opened_in : (count : ℕ) (holder : Holder) (spans : List Span) → IsOneOf (span_for count holder spans) (opened count holder spans)
-opened_in count holder spans = put_in (first_fit 0 count spans) spans (span_for count holder spans) (fit_within 0 count spans)
+pub opened_in : (count row : ℕ) (spans : List Span) → IsOneOf (span_for count row spans) (opened count row spans)
+opened_in count row spans = put_in (first_fit 0 count spans) spans (span_for count row spans) (fit_within 0 count spans)
 
 -- and so is each that was
-pub still_in : (count : ℕ) (holder : Holder) (spans : List Span) (t : Span) → IsOneOf t spans → IsOneOf t (opened count holder spans)
-still_in count holder spans t (k, e) = stays_in (first_fit 0 count spans) k spans (span_for count holder spans) t (fit_within 0 count spans) e
+pub still_in : (count row : ℕ) (spans : List Span) (t : Span) → IsOneOf t spans → IsOneOf t (opened count row spans)
+still_in count row spans t (k, e) = stays_in (first_fit 0 count spans) k spans (span_for count row spans) t (fit_within 0 count spans) e
 
 -- ---- one more is open
 
-module _ (spans : List Span) (stacks : List (Option HeldStack)) (rows : List (Option HeldRow)) (are : AreSpans spans stacks rows) where
-  pub stack_opened : (n : ℕ) (held : HeldStack) → at_number stacks n ≡ None → span_of_stack n held ≡ span_for stack_limit (of.Stack n) spans → held.used ≤ stack_limit → AreSpans (opened stack_limit (of.Stack n) spans) (opened_at stacks n held) rows
-  stack_opened n held none same few =
-      record {
-        of_stacks = λ k x e. ⊎_elim
-            (λ (f : k ≡ n). here k x f (some_same x held x (sym (opened_here stacks n held) ∙ ap (λ (j : ℕ). at_number now j) (sym f) ∙ e)))
-            (λ (d : k ≢ n). other k x (are.of_stacks k x (sym (opened_others stacks n k held d) ∙ e)))
-            (cases_eq k n);
-        of_rows = λ k x e. still_in stack_limit (of.Stack n) spans (span_of_row k x) (are.of_rows k x e);
-        no_other = λ s o. ⊎_elim
-            (λ (f : s ≡ span_for stack_limit (of.Stack n) spans). subst (λ (z : Span). IsHeld now rows z.holder z) (sym f) (held, opened_here stacks n held, sym same))
-            (λ (r : IsOneOf s spans). still s.holder s (are.no_other s r))
-            (one_of (first_fit 0 stack_limit spans) o.0 spans (span_for stack_limit (of.Stack n) spans) s (fit_within 0 stack_limit spans) o.1);
-      }
-    where
-      now : List (Option HeldStack)
-      now = opened_at stacks n held
-
-      all : List Span
-      all = opened stack_limit (of.Stack n) spans
-
-      other : (k : ℕ) (x : HeldStack) → IsOneOf (span_of_stack k x) spans × (x.used ≤ stack_limit) → IsOneOf (span_of_stack k x) all × (x.used ≤ stack_limit)
-      other k x r = (still_in stack_limit (of.Stack n) spans (span_of_stack k x) r.0, r.1)
-
-      here : (k : ℕ) (x : HeldStack) → k ≡ n → held ≡ x → IsOneOf (span_of_stack k x) all × (x.used ≤ stack_limit)
-      here k x f e =
-          let is : span_for stack_limit (of.Stack n) spans ≡ span_of_stack k x = sym same ∙ ap (λ (y : HeldStack). span_of_stack n y) e ∙ ap (λ (j : ℕ). span_of_stack j x) (sym f) in
-          (subst (λ (s : Span). IsOneOf s all) is (opened_in stack_limit (of.Stack n) spans), omega (arith, few, ap (λ (y : HeldStack). y.used) e))
-
-      still : (holder : Holder) (s : Span) → IsHeld stacks rows holder s → IsHeld now rows holder s
-      still (of.Row k) s i = i
-      still (of.Stack k) s (x, e, f) = ⊎_elim
-          (λ (g : k ≡ n). none_some x (sym none ∙ ap (λ (j : ℕ). at_number stacks j) (sym g) ∙ e))
-          (λ (d : k ≢ n). (x, opened_others stacks n k held d ∙ e, f))
-          (cases_eq k n)
-
-  pub row_opened : (n : ℕ) (held : HeldRow) → at_number rows n ≡ None → span_of_row n held ≡ span_for held.length (of.Row n) spans → AreSpans (opened held.length (of.Row n) spans) stacks (opened_at rows n held)
+module _ (spans : List Span) (rows : List (Option HeldRow)) (are : AreSpans spans rows) where
+  pub row_opened : (n : ℕ) (held : HeldRow) → at_number rows n ≡ None → span_of_row n held ≡ span_for held.length n spans → AreSpans (opened held.length n spans) (opened_at rows n held)
   row_opened n held none same =
       record {
-        of_stacks = λ k x e. other k x (are.of_stacks k x e);
         of_rows = λ k x e. ⊎_elim
             (λ (f : k ≡ n). here k x f (some_same x held x (sym (opened_here rows n held) ∙ ap (λ (j : ℕ). at_number now j) (sym f) ∙ e)))
-            (λ (d : k ≢ n). still_in held.length (of.Row n) spans (span_of_row k x) (are.of_rows k x (sym (opened_others rows n k held d) ∙ e)))
+            (λ (d : k ≢ n). still_in held.length n spans (span_of_row k x) (are.of_rows k x (sym (opened_others rows n k held d) ∙ e)))
             (cases_eq k n);
         no_other = λ s o. ⊎_elim
-            (λ (f : s ≡ span_for held.length (of.Row n) spans). subst (λ (z : Span). IsHeld stacks now z.holder z) (sym f) (held, opened_here rows n held, sym same))
-            (λ (r : IsOneOf s spans). still s.holder s (are.no_other s r))
-            (one_of (first_fit 0 held.length spans) o.0 spans (span_for held.length (of.Row n) spans) s (fit_within 0 held.length spans) o.1);
+            (λ (f : s ≡ span_for held.length n spans). subst (λ (z : Span). IsHeld now z.row z) (sym f) (held, opened_here rows n held, sym same))
+            (λ (r : IsOneOf s spans). still s.row s (are.no_other s r))
+            (one_of (first_fit 0 held.length spans) o.0 spans (span_for held.length n spans) s (fit_within 0 held.length spans) o.1);
       }
     where
       now : List (Option HeldRow)
       now = opened_at rows n held
 
       all : List Span
-      all = opened held.length (of.Row n) spans
-
-      other : (k : ℕ) (x : HeldStack) → IsOneOf (span_of_stack k x) spans × (x.used ≤ stack_limit) → IsOneOf (span_of_stack k x) all × (x.used ≤ stack_limit)
-      other k x r = (still_in held.length (of.Row n) spans (span_of_stack k x) r.0, r.1)
+      all = opened held.length n spans
 
       here : (k : ℕ) (x : HeldRow) → k ≡ n → held ≡ x → IsOneOf (span_of_row k x) all
       here k x f e =
-          let is : span_for held.length (of.Row n) spans ≡ span_of_row k x = sym same ∙ ap (λ (y : HeldRow). span_of_row n y) e ∙ ap (λ (j : ℕ). span_of_row j x) (sym f) in
-          subst (λ (s : Span). IsOneOf s all) is (opened_in held.length (of.Row n) spans)
+          let is : span_for held.length n spans ≡ span_of_row k x = sym same ∙ ap (λ (y : HeldRow). span_of_row n y) e ∙ ap (λ (j : ℕ). span_of_row j x) (sym f) in
+          subst (λ (s : Span). IsOneOf s all) is (opened_in held.length n spans)
 
-      still : (holder : Holder) (s : Span) → IsHeld stacks rows holder s → IsHeld stacks now holder s
-      still (of.Stack k) s i = i
-      still (of.Row k) s (x, e, f) = ⊎_elim
+      still : (row : ℕ) (s : Span) → IsHeld rows row s → IsHeld now row s
+      still k s (x, e, f) = ⊎_elim
           (λ (g : k ≡ n). none_some x (sym none ∙ ap (λ (j : ℕ). at_number rows j) (sym g) ∙ e))
           (λ (d : k ≢ n). (x, opened_others rows n k held d ∙ e, f))
           (cases_eq k n)
 
   -- ---- one is closed
 
-  stack_removed : (n j : ℕ) (held : HeldStack) → Ascend 0 spans → at_number stacks n ≡ Some held → slice_get spans j ≡ Some (span_of_stack n held) → AreSpans (remove spans j) (set stacks n None) rows
-  stack_removed n j held a h o =
-      record {
-        of_stacks = λ k x e. ⊎_elim
-            (λ (f : k ≡ n). none_some x (sym (closed_here stacks n) ∙ ap (λ (i : ℕ). at_number (set stacks n None) i) (sym f) ∙ e))
-            (λ (d : k ≢ n). other k x d (are.of_stacks k x (sym (changed_others stacks n k None d) ∙ e)))
-            (cases_eq k n);
-        of_rows = λ k x e. let r = are.of_rows k x e in
-            left_in j r.0 spans (span_of_row k x) (λ z. differ (ap (λ (s : Span). is_stack s.holder) (some_same (span_of_stack n held) (span_of_stack n held) (span_of_row k x) (sym o ∙ ap (λ (i : ℕ). slice_get spans i) (sym z) ∙ r.1)))) r.1;
-        no_other = λ s r. let w = was_in j r.0 spans s r.1 in still w.0 s w.1 w.2 s.holder (are.no_other s (w.0, w.1));
-      }
-    where
-      other : (k : ℕ) (x : HeldStack) → k ≢ n → IsOneOf (span_of_stack k x) spans × (x.used ≤ stack_limit) → IsOneOf (span_of_stack k x) (remove spans j) × (x.used ≤ stack_limit)
-      other k x d r =
-          (left_in j r.0.0 spans (span_of_stack k x) (λ z. d (sym (ap (λ (s : Span). number_of s.holder) (some_same (span_of_stack n held) (span_of_stack n held) (span_of_stack k x) (sym o ∙ ap (λ (i : ℕ). slice_get spans i) (sym z) ∙ r.0.1))))) r.0.1, r.1)
-
-      still : (i : ℕ) (s : Span) → slice_get spans i ≡ Some s → i ≢ j → (holder : Holder) → IsHeld stacks rows holder s → IsHeld (set stacks n None) rows holder s
-      still i s g d (of.Row k) r = r
-      still i s g d (of.Stack k) (x, e, f) = ⊎_elim
-          (λ (m : k ≡ n). absurd (d (one_place spans s i j a g (o ∙ ap Some (sym (f ∙ ap (λ (q : ℕ). span_of_stack q x) m ∙ ap (λ (y : HeldStack). span_of_stack n y) (some_same x x held (sym e ∙ ap (λ (q : ℕ). at_number stacks q) m ∙ h))))))))
-          (λ (m : k ≢ n). (x, changed_others stacks n k None m ∙ e, f))
-          (cases_eq k n)
-
-  row_removed : (n j : ℕ) (held : HeldRow) → Ascend 0 spans → at_number rows n ≡ Some held → slice_get spans j ≡ Some (span_of_row n held) → AreSpans (remove spans j) stacks (set rows n None)
+  row_removed : (n j : ℕ) (held : HeldRow) → Ascend 0 spans → at_number rows n ≡ Some held → slice_get spans j ≡ Some (span_of_row n held) → AreSpans (remove spans j) (set rows n None)
   row_removed n j held a h o =
       record {
-        of_stacks = λ k x e. other k x (are.of_stacks k x e);
         of_rows = λ k x e. ⊎_elim
             (λ (f : k ≡ n). none_some x (sym (closed_here rows n) ∙ ap (λ (i : ℕ). at_number (set rows n None) i) (sym f) ∙ e))
             (λ (d : k ≢ n). left k x d (are.of_rows k x (sym (changed_others rows n k None d) ∙ e)))
             (cases_eq k n);
-        no_other = λ s r. let w = was_in j r.0 spans s r.1 in still w.0 s w.1 w.2 s.holder (are.no_other s (w.0, w.1));
+        no_other = λ s r. let w = was_in j r.0 spans s r.1 in still w.0 s w.1 w.2 s.row (are.no_other s (w.0, w.1));
       }
     where
       left : (k : ℕ) (x : HeldRow) → k ≢ n → IsOneOf (span_of_row k x) spans → IsOneOf (span_of_row k x) (remove spans j)
       left k x d r =
-          left_in j r.0 spans (span_of_row k x) (λ z. d (sym (ap (λ (s : Span). number_of s.holder) (some_same (span_of_row n held) (span_of_row n held) (span_of_row k x) (sym o ∙ ap (λ (i : ℕ). slice_get spans i) (sym z) ∙ r.1))))) r.1
+          left_in j r.0 spans (span_of_row k x) (λ z. d (sym (ap (λ (s : Span). s.row) (some_same (span_of_row n held) (span_of_row n held) (span_of_row k x) (sym o ∙ ap (λ (i : ℕ). slice_get spans i) (sym z) ∙ r.1))))) r.1
 
-      other : (k : ℕ) (x : HeldStack) → IsOneOf (span_of_stack k x) spans × (x.used ≤ stack_limit) → IsOneOf (span_of_stack k x) (remove spans j) × (x.used ≤ stack_limit)
-      other k x r =
-          (left_in j r.0.0 spans (span_of_stack k x) (λ z. differ (sym (ap (λ (s : Span). is_stack s.holder) (some_same (span_of_row n held) (span_of_row n held) (span_of_stack k x) (sym o ∙ ap (λ (i : ℕ). slice_get spans i) (sym z) ∙ r.0.1))))) r.0.1, r.1)
-
-      still : (i : ℕ) (s : Span) → slice_get spans i ≡ Some s → i ≢ j → (holder : Holder) → IsHeld stacks rows holder s → IsHeld stacks (set rows n None) holder s
-      still i s g d (of.Stack k) r = r
-      still i s g d (of.Row k) (x, e, f) = ⊎_elim
+      still : (i : ℕ) (s : Span) → slice_get spans i ≡ Some s → i ≢ j → (row : ℕ) → IsHeld rows row s → IsHeld (set rows n None) row s
+      still i s g d k (x, e, f) = ⊎_elim
           (λ (m : k ≡ n). absurd (d (one_place spans s i j a g (o ∙ ap Some (sym (f ∙ ap (λ (q : ℕ). span_of_row q x) m ∙ ap (λ (y : HeldRow). span_of_row n y) (some_same x x held (sym e ∙ ap (λ (q : ℕ). at_number rows q) m ∙ h))))))))
           (λ (m : k ≢ n). (x, changed_others rows n k None m ∙ e, f))
           (cases_eq k n)
 
-  pub stack_closed : (n : ℕ) (held : HeldStack) → Ascend 0 spans → at_number stacks n ≡ Some held → AreSpans (closed held.place spans) (set stacks n None) rows
-  stack_closed n held a h =
-      let r = (are.of_stacks n held h).0 in
-      subst (λ (i : ℕ). AreSpans (remove spans i) (set stacks n None) rows) (sym (below_it 0 r.0 spans (span_of_stack n held) a r.1)) (stack_removed n r.0 held a h r.1)
-
-  pub row_closed : (n : ℕ) (held : HeldRow) → Ascend 0 spans → at_number rows n ≡ Some held → AreSpans (closed held.place spans) stacks (set rows n None)
+  pub row_closed : (n : ℕ) (held : HeldRow) → Ascend 0 spans → at_number rows n ≡ Some held → AreSpans (closed held.place spans) (set rows n None)
   row_closed n held a h =
       let r = are.of_rows n held h in
-      subst (λ (i : ℕ). AreSpans (remove spans i) stacks (set rows n None)) (sym (below_it 0 r.0 spans (span_of_row n held) a r.1)) (row_removed n r.0 held a h r.1)
+      subst (λ (i : ℕ). AreSpans (remove spans i) (set rows n None)) (sym (below_it 0 r.0 spans (span_of_row n held) a r.1)) (row_removed n r.0 held a h r.1)

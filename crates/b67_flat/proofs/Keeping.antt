@@ -6,10 +6,9 @@ use Rattle.std.proofs.lemmas.Bool.{cases_lt}
 use Rattle.b67_word.specs.Word.{Word, operand}
 use Rattle.b67_store.specs.Store.{Row}
 use Rattle.b67_flat.specs.declared.Span.{Span}
-use Rattle.b67_flat.specs.declared.stack_table.HeldStack.{HeldStack}
 use Rattle.b67_flat.specs.declared.row_table.HeldRow.{HeldRow}
 use Rattle.b67_flat.specs.Spans.{Ascend, end_after, IsOneOf}
-use Rattle.b67_flat.specs.Flat.{words_at, lengthened, pasted, stack_in, row_in, stacks_in, rows_in, span_of_stack, span_of_row, AreSpans}
+use Rattle.b67_flat.specs.Flat.{words_at, lengthened, pasted, row_in, rows_in, span_of_row, AreSpans}
 use Rattle.b67_flat.proofs.Areas.{ordered, ends_within, mapped_same, some_same}
 
 -- ---- lists
@@ -56,12 +55,8 @@ pasted_inside words others place q =
 abbrev pub KeepsSpans : List Span → List Word → List Word → Type 0
 KeepsSpans spans old new = (t : Span) (count : ℕ) → IsOneOf t spans → count ≤ t.length → words_at new t.place count ≡ words_at old t.place count
 
-pub kept_stacks : (spans : List Span) (stacks : List (Option HeldStack)) (rows : List (Option HeldRow)) (old new : List Word) → AreSpans spans stacks rows → KeepsSpans spans old new → stacks_in new stacks ≡ stacks_in old stacks
-kept_stacks spans stacks rows old new are keeps =
-    mapped_same (stack_in new) (stack_in old) stacks (λ n x e. keeps (span_of_stack n x) x.used (are.of_stacks n x e).0 (are.of_stacks n x e).1)
-
-pub kept_rows : (spans : List Span) (stacks : List (Option HeldStack)) (rows : List (Option HeldRow)) (old new : List Word) → AreSpans spans stacks rows → KeepsSpans spans old new → rows_in new rows ≡ rows_in old rows
-kept_rows spans stacks rows old new are keeps =
+pub kept_rows : (spans : List Span) (rows : List (Option HeldRow)) (old new : List Word) → AreSpans spans rows → KeepsSpans spans old new → rows_in new rows ≡ rows_in old rows
+kept_rows spans rows old new are keeps =
     mapped_same (row_in new) (row_in old) rows (λ n x e. ap (λ (ws : List Word). row_of ws x.counted) (keeps (span_of_row n x) x.length (are.of_rows n x e) (omega arith)))
   where
     row_of : List Word → Bool → Row

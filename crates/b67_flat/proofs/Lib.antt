@@ -8,6 +8,5 @@ pub mod Frees
 pub mod Keeping
 pub mod Holding
 pub mod Opened
-pub mod Lending
 pub mod Least
 pub mod Same

@@ -1,23 +1,20 @@
--- What is seen of a memory in which one more stack or row is open, or one less.
+-- What is seen of a memory in which one more row is open, or one less.
 use Rattle.std.proofs.Common.{◌≡◌, ◌≢◌, ℕ, ◌+◌, ◌<◌, ◌≤◌, Bool, false, List, [], ◌++◌, length, set, take, drop, replicate, pos, Option, Some, None, subst, refl, ap, sym, ◌∙◌, arith, rules, length-append}
 use Rattle.std.specs.Prelude.{◌&&◌, nat_lt, option_map, is_some}
 use Rattle.std.proofs.lemmas.List.{map-set, length-replicate, length-take-le, length-drop}
 use Rattle.b67_word.specs.Word.{Word, operand}
-use Rattle.b67_store.specs.Store.{at_number, opened_at, least_free, stack_limit, Rows, zero_row, exceeds, count_limit}
-use Rattle.b67_flat.specs.declared.Holder.{Holder}
-use Rattle.b67_flat.specs.declared.Holder.TheVariants as of
+use Rattle.b67_store.specs.Store.{at_number, opened_at, least_free, Rows, zero_row, exceeds, count_limit}
 use Rattle.b67_flat.specs.declared.Span.{Span}
-use Rattle.b67_flat.specs.declared.stack_table.HeldStack.{HeldStack}
 use Rattle.b67_flat.specs.declared.row_table.HeldRow.{HeldRow}
 use Rattle.b67_flat.specs.Spans.{Ascend, end_after, place_for, span_for, opened, below, closed, IsOneOf}
-use Rattle.b67_flat.specs.Flat.{memory_of, IsMemory, words_at, lengthened, zeroed, stack_in, row_in, stacks_in, rows_in, bare_rows, IsHeld, AreSpans}
+use Rattle.b67_flat.specs.Flat.{memory_of, IsMemory, words_at, lengthened, zeroed, row_in, rows_in, bare_rows, IsHeld, AreSpans}
 use Rattle.b67_flat.proofs.Fits.{ascend_removed, end_removed}
 use Rattle.b67_flat.proofs.Areas.{opened_mapped, ends_within}
 use Rattle.b67_flat.proofs.Opening.{closed_again}
 use Rattle.b67_flat.proofs.Frees.{least_mapped}
 use Rattle.b67_store.proofs.StoreLaws.{free_here}
-use Rattle.b67_flat.proofs.Keeping.{KeepsSpans, kept_stacks, kept_rows, lengthened_keeps, pasted_apart, pasted_inside}
-use Rattle.b67_flat.proofs.Holding.{none_some, opened_in, still_in, below_within, stack_opened, row_opened}
+use Rattle.b67_flat.proofs.Keeping.{KeepsSpans, kept_rows, lengthened_keeps, pasted_apart, pasted_inside}
+use Rattle.b67_flat.proofs.Holding.{none_some, opened_in, still_in, below_within, row_opened}
 use Rattle.b67_flat.proofs.Stores.{row_of, counted_seen}
 
 -- ---- what holds of the memory
@@ -44,37 +41,25 @@ memory_zeroed words spans place count p m = (m.0, omega (arith, m.1, zeroed_size
 
 -- ---- one more is open
 
-module _ (words : List Word) (spans : List Span) (stacks : List (Option HeldStack)) (rows : List (Option HeldRow)) (m : IsMemory (memory_of words spans)) (are : AreSpans spans stacks rows) where
+module _ (words : List Word) (spans : List Span) (rows : List (Option HeldRow)) (m : IsMemory (memory_of words spans)) (are : AreSpans spans rows) where
   -- the words are lengthened
-  pub long_stacks : (more : ℕ) → stacks_in (lengthened words more) stacks ≡ stacks_in words stacks
-  long_stacks more = kept_stacks spans stacks rows words (lengthened words more) are (lengthened_keeps spans words more m.0 m.1)
-
   pub long_rows : (more : ℕ) → rows_in (lengthened words more) rows ≡ rows_in words rows
-  long_rows more = kept_rows spans stacks rows words (lengthened words more) are (lengthened_keeps spans words more m.0 m.1)
-
-  pub stack_in_opened : (more n : ℕ) (held : HeldStack) → held.used ≡ 0 → stacks_in (lengthened words more) (opened_at stacks n held) ≡ opened_at (stacks_in words stacks) n []
-  stack_in_opened more n held e =
-      opened_mapped (stack_in (lengthened words more)) stacks n held
-      ∙ ap (λ (k : ℕ). opened_at (stacks_in (lengthened words more) stacks) n (take k (drop held.place (lengthened words more)))) e
-      ∙ ap (λ t. opened_at t n []) (long_stacks more)
+  long_rows more = kept_rows spans rows words (lengthened words more) are (lengthened_keeps spans words more m.0 m.1)
 
   -- operands 0 in the span of a row that is to be opened stand in no other span
-  zeros_apart : (n count : ℕ) → at_number rows n ≡ None → Ascend 0 (opened count (of.Row n) spans) → place_for count spans + count ≤ length words → end_after 0 (opened count (of.Row n) spans) ≤ length words → KeepsSpans spans words (zeroed words (place_for count spans) count)
+  zeros_apart : (n count : ℕ) → at_number rows n ≡ None → Ascend 0 (opened count n spans) → place_for count spans + count ≤ length words → end_after 0 (opened count n spans) ≤ length words → KeepsSpans spans words (zeroed words (place_for count spans) count)
   zeros_apart n count none a p e = λ t size o q.
-      pasted_apart words (replicate count (operand (pos 0))) (opened count (of.Row n) spans) (span_for count (of.Row n) spans) t size a e (length-replicate count (operand (pos 0))) (opened_in count (of.Row n) spans) (still_in count (of.Row n) spans t o) (other t o) q
+      pasted_apart words (replicate count (operand (pos 0))) (opened count n spans) (span_for count n spans) t size a e (length-replicate count (operand (pos 0))) (opened_in count n spans) (still_in count n spans t o) (other t o) q
     where
-      other : (t : Span) → IsOneOf t spans → span_for count (of.Row n) spans ≢ t
+      other : (t : Span) → IsOneOf t spans → span_for count n spans ≢ t
       other t o f =
-          let held : IsHeld stacks rows (of.Row n) (span_for count (of.Row n) spans) = subst (λ (z : Span). IsHeld stacks rows z.holder z) (sym f) (are.no_other t o) in
+          let held : IsHeld rows n (span_for count n spans) = subst (λ (z : Span). IsHeld rows z.row z) (sym f) (are.no_other t o) in
           none_some held.0 (sym none ∙ held.1)
 
-  pub zero_stacks : (n count : ℕ) → at_number rows n ≡ None → Ascend 0 (opened count (of.Row n) spans) → place_for count spans + count ≤ length words → end_after 0 (opened count (of.Row n) spans) ≤ length words → stacks_in (zeroed words (place_for count spans) count) stacks ≡ stacks_in words stacks
-  zero_stacks n count none a p e = kept_stacks spans stacks rows words (zeroed words (place_for count spans) count) are (zeros_apart n count none a p e)
+  pub zero_rows : (n count : ℕ) → at_number rows n ≡ None → Ascend 0 (opened count n spans) → place_for count spans + count ≤ length words → end_after 0 (opened count n spans) ≤ length words → rows_in (zeroed words (place_for count spans) count) rows ≡ rows_in words rows
+  zero_rows n count none a p e = kept_rows spans rows words (zeroed words (place_for count spans) count) are (zeros_apart n count none a p e)
 
-  pub zero_rows : (n count : ℕ) → at_number rows n ≡ None → Ascend 0 (opened count (of.Row n) spans) → place_for count spans + count ≤ length words → end_after 0 (opened count (of.Row n) spans) ≤ length words → rows_in (zeroed words (place_for count spans) count) rows ≡ rows_in words rows
-  zero_rows n count none a p e = kept_rows spans stacks rows words (zeroed words (place_for count spans) count) are (zeros_apart n count none a p e)
-
-  pub row_in_opened : (n : ℕ) (held : HeldRow) → held.place ≡ place_for held.length spans → at_number rows n ≡ None → Ascend 0 (opened held.length (of.Row n) spans) → place_for held.length spans + held.length ≤ length words → end_after 0 (opened held.length (of.Row n) spans) ≤ length words → rows_in (zeroed words (place_for held.length spans) held.length) (opened_at rows n held) ≡ opened_at (rows_in words rows) n (zero_row held.length held.counted)
+  pub row_in_opened : (n : ℕ) (held : HeldRow) → held.place ≡ place_for held.length spans → at_number rows n ≡ None → Ascend 0 (opened held.length n spans) → place_for held.length spans + held.length ≤ length words → end_after 0 (opened held.length n spans) ≤ length words → rows_in (zeroed words (place_for held.length spans) held.length) (opened_at rows n held) ≡ opened_at (rows_in words rows) n (zero_row held.length held.counted)
   row_in_opened n held same none a p e =
       let zeros : List Word = replicate held.length (operand (pos 0)) in
       let size : length (replicate held.length (operand (pos 0))) ≡ held.length = length-replicate held.length (operand (pos 0)) in
@@ -85,12 +70,9 @@ module _ (words : List Word) (spans : List Span) (stacks : List (Option HeldStac
 
   -- a request exceeds what it exceeds by the table
   pub exceeds_seen : (count : ℕ) (counted : Bool) → exceeds (bare_rows rows) count counted ≡ exceeds (rows_in words rows) count counted
-  exceeds_seen count counted = ap (λ (k : ℕ). counted && nat_lt count_limit (k + count)) (sym (counted_seen (memory_of words spans) stacks rows m are))
+  exceeds_seen count counted = ap (λ (k : ℕ). counted && nat_lt count_limit (k + count)) (sym (counted_seen (memory_of words spans) rows m are))
 
 -- ---- one is closed
-
-pub stack_in_closed : (words : List Word) (stacks : List (Option HeldStack)) (n : ℕ) → stacks_in words (set stacks n None) ≡ set (stacks_in words stacks) n None
-stack_in_closed words stacks n = map-set (option_map (stack_in words)) stacks n None
 
 pub row_in_closed : (words : List Word) (rows : List (Option HeldRow)) (n : ℕ) → rows_in words (set rows n None) ≡ set (rows_in words rows) n None
 row_in_closed words rows n = map-set (option_map (row_in words)) rows n None
@@ -98,52 +80,44 @@ row_in_closed words rows n = map-set (option_map (row_in words)) rows n None
 -- ---- the span that was opened
 
 -- it is found again, and closing it leaves the spans as they were
-pub placed_below : (count : ℕ) (holder : Holder) (spans new : List Span) (place : ℕ) → new ≡ opened count holder spans → place ≡ place_for count spans → Ascend 0 new → below place new < length new
-placed_below count holder spans new place e f a = rw f (below_within new (span_for count holder spans) a (rw e (opened_in count holder spans)))
+pub placed_below : (count row : ℕ) (spans new : List Span) (place : ℕ) → new ≡ opened count row spans → place ≡ place_for count spans → Ascend 0 new → below place new < length new
+placed_below count row spans new place e f a = rw f (below_within new (span_for count row spans) a (rw e (opened_in count row spans)))
 
-pub reclosed : (count : ℕ) (holder : Holder) (spans new : List Span) (place : ℕ) → new ≡ opened count holder spans → place ≡ place_for count spans → Ascend 0 spans → closed place new ≡ spans
-reclosed count holder spans new place e f a = rw (f, e) (closed_again count holder spans a)
+pub reclosed : (count row : ℕ) (spans new : List Span) (place : ℕ) → new ≡ opened count row spans → place ≡ place_for count spans → Ascend 0 spans → closed place new ≡ spans
+reclosed count row spans new place e f a = rw (f, e) (closed_again count row spans a)
 
 -- the words reach as far as it does
-pub placed_within : (words : List Word) (count : ℕ) (holder : Holder) (spans new : List Span) (place : ℕ) → new ≡ opened count holder spans → place ≡ place_for count spans → IsMemory (memory_of words new) → place + count ≤ length words
-placed_within words count holder spans new place e f m =
-    let o : IsOneOf (span_for count holder spans) new = rw e (opened_in count holder spans) in
-    omega (arith, f, ends_within 0 o.0 new (span_for count holder spans) m.0 o.1, m.1)
+pub placed_within : (words : List Word) (count row : ℕ) (spans new : List Span) (place : ℕ) → new ≡ opened count row spans → place ≡ place_for count spans → IsMemory (memory_of words new) → place + count ≤ length words
+placed_within words count row spans new place e f m =
+    let o : IsOneOf (span_for count row spans) new = rw e (opened_in count row spans) in
+    omega (arith, f, ends_within 0 o.0 new (span_for count row spans) m.0 o.1, m.1)
 
-abbrev span_at : ℕ → ℕ → Holder → Span
-span_at place count holder = record { place = place; length = count; holder = holder }
-
--- a stack that is opened at a place
-pub stack_placed : (spans new : List Span) (stacks : List (Option HeldStack)) (rows : List (Option HeldRow)) (n place : ℕ) → AreSpans spans stacks rows → at_number stacks n ≡ None → new ≡ opened stack_limit (of.Stack n) spans → place ≡ place_for stack_limit spans → AreSpans new (opened_at stacks n (record { place = place; used = 0 })) rows
-stack_placed spans new stacks rows n place are none e f =
-    rw e (stack_opened spans stacks rows are n (record { place = place; used = 0 }) none (ap (λ (p : ℕ). span_at p stack_limit (of.Stack n)) f) (omega arith))
+abbrev span_at : ℕ → ℕ → ℕ → Span
+span_at place count row = record { place = place; length = count; row = row }
 
 -- what a row is that is opened at a place, and what is where it is closed again
-pub record RowPlaced (begun words : List Word) (spans new : List Span) (stacks : List (Option HeldStack)) (rows : List (Option HeldRow)) (n : ℕ) (held : HeldRow) : Type 0 where
-  pub stacks_still : stacks_in words stacks ≡ stacks_in begun stacks
+pub record RowPlaced (begun words : List Word) (spans new : List Span) (rows : List (Option HeldRow)) (n : ℕ) (held : HeldRow) : Type 0 where
   pub rows_still : rows_in words rows ≡ rows_in begun rows
   pub rows_now : rows_in words (opened_at rows n held) ≡ opened_at (rows_in begun rows) n (zero_row held.length held.counted)
   pub memory_now : IsMemory (memory_of words new)
   pub memory_still : IsMemory (memory_of words spans)
-  pub are_now : AreSpans new stacks (opened_at rows n held)
+  pub are_now : AreSpans new (opened_at rows n held)
 
-pub row_placed : (begun long words : List Word) (spans new : List Span) (stacks : List (Option HeldStack)) (rows : List (Option HeldRow)) (n more : ℕ) (held : HeldRow) → IsMemory (memory_of begun spans) → AreSpans spans stacks rows → at_number rows n ≡ None → long ≡ lengthened begun more → new ≡ opened held.length (of.Row n) spans → held.place ≡ place_for held.length spans → words ≡ zeroed long held.place held.length → IsMemory (memory_of long new) → RowPlaced begun words spans new stacks rows n held
-row_placed begun long words spans new stacks rows n more held m are none l e f z after =
-    let p : held.place + held.length ≤ length long = placed_within long held.length (of.Row n) spans new held.place e f after in
+pub row_placed : (begun long words : List Word) (spans new : List Span) (rows : List (Option HeldRow)) (n more : ℕ) (held : HeldRow) → IsMemory (memory_of begun spans) → AreSpans spans rows → at_number rows n ≡ None → long ≡ lengthened begun more → new ≡ opened held.length n spans → held.place ≡ place_for held.length spans → words ≡ zeroed long held.place held.length → IsMemory (memory_of long new) → RowPlaced begun words spans new rows n held
+row_placed begun long words spans new rows n more held m are none l e f z after =
+    let p : held.place + held.length ≤ length long = placed_within long held.length n spans new held.place e f after in
     let q : place_for held.length spans + held.length ≤ length long = omega (arith, p, f) in
-    let a : Ascend 0 (opened held.length (of.Row n) spans) = rw (← e) after.0 in
-    let w : end_after 0 (opened held.length (of.Row n) spans) ≤ length long = rw (← e) after.1 in
+    let a : Ascend 0 (opened held.length n spans) = rw (← e) after.0 in
+    let w : end_after 0 (opened held.length n spans) ≤ length long = rw (← e) after.1 in
     let b : IsMemory (memory_of long spans) = rw l (memory_lengthened begun spans more m) in
     let g : words ≡ zeroed long (place_for held.length spans) held.length = z ∙ ap (λ (k : ℕ). zeroed long k held.length) f in
-    let rows_long : rows_in long rows ≡ rows_in begun rows = rw l (long_rows begun spans stacks rows m are more) in
-    let stacks_long : stacks_in long stacks ≡ stacks_in begun stacks = rw l (long_stacks begun spans stacks rows m are more) in
+    let rows_long : rows_in long rows ≡ rows_in begun rows = rw l (long_rows begun spans rows m are more) in
     record {
-      stacks_still = ap (λ (ws : List Word). stacks_in ws stacks) g ∙ zero_stacks long spans stacks rows b are n held.length none a q w ∙ stacks_long;
-      rows_still = ap (λ (ws : List Word). rows_in ws rows) g ∙ zero_rows long spans stacks rows b are n held.length none a q w ∙ rows_long;
-      rows_now = ap (λ (ws : List Word). rows_in ws (opened_at rows n held)) g ∙ row_in_opened long spans stacks rows b are n held f none a q w ∙ ap (λ (t : Rows). opened_at t n (zero_row held.length held.counted)) rows_long;
+      rows_still = ap (λ (ws : List Word). rows_in ws rows) g ∙ zero_rows long spans rows b are n held.length none a q w ∙ rows_long;
+      rows_now = ap (λ (ws : List Word). rows_in ws (opened_at rows n held)) g ∙ row_in_opened long spans rows b are n held f none a q w ∙ ap (λ (t : Rows). opened_at t n (zero_row held.length held.counted)) rows_long;
       memory_now = rw z (memory_zeroed long new held.place held.length p after);
       memory_still = rw z (memory_zeroed long spans held.place held.length p b);
-      are_now = rw e (row_opened spans stacks rows are n held none (ap (λ (k : ℕ). span_at k held.length (of.Row n)) f));
+      are_now = rw e (row_opened spans rows are n held none (ap (λ (k : ℕ). span_at k held.length n) f));
     }
 
 -- the least number that is free is so in what is seen

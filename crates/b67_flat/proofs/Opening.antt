@@ -4,7 +4,6 @@ use Rattle.std.specs.Prelude.{nat_lt}
 use Rattle.std.specs.List.{insert, remove}
 use Rattle.std.proofs.lemmas.List.{append_assoc, length-append, length-replicate, length-take-le, drop_more, set_at}
 use Rattle.b67_flat.specs.declared.Span.{Span}
-use Rattle.b67_flat.specs.declared.Holder.{Holder}
 use Rattle.b67_flat.specs.Spans.{end_of, Ascend, end_after, gap_before, first_fit, place_for, span_for, opened, below, closed}
 use Rattle.b67_flat.proofs.Fits.{fit_within, ascend_inserted, end_inserted, end_within}
 use Rattle.b67_flat.proofs.Walks.{is_below, is_not_below}
@@ -19,12 +18,12 @@ fit_wide from count [] a p = absurd (omega arith)
 fit_wide from count (s ∷ ss) a p = wide_case from count s ss (first_fit (end_of s) count ss) (nat_lt s.place (from + count)) refl (λ q. fit_wide (end_of s) count ss a.2 q) p
 
 -- the spans with one more ascend
-pub opened_ascend : (count : ℕ) (holder : Holder) (spans : List Span) → Ascend 0 spans → 1 ≤ count → Ascend 0 (opened count holder spans)
-opened_ascend count holder spans a some = ascend_inserted 0 (first_fit 0 count spans) spans (span_for count holder spans) a (fit_within 0 count spans) refl some (fit_wide 0 count spans a)
+pub opened_ascend : (count row : ℕ) (spans : List Span) → Ascend 0 spans → 1 ≤ count → Ascend 0 (opened count row spans)
+opened_ascend count row spans a some = ascend_inserted 0 (first_fit 0 count spans) spans (span_for count row spans) a (fit_within 0 count spans) refl some (fit_wide 0 count spans a)
 
 -- and end within what the words and the new one reach
-pub opened_end : (count most : ℕ) (holder : Holder) (spans : List Span) → Ascend 0 spans → 1 ≤ count → end_after 0 spans ≤ most → place_for count spans + count ≤ most → end_after 0 (opened count holder spans) ≤ most
-opened_end count most holder spans a some p q = end_inserted 0 (first_fit 0 count spans) spans (span_for count holder spans) most (opened_ascend count holder spans a some) (fit_within 0 count spans) p q
+pub opened_end : (count most row : ℕ) (spans : List Span) → Ascend 0 spans → 1 ≤ count → end_after 0 spans ≤ most → place_for count spans + count ≤ most → end_after 0 (opened count row spans) ≤ most
+opened_end count most row spans a some p q = end_inserted 0 (first_fit 0 count spans) spans (span_for count row spans) most (opened_ascend count row spans a some) (fit_within 0 count spans) p q
 
 -- the place at which one opens is not beyond the end of all
 pub place_within : (count : ℕ) (spans : List Span) → Ascend 0 spans → place_for count spans ≤ end_after 0 spans
@@ -55,9 +54,9 @@ removed_again zero xs x p = refl
 removed_again (suc i) [] x p = absurd (omega arith)
 removed_again (suc i) (y ∷ ys) x p = ap (λ zs. y ∷ zs) (removed_again i ys x (omega arith))
 
-pub closed_again : (count : ℕ) (holder : Holder) (spans : List Span) → Ascend 0 spans → closed (place_for count spans) (opened count holder spans) ≡ spans
-closed_again count holder spans a =
-    ap (λ k. remove (opened count holder spans) k) (below_opened 0 (first_fit 0 count spans) spans (span_for count holder spans) a (fit_within 0 count spans) refl) ∙ removed_again (first_fit 0 count spans) spans (span_for count holder spans) (fit_within 0 count spans)
+pub closed_again : (count row : ℕ) (spans : List Span) → Ascend 0 spans → closed (place_for count spans) (opened count row spans) ≡ spans
+closed_again count row spans a =
+    ap (λ k. remove (opened count row spans) k) (below_opened 0 (first_fit 0 count spans) spans (span_for count row spans) a (fit_within 0 count spans) refl) ∙ removed_again (first_fit 0 count spans) spans (span_for count row spans) (fit_within 0 count spans)
 
 -- ---- operands 0 in their place
 

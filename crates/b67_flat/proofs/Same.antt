@@ -4,10 +4,7 @@ use Rattle.std.specs.Prelude.{is_some, option_map}
 use Rattle.std.proofs.lemmas.Bool.{cases_eq, cases_lt}
 use Rattle.b67_store.proofs.StoreLaws.{closed_here, changed_others}
 use Rattle.b67_store.specs.Store.{at_number, closed_at}
-use Rattle.b67_flat.specs.declared.Holder.{Holder}
-use Rattle.b67_flat.specs.declared.Holder.TheVariants as of
 use Rattle.b67_flat.specs.declared.Span.{Span}
-use Rattle.b67_flat.specs.declared.stack_table.HeldStack.{HeldStack}
 use Rattle.b67_flat.specs.declared.row_table.HeldRow.{HeldRow}
 use Rattle.b67_flat.specs.Flat.{IsHeld, AreSpans}
 
@@ -56,33 +53,14 @@ pub unmapped : {X Y : Type 0} (f : X → Y) (o : Option X) → option_map f o �
 unmapped f None e = refl
 unmapped f (Some x) e = cc
 
--- the last of a list, and the list without it where it is closed
-pub at_end : {X : Type 0} (ys : List (Option X)) (o : Option X) → at_number (ys ++ o ∷ []) (length ys) ≡ o
-at_end [] o = refl
-at_end (y ∷ ys) o = at_end ys o
+-- the spans are those of the rows that are open, whatever else the list has
+module _ (spans : List Span) (rows left : List (Option HeldRow)) (alike : (k : ℕ) → at_number left k ≡ at_number rows k) where
+  still_held : (row : ℕ) (s : Span) → IsHeld rows row s → IsHeld left row s
+  still_held k s (x, e, f) = (x, alike k ∙ e, f)
 
-pub closed_at_end : {X : Type 0} (ys : List (Option X)) (o : Option X) (k : ℕ) → at_number ys k ≡ at_number (set (ys ++ o ∷ []) (length ys) None) k
-closed_at_end [] o zero = refl
-closed_at_end [] o (suc k) = refl
-closed_at_end (y ∷ ys) o zero = refl
-closed_at_end (y ∷ ys) o (suc k) = closed_at_end ys o k
-
-pub none_at_end : {X : Type 0} (ys : List (Option X)) (k : ℕ) → at_number ys k ≡ at_number (ys ++ None ∷ []) k
-none_at_end [] zero = refl
-none_at_end [] (suc k) = refl
-none_at_end (y ∷ ys) zero = refl
-none_at_end (y ∷ ys) (suc k) = none_at_end ys k
-
--- the spans are those of what is open, whatever else the lists have
-module _ (spans : List Span) (stacks now : List (Option HeldStack)) (rows left : List (Option HeldRow)) (same : (k : ℕ) → at_number now k ≡ at_number stacks k) (alike : (k : ℕ) → at_number left k ≡ at_number rows k) where
-  still_held : (holder : Holder) (s : Span) → IsHeld stacks rows holder s → IsHeld now left holder s
-  still_held (of.Stack k) s (x, e, f) = (x, same k ∙ e, f)
-  still_held (of.Row k) s (x, e, f) = (x, alike k ∙ e, f)
-
-  pub spans_still : AreSpans spans stacks rows → AreSpans spans now left
+  pub spans_still : AreSpans spans rows → AreSpans spans left
   spans_still are =
       record {
-        of_stacks = λ k x e. are.of_stacks k x (sym (same k) ∙ e);
         of_rows = λ k x e. are.of_rows k x (sym (alike k) ∙ e);
-        no_other = λ s o. still_held s.holder s (are.no_other s o);
+        no_other = λ s o. still_held s.row s (are.no_other s o);
       }

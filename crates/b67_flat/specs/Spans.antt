@@ -1,7 +1,6 @@
 -- How spans stand in a memory, and where a new one comes to stand.
 use Rattle.std.specs.Prelude.{◌≡◌, ◌⊎◌, ℕ, zero, suc, ◌+◌, ◌-◌, ◌<◌, ◌≤◌, ⊤, nat_lt, List, [], ◌∷◌, take, Some, slice_get, if◌then◌else◌}
 use Rattle.std.specs.List.{insert, remove}
-use Rattle.b67_flat.specs.declared.Holder.{Holder}
 use Rattle.b67_flat.specs.declared.Span.{Span}
 
 -- the place after a span's last word
@@ -33,12 +32,12 @@ first_fit from count (span ∷ spans) = if nat_lt span.place (from + count) then
 abbrev pub place_for : ℕ → List Span → ℕ
 place_for count spans = end_after 0 (take (first_fit 0 count spans) spans)
 
-abbrev pub span_for : ℕ → Holder → List Span → Span
-span_for count holder spans = record { place = place_for count spans; length = count; holder = holder }
+abbrev pub span_for : ℕ → ℕ → List Span → Span
+span_for count row spans = record { place = place_for count spans; length = count; row = row }
 
 -- the spans with one more
-abbrev pub opened : ℕ → Holder → List Span → List Span
-opened count holder spans = insert spans (first_fit 0 count spans) (span_for count holder spans)
+abbrev pub opened : ℕ → ℕ → List Span → List Span
+opened count row spans = insert spans (first_fit 0 count spans) (span_for count row spans)
 
 -- how many of them begin below a place, where they ascend
 abbrev pub below : ℕ → List Span → ℕ

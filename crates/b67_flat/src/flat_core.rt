@@ -1,25 +1,25 @@
-// The store that keeps all stacks and all rows in one list of words.
-ghost use Rattle.std.specs.Prelude.{◌≡◌, ℕ, ◌≤◌, ◌<◌, None, [], is_ok, is_some, OnOk, OnErr, IfOk, IfErr, false, if◌then◌else◌};
-ghost use Rattle.b67_store.specs.Store.{at_number, stack_at, stack_limit, opened_at, closed_at, OpenFails, row_at, row_limit, count_limit, least_free, zero_row, exceeds, RowFails};
-ghost use Rattle.b67_flat.specs.declared.Holder.TheVariants.{Stack, Row};
+// The store that keeps all rows in one list of words, and each stack in one of its own.
+ghost use Rattle.std.specs.Prelude.{◌≡◌, ℕ, ◌≤◌, ◌<◌, [], is_ok, OnOk, OnErr, IfOk, IfErr, false, is_some, if◌then◌else◌};
+ghost use Rattle.b67_store.specs.Store.{Held, at_number, with_stack, left_in, closed_at, row_at, row_limit, count_limit, least_free, opened_at, zero_row, exceeds, RowFails};
 ghost use Rattle.b67_flat.specs.Spans.{place_for, opened, closed};
-ghost use Rattle.b67_flat.specs.Flat.{IsMemory, AreSpans, stacks_in, rows_in, lengthened, stacks_of, rows_of, zeroed, place_of_stack, place_of_row};
+ghost use Rattle.b67_flat.specs.Flat.{IsMemory, AreSpans, rows_in, lengthened, rows_of, zeroed, place_of_row};
 
 mod again;
 
+use crate::Span;
 use crate::memory::{open_span, read_at, write_at, zero};
 use crate::row_table::{HeldRow, RowTable};
 use crate::spans::Spans;
-use crate::stack_table::{HeldStack, hold_at, use_words};
-use crate::{Holder, Span};
-use b67_store::{Core, MOST_STACK_WORDS, NoSuchPlace, OpenFault, PushFault, RowFault, open_at};
+use b67_store::{Core, NoSuchPlace, OpenFault, PushFault, RowFault, StackTable};
 use b67_word::{Place, Word};
 use std::alloc::Global;
 use std::marker::Model;
 
-/// A store that keeps all stacks and all rows in one list of words.
+/// A store that keeps all rows in one list of words, and each stack in one of its own.
 ///
-/// Reading, writing, pushing, popping, cutting and lending are constant work. Opening finds its place by one step for each
+/// Reading, writing, pushing, popping and cutting are constant work, and so is lending, but that it writes the words of a stack
+/// that were never reached: twice as many as are asked for. The memory for all words that a stack may have is taken when it is
+/// opened, and not written. To open a row finds its place by one step for each
 /// 4,096 spans before it, one for each 64 of the 4,096 in which it is, and one for each of the 64: for n spans by
 /// n / 4,096 + 128 steps. For each 64 spans it is kept how wide the gaps before them are at most. A bound may be wider than
 /// all of them where spans below others were opened or closed; the first search that comes to such a bound in vain
@@ -27,13 +27,14 @@ use std::marker::Model;
 /// the end: rows that are opened one after another cost the same each, however many there are. Closing finds the span by a step
 /// for each halving of n, and the last one at once. The spans after one that is opened
 /// or closed are moved by one in their list, and one gap is looked at for each 64 of them, which may come into the bound
-/// of these; at the end, where a program closes first what it opened last, there are none. A row's words are zeroed; those
-/// of a stack are only where the list is lengthened. No word is moved.
+/// of these; at the end, where a program closes first what it opened last, there are none. A row's words are zeroed. No word is
+/// moved.
 #[derive(Drop)]
 pub struct FlatCore {
+    alloc: Global,
     words: Vec<Word>,
     spans: Spans,
-    stacks: Vec<Option<HeldStack>>,
+    stacks: StackTable,
     rows: RowTable,
 }
 
@@ -42,9 +43,9 @@ impl Model for FlatCore {
 
     ghost Value = { Flat };
 
-    ghost view = { λ c. record { memory = memory_of c.words.items c.spans; stacks = c.stacks.items; rows = c.rows } };
+    ghost view = { λ c. record { memory = memory_of c.words.items c.spans; stacks = c.stacks; rows = c.rows } };
 
-    ghost invariant = { λ c. IsMemory (memory_of c.words.items c.spans) × AreSpans c.spans c.stacks.items c.rows };
+    ghost invariant = { λ c. IsMemory (memory_of c.words.items c.spans) × AreSpans c.spans c.rows };
 }
 
 impl FlatCore {
@@ -52,158 +53,86 @@ impl FlatCore {
     pub fn new(alloc: Global) -> FlatCore
         ensures words { result.memory.words ≡ [] }
         ensures spans { result.memory.spans ≡ [] }
-        ensures stacks { stacks_in result.memory.words result.stacks ≡ [] }
+        ensures stacks { result.stacks ≡ [] }
         ensures rows { rows_in result.memory.words result.rows ≡ [] }
     {
         FlatCore {
+            alloc,
             words: Vec::new(alloc),
             spans: Spans::new(alloc),
-            stacks: Vec::new(alloc),
+            stacks: StackTable::new(alloc),
             rows: RowTable::new(alloc),
         }
     }
 
-    /// All words, those that belong to no span among them.
+    /// All words of rows, those that belong to no span among them.
     pub fn words(&self) -> &[Word]
         ensures { result.now ≡ self.now.memory.words }
     {
         self.words.as_slice()
     }
 
-    /// The spans of all open stacks and rows, in ascending order of their places.
+    /// The spans of all open rows, in ascending order of their places.
     pub fn spans(&self) -> &[Span]
         ensures spans { result.now ≡ self.now.memory.spans }
         ensures memory { IsMemory self.now.memory }
-        ensures held { AreSpans result.now self.now.stacks self.now.rows }
+        ensures held { AreSpans result.now self.now.rows }
     {
         self.spans.as_slice()
-    }
-
-    // Where an open stack has its words.
-    #[inline(always)]
-    fn held(&self, stack: u16) -> Option<HeldStack>
-        ensures { result ≡ at_number self.now.stacks stack }
-    {
-        Some(*open_at(&self.stacks, usize::from(stack))?)
     }
 }
 
 impl Core for FlatCore {
-    ghost use Rattle.b67_flat.specs.Flat.{stacks_of, rows_of, lent_room};
+    ghost use Rattle.b67_store.specs.Store.{with_stack, left_in};
+    ghost use Rattle.b67_flat.specs.Flat.{rows_of};
 
-    ghost stacks = { λ c. stacks_of c };
+    ghost stacks = { λ c. c.stacks };
 
     ghost rows = { λ c. rows_of c };
 
-    ghost lent = { λ c n lent left. lent_room c n left };
+    ghost lent = { λ c n lent left. record c { stacks = with_stack c.stacks n (left_in lent left) } };
 
     #[inline(always)]
     fn read(&self, at: Place) -> Option<Word> {
-        let held = self.held(at.stack)?;
-        if held.used <= u32::from(at.at) {
-            return None;
-        }
-        Some(read_at(&self.words, held.place, u32::from(at.at)))
+        self.stacks.read(at)
     }
 
     #[inline(always)]
     fn write(&mut self, at: Place, word: Word) -> Result<(), NoSuchPlace> {
-        let Some(held) = self.held(at.stack) else {
-            return Err(NoSuchPlace);
-        };
-        if held.used <= u32::from(at.at) {
-            return Err(NoSuchPlace);
-        }
-        write_at(&mut self.words, held.place, u32::from(at.at), word);
-        Ok(())
+        self.stacks.write(at, word)
     }
 
     #[inline(always)]
     fn length(&self, stack: u16) -> Option<u32> {
-        Some(open_at(&self.stacks, usize::from(stack))?.used)
+        self.stacks.length(stack)
     }
 
     #[inline(always)]
     fn push(&mut self, stack: u16, word: Word) -> Result<(), PushFault> {
-        let Some(held) = self.held(stack) else {
-            return Err(PushFault::NoSuchPlace);
-        };
-        if held.used as usize == MOST_STACK_WORDS {
-            return Err(PushFault::StackLimit);
-        }
-        write_at(&mut self.words, held.place, held.used, word);
-        use_words(&mut self.stacks, stack, held, held.used + 1);
-        Ok(())
+        self.stacks.push(stack, word)
     }
 
     #[inline(always)]
     fn pop(&mut self, stack: u16) -> Option<Word> {
-        let held = self.held(stack)?;
-        if held.used == 0 {
-            return None;
-        }
-        let used = held.used - 1;
-        use_words(&mut self.stacks, stack, held, used);
-        Some(read_at(&self.words, held.place, used))
+        self.stacks.pop(stack)
     }
 
     #[inline(always)]
     fn cut(&mut self, stack: u16, length: u32) -> Result<(), NoSuchPlace> {
-        let Some(held) = self.held(stack) else {
-            return Err(NoSuchPlace);
-        };
-        use_words(&mut self.stacks, stack, held, held.used.min(length));
-        Ok(())
+        self.stacks.cut(stack, length)
     }
 
     #[inline(always)]
-    fn room(&mut self, stack: u16) -> &mut [Word] {
-        let held = self.held(stack).unwrap();
-        use_words(&mut self.stacks, stack, held, MOST_STACK_WORDS as u32);
-        let first = held.place as usize;
-        self.words.slice_mut(first..first + MOST_STACK_WORDS)
+    fn room(&mut self, stack: u16, least: u32) -> &mut [Word] {
+        self.stacks.room(stack, least)
     }
 
-    // Its span is opened at the least place at which there is room. No other span is moved, and no word: their list may
-    // become longer.
-    fn open_stack(&mut self, stack: u16) -> Result<(), OpenFault>
-        ensures free { OnOk result (stack_at (stacks_of self.old) stack ≡ None) }
-        ensures fault { IfErr result (OpenFails (stacks_of self.old) stack) }
-        ensures stacks { stacks_of self.new ≡ (if is_ok result then opened_at (stacks_of self.old) stack [] else stacks_of self.old) }
-        ensures rows { rows_of self.new ≡ rows_of self.old }
-        ensures spans { self.new.memory.spans ≡ (if is_ok result then opened stack_limit (Stack stack) self.old.memory.spans else self.old.memory.spans) }
-        ensures words { (more : ℕ) × (self.new.memory.words ≡ lengthened self.old.memory.words more) }
-    {
-        if self.held(stack).is_some() {
-            return Err(OpenFault::InUse);
-        }
-        let length = MOST_STACK_WORDS as u32;
-        let holder = Holder::Stack(stack);
-        let Ok(place) = open_span(&mut self.words, &mut self.spans, length, holder) else {
-            return Err(OpenFault::NoMemory);
-        };
-        let held = HeldStack { place, used: 0 };
-        let Ok(()) = hold_at(&mut self.stacks, usize::from(stack), held) else {
-            self.spans.close(place);
-            return Err(OpenFault::NoMemory);
-        };
-        Ok(())
+    fn open_stack(&mut self, stack: u16) -> Result<(), OpenFault> {
+        self.stacks.open(self.alloc, stack)
     }
 
-    // Its span is taken away, and nothing is moved.
-    fn close_stack(&mut self, stack: u16) -> Result<(), NoSuchPlace>
-        ensures found { is_ok result ≡ is_some (stack_at (stacks_of self.old) stack) }
-        ensures stacks { stacks_of self.new ≡ (if is_ok result then closed_at (stacks_of self.old) stack else stacks_of self.old) }
-        ensures rows { rows_of self.new ≡ rows_of self.old }
-        ensures spans { self.new.memory.spans ≡ (if is_ok result then closed (place_of_stack (at_number self.old.stacks stack)) self.old.memory.spans else self.old.memory.spans) }
-        ensures words { self.new.memory.words ≡ self.old.memory.words }
-    {
-        let Some(held) = self.held(stack) else {
-            return Err(NoSuchPlace);
-        };
-        self.stacks[usize::from(stack)] = None;
-        self.spans.close(held.place);
-        Ok(())
+    fn close_stack(&mut self, stack: u16) -> Result<(), NoSuchPlace> {
+        self.stacks.close(stack)
     }
 
     // Its span is opened at the least place at which there is room, and its words there become operands 0. No other span
@@ -216,8 +145,8 @@ impl Core for FlatCore {
         ensures fault { IfErr result (RowFails (rows_of self.old) length counted) }
         ensures rows { IfOk result (λ row. rows_of self.new ≡ opened_at (rows_of self.old) row (zero_row length counted)) }
         ensures unchanged { OnErr result (rows_of self.new ≡ rows_of self.old) }
-        ensures stacks { stacks_of self.new ≡ stacks_of self.old }
-        ensures spans { IfOk result (λ row. self.new.memory.spans ≡ opened length (Row row) self.old.memory.spans) }
+        ensures stacks { self.new.stacks ≡ self.old.stacks }
+        ensures spans { IfOk result (λ row. self.new.memory.spans ≡ opened length row self.old.memory.spans) }
         ensures kept { OnErr result (self.new.memory.spans ≡ self.old.memory.spans) }
         ensures words { OnOk result ((more : ℕ) × (self.new.memory.words ≡ zeroed (lengthened self.old.memory.words more) (place_for length self.old.memory.spans) length)) }
     {
@@ -227,8 +156,7 @@ impl Core for FlatCore {
         let Some(number) = self.rows.next() else {
             return Err(RowFault::NoMemory);
         };
-        let holder = Holder::Row(number);
-        let Ok(place) = open_span(&mut self.words, &mut self.spans, length, holder) else {
+        let Ok(place) = open_span(&mut self.words, &mut self.spans, length, number) else {
             return Err(RowFault::NoMemory);
         };
         zero(&mut self.words, place, length);
@@ -274,7 +202,7 @@ impl Core for FlatCore {
     fn close_row(&mut self, row: u32) -> Result<(), NoSuchPlace>
         ensures found { is_ok result ≡ is_some (row_at (rows_of self.old) row) }
         ensures rows { rows_of self.new ≡ (if is_ok result then closed_at (rows_of self.old) row else rows_of self.old) }
-        ensures stacks { stacks_of self.new ≡ stacks_of self.old }
+        ensures stacks { self.new.stacks ≡ self.old.stacks }
         ensures spans { self.new.memory.spans ≡ (if is_ok result then closed (place_of_row (at_number self.old.rows row)) self.old.memory.spans else self.old.memory.spans) }
         ensures words { self.new.memory.words ≡ self.old.memory.words }
     {

@@ -1,12 +1,12 @@
-// The words of all stacks and rows in one list, and the spans of it that belong to one of them.
+// The words of all rows in one list, and the spans of it that belong to one of them.
 ghost use Rattle.std.specs.Prelude.{◌≡◌, ℕ, ◌+◌, ◌-◌, ◌^◌, ◌<◌, ◌≤◌, Option, Some, List, length, pos, OnOk, IfOk, is_ok, slice_get, slice_set, if◌then◌else◌};
 ghost use Rattle.std.specs.Vec.{vec_len};
 ghost use Rattle.b67_word.specs.Word.{Word, operand};
 ghost use Rattle.b67_flat.specs.Spans.{place_for, opened};
 ghost use Rattle.b67_flat.specs.Flat.{memory_of, IsMemory, lengthened, zeroed};
 
+use crate::Span;
 use crate::spans::Spans;
-use crate::{Holder, Span};
 use b67_word::{Word, operand};
 use std::alloc::AllocError;
 
@@ -51,12 +51,12 @@ pub fn open_span(
     words: &mut Vec<Word>,
     spans: &mut Spans,
     count: u32,
-    holder: Holder,
+    row: u32,
 ) -> Result<u32, AllocError>
     requires some { 1 ≤ count }
     requires memory { IsMemory (memory_of words.old.items spans.old) }
     ensures place { IfOk result (λ place. place ≡ place_for count spans.old) }
-    ensures spans { spans.new ≡ (if is_ok result then opened count holder spans.old else spans.old) }
+    ensures spans { spans.new ≡ (if is_ok result then opened count row spans.old else spans.old) }
     ensures words { (more : ℕ) × (words.new.items ≡ lengthened words.old.items more) }
     ensures memory { IsMemory (memory_of words.new.items spans.new) }
 {
@@ -66,7 +66,7 @@ pub fn open_span(
     let span = Span {
         place,
         length: count,
-        holder,
+        row,
     };
     spans.insert(at, span)?;
     Ok(place as u32)

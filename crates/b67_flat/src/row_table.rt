@@ -1,9 +1,8 @@
 // Where the rows have their words, by their numbers.
-ghost use Rattle.std.specs.Prelude.{◌≡◌, ℕ, ◌+◌, ◌-◌, ◌<◌, ◌≤◌, Bool, false, List, [], length, map, Option, Some, None, is_some, IfSome, OnSome, is_ok, IfOk, OnOk, OnErr, option_map, if◌then◌else◌};
+ghost use Rattle.std.specs.Prelude.{◌≡◌, ℕ, ◌+◌, ◌-◌, ◌<◌, ◌≤◌, ◌^◌, Bool, false, List, [], ◌++◌, length, replicate, map, Option, Some, None, is_some, IfSome, OnSome, is_ok, IfOk, OnOk, OnErr, option_map, if◌then◌else◌};
 ghost use Rattle.b67_store.specs.Store.{at_number, opened_at, closed_at, least_free, counted_words, count_limit, row_limit, exceeds};
 ghost use Rattle.b67_flat.specs.Flat.{bare_rows, live_in};
 
-use crate::stack_table::hold_at;
 use b67_store::{FreeNumbers, MOST_COUNTED_WORDS, MOST_ROWS, open_at};
 use std::alloc::{AllocError, Global};
 use std::marker::Model;
@@ -30,6 +29,24 @@ fn take_all(free: &mut FreeNumbers)
     ensures { free.new.numbers ≡ [] }
 {
     'taking: while let Some(_) = free.take_least() {}
+}
+
+// Opens at a number that is not open, with none between. Nothing is changed where there is no memory.
+#[tactic(auto, using(b67_store::proofs::Lists::openings))]
+fn hold_at(rows: &mut Vec<Option<HeldRow>>, number: usize, held: HeldRow) -> Result<(), AllocError>
+    requires { number < 2 ^ 32 }
+    ensures { rows.new.items ≡ (if is_ok result then opened_at rows.old.items number held else rows.old.items) }
+{
+    if number < rows.len() {
+        rows[number] = Some(held);
+        return Ok(());
+    }
+    rows.reserve(number + 1 - rows.len())?;
+    'filling: while rows.len() < number {
+        rows.push_reserved(None);
+    }
+    rows.push_reserved(Some(held));
+    Ok(())
 }
 
 #[derive(Drop)]

@@ -10,21 +10,29 @@ use Rattle.b67_store.specs.Store.{stack_limit, left_in}
 use Rattle.b67_word.specs.Word.{Word}
 
 -- all of what a vector holds after a loan of all of it
-pub all_left : (room words : List Word) (n : ℕ) → n ≡ stack_limit → length room ≡ n → take stack_limit (take n (words ++ drop (length words) room)) ≡ left_in room words
-all_left room words n e f =
+pub all_left : (room words : List Word) (n used : ℕ) → used ≡ n → length room ≡ n → take used (take n (words ++ drop (length words) room)) ≡ left_in room words
+all_left room words n used e f =
     let whole = words ++ drop (length words) room in
-    ap (λ k. take stack_limit (take k whole)) e ∙ take-take stack_limit stack_limit whole (le_refl stack_limit) ∙ ap (λ k. take k whole) (sym (f ∙ e))
+    ap (λ k. take k (take n whole)) e ∙ take-take n n whole (le_refl n) ∙ ap (λ k. take k whole) (sym f)
 
 -- and of those from a base on, the top one first
 pub all_left_from : (room xs words : List Word) (n base : ℕ) → n ≡ stack_limit → length xs ≡ n → room ≡ xs → reverse (drop base (take stack_limit (take n (words ++ drop (length words) xs)))) ≡ reverse (drop base (left_in room words))
 all_left_from room xs words n base e f same =
-    ap (λ ws. reverse (drop base ws)) (all_left xs words n e f ∙ ap (λ ys. left_in ys words) (sym same))
+    ap (λ ws. reverse (drop base ws)) (all_left xs words n stack_limit (sym e) f ∙ ap (λ ys. left_in ys words) (sym same))
 
 -- the lowest words in a room that is lent
 pub lent_lowest : {A : Type 0} (xs room value : List A) (n : ℕ) → take n xs ≡ value → n ≤ length xs → room ≡ xs → take (length value) room ≡ value
 lent_lowest xs room value n v p e =
     let size : length value ≡ n = ap length (sym v) ∙ length-take-le n xs p in
     ap (λ k. take k room) size ∙ ap (take n) e ∙ v
+
+-- and there are as many as before
+pub size_lowest : {A : Type 0} (xs value : List A) (n : ℕ) → take n xs ≡ value → n ≤ length xs → length value ≡ n
+size_lowest xs value n v p = ap length (sym v) ∙ length-take-le n xs p
+
+-- they stay where more are reached
+pub filled_lowest : {A : Type 0} (xs after more value : List A) (n : ℕ) → take n xs ≡ value → n ≤ length xs → after ≡ xs ++ more → take n after ≡ value
+filled_lowest xs after more value n v p e = ap (take n) e ∙ take-append-le n xs more p ∙ v
 
 between : {A : Type 0} (xs : List A) (from end : ℕ) → from ≤ end → drop from (take end xs) ≡ take (end - from) (drop from xs)
 between xs from end p =

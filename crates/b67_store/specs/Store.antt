@@ -1,5 +1,5 @@
 -- What a core holds: stacks and rows as lists by their numbers from 0, with none where a number is not open. A stack's bottom stands first.
-use Rattle.std.specs.Prelude.{◌≡◌, ℕ, zero, suc, ◌+◌, ◌&&◌, nat_lt, Bool, true, false, List, [], ◌∷◌, ◌++◌, length, take, drop, replicate, Option, Some, None, IsSome, slice_get, slice_set, pos, if◌then◌else◌}
+use Rattle.std.specs.Prelude.{◌≡◌, ℕ, zero, suc, ◌+◌, ◌≤◌, ◌&&◌, nat_lt, Bool, true, false, List, [], ◌∷◌, ◌++◌, length, take, drop, replicate, Option, Some, None, IsSome, slice_get, slice_set, pos, if◌then◌else◌}
 use Rattle.std.specs.List.{sum_by}
 use Rattle.b67_store.specs.declared.TheConstants.{MOST_STACK_WORDS, MOST_COUNTED_WORDS, MOST_ROWS}
 use Rattle.b67_word.specs.declared.Place.{Place}
@@ -92,9 +92,11 @@ abbrev pub OpenFails : Stacks → ℕ → OpenFault → Type 0
 OpenFails stacks n open_fault.InUse = IsSome (stack_at stacks n)
 OpenFails stacks n open_fault.NoMemory = stack_at stacks n ≡ None
 
--- all that a stack has room for: the words that it holds, and whatever stands above them
-pub record IsRoom (held room : List Word) : Type 0 where
-  pub size : length room ≡ stack_limit
+-- room of a stack: the words that it holds, and whatever stands above them, at least so many words in all
+pub record IsRoom (held : List Word) (least : ℕ) (room : List Word) : Type 0 where
+  pub long : least ≤ length room
+  pub within : length held ≤ length room
+  pub size : length room ≤ stack_limit
   pub words : take (length held) room ≡ held
 
 -- what is left in a room: these words, cut to its length or filled up from it

@@ -24,6 +24,7 @@ use b67_word::{Place, Word};
 pub use free_numbers::FreeNumbers;
 pub use list_core::ListCore;
 pub use slots::open_at;
+pub use stack_table::StackTable;
 use std::alloc::AllocError;
 pub use words::Words;
 
@@ -120,13 +121,14 @@ pub trait Core: Drop {
         ensures stacks { stacks self.new ≡ (if is_ok result then with_cut (stacks self.old) stack length else stacks self.old) }
         ensures rows { rows self.new ≡ rows self.old };
 
-    /// Lends all the words that a stack has room for, [`MOST_STACK_WORDS`] of them: its own, the bottom first, and above
-    /// them whatever stands there. After the loan all of them are the stack's, until it is cut.
-    fn room(&mut self, stack: u16) -> &mut [Word]
+    /// Lends words that a stack has room for, at least so many and at most [`MOST_STACK_WORDS`]: its own, the bottom first, and
+    /// above them whatever stands there. After the loan all of them are the stack's, until it is cut. Takes no memory.
+    fn room(&mut self, stack: u16, least: u32) -> &mut [Word]
         requires open { IsSome (stack_at (stacks self.old) stack) }
-        ensures words { IsRoom (words_of (stacks self.old) stack) result.now }
-        ensures stacks { (w : List Word) → length w ≡ stack_limit → stacks (lent self.old stack result.now w) ≡ with_stack (stacks self.old) stack w }
-        ensures rows { (w : List Word) → length w ≡ stack_limit → rows (lent self.old stack result.now w) ≡ rows self.old }
+        requires least { least ≤ stack_limit }
+        ensures words { IsRoom (words_of (stacks self.old) stack) least result.now }
+        ensures stacks { (w : List Word) → length w ≡ length result.now → stacks (lent self.old stack result.now w) ≡ with_stack (stacks self.old) stack w }
+        ensures rows { (w : List Word) → length w ≡ length result.now → rows (lent self.old stack result.now w) ≡ rows self.old }
         ensures* writes_back { sem 𝓛 (Lends Self.row (Array word_row 0) self.entry result (lent self.old stack result.now)) };
 
     /// Opens a stack without words, and takes the memory for [`MOST_STACK_WORDS`]. InUse comes exactly where

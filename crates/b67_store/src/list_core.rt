@@ -72,8 +72,8 @@ impl Core for ListCore {
         self.stacks.cut(stack, length)
     }
 
-    fn room(&mut self, stack: u16) -> &mut [Word] {
-        self.stacks.room(stack)
+    fn room(&mut self, stack: u16, least: u32) -> &mut [Word] {
+        self.stacks.room(stack, least)
     }
 
     fn open_stack(&mut self, stack: u16) -> Result<(), OpenFault> {

@@ -1,16 +1,24 @@
 // The words of one stack, with room for all that it may have.
-ghost use Rattle.std.specs.Prelude.{◌≡◌, ℕ, ◌+◌, ◌-◌, ◌<◌, ◌≤◌, nat_lt, false, List, [], ◌∷◌, ◌++◌, length, reverse, take, Some, slice_get, slice_set, IsSome, is_some, is_ok, IfOk, IfErr, OnOk, if◌then◌else◌};
+ghost use Rattle.std.specs.Prelude.{◌≡◌, ℕ, ◌+◌, ◌-◌, ◌<◌, ◌≤◌, nat_lt, false, List, [], ◌∷◌, ◌++◌, length, reverse, replicate, pos, take, Some, slice_get, slice_set, IsSome, is_some, is_ok, IfOk, IfErr, OnOk, if◌then◌else◌};
+ghost use Rattle.std.specs.Vec.{vec_len, vec_capacity};
+ghost use Rattle.b67_word.specs.Word.{operand};
 ghost use Rattle.std.specs.Borrow.{sem, Lends, Array};
 ghost use Rattle.std.specs.contracts.option.Option.{the_row as option_row};
 ghost use Rattle.b67_word.specs.contracts.Word.{the_row as word_row};
 ghost use Rattle.b67_store.specs.Store.{stack_limit, words_or, SlotFails, IsRoom, left_in};
 ghost use Rattle.b67_store.specs.contracts.stack.Stack.{the_row as stack_row};
 
+use crate::words::{fill, put_word};
 use crate::{MOST_STACK_WORDS, NoSuchPlace, PushFault};
-use b67_word::{Word, operand};
+use b67_word::Word;
 use std::alloc::{AllocError, Global};
 use std::marker::Model;
 
+// The fewest words that are lent of a stack that has fewer.
+const FEWEST_WORDS: usize = 64;
+
+/// The words of a stack. The memory for all that it may have is taken at once, and written only as far as words come to stand
+/// in it or are lent.
 #[derive(Drop)]
 pub struct Stack {
     words: Vec<Word>,
@@ -19,7 +27,7 @@ pub struct Stack {
 
 impl Model for Stack {
     ghost use Rattle.std.specs.Prelude.{List, take, ◌≡◌, ◌≤◌};
-    ghost use Rattle.std.specs.Vec.{vec_len};
+    ghost use Rattle.std.specs.Vec.{vec_len, vec_capacity};
     ghost use Rattle.b67_word.specs.Word.{Word};
     ghost use Rattle.b67_store.specs.Store.{stack_limit};
 
@@ -27,7 +35,7 @@ impl Model for Stack {
 
     ghost view = { λ s. take s.used s.words.items };
 
-    ghost invariant = { λ s. (vec_len s.words ≡ stack_limit) × (s.used ≤ stack_limit) };
+    ghost invariant = { λ s. (s.used ≤ vec_len s.words) × (vec_len s.words ≤ stack_limit) × (stack_limit ≤ vec_capacity s.words) };
 }
 
 impl Stack {
@@ -40,11 +48,11 @@ impl Stack {
     pub fn open(alloc: Global) -> Result<Stack, AllocError>
         ensures { IfOk result (λ stack. stack ≡ []) }
     {
-        let mut words = Vec::with_capacity(alloc, MOST_STACK_WORDS)?;
-        words.resize(MOST_STACK_WORDS, operand(0))?;
+        let words = Vec::with_capacity(alloc, MOST_STACK_WORDS)?;
         Ok(Stack { words, used: 0 })
     }
 
+    #[inline(always)]
     pub fn len(&self) -> u32
         ensures value { result ≡ length self.now }
         ensures bound { result ≤ stack_limit }
@@ -52,13 +60,27 @@ impl Stack {
         self.used as u32
     }
 
+    // All of them, the bottom first.
+    pub fn words(&self) -> &[Word]
+        ensures { result.now ≡ self.now }
+    {
+        &self.words.as_slice()[..self.used]
+    }
+
+    #[inline(always)]
     pub fn get(&self, at: u16) -> Option<Word>
         ensures { result ≡ slice_get self.now at }
     {
-        self.words[..self.used].get(usize::from(at)).copied()
+        let at = usize::from(at);
+        if at < self.used {
+            Some(self.words[at])
+        } else {
+            None
+        }
     }
 
     // False, and nothing is changed, where the stack has no such word.
+    #[inline(always)]
     pub fn set(&mut self, at: u16, word: Word) -> bool
         ensures found { result ≡ nat_lt at (length self.old) }
         ensures words { self.new ≡ slice_set self.old at word }
@@ -72,7 +94,8 @@ impl Stack {
         }
     }
 
-    // False, and nothing is changed, where the stack is full.
+    // False, and nothing is changed, where the stack is full. Takes no memory.
+    #[inline(always)]
     pub fn push(&mut self, word: Word) -> bool
         ensures room { result ≡ nat_lt (length self.old) stack_limit }
         ensures full { result ≡ false → length self.old ≡ stack_limit }
@@ -81,11 +104,12 @@ impl Stack {
         if self.used == MOST_STACK_WORDS {
             return false;
         }
-        self.words[self.used] = word;
+        put_word(&mut self.words, self.used, word);
         self.used += 1;
         true
     }
 
+    #[inline(always)]
     pub fn pop(&mut self) -> Option<Word>
         ensures value { result ≡ slice_get self.old (length self.old - 1) }
         ensures words { self.new ≡ take (length self.old - 1) self.old }
@@ -98,24 +122,46 @@ impl Stack {
     }
 
     // Longer than this it is not.
+    #[inline(always)]
     pub fn cut(&mut self, length: u32)
         ensures { self.new ≡ take length self.old }
     {
         self.used = self.used.min(length as usize);
     }
 
-    // All that it has room for. After the loan all of it is its own.
-    pub fn room(&mut self) -> &mut [Word]
-        ensures words { IsRoom self.old result.now }
+    // At least so many words of its room, its own among them. After the loan all of them are its own. Takes no memory.
+    #[inline(always)]
+    pub fn room(&mut self, least: u32) -> &mut [Word]
+        requires { least ≤ stack_limit }
+        ensures words { IsRoom self.old least result.now }
         ensures* writes_back { sem 𝓛 (Lends the_row (Array word_row 0) self.entry result (left_in result.now)) }
     {
-        self.used = MOST_STACK_WORDS;
+        reach(&mut self.words, least as usize);
+        self.used = self.words.len();
         self.words.as_mut_slice()
+    }
+}
+
+// Reaches so many words at least. Where fewer were reached so far, it reaches twice as many, so that what is written grows with
+// the words that come to be used, and no faster.
+#[inline(always)]
+fn reach(words: &mut Vec<Word>, least: usize)
+    requires least { least ≤ stack_limit }
+    requires size { vec_len words.old ≤ stack_limit }
+    requires room { stack_limit ≤ vec_capacity words.old }
+    ensures words { (more : ℕ) × (words.new.items ≡ words.old.items ++ replicate more (operand (pos 0))) }
+    ensures long { least ≤ vec_len words.new }
+    ensures size { vec_len words.new ≤ stack_limit }
+    ensures room { stack_limit ≤ vec_capacity words.new }
+{
+    if words.len() < least {
+        fill(words, (2 * least).max(FEWEST_WORDS).min(MOST_STACK_WORDS));
     }
 }
 
 // The functions below work on a stack that may be open, by its place in the table.
 
+#[inline(always)]
 pub fn write_word(slot: &mut Option<Stack>, at: u16, word: Word) -> Result<(), NoSuchPlace>
     ensures found { is_ok result ≡ is_some (slice_get (words_or slot.old) at) }
     ensures stack { slot.new ≡ (if is_ok result then Some (slice_set (words_or slot.old) at word) else slot.old) }
@@ -130,6 +176,7 @@ pub fn write_word(slot: &mut Option<Stack>, at: u16, word: Word) -> Result<(), N
     }
 }
 
+#[inline(always)]
 pub fn push_word(slot: &mut Option<Stack>, word: Word) -> Result<(), PushFault>
     ensures room { OnOk result (IsSome slot.old × (length (words_or slot.old) < stack_limit)) }
     ensures fault { IfErr result (SlotFails slot.old) }
@@ -145,6 +192,7 @@ pub fn push_word(slot: &mut Option<Stack>, word: Word) -> Result<(), PushFault>
     }
 }
 
+#[inline(always)]
 pub fn pop_word(slot: &mut Option<Stack>) -> Option<Word>
     ensures value { result ≡ slice_get (words_or slot.old) (length (words_or slot.old) - 1) }
     ensures stack { slot.new ≡ (if is_some result then Some (take (length (words_or slot.old) - 1) (words_or slot.old)) else slot.old) }
@@ -155,6 +203,7 @@ pub fn pop_word(slot: &mut Option<Stack>) -> Option<Word>
     stack.pop()
 }
 
+#[inline(always)]
 pub fn cut_words(slot: &mut Option<Stack>, length: u32) -> Result<(), NoSuchPlace>
     ensures found { is_ok result ≡ is_some slot.old }
     ensures stack { slot.new ≡ (if is_ok result then Some (take length (words_or slot.old)) else slot.old) }
@@ -166,13 +215,15 @@ pub fn cut_words(slot: &mut Option<Stack>, length: u32) -> Result<(), NoSuchPlac
     Ok(())
 }
 
-pub fn open_room(slot: &mut Option<Stack>) -> &mut [Word]
-    requires { IsSome slot.old }
-    ensures words { IsRoom (words_or slot.old) result.now }
+#[inline(always)]
+pub fn open_room(slot: &mut Option<Stack>, least: u32) -> &mut [Word]
+    requires open { IsSome slot.old }
+    requires least { least ≤ stack_limit }
+    ensures words { IsRoom (words_or slot.old) least result.now }
     ensures* writes_back { sem 𝓛 (Lends (option_row stack_row) (Array word_row 0) slot.entry result (λ w. Some (left_in result.now w))) }
 {
     match slot {
-        Some(stack) => stack.room(),
+        Some(stack) => stack.room(least),
         None => unreachable!(),
     }
 }

@@ -140,7 +140,7 @@ fn move_words(room: &mut Vec<Word>, from: usize, end: usize, to: usize)
 
 // Puts a word in place of the one at a place, or after all that were reached so far.
 #[inline(always)]
-fn put_word(room: &mut Vec<Word>, at: usize, word: Word)
+pub fn put_word(room: &mut Vec<Word>, at: usize, word: Word)
     requires reached { at ≤ vec_len room.old }
     requires room { at < vec_capacity room.old }
     ensures words { take (at + 1) room.new.items ≡ take at room.old.items ++ word ∷ [] }
@@ -155,7 +155,7 @@ fn put_word(room: &mut Vec<Word>, at: usize, word: Word)
 }
 
 // Reaches so many words, with operands 0 where none was reached so far. Takes no memory.
-fn fill(room: &mut Vec<Word>, count: usize)
+pub fn fill(room: &mut Vec<Word>, count: usize)
     requires { count ≤ vec_capacity room.old }
     ensures words { room.new.items ≡ room.old.items ++ replicate (count - vec_len room.old) (operand (pos 0)) }
     ensures size { vec_len room.new ≡ max (vec_len room.old) count }

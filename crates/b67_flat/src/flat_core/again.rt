@@ -1,11 +1,11 @@
 // A flat store that is begun again, and compared with another one.
 ghost use Rattle.std.specs.Prelude.{◌≡◌, ℕ, ◌+◌, ◌-◌, ◌≤◌, None, true, [], length, take, option_copied};
 ghost use Rattle.b67_store.specs.Store.{at_number};
-ghost use Rattle.b67_flat.specs.Flat.{words_at, stacks_of, rows_of};
+ghost use Rattle.b67_flat.specs.Flat.{words_at, rows_of};
 
 use crate::FlatCore;
 use b67_again::{Again, mix};
-use b67_store::{Core, open_at};
+use b67_store::Core;
 use b67_word::Word;
 
 // Tests that two words are the same.
@@ -55,7 +55,7 @@ impl FlatCore {
     fn stack_places(&self) -> usize
         ensures { result ≡ length self.now.stacks }
     {
-        self.stacks.len()
+        self.stacks.places()
     }
 
     // How many places for rows there are.
@@ -67,15 +67,14 @@ impl FlatCore {
 
     // The words of a stack that is open.
     fn stack_words(&self, number: usize) -> Option<&[Word]>
-        ensures { option_copied result ≡ at_number (stacks_of self.now) number }
+        ensures { option_copied result ≡ at_number self.now.stacks number }
     {
-        let held = *open_at(&self.stacks, number)?;
-        Some(self.words_from(held.place, held.used))
+        self.stacks.words(number)
     }
 
     // Tests that the same stack is open at a number, or none.
     fn same_stack(&self, other: &FlatCore, number: usize) -> bool
-        ensures { result ≡ true → at_number (stacks_of self.now) number ≡ at_number (stacks_of other.now) number }
+        ensures { result ≡ true → at_number self.now.stacks number ≡ at_number other.now.stacks number }
     {
         let Some(ours) = self.stack_words(number) else {
             return other.stack_words(number).is_none();
@@ -88,7 +87,7 @@ impl FlatCore {
 
     // Tests that the same stacks are open.
     fn same_stacks(&self, other: &FlatCore) -> bool
-        ensures { result ≡ true → stacks_of self.now ≡ stacks_of other.now }
+        ensures { result ≡ true → self.now.stacks ≡ other.now.stacks }
     {
         let places = self.stack_places();
         if places != other.stack_places() {
@@ -153,8 +152,7 @@ impl FlatCore {
 
     // Closes all rows, the last one first, so that no span is moved, and leaves no places for them.
     fn clear_rows(&mut self)
-        ensures stacks { stacks_of self.new ≡ stacks_of self.old }
-        ensures places { length self.new.stacks ≡ length self.old.stacks }
+        ensures stacks { self.new.stacks ≡ self.old.stacks }
         ensures rows { rows_of self.new ≡ [] }
     {
         let mut left = self.row_places();
@@ -167,17 +165,10 @@ impl FlatCore {
 
     // Closes the last stack, where it is open, and leaves no place for it.
     fn forget_stack(&mut self)
-        ensures stacks { stacks_of self.new ≡ take (length self.old.stacks - 1) (stacks_of self.old) }
-        ensures places { length self.new.stacks ≡ length self.old.stacks - 1 }
+        ensures stacks { self.new.stacks ≡ take (length self.old.stacks - 1) self.old.stacks }
         ensures rows { rows_of self.new ≡ rows_of self.old }
     {
-        let Some(last) = self.stacks.pop() else {
-            return;
-        };
-        let Some(held) = last else {
-            return;
-        };
-        self.spans.close(held.place);
+        self.stacks.forget_last();
     }
 }
 

@@ -25,13 +25,13 @@ pub insert-requires-clause-ascending : goal.insert-requires-clause-ascending
 insert-requires-clause-ascending c =
     let at : c.first_fit-at.result ≡ first_fit 0 c.args.count c.args.spans.now = search rules in
     let place : c.end_before-place.result ≡ place_for c.args.count c.args.spans.now = search rules in
-    rw (at, place, c.first_fit-at.ensures.same) (opened_ascend c.args.count c.args.holder c.args.spans.now c.requires.memory.0 c.requires.some)
+    rw (at, place, c.first_fit-at.ensures.same) (opened_ascend c.args.count c.args.row c.args.spans.now c.requires.memory.0 c.requires.some)
 
 pub insert-requires-clause-within : goal.insert-requires-clause-within
 insert-requires-clause-within c =
     let at : c.first_fit-at.result ≡ first_fit 0 c.args.count c.args.spans.now = search rules in
     let place : c.end_before-place.result ≡ place_for c.args.count c.args.spans.now = search rules in
-    rw (at, place, c.first_fit-at.ensures.same) (omega (arith, opened_end c.args.count MOST_WORDS c.args.holder c.args.spans.now c.requires.memory.0 c.requires.some c.requires.memory.2 (omega (arith, place, c.in_ok-reach.ensures.reaches.1, c.from-2.ensures))))
+    rw (at, place, c.first_fit-at.ensures.same) (omega (arith, opened_end c.args.count MOST_WORDS c.args.row c.args.spans.now c.requires.memory.0 c.requires.some c.requires.memory.2 (omega (arith, place, c.in_ok-reach.ensures.reaches.1, c.from-2.ensures))))
 
 pub returns-clause-memory : goal.returns-clause-memory
 returns-clause-memory c =
@@ -40,7 +40,7 @@ returns-clause-memory c =
     let more = c.in_ok-reach.ensures.words in
     let low : end_after 0 c.args.spans.now ≤ length c.reach.new.words.items = omega (arith, ap length more.1, longer c.args.words.now.items more.0, c.requires.memory.1) in
     rw (c.in_ok-insert.ensures, at, place, c.first_fit-at.ensures.same) (
-      opened_ascend c.args.count c.args.holder c.args.spans.now c.requires.memory.0 c.requires.some,
-      opened_end c.args.count (length c.reach.new.words.items) c.args.holder c.args.spans.now c.requires.memory.0 c.requires.some low (omega (arith, place, c.in_ok-reach.ensures.reaches.0, c.from-2.ensures, c.reach.new.words.ok)),
-      opened_end c.args.count MOST_WORDS c.args.holder c.args.spans.now c.requires.memory.0 c.requires.some c.requires.memory.2 (omega (arith, place, c.in_ok-reach.ensures.reaches.1, c.from-2.ensures)),
+      opened_ascend c.args.count c.args.row c.args.spans.now c.requires.memory.0 c.requires.some,
+      opened_end c.args.count (length c.reach.new.words.items) c.args.row c.args.spans.now c.requires.memory.0 c.requires.some low (omega (arith, place, c.in_ok-reach.ensures.reaches.0, c.from-2.ensures, c.reach.new.words.ok)),
+      opened_end c.args.count MOST_WORDS c.args.row c.args.spans.now c.requires.memory.0 c.requires.some c.requires.memory.2 (omega (arith, place, c.in_ok-reach.ensures.reaches.1, c.from-2.ensures)),
     )

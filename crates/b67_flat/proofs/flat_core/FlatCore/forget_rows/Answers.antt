@@ -7,4 +7,4 @@ use Rattle.b67_flat.proofs.flat_core.FlatCore.forget_rows.Goals as goal
 pub invariant_of-self : goal.invariant_of-self
 invariant_of-self c =
     let k = c.self.inside in
-    rw c.clear.ensures (c.self.invariant.0, spans_still k.spans k.stacks.items k.stacks.items k.rows [] (λ n. refl) (λ n. sym (ap (λ (v : Flat). at_number v.rows n) c.self.view_is ∙ c.requires n)) c.self.invariant.1)
+    rw c.clear.ensures (c.self.invariant.0, spans_still k.spans k.rows [] (λ n. sym (ap (λ (v : Flat). at_number v.rows n) c.self.view_is ∙ c.requires n)) c.self.invariant.1)

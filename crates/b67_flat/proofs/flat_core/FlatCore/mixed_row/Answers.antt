@@ -8,4 +8,4 @@ pub words_from-requires : goal.words_from-requires
 words_from-requires c =
     let k = c.self.inside in
     let h : at_number k.rows c.args.number ≡ Some c.in-Some.held = search rules in
-    rw (← c.self.view_is) (omega (arith, row_within (memory_of k.words.items k.spans) k.stacks.items k.rows c.args.number c.in-Some.held c.self.invariant.0 c.self.invariant.1 h))
+    rw (← c.self.view_is) (omega (arith, row_within (memory_of k.words.items k.spans) k.rows c.args.number c.in-Some.held c.self.invariant.0 c.self.invariant.1 h))

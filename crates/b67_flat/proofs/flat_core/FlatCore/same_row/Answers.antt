@@ -9,13 +9,13 @@ pub words_from-requires : goal.words_from-requires
 words_from-requires c =
     let k = c.self.inside in
     let h : at_number k.rows c.args.number ≡ Some c.in-Some.ours = search rules in
-    rw (← c.self.view_is) (omega (arith, row_within (memory_of k.words.items k.spans) k.stacks.items k.rows c.args.number c.in-Some.ours c.self.invariant.0 c.self.invariant.1 h))
+    rw (← c.self.view_is) (omega (arith, row_within (memory_of k.words.items k.spans) k.rows c.args.number c.in-Some.ours c.self.invariant.0 c.self.invariant.1 h))
 
 pub words_from-requires-then-ours-theirs : goal.words_from-requires-then-ours-theirs
 words_from-requires-then-ours-theirs c =
     let k = c.other.inside in
     let h : at_number k.rows c.args.number ≡ Some c.in-Some-get.theirs = search rules in
-    rw (← c.other.view_is) (omega (arith, row_within (memory_of k.words.items k.spans) k.stacks.items k.rows c.args.number c.in-Some-get.theirs c.other.invariant.0 c.other.invariant.1 h))
+    rw (← c.other.view_is) (omega (arith, row_within (memory_of k.words.items k.spans) k.rows c.args.number c.in-Some-get.theirs c.other.invariant.0 c.other.invariant.1 h))
 
 pub returns-then-ours-theirs : goal.returns-then-ours-theirs
 returns-then-ours-theirs c = λ same.

@@ -16,7 +16,7 @@ invariant_of-self-2 c =
     let h : at_number c.self.inside.rows c.args.row ≡ Some c.in-Some.held = search rules in
     rw (c.close-2.ensures, c.in-Some.ensures.rows) (
       memory_closed c.self.inside.words.items c.self.inside.spans c.in-Some.held.place c.self.invariant.0,
-      row_closed c.self.inside.spans c.self.inside.stacks.items c.self.inside.rows c.self.invariant.1 c.args.row c.in-Some.held c.self.invariant.0.0 h,
+      row_closed c.self.inside.spans c.self.inside.rows c.self.invariant.1 c.args.row c.in-Some.held c.self.invariant.0.0 h,
     )
 
 pub returns-clause-found : goal.returns-clause-found

@@ -5,4 +5,4 @@ use Rattle.b67_flat.proofs.flat_core.FlatCoreCore.counted.Goals as goal
 
 pub returns-clause-value : goal.returns-clause-value
 returns-clause-value c =
-    rw (← c.self.view_is) (c.counted.ensures.value ∙ sym (counted_seen (memory_of c.self.inside.words.items c.self.inside.spans) c.self.inside.stacks.items c.self.inside.rows c.self.invariant.0 c.self.invariant.1))
+    rw (← c.self.view_is) (c.counted.ensures.value ∙ sym (counted_seen (memory_of c.self.inside.words.items c.self.inside.spans) c.self.inside.rows c.self.invariant.0 c.self.invariant.1))

@@ -7,7 +7,7 @@ use Rattle.b67_flat.proofs.flat_core.FlatCoreCore.read_row.Goals as goal
 pub read_at-requires : goal.read_at-requires
 read_at-requires c =
     let h : at_number c.self.inside.rows c.args.row ≡ Some c.in_ok-held.held = search rules in
-    omega (arith, c.if-held-at.false, row_within (memory_of c.self.inside.words.items c.self.inside.spans) c.self.inside.stacks.items c.self.inside.rows c.args.row c.in_ok-held.held c.self.invariant.0 c.self.invariant.1 h)
+    omega (arith, c.if-held-at.false, row_within (memory_of c.self.inside.words.items c.self.inside.spans) c.self.inside.rows c.args.row c.in_ok-held.held c.self.invariant.0 c.self.invariant.1 h)
 
 pub returns : goal.returns
 returns c =

@@ -1,4 +1,4 @@
-use Rattle.std.proofs.Common.{refl, arith, rules}
+use Rattle.std.proofs.Common.{refl, arith}
 use Rattle.std.specs.BinaryHeap.{heap_items}
 use Rattle.b67_store.proofs.Heaps.{first_number, none_below}
 use Rattle.b67_store.proofs.free_numbers.FreeNumbers.least.Goals as goal
