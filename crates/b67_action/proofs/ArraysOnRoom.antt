@@ -147,14 +147,14 @@ module _ (r : Registers) (room : List Word) (is : IsRoom r room) where
           (words_then r room is st rows there (take (r.s - 2) (take r.s room)))
           ∙ put_twice r room is st rows there (take (r.s - 2) (take r.s room)) (take (r.s - 2) (take r.s room) ++ w ∷ [])
           ∙ ap (λ (ws : List Word). with_stack st r.stack (ws ++ w ∷ [])) (front_twice room (r.s - 2) r.s (omega arith))
-          ∙ ap (λ (ws : List Word). with_stack st r.stack ws) (sym (take_more_set room (r.s - 2) w (omega (arith, two, is.size, is.within))))
+          ∙ ap (λ (ws : List Word). with_stack st r.stack ws) (sym (take_more_set room (r.s - 2) w (omega (arith, two, is.within))))
           ∙ ap (λ (n : ℕ). with_stack st r.stack (take n (set room (r.s - 2) w))) size_is
 
       pub replaced_on : Performs (answer (replaced r next 2 w)) (own st rows r) (own left rows fewer) (Ok (tt {0}))
       replaced_on =
-          answered r fewer st left rows (omega (arith, is.within)) (replaced r next 2 w) (λ p img s t has.
+          answered r fewer st left rows (omega (arith, is.within, is.size)) (replaced r next 2 w) (λ p img s t has.
           ap (λ (n : ℕ). with_registers (with_stacks img (with_push (with_cut img.stacks r.stack (r.s - 2)) r.stack w)) p (record r { s = n; place = next })) size_is
-          ∙ put r fewer st left rows (omega (arith, is.within)) p img (with_push (with_cut img.stacks r.stack (r.s - 2)) r.stack w)
+          ∙ put r fewer st left rows (omega (arith, is.within, is.size)) p img (with_push (with_cut img.stacks r.stack (r.s - 2)) r.stack w)
           (ap (λ (z : Stacks). with_push (with_cut z r.stack (r.s - 2)) r.stack w) s ∙ replaced_is) t)
 
   -- ---- INDX

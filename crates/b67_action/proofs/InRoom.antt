@@ -1,12 +1,12 @@
 -- A private operator in the room of a stack: what it does to all the words there, it does to the private part.
-use Rattle.std.specs.Prelude.{◌^◌, ◌<◌}
-use Rattle.std.proofs.Common.{◌≡◌, refl, sym, ap, subst, ◌∙◌, ℕ, ◌+◌, List, ◌++◌, length, take, drop, reverse, Option, Some, None, IsSome, Ok, Err, false, take-append-drop, arith}
+use Rattle.std.specs.Prelude.{◌⊎◌, ◌^◌, ◌<◌, ◌≤◌}
+use Rattle.std.proofs.Common.{◌≡◌, refl, sym, ap, subst, ◌∙◌, ℕ, ◌+◌, List, ◌++◌, length, take, drop, reverse, Option, Some, None, IsSome, Ok, Err, false, take-append-drop, ⊎_elim, inl, inr, arith}
 use Rattle.std.proofs.lemmas.List.{length-drop, length-reverse, reverse-append, reverse-reverse}
 use Rattle.b67_word.specs.Word.{Word}
 use Rattle.b67_control.specs.declared.Registers.{Registers}
 use Rattle.b67_ops.specs.declared.Operator.{Operator}
 use Rattle.b67_ops.specs.Spelling.{Fits}
-use Rattle.b67_store.specs.Store.{Stacks, Rows, IsRoom, stack_at, words_of, words_or, with_stack, with_cut}
+use Rattle.b67_store.specs.Store.{Stacks, Rows, IsRoom, stack_at, words_of, words_or, with_stack, with_cut, stack_limit}
 use Rattle.b67_table.specs.declared.Private.{Private}
 use Rattle.b67_table.specs.Outcome.{Outcome, gives, faults, interrupts, limit}
 use Rattle.b67_table.specs.Private.{floor}
@@ -26,8 +26,13 @@ use Rattle.b67_action.proofs.OwnWords.{own_words}
 
 -- ---- a room that is lent, and the stack that is cut after the loan
 
-pub part_in_is : (st : Stacks) (r : Registers) (room : List Word) → r.s ≡ length (words_of st r.stack) → IsRoom (words_of st r.stack) room → part_in r room ≡ part_with r (reverse (words_of st r.stack))
-part_in_is st r room size k = ap (λ (ws : List Word). part_with r (reverse ws)) (ap (λ (n : ℕ). take n room) size ∙ k.words)
+pub part_in_is : (st : Stacks) (r : Registers) (least : ℕ) (room : List Word) → r.s ≡ length (words_of st r.stack) → IsRoom (words_of st r.stack) least room → part_in r room ≡ part_with r (reverse (words_of st r.stack))
+part_in_is st r least room size k = ap (λ (ws : List Word). part_with r (reverse ws)) (ap (λ (n : ℕ). take n room) size ∙ k.words)
+
+-- it has a place for one more word, or all that a stack may have, where so many words at least are lent
+pub place_in : (s least size : ℕ) → (s < least) ⊎ (least ≡ stack_limit) → least ≤ size → size ≤ stack_limit → (s < size) ⊎ (size ≡ stack_limit)
+place_in s least size place long few =
+    ⊎_elim (λ (p : s < least). inl (omega (arith, p, long))) (λ (e : least ≡ stack_limit). inr (omega (arith, e, long, few))) place
 
 -- and where all of its words have been copied into a room
 pub copied_is : (st : Stacks) (r : Registers) (words room : List Word) → r.s ≡ length (words_of st r.stack) → words ≡ reverse (words_of st r.stack) → reverse (take (0 + length words) room) ≡ words
@@ -82,10 +87,10 @@ module _ (st : Stacks) (rows : Rows) (r : Registers) (linked : IsLinked st rows 
       let ws = words_of st r.stack in
       whole_is_enough (part_of st r) (omega (arith, linked.size, linked.above, length-reverse (drop (floor r) ws), length-drop (floor r) ws))
 
-  module _ (op : Operator) (next : ℕ) (room : List Word) (lent : IsRoom (words_of st r.stack) room) where
+  module _ (op : Operator) (next least : ℕ) (room : List Word) (lent : IsRoom (words_of st r.stack) least room) where
     outcome_is : own_outcome op next (part_in r room) ≡ deeper (below st r) (own_outcome op next (part_of st r))
     outcome_is =
-        ap (λ (m : Private). own_outcome op next m) (part_in_is st r room linked.size lent ∙ whole_is)
+        ap (λ (m : Private). own_outcome op next m) (part_in_is st r least room linked.size lent ∙ whole_is)
         ∙ own_outcome_same (below st r) op next (part_of st r) enough
 
     pub room_goes : (b : Private) (stacks : Stacks) (more : Rows) → IsPart (part_of st r) → Fits r.ll op → next < 2 ^ 16 → own_outcome op next (part_in r room) ≡ gives b
@@ -107,7 +112,7 @@ module _ (st : Stacks) (rows : Rows) (r : Registers) (linked : IsLinked st rows 
         let ws = words_of st r.stack in
         let back : stacks ≡ st =
         f
-        ∙ ap (λ (x : Private). with_stack st r.stack (reverse x.words)) (same ∙ part_in_is st r room linked.size lent)
+        ∙ ap (λ (x : Private). with_stack st r.stack (reverse x.words)) (same ∙ part_in_is st r least room linked.size lent)
         ∙ ap (λ (z : List Word). with_stack st r.stack z) (reverse-reverse ws)
         ∙ set_there st r.stack ws (words_there (stack_at st r.stack) linked.opened) in
         own_stops op next st rows r stop (own stacks more b.regs) (stop_below (below st r) (own_outcome op next (part_of st r)) stop (sym outcome_is ∙ e))

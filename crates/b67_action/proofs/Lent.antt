@@ -1,6 +1,6 @@
 -- What is done on the lent room of a process's own stack, in the image that it is given back to.
 use Rattle.std.specs.Prelude.{reverse, ◌&&◌}
-use Rattle.std.proofs.Common.{◌≡◌, refl, sym, ap, subst, ◌∙◌, ℕ, zero, suc, ◌<◌, Bool, true, false, List, [], ◌++◌, length, take, Option, Some, None, is_some, Result, Ok, arith}
+use Rattle.std.proofs.Common.{◌≡◌, refl, sym, ap, subst, ◌∙◌, ℕ, zero, suc, ◌<◌, ◌≤◌, Bool, true, false, List, [], ◌++◌, length, take, Option, Some, None, is_some, Result, Ok, ⊎_elim, inl, inr, arith}
 use Rattle.std.proofs.lemmas.List.{reverse-append, reverse-reverse}
 use Rattle.b67_list.specs.Numbered.{numbered, set_numbered}
 use Rattle.b67_word.specs.Word.{Word}
@@ -13,7 +13,7 @@ use Rattle.b67_store.specs.Store.{Stacks, stack_at, words_of, words_or, with_sta
 use Rattle.b67_table.specs.declared.Private.{Private}
 use Rattle.b67_table.specs.declared.ProcessState.{ProcessState}
 use Rattle.b67_table.specs.Image.{Image, with_private, private_of, is_able, is_live}
-use Rattle.b67_table.specs.Outcome.{gives}
+use Rattle.b67_table.specs.Outcome.{Outcome, gives}
 use Rattle.b67_table.specs.Private.{floor}
 use Rattle.b67_table.specs.Privacy.{Keeps}
 use Rattle.b67_table.specs.Program.{Program}
@@ -35,7 +35,7 @@ use Rattle.b67_private.specs.declared.operators.Row.TheVariants as ready
 use Rattle.b67_private.specs.declared.operators.WordsRow.{WordsRow}
 use Rattle.b67_private.specs.Actions.{words_program}
 use Rattle.b67_private.specs.Lettered.{HasLetter}
-use Rattle.b67_private.specs.Parts.{IsPart, PlainParts, is_plain, own_next, part_with, part_in}
+use Rattle.b67_private.specs.Parts.{IsPart, HasRoom, PlainParts, is_plain, own_next, part_with, part_in}
 use Rattle.b67_private.specs.Parts as parts
 use Rattle.b67_private.specs.Performing.{Steps}
 use Rattle.b67_private.proofs.Above.{all_leave}
@@ -47,7 +47,7 @@ use Rattle.b67_reach.proofs.Looking.{acts_by}
 use Rattle.b67_action.specs.Lettered.{LettersOn}
 use Rattle.b67_action.specs.OnRoom.{IsRoom, PerformsOn}
 use Rattle.b67_action.specs.Onward.{HasGone}
-use Rattle.b67_action.specs.Running.{IsLent, given_back, IsStretchOf, GoesOn, StepsTo, plain_step, act_step}
+use Rattle.b67_action.specs.Running.{IsLent, given_back, IsStretchOf, GoesOn, HasPlace, StepsTo, plain_step, act_step}
 use Rattle.b67_action.proofs.Coming.{comes_by, operator_is}
 use Rattle.b67_action.proofs.Gone.{letter_by_row, gone}
 use Rattle.b67_action.proofs.Ready.{live_of, registers_there}
@@ -121,6 +121,11 @@ given_twice img p a b us ws same =
     ∙ ap (λ (z : Stacks). with_own (own z img.rows b) p (record img { regs = set_numbered img.regs p a })) (set_set_here img.stacks b.stack (Some (take a.s us)) (Some (take b.s ws)))
     ∙ ap (λ (rs : List Registers). record img { stacks = with_stack img.stacks b.stack (take b.s ws); regs = rs }) (numbered_twice img.regs p a b)
 
+-- a room holds what it held, or what was made in it
+pub still_held : (size : ℕ) (outcome : Outcome Private) (old new : Private) (b : Bool) → old.regs.s ≤ size → Steps size outcome old b new → new.regs.s ≤ size
+still_held size outcome old new true h s = s.1
+still_held size outcome old new false h s = omega (arith, h, ap (λ (a : Private). a.regs.s) s.1)
+
 -- ---- on what is lent
 
 module _ (code : Code) (img : Image) (p : ℕ) (r : Registers) (room : List Word) (l : IsLent code img p r room) where
@@ -147,8 +152,12 @@ module _ (code : Code) (img : Image) (p : ℕ) (r : Registers) (room : List Word
   pub lent_same : IsLent code (given_back r room p img) p r room
   lent_same = subst (λ (z : Image). IsLent code z p r room) (sym back_same) l
 
-  pub room_is : length room ≡ stack_limit → IsRoom r room
-  room_is e = record { level = process.display.known; size = e; within = process.room }
+  -- S counts no more than a stack may have
+  pub within_room : r.s ≤ stack_limit
+  within_room = process.room
+
+  pub room_is : HasRoom r room → IsRoom r room
+  room_is e = record { level = process.display.known; size = e.1; within = e.0 }
 
   pub part_is : IsPart (part_in r room)
   part_is = subst (λ (ws : List Word). IsPart (part_with r (reverse ws))) l.words (valid_whole code img p r l.valid live l.has)
@@ -217,30 +226,41 @@ module _ (code : Code) (img : Image) (p : ℕ) (r : Registers) (room : List Word
     how_many true = 1
     how_many false = 0
 
-    parts_by : (b : Bool) → Steps (own_next code (part_in r room)) (part_in r room) b (part_in q more) → PlainParts code (part_in r room) (how_many b) (part_in q more)
+    abbrev StepsOn : Bool → Type 0
+    StepsOn b = Steps (length room) (own_next code (part_in r room)) (part_in r room) b (part_in q more)
+
+    parts_by : (b : Bool) → StepsOn b → PlainParts code (part_in r room) (how_many b) (part_in q more)
     unfolding how_many
-    parts_by true s = parts.go s parts.stay
+    parts_by true s = parts.go s.0 parts.stay
     parts_by false s = subst (λ (x : Private). PlainParts code (part_in r room) 0 x) (sym s.1) parts.stay
 
-    stops_by : (b : Bool) → Steps (own_next code (part_in r room)) (part_in r room) b (part_in q more) → how_many b < 1 → is_plain code (part_in q more) ≡ false
-    unfolding how_many
-    stops_by true s less = absurd (omega (arith, less))
-    stops_by false s less = ap (is_plain code) s.1 ∙ s.0
+    none_more : (n : ℕ) → n < n → is_plain code (part_in q more) ≡ false
+    none_more n less = absurd (omega (arith, less))
 
-    steps_of : (b : Bool) (new : Image) → IsStretchOf code p (how_many b) 1 img new → StepsTo (plain_step b) code p img new
-    unfolding how_many
-    steps_of true new h = h
-    steps_of false new h = h
+    stops_by : StepsOn false → HasPlace r room → 0 < 1 → is_plain code (part_in q more) ≡ false
+    stops_by s place less = ap (is_plain code) s.1 ∙ s.0 place
 
-    module _ (b : Bool) (s : Steps (own_next code (part_in r room)) (part_in r room) b (part_in q more)) where
+    module _ (b : Bool) (s : StepsOn b) where
       pub plain_keeps : Keeps r q
       plain_keeps = (all_leave code l.valid.segments (part_in r room) (part_in q more) (how_many b) part_is (parts_by b s)).keeps
 
-      pub plain_steps : StepsTo (plain_step b) code p img (given_back q more p img)
-      plain_steps = steps_of b (given_back q more p img) (stretch_is q more (how_many b) 1 plain_keeps (parts_by b s) (stops_by b s))
-
       pub plain_lends : IsLent code (given_back q more p img) p q more
-      plain_lends = stretch_lends q more (how_many b) 1 plain_keeps (parts_by b s) (stops_by b s)
+      plain_lends = stretch_lends q more (how_many b) (how_many b) plain_keeps (parts_by b s) (none_more (how_many b))
+
+    place_before : length more ≡ length room → part_in q more ≡ part_in r room → HasPlace q more → HasPlace r room
+    place_before same e place =
+        ⊎_elim
+        (λ (h : q.s < length more). inl (omega (arith, h, same, ap (λ (a : Private). a.regs.s) e)))
+        (λ (h : length more ≡ stack_limit). inr (sym same ∙ h))
+        place
+
+    pub plain_steps : length more ≡ length room → (b : Bool) → StepsOn b → StepsTo (plain_step q more b) code p img (given_back q more p img)
+    unfolding how_many
+    plain_steps same true s = stretch_is q more 1 1 (plain_keeps true s) (parts_by true s) (none_more 1)
+    plain_steps same false s = (
+      stretch_is q more 0 0 (plain_keeps false s) (parts_by false s) (none_more 0),
+      λ place. (stretch_is q more 0 1 (plain_keeps false s) (parts_by false s) (stops_by s (place_before same s.1 place))).stops (omega arith),
+    )
 
   -- ---- an action
 

@@ -160,7 +160,7 @@ module _ (r : Registers) (room : List Word) (is : IsRoom r room) (st : Stacks) (
 
   -- ---- VALC
 
-  module _ (couple : Couple) (next at : ℕ) (h : HoldsOperand r room couple.level couple.index at) (w : Word) (same : w ≡ h.word) (less : r.s < stack_limit) where
+  module _ (couple : Couple) (next at : ℕ) (h : HoldsOperand r room couple.level couple.index at) (w : Word) (same : w ≡ h.word) (less : r.s < length room) where
     abbrev valued : Reached
     valued = record { word = h.word; cell = record { frame = h.frame; index = couple.index } }
 
@@ -174,7 +174,7 @@ module _ (r : Registers) (room : List Word) (is : IsRoom r room) (st : Stacks) (
     push_is =
         ap (λ (ws : List Word). with_stack st r.stack (ws ++ h.word ∷ [])) own_words
         ∙ ap (λ (v : Word). with_stack st r.stack (take r.s room ++ v ∷ [])) (sym same)
-        ∙ ap (λ (ws : List Word). with_stack st r.stack ws) (sym (take_more_set room r.s w (omega (arith, less, is.size))))
+        ∙ ap (λ (ws : List Word). with_stack st r.stack ws) (sym (take_more_set room r.s w less))
 
     pub value_on : Performs (value_call couple r next) (own st rows r) (own pushed rows counted) (Ok (tt {0}))
     value_on =
@@ -184,8 +184,8 @@ module _ (r : Registers) (room : List Word) (is : IsRoom r room) (st : Stacks) (
         (subst (λ (o : Option Pcw). Performs (value_or_entry r next valued o) (own st rows r) (own pushed rows counted) (Ok (tt {0})))
         (sym (no_pcw h.word.tag h.word.bits h.operand))
         (subst (λ (l : Look Word). Performs (see l >>= value_pushed r next) (own st rows r) (own pushed rows counted) (Ok (tt {0}))) (sym (operand_found h.word h.operand))
-        (answered r counted st pushed rows (omega (arith, less)) (push r.stack h.word (registers counted done)) (λ p img s t has.
-        put r counted st pushed rows (omega (arith, less)) p img (with_push img.stacks r.stack h.word)
+        (answered r counted st pushed rows (omega (arith, less, is.size)) (push r.stack h.word (registers counted done)) (λ p img s t has.
+        put r counted st pushed rows (omega (arith, less, is.size)) p img (with_push img.stacks r.stack h.word)
         (ap (λ (z : Stacks). with_push z r.stack h.word) s ∙ push_is) t))))
 
   -- ---- STOD
@@ -229,7 +229,7 @@ module _ (r : Registers) (room : List Word) (is : IsRoom r room) (st : Stacks) (
       front = set (take r.s room) at x
 
       short : r.s - 2 ≤ stack_limit
-      short = omega (arith, is.within)
+      short = omega (arith, is.within, is.size)
 
       none_more : r.s - 2 + 0 ≡ r.s - 2
       none_more = omega arith
@@ -275,5 +275,5 @@ module _ (r : Registers) (room : List Word) (is : IsRoom r room) (st : Stacks) (
   pub turn_on : (target next : ℕ)
       → Performs (turn Brun target r next) (own st rows r) (own (with_stack st r.stack (take r.s room)) rows (record r { place = target })) (Ok (tt {0}))
   turn_on target next =
-      answered r (record r { place = target }) st (with_stack st r.stack (take r.s room)) rows is.within (registers (record r { place = target }) done) (λ p img s t has.
-      put r (record r { place = target }) st (with_stack st r.stack (take r.s room)) rows is.within p img img.stacks (s ∙ sym (set_there st r.stack (take r.s room) there)) t)
+      answered r (record r { place = target }) st (with_stack st r.stack (take r.s room)) rows (omega (arith, is.within, is.size)) (registers (record r { place = target }) done) (λ p img s t has.
+      put r (record r { place = target }) st (with_stack st r.stack (take r.s room)) rows (omega (arith, is.within, is.size)) p img img.stacks (s ∙ sym (set_there st r.stack (take r.s room) there)) t)

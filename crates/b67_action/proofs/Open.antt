@@ -1,5 +1,5 @@
 -- A stack that is lent and not cut: of its words those that S counts are the process's own.
-use Rattle.std.proofs.Common.{◌≡◌, refl, sym, ap, subst, ◌∙◌, ℕ, ◌-◌, ◌<◌, ◌≤◌, Bool, true, false, List, [], ◌∷◌, length, take, Option, Some, None, IsSome, Ok, arith}
+use Rattle.std.proofs.Common.{◌≡◌, refl, sym, ap, subst, ◌∙◌, ℕ, suc, ◌-◌, ◌<◌, ◌≤◌, Bool, true, false, List, [], ◌∷◌, length, take, Option, Some, None, IsSome, Ok, arith}
 use Rattle.b67_word.specs.Word.{Word}
 use Rattle.b67_control.specs.Display.{levels}
 use Rattle.b67_control.specs.declared.Registers.{Registers}
@@ -50,20 +50,20 @@ module _ (st : Stacks) (rows : Rows) (r : Registers) (o : IsOpen st r) where
         ∙ sym (set_set_here st r.stack (Some (take r.s (words_of st r.stack))) (Some (take q.s left)))
         ∙ ap (λ (n : ℕ). with_stack (with_cut st r.stack r.s) n (take q.s left)) (sym same)
 
-    pub open_left : length left ≡ stack_limit → q.s ≤ stack_limit → q.ll < levels → IsOpen more q
+    pub open_left : q.s ≤ length left → q.s ≤ stack_limit → q.ll < levels → IsOpen more q
     open_left size room level =
         let words : words_of more r.stack ≡ left = ap (λ (z : Stacks). words_of z r.stack) is ∙ ap words_or (own_words st r.stack o.opened left) in
-        let long : length (words_of more q.stack) ≡ stack_limit = ap (λ (n : ℕ). length (words_of more n)) same ∙ ap length words ∙ size in
+        let all : length (words_of more q.stack) ≡ length left = ap (λ (n : ℕ). length (words_of more n)) same ∙ ap length words in
         record {
           level = level;
           opened = subst (λ (n : ℕ). IsSome (stack_at more n)) (sym same) (still_open st more r.stack left o.opened is);
-          long = omega (arith, long, room);
+          long = omega (arith, all, size);
           room = room;
         }
 
-  module _ (room : List Word) (k : IsRoom (words_of st r.stack) room) where
+  module _ (least : ℕ) (room : List Word) (k : IsRoom (words_of st r.stack) least room) where
     pub is_room : on.IsRoom r room
-    is_room = record { level = o.level; size = k.size; within = o.room }
+    is_room = record { level = o.level; size = k.size; within = omega (arith, o.long, k.within) }
 
     taken : take r.s (words_of st r.stack) ≡ take r.s room
     taken = ap (λ (ws : List Word). take r.s ws) (sym k.words) ∙ front_twice room r.s (length (words_of st r.stack)) o.long
@@ -122,6 +122,16 @@ module _ (st : Stacks) (rows : Rows) (r : Registers) (l : IsLinked st rows r) wh
   pub own_whole : own_of st rows r ≡ own st rows r
   own_whole = ap (λ (z : Stacks). own z rows r) cut_whole
 
+-- how often a longer room may be lent, where one is too short
+abbrev pub loans_left : Bool → ℕ → ℕ
+loans_left true s = suc (stack_limit - s)
+loans_left false s = 0
+
+pub one_loan_less : (old new : Bool) (s t : ℕ) → old ≡ true → (new ≡ true → s < t) → t ≤ stack_limit → loans_left new t < loans_left old s
+one_loan_less true true s t e longer room = omega (arith, longer refl, room)
+one_loan_less true false s t e longer room = omega arith
+one_loan_less false new s t e longer room = cc
+
 pub either : {P : Type 0} (b : Bool) → (b ≡ true → P) → (b ≡ false → P) → P
 either true h k = h refl
 either false h k = k refl
@@ -129,12 +139,12 @@ either false h k = k refl
 -- ---- an image in which the process stands
 
 module _ (code : Code) (img : Image) (p : ℕ) (st : Stacks) (rows : Rows) (r : Registers) (o : IsOpen st r) (h : IsInOpen code img p st rows r) where
-  pub lent_open : (room : List Word) → IsRoom (words_of st r.stack) room → IsLent code img p r room
-  lent_open room k = record {
+  pub lent_open : (least : ℕ) (room : List Word) → IsRoom (words_of st r.stack) least room → IsLent code img p r room
+  lent_open least room k = record {
     valid = h.valid;
     able = h.able;
     has = h.has;
-    words = ap (λ (z : Stacks). words_of z r.stack) h.stacks_are ∙ cut_taken st rows r o room k;
+    words = ap (λ (z : Stacks). words_of z r.stack) h.stacks_are ∙ cut_taken st rows r o least room k;
   }
 
   pub given_open : (q : Registers) (left : List Word) (more : Stacks) (others : Rows) → q.stack ≡ r.stack → more ≡ with_stack st r.stack left → others ≡ rows

@@ -23,8 +23,8 @@ use Rattle.b67_ops.specs.Spelling.{Fits}
 use Rattle.b67_private.specs.declared.Stop.{Stop as PartStop}
 use Rattle.b67_private.specs.declared.Stop.TheVariants as parts
 use Rattle.b67_private.specs.Parts.{IsPart, length_of, own_outcome}
-use Rattle.b67_private.proofs.Stepping.{given_of}
-use Rattle.b67_private.specs.Performing.{stopped as part_stopped, Performs}
+use Rattle.b67_private.proofs.Stepping.{given_of, stops_as}
+use Rattle.b67_private.specs.Performing.{stopped as part_stopped, HasPlace, Performs}
 use Rattle.b67_reach.specs.Answers.{stopped}
 use Rattle.b67_reach.specs.Images.{Own, own, with_own}
 use Rattle.b67_action.specs.Own.{part_of, stop_by, DoesOwn}
@@ -34,16 +34,17 @@ abbrev pub put_back : Stacks → ℕ → Private → Stacks
 put_back st base q = with_stack st q.regs.stack (take base (words_of st q.regs.stack) ++ reverse q.words)
 
 -- a stop of a part as an answer of its operator
-pub performs_stops : (outcome : Outcome Private) (old new : Private) (answer : Result (Unit {0}) PartStop) (stop : PartStop) → answer ≡ Err stop → Performs outcome old answer new
-    → outcome ≡ part_stopped stop
-performs_stops outcome old new (Ok u) stop e x = cc
-performs_stops outcome old new (Err other) stop e x = let same : other ≡ stop = cc in x.0 ∙ ap (λ (s : PartStop). part_stopped s) same
+pub performs_stops : (size : ℕ) (outcome : Outcome Private) (old new : Private) (answer : Result (Unit {0}) PartStop) (stop : PartStop) → answer ≡ Err stop
+    → HasPlace size old → Performs size outcome old answer new → outcome ≡ part_stopped stop
+performs_stops size outcome old new (Ok u) stop e h x = cc
+performs_stops size outcome old new (Err other) stop e h x =
+    let same : other ≡ stop = cc in stops_as size outcome old other x.0 h ∙ ap (λ (s : PartStop). part_stopped s) same
 
 -- and the part stays as it is
-pub performs_stays : (outcome : Outcome Private) (old new : Private) (answer : Result (Unit {0}) PartStop) (stop : PartStop) → answer ≡ Err stop → Performs outcome old answer new
-    → new ≡ old
-performs_stays outcome old new (Ok u) stop e x = cc
-performs_stays outcome old new (Err other) stop e x = x.1
+pub performs_stays : (size : ℕ) (outcome : Outcome Private) (old new : Private) (answer : Result (Unit {0}) PartStop) (stop : PartStop) → answer ≡ Err stop
+    → Performs size outcome old answer new → new ≡ old
+performs_stays size outcome old new (Ok u) stop e x = cc
+performs_stays size outcome old new (Err other) stop e x = x.1
 
 module _ (op : Operator) (next : ℕ) (st : Stacks) (rows : Rows) (r : Registers) where
   module _ (p : ℕ) (img : Image) (s : img.stacks ≡ st) (t : img.rows ≡ rows) (has : numbered img.regs p ≡ Some r) where

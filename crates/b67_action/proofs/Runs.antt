@@ -2,6 +2,8 @@
 use Rattle.std.proofs.Common.{◌≡◌, sym, ap, subst, ◌∙◌, ℕ, ◌+◌, ◌-◌, ◌<◌, ◌≤◌, false, List, [], ◌∷◌, ◌++◌, length, take, drop, set, append_assoc, length-append, arith, refl}
 use Rattle.std.proofs.Math.Seq.{take-append-add}
 use Rattle.std.proofs.lemmas.List.{append-nil, length-drop, length-set, length-take-le, take-append-le, take_more_set}
+use Rattle.b67_word.specs.Word.{Word}
+use Rattle.b67_control.specs.declared.Registers.{Registers}
 use Rattle.b67_deeds.specs.declared.Letter.{Letter}
 use Rattle.b67_segment.specs.declared.code.Code.{Code}
 use Rattle.b67_table.specs.Image.{Image}
@@ -10,7 +12,7 @@ use Rattle.b67_table.specs.Runs as runs
 use Rattle.b67_table.specs.Table.{plain}
 use Rattle.b67_table.specs.Valid.{IsValid}
 use Rattle.b67_action.specs.declared.running.Ran.{Ran}
-use Rattle.b67_action.specs.Running.{StaysCalm, IsStretchOf, GoesOn, Walks, stay, go, HasRun}
+use Rattle.b67_action.specs.Running.{StaysCalm, HasPlace, IsStretchOf, GoesOn, Walks, stay, go, IsOpenAt, HasCome, HasRunIn, HasRun}
 
 pub plains_then : (code : Code) (p : ℕ) (a b c : Image) (k n : ℕ) → Plains code p a k b → Plains code p b n c → Plains code p a (k + n) c
 plains_then code p a b c k n runs.stay more = subst (λ (x : ℕ). Plains code p b x c) none more
@@ -33,8 +35,8 @@ module _ (code : Code) (p : ℕ) (img : Image) where
     pub valid : IsValid code new
     pub calm : StaysCalm img new
 
-  pub going_none : IsValid code img → Going [] 0 0 img
-  going_none v = record { between = img; walks = stay; plains = runs.stay; valid = v; calm = record { states = refl; started = refl; fault = refl } }
+  pub going_on : (ran : Ran) (noted : List Letter) (x : Image) → HasCome code p img ran noted x → Going (take ran.entries noted) ran.operators ran.plain x
+  going_on ran noted x h = record { between = h.between; walks = h.walks; plains = h.plains; valid = h.valid; calm = h.calm }
 
   module _ (noted : List Letter) (operators plains : ℕ) (x y : Image) (h : Going noted operators plains x) where
     -- plain operators more
@@ -51,18 +53,47 @@ module _ (code : Code) (p : ℕ) (img : Image) where
     pub going_action : (l : Letter) → GoesOn code p l x y → Going (noted ++ l ∷ []) (operators + (plains + 1)) 0 y
     going_action l g = record { between = y; walks = go h.walks h.plains g; plains = runs.stay; valid = g.gone.valid; calm = calm_then img x y h.calm g.calm }
 
-  pub has_run : (most : ℕ) (ran : Ran) (noted : List Letter) (new : Image) → ran.entries ≤ length noted → Going (take ran.entries noted) ran.operators ran.plain new
-      → (ran.operators + ran.plain < most → plain code new p ≡ false) → HasRun code p most img ran noted new
-  has_run most ran noted new few h stops = record { between = h.between; few = few; walks = h.walks; plains = h.plains; stops = stops; valid = h.valid; calm = h.calm }
+  pub come_none : (noted : List Letter) → IsValid code img → HasCome code p img (record { entries = 0; operators = 0; plain = 0 }) noted img
+  come_none noted v = record {
+    between = img;
+    few = omega arith;
+    walks = stay;
+    plains = runs.stay;
+    last = λ some all. refl;
+    valid = v;
+    calm = record { states = refl; started = refl; fault = refl };
+  }
 
-  -- and then nothing more, since the next operator is not plain
-  pub has_ended : (most : ℕ) (ran : Ran) (noted : List Letter) (x y : Image) → ran.entries ≤ length noted → Going (take ran.entries noted) ran.operators ran.plain x
-      → IsStretchOf code p 0 1 x y → IsValid code y → HasRun code p most img ran noted y
-  has_ended most ran noted x y few h s v =
-      let none : ran.plain + 0 ≡ ran.plain = omega arith in
-      has_run most ran noted y few
-      (subst (λ (n : ℕ). Going (take ran.entries noted) ran.operators n y) none (going_plain (take ran.entries noted) ran.operators ran.plain x y h 0 1 s v))
-      (λ less. s.stops (omega arith))
+  pub has_come : (ran : Ran) (noted : List Letter) (new : Image) → ran.entries ≤ length noted → Going (take ran.entries noted) ran.operators ran.plain new
+      → (1 ≤ ran.entries → ran.entries ≡ length noted → ran.plain ≡ 0) → HasCome code p img ran noted new
+  has_come ran noted new few h last = record { between = h.between; few = few; walks = h.walks; plains = h.plains; last = last; valid = h.valid; calm = h.calm }
+
+  -- what was run on a room that has a place for one more word
+  pub has_run : (most : ℕ) (ran : Ran) (noted : List Letter) (new : Image) → HasCome code p img ran noted new
+      → (ran.operators + ran.plain < most → IsOpenAt ran.entries noted → plain code new p ≡ false) → HasRun code p most img ran noted new
+  has_run most ran noted new h stops =
+      record { between = h.between; few = h.few; walks = h.walks; plains = h.plains; last = h.last; stops = stops; valid = h.valid; calm = h.calm }
+
+  module _ (q : Registers) (ws : List Word) (most : ℕ) (ran : Ran) (noted : List Letter) where
+    -- where the last letter is noted
+    pub has_filled : (new : Image) → 1 ≤ ran.entries → ran.entries ≡ length noted → ran.plain ≡ 0
+        → Going (take ran.entries noted) ran.operators ran.plain new → HasRunIn q ws code p most img ran noted new
+    has_filled new some all none h = record {
+      come = has_come ran noted new (omega (arith, all)) h (λ s a. none);
+      stops = λ place less is_open. absurd (omega (arith, is_open some, all));
+    }
+
+    -- and then nothing more, since the next operator is not plain, or the room has no place for it
+    pub has_ended : (x y : Image) → ran.entries ≤ length noted → IsOpenAt ran.entries noted → Going (take ran.entries noted) ran.operators ran.plain x
+        → (n : ℕ) → IsStretchOf code p 0 n x y → (HasPlace q ws → plain code y p ≡ false) → IsValid code y → HasRunIn q ws code p most img ran noted y
+    has_ended x y few is_open h n s waits v =
+        let none : ran.plain + 0 ≡ ran.plain = omega arith in
+        record {
+          come = has_come ran noted y few
+              (subst (λ (n : ℕ). Going (take ran.entries noted) ran.operators n y) none (going_plain (take ran.entries noted) ran.operators ran.plain x y h 0 n s v))
+              (λ some all. absurd (omega (arith, is_open some, all)));
+          stops = λ place less o. waits place;
+        }
 
 -- ---- one run, an action, and another run
 
@@ -95,18 +126,35 @@ noted_then letters second post n m l lt fits =
     ∙ ap (λ (xs : List Letter). xs ++ take m second) (take_more_set letters n l lt)
 
 module _ (code : Code) (p : ℕ) (img : Image) where
+  -- where the letter of the action is the last that can be noted
+  pub run_last : (most : ℕ) (a : Ran) (first all : List Letter) (l : Letter) (x y : Image) → HasRun code p most img a first x → GoesOn code p l x y → a.entries + 1 ≡ length all
+      → take (a.entries + 1) all ≡ take a.entries first ++ l ∷ []
+      → HasRun code p most img (record { entries = a.entries + 1; operators = a.operators + (a.plain + 1); plain = 0 }) all y
+  run_last most a first all l x y h g full noted = record {
+    between = y;
+    few = omega (arith, full);
+    walks = subst (λ (ls : List Letter). Walks code p img ls (a.operators + (a.plain + 1)) y) (sym noted) (go h.walks h.plains g);
+    plains = runs.stay;
+    last = λ some all. refl;
+    stops = λ less is_open. absurd (omega (arith, is_open (omega arith), full));
+    valid = g.gone.valid;
+    calm = calm_then img x y h.calm g.calm;
+  }
+
   -- whose letters are noted one after another
   pub run_then : (most : ℕ) (a b : Ran) (first second all : List Letter) (l : Letter) (x y z : Image) → HasRun code p most img a first x → GoesOn code p l x y
       → HasRun code p (most - (a.operators + (a.plain + 1))) y b second z → a.entries + 1 + b.entries ≤ length all
+      → 1 ≤ length second → a.entries + 1 + length second ≡ length all
       → take (a.entries + 1 + b.entries) all ≡ (take a.entries first ++ l ∷ []) ++ take b.entries second
       → HasRun code p most img (record { entries = a.entries + 1 + b.entries; operators = a.operators + (a.plain + 1) + b.operators; plain = b.plain }) all z
-  run_then most a b first second all l x y z h g k few noted = record {
+  run_then most a b first second all l x y z h g k few some size noted = record {
     between = k.between;
     few = few;
     walks = subst (λ (ls : List Letter). Walks code p img ls (a.operators + (a.plain + 1) + b.operators) k.between) (sym noted)
         (walks_then code p img y k.between (take a.entries first ++ l ∷ []) (take b.entries second) (a.operators + (a.plain + 1)) b.operators (go h.walks h.plains g) k.walks);
     plains = k.plains;
-    stops = λ less. k.stops (omega (arith, less));
+    last = λ one full. k.last (omega (arith, full, size, some)) (omega (arith, full, size));
+    stops = λ less is_open. k.stops (omega (arith, less)) (λ one. omega (arith, is_open (omega arith), size));
     valid = k.valid;
     calm = calm_then img x z h.calm (calm_then x y z g.calm k.calm);
   }

@@ -18,8 +18,8 @@ use Rattle.b67_reach.specs.Answers.{Performs}
 -- the room is a stack's, whose words S counts
 pub record IsRoom (r : Registers) (room : List Word) : Type 0 where
   pub level : r.ll < levels
-  pub size : length room ≡ stack_limit
-  pub within : r.s ≤ stack_limit
+  pub size : length room ≤ stack_limit
+  pub within : r.s ≤ length room
 
 -- Wherever the process's stack has the words that were the room's, the program makes the new registers, and of the stack the words that
 -- are the room's after it.

@@ -1,10 +1,10 @@
 -- A run of a process on the lent room of its own stack: plain operators, and actions of its own that go on.
-use Rattle.std.specs.Prelude.{◌≡◌, ℕ, ◌+◌, ◌<◌, Bool, true, false, List, [], ◌∷◌, ◌++◌, ◌≤◌, length, take, Option, Some, None}
+use Rattle.std.specs.Prelude.{◌≡◌, ◌⊎◌, ℕ, ◌+◌, ◌<◌, Bool, true, false, List, [], ◌∷◌, ◌++◌, ◌≤◌, length, take, Option, Some, None}
 use Rattle.b67_list.specs.Numbered.{numbered}
 use Rattle.b67_word.specs.Word.{Word}
 use Rattle.b67_control.specs.declared.Registers.{Registers}
 use Rattle.b67_segment.specs.declared.code.Code.{Code}
-use Rattle.b67_store.specs.Store.{words_of, with_stack}
+use Rattle.b67_store.specs.Store.{words_of, with_stack, stack_limit}
 use Rattle.b67_table.specs.Image.{Image, is_able}
 use Rattle.b67_table.specs.Runs.{Plains}
 use Rattle.b67_table.specs.Table.{plain}
@@ -49,21 +49,27 @@ pub record GoesOn (code : Code) (p : ℕ) (l : Letter) (old new : Image) : Type 
   pub gone : HasGone code old p new []
   pub calm : StaysCalm old new
 
--- one operator of a run: a plain one, an action of a letter that went on, or none, where what comes next is not plain
+-- a room has a word above those that S counts, or all words that a stack may have
+abbrev pub HasPlace : Registers → List Word → Type 0
+HasPlace r room = (r.s < length room) ⊎ (length room ≡ stack_limit)
+
+-- one operator of a run: a plain one, an action of a letter that went on, or none, where what comes next is not plain, or where a room has no place for it
 pub data Step : Type 0 where
   Plain : Step
   Action : Letter → Step
   Neither : Step
+  NoneIn : Registers → List Word → Step
 
 abbrev pub StepsTo : Step → Code → ℕ → Image → Image → Type 0
 StepsTo Plain code p old new = IsStretchOf code p 1 1 old new
 StepsTo (Action l) code p old new = GoesOn code p l old new
 StepsTo Neither code p old new = IsStretchOf code p 0 1 old new
+StepsTo (NoneIn r room) code p old new = IsStretchOf code p 0 0 old new × (HasPlace r room → plain code new p ≡ false)
 
--- whether a plain operator was performed, as a step
-abbrev pub plain_step : Bool → Step
-plain_step true = Plain
-plain_step false = Neither
+-- whether a plain operator was performed on the room, as a step
+abbrev pub plain_step : Registers → List Word → Bool → Step
+plain_step r room true = Plain
+plain_step r room false = NoneIn r room
 
 -- whether an action was, and its letter
 abbrev pub act_step : Option Letter → Step
@@ -76,13 +82,35 @@ pub data Walks (code : Code) (p : ℕ) : Image → List Letter → ℕ → Image
   go : {a b c d : Image} {ls : List Letter} {l : Letter} {m k : ℕ} → Walks code p a ls m b → Plains code p b k c → GoesOn code p l c d
       → Walks code p a (ls ++ l ∷ []) (m + (k + 1)) d
 
--- So many entries, whose letters are noted first in a list, and then so many plain operators of the next one; they are fewer than the most in
--- all only where the entries are as many as were allowed, or what comes next is no such action.
+-- a run is open where no entry was performed, or letters of others can be noted
+abbrev pub IsOpenAt : ℕ → List Letter → Type 0
+IsOpenAt entries noted = 1 ≤ entries → entries < length noted
+
+-- so many entries, whose letters are noted first in a list, and then so many plain operators of the next one: none after the last letter that can
+-- be noted
+pub record HasCome (code : Code) (p : ℕ) (old : Image) (ran : Ran) (noted : List Letter) (new : Image) : Type 0 where
+  pub between : Image
+  pub few : ran.entries ≤ length noted
+  pub walks : Walks code p old (take ran.entries noted) ran.operators between
+  pub plains : Plains code p between ran.plain new
+  pub last : 1 ≤ ran.entries → ran.entries ≡ length noted → ran.plain ≡ 0
+  pub valid : IsValid code new
+  pub calm : StaysCalm old new
+
+-- And on a room: they are fewer than the most in all only where the last letter that can be noted was, where the next operator is not plain, or where
+-- the room has no place for it.
+pub record HasRunIn (r : Registers) (room : List Word) (code : Code) (p most : ℕ) (old : Image) (ran : Ran) (noted : List Letter) (new : Image) : Type 0 where
+  pub come : HasCome code p old ran noted new
+  pub stops : HasPlace r room → ran.operators + ran.plain < most → IsOpenAt ran.entries noted → plain code new p ≡ false
+
+-- So many entries, whose letters are noted first in a list, and then so many plain operators of the next one: none after the last letter that can
+-- be noted. They are fewer than the most in all only where that was noted, or the next operator is not plain.
 pub record HasRun (code : Code) (p most : ℕ) (old : Image) (ran : Ran) (noted : List Letter) (new : Image) : Type 0 where
   pub between : Image
   pub few : ran.entries ≤ length noted
   pub walks : Walks code p old (take ran.entries noted) ran.operators between
   pub plains : Plains code p between ran.plain new
-  pub stops : ran.operators + ran.plain < most → plain code new p ≡ false
+  pub last : 1 ≤ ran.entries → ran.entries ≡ length noted → ran.plain ≡ 0
+  pub stops : ran.operators + ran.plain < most → IsOpenAt ran.entries noted → plain code new p ≡ false
   pub valid : IsValid code new
   pub calm : StaysCalm old new

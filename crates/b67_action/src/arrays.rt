@@ -1,5 +1,5 @@
 // Arrays, seen from the lent room of a process's own stack: what the two words on top name.
-ghost use Rattle.std.specs.Prelude.{◌≡◌, ◌+◌, ◌<◌, ◌≤◌, IfSome, Some, true, false};
+ghost use Rattle.std.specs.Prelude.{◌≡◌, ◌+◌, ◌<◌, ◌≤◌, IfSome, Some, true, false, length};
 ghost use Rattle.b67_control.specs.Control.{as_descriptor, Fits_descriptor};
 ghost use Rattle.b67_table.specs.Arrays.{is_array, index, index_in};
 ghost use Rattle.b67_table.specs.Moves.{replaced};
@@ -122,6 +122,7 @@ pub fn index(regs: &mut Registers, room: &mut [Word], next: u16) -> bool
     requires room { IsRoom regs.old room.old }
     ensures done { result ≡ true → PerformsOn (index regs.old next) regs.old room.old regs.new room.new }
     ensures none { result ≡ false → (regs.new ≡ regs.old) × (room.new ≡ room.old) }
+    ensures held { regs.new.s ≤ length room.old }
     ensures keeps { Keeps regs.old regs.new }
 {
     let Some((array, at)) = subscripted(regs, room, false) else {

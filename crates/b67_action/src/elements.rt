@@ -34,7 +34,7 @@ fn named<C: Core>(core: &mut C, regs: &Registers, mother: bool) -> Option<(Descr
     ensures same { own_of (C.Core.stacks core.new) (C.Core.rows core.new) regs.now ≡ own_of (C.Core.stacks core.old) (C.Core.rows core.old) regs.now }
     ensures open { IsOpen (C.Core.stacks core.new) regs.now }
 {
-    let room = core.room(regs.stack);
+    let room = core.room(regs.stack, regs.s);
     subscripted(regs, room, mother)
 }
 
@@ -47,7 +47,7 @@ fn put<C: Core>(core: &mut C, regs: &mut Registers, word: Word, next: u16)
     ensures open { IsOpen (C.Core.stacks core.new) regs.new }
     ensures keeps { Keeps regs.old regs.new }
 {
-    let room = core.room(regs.stack);
+    let room = core.room(regs.stack, regs.s);
     replace_two(regs, room, word, next);
 }
 
@@ -105,7 +105,7 @@ fn to_store<C: Core>(core: &mut C, regs: &Registers) -> Option<Storing>
     ensures same { own_of (C.Core.stacks core.new) (C.Core.rows core.new) regs.now ≡ own_of (C.Core.stacks core.old) (C.Core.rows core.old) regs.now }
     ensures open { IsOpen (C.Core.stacks core.new) regs.now }
 {
-    let room = core.room(regs.stack);
+    let room = core.room(regs.stack, regs.s);
     stored(regs, room)
 }
 

@@ -26,4 +26,4 @@ pub use next::action;
 pub use onward::go_on;
 pub use own::{put_words, take_words};
 pub use reaching::run_own;
-pub use running::Ran;
+pub use running::{Ran, run_on_room};

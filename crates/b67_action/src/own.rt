@@ -1,5 +1,5 @@
 // Private operators of a process, and words of a process that are copied and put back.
-ghost use Rattle.std.specs.Prelude.{◌≡◌, ◌+◌, ◌≤◌, ◌++◌, IfSome, IsSome, drop, length, reverse, take, vec_capacity};
+ghost use Rattle.std.specs.Prelude.{◌≡◌, ◌⊎◌, ◌+◌, ◌<◌, ◌≤◌, ◌++◌, IfSome, IsSome, drop, length, reverse, take, vec_capacity};
 ghost use Rattle.b67_list.specs.Numbered.{numbered};
 ghost use Rattle.b67_ops.specs.Spelling.{Fits};
 ghost use Rattle.b67_store.specs.Store.{stack_at, words_of, with_stack, stack_limit};
@@ -13,7 +13,7 @@ use b67_linkage::{cut_words, push_word};
 use b67_ops::Operator;
 use b67_private::operate;
 use b67_reach::{Registers, Stop};
-use b67_store::Core;
+use b67_store::{Core, MOST_STACK_WORDS};
 use b67_table::Words;
 use b67_word::Place;
 
@@ -62,6 +62,16 @@ fn stop_by(stop: b67_private::Stop) -> Stop
     }
 }
 
+// How many words a room has at least, so that it has a place for one more than S counts: all that a stack may have where there is none.
+#[inline(always)]
+pub fn room_for(regs: &Registers) -> u32
+    requires { regs.now.s ≤ stack_limit }
+    ensures place { (regs.now.s < result) ⊎ (result ≡ stack_limit) }
+    ensures most { result ≤ stack_limit }
+{
+    (regs.s + 1).min(MOST_STACK_WORDS as u32)
+}
+
 /// A private operator is performed on the words of its stack where they are.
 pub fn perform_own<C: Core>(
     core: &mut C,
@@ -75,7 +85,8 @@ pub fn perform_own<C: Core>(
     ensures { DoesOwn op.now next (own (C.Core.stacks core.old) (C.Core.rows core.old) regs.old) (own (C.Core.stacks core.new) (C.Core.rows core.new) regs.new) result }
 {
     let stack = regs.stack;
-    let room = core.room(stack);
+    let least = room_for(regs);
+    let room = core.room(stack, least);
     let answer = operate(regs, room, op, next);
     cut_words(core, stack, regs.s);
     match answer {

@@ -1,7 +1,7 @@
 // A run of a process on its own stack, in its store.
-ghost use Rattle.std.specs.Prelude.{◌≡◌, ◌+◌, ◌≤◌, ℕ, IfSome, length, Ok, Some, None};
+ghost use Rattle.std.specs.Prelude.{◌≡◌, ◌⊎◌, ◌+◌, ◌<◌, ◌≤◌, ℕ, IfSome, length, Ok, Some, None, true, false};
 ghost use Rattle.b67_segment.specs.Decoded.{AreDecoded};
-ghost use Rattle.b67_store.specs.Store.{with_cut};
+ghost use Rattle.b67_store.specs.Store.{with_cut, stack_limit};
 ghost use Rattle.b67_table.specs.Image.{Image};
 ghost use Rattle.b67_table.specs.Privacy.{Keeps};
 ghost use Rattle.b67_linkage.specs.Held.{IsLinked};
@@ -10,17 +10,18 @@ ghost use Rattle.b67_private.specs.Lettered.{words_letter};
 ghost use Rattle.b67_reach.specs.Answers.{Performs};
 ghost use Rattle.b67_reach.specs.Images.{own, with_own};
 ghost use Rattle.b67_action.specs.Reaching.{IsIn, IsInOpen, IsOpen, own_of, enters};
-ghost use Rattle.b67_action.specs.Running.{GoesOn, HasRun};
+ghost use Rattle.b67_action.specs.Running.{GoesOn, IsOpenAt, HasCome, HasRun};
 
 use crate::elements::reach_at_once;
-use crate::running::{Ran, run_on_room};
+use crate::own::room_for;
+use crate::running::{Ran, go_on_room};
 use crate::words::perform;
 use b67_deeds::Letter;
 use b67_linkage::cut_words;
 use b67_private::{Prepared, Row, WordsRow, row_at};
 use b67_reach::Registers;
 use b67_segment::Code;
-use b67_store::Core;
+use b67_store::{Core, MOST_STACK_WORDS};
 
 // Tests that an operator on words may enter a procedure.
 fn enters(kind: WordsRow) -> bool
@@ -32,9 +33,64 @@ fn enters(kind: WordsRow) -> bool
     }
 }
 
+// What was done on a room that was lent, and whether more can be done on a longer one.
+#[derive(Clone, Copy)]
+struct Lent {
+    ran: Ran,
+    short: bool,
+}
+
+// Tests that more can be done on a longer room: this one has no place for one more word, a stack may have more, and not all letters that can be
+// noted are.
+fn is_short(regs: &Registers, size: usize, ran: Ran, letters: &[Letter]) -> bool
+    ensures no { result ≡ false → IsOpenAt ran.entries letters.now → (regs.now.s < size) ⊎ (stack_limit ≤ size) }
+    ensures longer { result ≡ true → (size ≤ regs.now.s) × (size < stack_limit) }
+    ensures is_open { result ≡ true → IsOpenAt ran.entries letters.now }
+{
+    size <= regs.s as usize
+        && size < MOST_STACK_WORDS
+        && (ran.entries == 0 || (ran.entries as usize) < letters.len())
+}
+
 // What comes next on the lent room of the process's own stack, which has all the words of its room after it.
 #[inline(never)]
 fn run_lent<C: Core>(
+    core: &mut C,
+    regs: &mut Registers,
+    code: &Code,
+    table: Option<&Prepared>,
+    letters: &mut [Letter],
+    most: u32,
+    so_far: Ran,
+) -> Lent
+    requires stands { (first img : Image) × (p : ℕ) × IsInOpen code.now img p (C.Core.stacks core.old) (C.Core.rows core.old) regs.old × HasCome code.now p first so_far letters.old img }
+    requires open { IsOpen (C.Core.stacks core.old) regs.old }
+    requires table { IfSome table (λ t. AreDecoded code.now regs.old.segment regs.old.ll t.now) }
+    requires is_open { IsOpenAt so_far.entries letters.old }
+    requires entries { so_far.entries ≤ length letters.old }
+    requires counted { so_far.entries ≤ so_far.operators }
+    requires most { so_far.operators + so_far.plain ≤ most }
+    ensures come { (first img : Image) (p : ℕ) → IsInOpen code.now img p (C.Core.stacks core.old) (C.Core.rows core.old) regs.old → HasCome code.now p first so_far letters.old img → HasCome code.now p first result.ran letters.new (with_own (own_of (C.Core.stacks core.new) (C.Core.rows core.new) regs.new) p img) }
+    ensures ran { result.short ≡ false → (first img : Image) (p : ℕ) → IsInOpen code.now img p (C.Core.stacks core.old) (C.Core.rows core.old) regs.old → HasCome code.now p first so_far letters.old img → HasRun code.now p most first result.ran letters.new (with_own (own_of (C.Core.stacks core.new) (C.Core.rows core.new) regs.new) p img) }
+    ensures longer { result.short ≡ true → regs.old.s < regs.new.s }
+    ensures is_open { result.short ≡ true → IsOpenAt result.ran.entries letters.new }
+    ensures open { IsOpen (C.Core.stacks core.new) regs.new }
+    ensures entries { result.ran.entries ≤ length letters.new }
+    ensures counted { result.ran.entries ≤ result.ran.operators }
+    ensures size { length letters.new ≡ length letters.old }
+    ensures most { result.ran.operators + result.ran.plain ≤ most }
+    ensures keeps { Keeps regs.old regs.new }
+{
+    let least = room_for(regs);
+    let room = core.room(regs.stack, least);
+    let size = room.len();
+    let ran = go_on_room(regs, room, code, table, letters, most, so_far);
+    let short = is_short(regs, size, ran, letters);
+    Lent { ran, short }
+}
+
+// What comes next on the process's own stack, on a longer room where one is too short.
+fn run_here<C: Core>(
     core: &mut C,
     regs: &mut Registers,
     code: &Code,
@@ -53,8 +109,17 @@ fn run_lent<C: Core>(
     ensures most { result.operators + result.plain ≤ most }
     ensures keeps { Keeps regs.old regs.new }
 {
-    let room = core.room(regs.stack);
-    run_on_room(regs, room, code, table, letters, most)
+    let none = Ran {
+        entries: 0,
+        operators: 0,
+        plain: 0,
+    };
+    let mut lent = run_lent(core, regs, code, table, letters, most, none);
+    'lending: while lent.short {
+        let next = run_lent(core, regs, code, table, letters, most, lent.ran);
+        lent = next;
+    }
+    lent.ran
 }
 
 // Performs an operator on words and rows, after the stack was cut; and answers its letter, where nothing stopped it.
@@ -130,7 +195,7 @@ fn run_open<C: Core>(
     ensures most { result.operators + result.plain ≤ most }
     ensures keeps { Keeps regs.old regs.new }
 {
-    let mut ran = run_lent(core, regs, code, table, letters, most);
+    let mut ran = run_here(core, regs, code, table, letters, most);
     'running: while (ran.entries as usize) < letters.len() && ran.operators + ran.plain < most {
         let Some(letter) = reach(core, regs, code, table) else {
             return ran;
@@ -138,8 +203,12 @@ fn run_open<C: Core>(
         letters[ran.entries as usize] = letter;
         ran.entries += 1;
         ran.operators += ran.plain + 1;
+        if ran.entries as usize == letters.len() {
+            ran.plain = 0;
+            return ran;
+        }
         let rest = &mut letters[ran.entries as usize..];
-        let more = run_lent(core, regs, code, table, rest, most - ran.operators);
+        let more = run_here(core, regs, code, table, rest, most - ran.operators);
         ran.entries += more.entries;
         ran.operators += more.operators;
         ran.plain = more.plain;
@@ -149,7 +218,7 @@ fn run_open<C: Core>(
 
 /// Performs operators of a process that come next, one after another: plain ones, and actions on words and rows that enter no procedure, or
 /// VALC of an operand in its own stack. At most as many of these actions are performed as letters can be noted, and at most so many operators in
-/// all. It stops before anything else.
+/// all. It stops before anything else, and after the last letter that can be noted.
 pub fn run_own<C: Core>(
     core: &mut C,
     regs: &mut Registers,

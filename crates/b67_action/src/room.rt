@@ -1,5 +1,5 @@
 // VALC, STOD, BRUN back and INDX on the lent room of a process's own stack, where they read and write its cells only.
-ghost use Rattle.std.specs.Prelude.{◌≡◌, ◌<◌, None, IfSome, false, true, if◌then◌else◌, Some};
+ghost use Rattle.std.specs.Prelude.{◌≡◌, ◌<◌, ◌≤◌, None, IfSome, false, true, if◌then◌else◌, Some, length};
 ghost use Rattle.b67_control.specs.Display.{levels};
 ghost use Rattle.b67_table.specs.Privacy.{Keeps};
 ghost use Rattle.b67_table.specs.Rows.{value_call, store, turn};
@@ -16,7 +16,6 @@ use b67_deeds::Letter;
 use b67_ops::{BranchKind, Couple};
 use b67_private::WordsRow;
 use b67_reach::{Registers, floor, is_operand};
-use b67_store::MOST_STACK_WORDS;
 use b67_word::Word;
 
 // The place in its own stack of the cell that a couple names, where an operand stands in it.
@@ -42,13 +41,14 @@ fn value(regs: &mut Registers, room: &mut [Word], couple: Couple, next: u16) -> 
     ensures done { result ≡ true → PerformsOn (value_call couple regs.old next) regs.old room.old regs.new room.new }
     ensures letter { result ≡ true → LettersOn (ValueCall couple) regs.old room.old letters.Read }
     ensures none { result ≡ false → (regs.new ≡ regs.old) × (room.new ≡ room.old) }
+    ensures held { regs.new.s ≤ length room.old }
     ensures keeps { Keeps regs.old regs.new }
 {
     let Some(at) = operand_at(regs, room, couple.level, couple.index) else {
         return false;
     };
     let top = regs.s as usize;
-    if top >= MOST_STACK_WORDS {
+    if top >= room.len() {
         return false;
     }
     room[top] = room[at as usize];
@@ -64,6 +64,7 @@ fn store(regs: &mut Registers, room: &mut [Word], next: u16) -> bool
     ensures done { result ≡ true → PerformsOn (store false regs.old next) regs.old room.old regs.new room.new }
     ensures letter { result ≡ true → LettersOn (Store false) regs.old room.old letters.Store }
     ensures none { result ≡ false → (regs.new ≡ regs.old) × (room.new ≡ room.old) }
+    ensures held { regs.new.s ≤ length room.old }
     ensures keeps { Keeps regs.old regs.new }
 {
     if floor(regs) + 2 > regs.s {
@@ -92,6 +93,7 @@ fn turn(regs: &mut Registers, room: &[Word], kind: BranchKind, target: u16, next
     requires room { IsRoom regs.old room.now }
     ensures done { result ≡ true → PerformsOn (turn kind target regs.old next) regs.old room.now regs.new room.now }
     ensures none { result ≡ false → regs.new ≡ regs.old }
+    ensures held { regs.new.s ≤ length room.now }
     ensures keeps { Keeps regs.old regs.new }
 {
     match kind {
@@ -124,6 +126,7 @@ pub fn perform_on_room(
     ensures done { IfSome result (λ l. PerformsOn (words_program row regs.old next) regs.old room.old regs.new room.new) }
     ensures letter { IfSome result (λ l. LettersOn row regs.old room.old l) }
     ensures none { result ≡ None → (regs.new ≡ regs.old) × (room.new ≡ room.old) }
+    ensures held { regs.new.s ≤ length room.old }
     ensures keeps { Keeps regs.old regs.new }
 {
     match row {

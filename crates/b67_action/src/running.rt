@@ -4,9 +4,10 @@ ghost use Rattle.b67_segment.specs.Decoded.{found, AreDecoded};
 ghost use Rattle.b67_store.specs.Store.{stack_limit};
 ghost use Rattle.b67_table.specs.Image.{Image};
 ghost use Rattle.b67_table.specs.Privacy.{Keeps};
+ghost use Rattle.b67_private.specs.Parts.{HasRoom};
 ghost use Rattle.b67_private.specs.Prepared.{IsRowOf};
 ghost use Rattle.b67_private.specs.declared.operators.Row.TheVariants.{Words};
-ghost use Rattle.b67_action.specs.Running.{IsLent, given_back, HasRun, StepsTo, plain_step, act_step};
+ghost use Rattle.b67_action.specs.Running.{IsLent, given_back, IsOpenAt, HasCome, HasRunIn, HasRun, StepsTo, plain_step, act_step};
 
 use crate::room::perform_on_room;
 use b67_deeds::Letter;
@@ -30,10 +31,11 @@ pub struct Ran {
 #[inline(always)]
 fn plain_by_row(regs: &mut Registers, room: &mut [Word], code: &Code, row: Row, next: u16) -> bool
     requires lent { (img : Image) × (p : ℕ) × IsLent code.now img p regs.old room.old }
-    requires room { length room.old ≡ stack_limit }
+    requires room { HasRoom regs.old room.old }
     requires row { IsRowOf regs.old.place (found code.now regs.old.segment regs.old.ll regs.old.place) (row, next) }
-    ensures steps { (img : Image) (p : ℕ) → IsLent code.now img p regs.old room.old → StepsTo (plain_step result) code.now p img (given_back regs.new room.new p img) }
+    ensures steps { (img : Image) (p : ℕ) → IsLent code.now img p regs.old room.old → StepsTo (plain_step regs.new room.new result) code.now p img (given_back regs.new room.new p img) }
     ensures lends { (img : Image) (p : ℕ) → IsLent code.now img p regs.old room.old → IsLent code.now (given_back regs.new room.new p img) p regs.new room.new }
+    ensures held { regs.new.s ≤ length room.old }
     ensures keeps { Keeps regs.old regs.new }
 {
     perform(regs, room, row, next).is_ok()
@@ -48,10 +50,11 @@ fn plain_fetched(
     table: Option<&Prepared>,
 ) -> bool
     requires lent { (img : Image) × (p : ℕ) × IsLent code.now img p regs.old room.old }
-    requires room { length room.old ≡ stack_limit }
+    requires room { HasRoom regs.old room.old }
     requires table { IfSome table (λ t. AreDecoded code.now regs.old.segment regs.old.ll t.now) }
-    ensures steps { (img : Image) (p : ℕ) → IsLent code.now img p regs.old room.old → StepsTo (plain_step result) code.now p img (given_back regs.new room.new p img) }
+    ensures steps { (img : Image) (p : ℕ) → IsLent code.now img p regs.old room.old → StepsTo (plain_step regs.new room.new result) code.now p img (given_back regs.new room.new p img) }
     ensures lends { (img : Image) (p : ℕ) → IsLent code.now img p regs.old room.old → IsLent code.now (given_back regs.new room.new p img) p regs.new room.new }
+    ensures held { regs.new.s ≤ length room.old }
     ensures keeps { Keeps regs.old regs.new }
 {
     perform_fetched(regs, room, code, table)
@@ -69,10 +72,11 @@ fn act_by_row(
     allowed: bool,
 ) -> Option<Letter>
     requires lent { (img : Image) × (p : ℕ) × IsLent code.now img p regs.old room.old }
-    requires room { length room.old ≡ stack_limit }
+    requires room { HasRoom regs.old room.old }
     requires row { IsRowOf regs.old.place (found code.now regs.old.segment regs.old.ll regs.old.place) (Words kind, next) }
     ensures steps { (img : Image) (p : ℕ) → IsLent code.now img p regs.old room.old → StepsTo (act_step result) code.now p img (given_back regs.new room.new p img) }
     ensures lends { (img : Image) (p : ℕ) → IsLent code.now img p regs.old room.old → IsLent code.now (given_back regs.new room.new p img) p regs.new room.new }
+    ensures held { regs.new.s ≤ length room.old }
     ensures keeps { Keeps regs.old regs.new }
     ensures allowed { IfSome result (λ l. allowed ≡ true) }
 {
@@ -97,7 +101,70 @@ fn ran_to(entries: u32, operators: u32, done: u32) -> Ran
 
 /// Performs operators of a process that come next, one after another, on its registers and on the room of its stack: plain ones, and VALC, STOD,
 /// BRUN back and INDX where they read and write its own stack only. At most as many of these actions are performed as letters can be noted,
-/// and at most so many operators in all. It stops before anything else.
+/// and at most so many operators in all, those among them that it has performed so far. It stops before anything else, after the last letter
+/// that can be noted, and where the room has no place for a word that is pushed.
+pub fn go_on_room(
+    regs: &mut Registers,
+    room: &mut [Word],
+    code: &Code,
+    table: Option<&Prepared>,
+    letters: &mut [Letter],
+    most: u32,
+    so_far: Ran,
+) -> Ran
+    requires lent { (img : Image) × (p : ℕ) × IsLent code.now img p regs.old room.old }
+    requires room { HasRoom regs.old room.old }
+    requires table { IfSome table (λ t. AreDecoded code.now regs.old.segment regs.old.ll t.now) }
+    requires is_open { IsOpenAt so_far.entries letters.old }
+    requires entries { so_far.entries ≤ length letters.old }
+    requires counted { so_far.entries ≤ so_far.operators }
+    requires most { so_far.operators + so_far.plain ≤ most }
+    ensures ran { (first img : Image) (p : ℕ) → IsLent code.now img p regs.old room.old → HasCome code.now p first so_far letters.old img → HasRunIn regs.new room.new code.now p most first result letters.new (given_back regs.new room.new p img) }
+    ensures entries { result.entries ≤ length letters.new }
+    ensures counted { result.entries ≤ result.operators }
+    ensures size { length letters.new ≡ length letters.old }
+    ensures most { result.operators + result.plain ≤ most }
+    ensures held { regs.new.s ≤ length room.old }
+    ensures keeps { Keeps regs.old regs.new }
+{
+    // the plain operators after the last entry are those that are done beyond its own
+    let mut entries = so_far.entries;
+    let mut operators = so_far.operators;
+    let mut done = so_far.operators + so_far.plain;
+    'running: while done < most {
+        match row_at(table, regs.place) {
+            Some((Row::Words(kind), next)) => {
+                let allowed = (entries as usize) < letters.len();
+                let Some(letter) = act_by_row(regs, room, code, kind, next, allowed) else {
+                    return ran_to(entries, operators, done);
+                };
+                letters[entries as usize] = letter;
+                entries += 1;
+                done += 1;
+                operators = done;
+                if entries as usize == letters.len() {
+                    return ran_to(entries, operators, done);
+                }
+            }
+            Some((row, next)) => {
+                if !plain_by_row(regs, room, code, row, next) {
+                    return ran_to(entries, operators, done);
+                }
+                done += 1;
+            }
+            None => {
+                if !plain_fetched(regs, room, code, table) {
+                    return ran_to(entries, operators, done);
+                }
+                done += 1;
+            }
+        }
+    }
+    ran_to(entries, operators, done)
+}
+
+/// Performs operators of a process that come next, as [`go_on_room`] does, where none was performed so far and the room has all words that a
+/// stack may have.
 pub fn run_on_room(
     regs: &mut Registers,
     room: &mut [Word],
@@ -116,35 +183,10 @@ pub fn run_on_room(
     ensures most { result.operators + result.plain ≤ most }
     ensures keeps { Keeps regs.old regs.new }
 {
-    // the plain operators after the last entry are those that are done beyond its own
-    let mut entries = 0;
-    let mut operators = 0;
-    let mut done = 0;
-    'running: while done < most {
-        match row_at(table, regs.place) {
-            Some((Row::Words(kind), next)) => {
-                let allowed = (entries as usize) < letters.len();
-                let Some(letter) = act_by_row(regs, room, code, kind, next, allowed) else {
-                    return ran_to(entries, operators, done);
-                };
-                letters[entries as usize] = letter;
-                entries += 1;
-                done += 1;
-                operators = done;
-            }
-            Some((row, next)) => {
-                if !plain_by_row(regs, room, code, row, next) {
-                    return ran_to(entries, operators, done);
-                }
-                done += 1;
-            }
-            None => {
-                if !plain_fetched(regs, room, code, table) {
-                    return ran_to(entries, operators, done);
-                }
-                done += 1;
-            }
-        }
-    }
-    ran_to(entries, operators, done)
+    let none = Ran {
+        entries: 0,
+        operators: 0,
+        plain: 0,
+    };
+    go_on_room(regs, room, code, table, letters, most, none)
 }

@@ -74,15 +74,15 @@ row_found code segment level place operators o decoded k = subst (λ (f : Option
 
 -- ---- one operator by its row
 
-by_row : (code : Code) (old new : Private) (r : Row) (next : ℕ) (result : Result (Unit {0}) Stop) (o : Option (Operator × ℕ))
-    → found code old.regs.segment old.regs.ll old.regs.place ≡ o → IsRowOf old.regs.place o (r, next) → Performs (limited length_of (effect_by r next old)) old result new
-    → Steps (own_next code old) old (is_ok result) new
-by_row code old new r next result None e k done = absurd k
-by_row code old new r next result (Some f) e k done =
-    steps_found code old new f result e
-    (performed f.0 f.1 r old new result k.0 (subst (λ (n : ℕ). Performs (limited length_of (effect_by r n old)) old result new) k.1 done))
+by_row : (size : ℕ) (code : Code) (old new : Private) (r : Row) (next : ℕ) (result : Result (Unit {0}) Stop) (o : Option (Operator × ℕ))
+    → found code old.regs.segment old.regs.ll old.regs.place ≡ o → IsRowOf old.regs.place o (r, next) → Performs size (limited length_of (effect_by r next old)) old result new
+    → Steps size (own_next code old) old (is_ok result) new
+by_row size code old new r next result None e k done = absurd k
+by_row size code old new r next result (Some f) e k done =
+    steps_found size code old new f result e
+    (performed size f.0 f.1 r old new result k.0 (subst (λ (n : ℕ). Performs size (limited length_of (effect_by r n old)) old result new) k.1 done))
 
-pub steps_by_row : (code : Code) (old new : Private) (r : Row) (next : ℕ) (result : Result (Unit {0}) Stop)
-    → IsRowOf old.regs.place (found code old.regs.segment old.regs.ll old.regs.place) (r, next) → Performs (limited length_of (effect_by r next old)) old result new
-    → Steps (own_next code old) old (is_ok result) new
-steps_by_row code old new r next result k done = by_row code old new r next result (found code old.regs.segment old.regs.ll old.regs.place) refl k done
+pub steps_by_row : (size : ℕ) (code : Code) (old new : Private) (r : Row) (next : ℕ) (result : Result (Unit {0}) Stop)
+    → IsRowOf old.regs.place (found code old.regs.segment old.regs.ll old.regs.place) (r, next) → Performs size (limited length_of (effect_by r next old)) old result new
+    → Steps size (own_next code old) old (is_ok result) new
+steps_by_row size code old new r next result k done = by_row size code old new r next result (found code old.regs.segment old.regs.ll old.regs.place) refl k done

@@ -1,5 +1,5 @@
 -- One plain operator of a private part: what it needs, and what it leaves.
-use Rattle.std.proofs.Common.{◌≡◌, refl, sym, ap, subst, ◌∙◌, ℕ, ◌+◌, ◌^◌, ◌<◌, ◌≤◌, length, All, Option, Some, None, Result, Ok, Err, Bool, true, false, cond, arith}
+use Rattle.std.proofs.Common.{◌≡◌, refl, sym, ap, subst, ◌∙◌, ℕ, ◌+◌, ◌^◌, ◌<◌, ◌≤◌, length, All, Option, Some, None, Result, Ok, Err, Bool, true, false, cond, ⊎_elim, arith}
 use Rattle.std.specs.Prelude.{nat_le, is_ok, IfSome}
 use Rattle.std.proofs.lemmas.Bool.{leb-true}
 use Rattle.b67_control.specs.Display.{levels}
@@ -30,8 +30,8 @@ use Rattle.b67_segment.proofs.Fetches.{fetched-ok}
 use Rattle.b67_private.specs.declared.Stop.{Stop}
 use Rattle.b67_private.specs.declared.Stop.TheVariants as stops
 use Rattle.b67_private.specs.declared.operators.Row.{Row}
-use Rattle.b67_private.specs.Parts.{length_of, is_new, own_outcome, outcome_by, own_next, PlainParts, stay, go, IsPart}
-use Rattle.b67_private.specs.Performing.{Performs, Steps, stopped}
+use Rattle.b67_private.specs.Parts.{length_of, is_new, own_outcome, outcome_by, own_next, is_plain, PlainParts, stay, go, IsPart}
+use Rattle.b67_private.specs.Performing.{Performs, StopsBy, HasPlace, Steps, stopped}
 use Rattle.b67_private.specs.Operating.{effect_by, HasRow, IsHeldCouple}
 use Rattle.b67_private.proofs.Floors.{private_op_rises}
 
@@ -57,10 +57,10 @@ held_operand level (ops.Plain kind) l f = f
 
 -- ---- by its row
 
-pub performed : (op : Operator) (next : ℕ) (r : Row) (p new : Private) (result : Result (Unit {0}) Stop) → HasRow op p.regs.place r
-    → Performs (limited length_of (effect_by r next p)) p result new → Performs (own_outcome op next p) p result new
+pub performed : (size : ℕ) (op : Operator) (next : ℕ) (r : Row) (p new : Private) (result : Result (Unit {0}) Stop) → HasRow op p.regs.place r
+    → Performs size (limited length_of (effect_by r next p)) p result new → Performs size (own_outcome op next p) p result new
 unfolding private_op
-performed op next r p new result has done = subst (λ (e : Effect Private). Performs (limited length_of e) p result new) (sym (has next p)) done
+performed size op next r p new result has done = subst (λ (e : Effect Private). Performs size (limited length_of e) p result new) (sym (has next p)) done
 
 -- ---- what a plain operator leaves
 
@@ -149,31 +149,45 @@ pub fits_found : (code : Code) (segment level place : ℕ) → level ≤ MOST_LE
 fits_found code segment level place l o e =
     subst (λ (x : Option (Operator × ℕ)). IfSome x (λ f. Fits level f.0)) (sym e) (fits_if code segment level place l _ refl)
 
-steps_by : (outcome : Outcome Private) (old new : Private) (result : Result (Unit {0}) Stop) → Performs outcome old result new → Steps outcome old (is_ok result) new
-steps_by outcome old new (Ok u) e = e
-steps_by outcome old new (Err stop) e = (ap is_new e.0 ∙ not_new stop, e.1)
-  where
-    not_new : (stop : Stop) → is_new (stopped stop) ≡ false
-    not_new (stops.Fault kind) = refl
-    not_new (stops.Interrupt kind) = refl
-    not_new stops.StackLimit = refl
+-- what stops an operator where the room has a word for it is what the table gives
+pub stops_as : (size : ℕ) (outcome : Outcome Private) (old : Private) (stop : Stop) → StopsBy size outcome old stop → HasPlace size old → outcome ≡ stopped stop
+stops_as size outcome old (stops.Fault kind) e h = e
+stops_as size outcome old (stops.Interrupt kind) e h = e
+stops_as size outcome old stops.StackLimit e h = ⊎_elim (λ (p : old.regs.s < size). absurd (omega (arith, p, e.0))) (λ (f : size ≡ stack_limit). e.1 f) h
 
-pub steps_found : (code : Code) (old new : Private) (f : Operator × ℕ) (result : Result (Unit {0}) Stop) → found code old.regs.segment old.regs.ll old.regs.place ≡ Some f
-    → Performs (own_outcome f.0 f.1 old) old result new → Steps (own_next code old) old (is_ok result) new
-unfolding own_next
-steps_found code old new f result e done =
-    subst (λ (o : Option (Operator × ℕ)). Steps (outcome_by o old) old (is_ok result) new) (sym e) (steps_by (own_outcome f.0 f.1 old) old new result done)
+not_new : (stop : Stop) → is_new (stopped stop) ≡ false
+not_new (stops.Fault kind) = refl
+not_new (stops.Interrupt kind) = refl
+not_new stops.StackLimit = refl
 
-pub steps_none : (code : Code) (old : Private) → found code old.regs.segment old.regs.ll old.regs.place ≡ None → Steps (own_next code old) old false old
+steps_by : (size : ℕ) (outcome : Outcome Private) (old new : Private) (result : Result (Unit {0}) Stop) → Performs size outcome old result new
+    → Steps size outcome old (is_ok result) new
+steps_by size outcome old new (Ok u) e = e
+steps_by size outcome old new (Err stop) e = (λ h. ap is_new (stops_as size outcome old stop e.0 h) ∙ not_new stop, e.1)
+
+pub steps_found : (size : ℕ) (code : Code) (old new : Private) (f : Operator × ℕ) (result : Result (Unit {0}) Stop)
+    → found code old.regs.segment old.regs.ll old.regs.place ≡ Some f → Performs size (own_outcome f.0 f.1 old) old result new
+    → Steps size (own_next code old) old (is_ok result) new
 unfolding own_next
-steps_none code old e = (ap (λ (o : Option (Operator × ℕ)). is_new (outcome_by o old)) e, refl)
+steps_found size code old new f result e done =
+    subst (λ (o : Option (Operator × ℕ)). Steps size (outcome_by o old) old (is_ok result) new) (sym e) (steps_by size (own_outcome f.0 f.1 old) old new result done)
+
+pub steps_none : (size : ℕ) (code : Code) (old : Private) → found code old.regs.segment old.regs.ll old.regs.place ≡ None
+    → Steps size (own_next code old) old false old
+unfolding own_next
+steps_none size code old e = (λ h. ap (λ (o : Option (Operator × ℕ)). is_new (outcome_by o old)) e, refl)
 
 pub some_is : {A : Type 0} (P : A → Type 0) (o : Option A) (a : A) → IfSome o P → o ≡ Some a → P a
 some_is P o a h e = subst (λ (x : Option _). IfSome x P) e h
 
-pub went : (outcome : Outcome Private) (old new : Private) (b : Bool) → b ≡ true → Steps outcome old b new → outcome ≡ gives new
-went outcome old new true e h = h
-went outcome old new false e h = cc
+pub went : (size : ℕ) (outcome : Outcome Private) (old new : Private) (b : Bool) → b ≡ true → Steps size outcome old b new → outcome ≡ gives new
+went size outcome old new true e h = h.0
+went size outcome old new false e h = cc
+
+-- where none was performed, the next operator is not plain, or the room has no word for it
+pub waits : (size : ℕ) (code : Code) (old new : Private) (b : Bool) → b ≡ false → HasPlace size old → Steps size (own_next code old) old b new → is_plain code new ≡ false
+waits size code old new true e place h = cc
+waits size code old new false e place h = ap (is_plain code) h.1 ∙ h.0 place
 
 pub kept_all : (a b c : Registers) → Keeps a b → Keeps b c → Keeps a c
 kept_all a b c h k = (k.0 ∙ h.0, k.1 ∙ h.1, k.2 ∙ h.2, k.3 ∙ h.3, k.4 ∙ h.4, k.5 ∙ h.5)

@@ -82,6 +82,10 @@ pub record HasPart (p : Private) : Type 0 where
   pub is : p ≡ record upper { words = upper.words ++ lower }
   pub part : IsPart upper
 
+-- the words that S counts stand in a room, which is no longer than a stack may be
+abbrev pub HasRoom : Registers → List Word → Type 0
+HasRoom r room = (r.s ≤ length room) × (length room ≤ stack_limit)
+
 -- registers with which a private operator can be performed in the room of a stack
 pub record AreReady (r : Registers) : Type 0 where
   pub room : r.s ≤ stack_limit

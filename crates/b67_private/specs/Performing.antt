@@ -1,9 +1,10 @@
 -- What the calls on a private part answer.
-use Rattle.std.specs.Prelude.{Bool, true, false, bit_and, bit_or, ◌≡◌, ℕ, ◌+◌, ◌<◌, [], ◌∷◌, drop, Option, Some, None, Result, Ok, Err}
+use Rattle.std.specs.Prelude.{Bool, true, false, bit_and, bit_or, ◌≡◌, ◌⊎◌, ℕ, ◌+◌, ◌<◌, ◌≤◌, [], ◌∷◌, drop, Option, Some, None, Result, Ok, Err}
 use Rattle.b67_word.specs.declared.Place.{Place}
 use Rattle.b67_word.specs.Word.{Word}
 use Rattle.b67_control.specs.declared.Registers.{Registers}
 use Rattle.b67_control.specs.Control.{as_irw}
+use Rattle.b67_store.specs.Store.{stack_limit}
 use Rattle.b67_table.specs.Valid.{IsHeld}
 use Rattle.b67_table.specs.declared.InterruptKind.TheVariants.{StackUnderflow, InvalidOperand}
 use Rattle.b67_table.specs.declared.Private.{Private}
@@ -23,10 +24,19 @@ stopped (stops.Fault kind) = faults kind
 stopped (stops.Interrupt kind) = interrupts kind
 stopped stops.StackLimit = limit
 
--- what comes of an operator is what the table gives: the new part, or a stop that changes nothing
-abbrev pub Performs : Outcome Private → Private → Result (Unit {0}) Stop → Private → Type 0
-Performs outcome old (Ok _) new = outcome ≡ gives new
-Performs outcome old (Err stop) new = (outcome ≡ stopped stop) × (new ≡ old)
+-- a room of so many words has one above those of a part, or has all that a stack may have
+abbrev pub HasPlace : ℕ → Private → Type 0
+HasPlace size p = (p.regs.s < size) ⊎ (size ≡ stack_limit)
+
+-- what stops an operator in a room of so many words is what the table gives; the limit comes only where the room has no word above those of the part
+abbrev pub StopsBy : ℕ → Outcome Private → Private → Stop → Type 0
+StopsBy size outcome old stops.StackLimit = (size ≤ old.regs.s) × (size ≡ stack_limit → outcome ≡ limit)
+StopsBy size outcome old stop = outcome ≡ stopped stop
+
+-- what comes of an operator in a room of so many words is what the table gives: the new part, which the room holds, or a stop that changes nothing
+abbrev pub Performs : ℕ → Outcome Private → Private → Result (Unit {0}) Stop → Private → Type 0
+Performs size outcome old (Ok _) new = (outcome ≡ gives new) × (new.regs.s ≤ size)
+Performs size outcome old (Err stop) new = StopsBy size outcome old stop × (new ≡ old)
 
 -- what a row that leaves the pointer after itself gives, with the limit of a stack
 abbrev pub own_row : (Private → Effect Private) → ℕ → Private → Outcome Private
@@ -74,7 +84,7 @@ abbrev pub Stuffs : Effect Word → Result Word Stop → Type 0
 Stuffs effect (Ok w) = effect ≡ effects.gives w
 Stuffs effect (Err stop) = (stop ≡ stops.Interrupt InvalidOperand) × (effect ≡ effects.interrupts InvalidOperand)
 
--- whether the part is the new one that the table gives; where the table gives none, it is as it was
-abbrev pub Steps : Outcome Private → Private → Bool → Private → Type 0
-Steps outcome old true new = outcome ≡ gives new
-Steps outcome old false new = (is_new outcome ≡ false) × (new ≡ old)
+-- whether the part is the new one that the table gives; where the table gives none, or the room has no word for it, it is as it was
+abbrev pub Steps : ℕ → Outcome Private → Private → Bool → Private → Type 0
+Steps size outcome old true new = (outcome ≡ gives new) × (new.regs.s ≤ size)
+Steps size outcome old false new = (HasPlace size old → is_new outcome ≡ false) × (new ≡ old)

@@ -4,9 +4,8 @@ ghost use Rattle.b67_word.specs.Word.{word};
 ghost use Rattle.b67_ops.specs.Spelling.{Fits, FitsAs};
 ghost use Rattle.b67_ops.specs.declared.Operator.TheVariants.{Plain};
 ghost use Rattle.b67_ops.specs.declared.PlainKind.TheVariants.{Entr};
-ghost use Rattle.b67_store.specs.Store.{stack_limit};
 ghost use Rattle.b67_table.specs.Outcome.{limited};
-ghost use Rattle.b67_private.specs.Parts.{AreReady, length_of, own_outcome, part_in};
+ghost use Rattle.b67_private.specs.Parts.{AreReady, HasRoom, length_of, own_outcome, part_in};
 ghost use Rattle.b67_private.specs.Performing.{Performs};
 ghost use Rattle.b67_private.specs.Actions.{IsRow, IsPlainRow, IsHeldRow};
 ghost use Rattle.b67_private.specs.declared.operators.Row.TheVariants.{Enter};
@@ -169,8 +168,8 @@ pub fn row_of(op: &Operator, place: u16) -> Row
 #[inline(always)]
 fn change_top(regs: &mut Registers, room: &mut [Word], row: TopRow, next: u16) -> Result<(), Stop>
     requires ready { AreReady regs.old }
-    requires room { length room.old ≡ stack_limit }
-    ensures { Performs (limited length_of (top_effect row next (part_in regs.old room.old))) (part_in regs.old room.old) result (part_in regs.new room.new) }
+    requires room { HasRoom regs.old room.old }
+    ensures { Performs (length room.old) (limited length_of (top_effect row next (part_in regs.old room.old))) (part_in regs.old room.old) result (part_in regs.new room.new) }
 {
     match row {
         TopRow::Negate => negate(regs, room, next),
@@ -187,8 +186,8 @@ fn change_top(regs: &mut Registers, room: &mut [Word], row: TopRow, next: u16) -
 #[inline(always)]
 pub fn perform(regs: &mut Registers, room: &mut [Word], row: Row, next: u16) -> Result<(), Stop>
     requires ready { AreReady regs.old }
-    requires room { length room.old ≡ stack_limit }
-    ensures { Performs (limited length_of (effect_by row next (part_in regs.old room.old))) (part_in regs.old room.old) result (part_in regs.new room.new) }
+    requires room { HasRoom regs.old room.old }
+    ensures { Performs (length room.old) (limited length_of (effect_by row next (part_in regs.old room.old))) (part_in regs.old room.old) result (part_in regs.new room.new) }
 {
     match row {
         Row::Push(word) => push_word(regs, room, word, next),
@@ -216,9 +215,9 @@ pub fn operate(
     next: u16,
 ) -> Result<(), Stop>
     requires ready { AreReady regs.old }
-    requires room { length room.old ≡ stack_limit }
+    requires room { HasRoom regs.old room.old }
     requires fits { Fits regs.old.ll op.now }
-    ensures { Performs (own_outcome op.now next (part_in regs.old room.old)) (part_in regs.old room.old) result (part_in regs.new room.new) }
+    ensures { Performs (length room.old) (own_outcome op.now next (part_in regs.old room.old)) (part_in regs.old room.old) result (part_in regs.new room.new) }
 {
     let row = row_of(op, regs.place);
     perform(regs, room, row, next)

@@ -8,7 +8,7 @@ ghost use Rattle.b67_table.specs.Effect.{gives};
 ghost use Rattle.b67_table.specs.Outcome.{limited};
 ghost use Rattle.b67_table.specs.Private.{push};
 ghost use Rattle.b67_table.specs.PrivateRows.{complement, by_bit, arithmetic, relation as relations, negated, logic, complemented, dropped, exchanged, doubled, stuffed, stuff, mark, make_cells, branch, is_taken};
-ghost use Rattle.b67_private.specs.Parts.{AreReady, length_of, part_in};
+ghost use Rattle.b67_private.specs.Parts.{AreReady, HasRoom, length_of, part_in};
 ghost use Rattle.b67_private.specs.Performing.{Performs, own_row, bits_by, Stuffs, Holds, AreSeen, stuffed_in};
 
 use crate::Stop;
@@ -16,7 +16,6 @@ use crate::taking::{UNDERFLOW, lower, put_two, replace, top, two};
 use b67_control::{Irw, Mscw, Registers, Sirw};
 use b67_num::{Calculation, Relation, calculate, compare, neg};
 use b67_ops::BranchKind;
-use b67_store::MOST_STACK_WORDS;
 use b67_table::{InterruptKind, frame, wide};
 use b67_word::{Word, make_word, operand, truth};
 
@@ -46,8 +45,8 @@ pub fn calculate_two(
     next: u16,
 ) -> Result<(), Stop>
     requires ready { AreReady regs.old }
-    requires room { length room.old ≡ stack_limit }
-    ensures { Performs (own_row (arithmetic (calculated calculation)) next (part_in regs.old room.old)) (part_in regs.old room.old) result (part_in regs.new room.new) }
+    requires room { HasRoom regs.old room.old }
+    ensures { Performs (length room.old) (own_row (arithmetic (calculated calculation)) next (part_in regs.old room.old)) (part_in regs.old room.old) result (part_in regs.new room.new) }
 {
     let Some((x, y)) = two(regs, room) else {
         return Err(UNDERFLOW);
@@ -73,8 +72,8 @@ pub fn compare_two(
     next: u16,
 ) -> Result<(), Stop>
     requires ready { AreReady regs.old }
-    requires room { length room.old ≡ stack_limit }
-    ensures { Performs (own_row (relations (related relation)) next (part_in regs.old room.old)) (part_in regs.old room.old) result (part_in regs.new room.new) }
+    requires room { HasRoom regs.old room.old }
+    ensures { Performs (length room.old) (own_row (relations (related relation)) next (part_in regs.old room.old)) (part_in regs.old room.old) result (part_in regs.new room.new) }
 {
     let Some((x, y)) = two(regs, room) else {
         return Err(UNDERFLOW);
@@ -93,8 +92,8 @@ pub fn compare_two(
 #[inline(always)]
 pub fn negate(regs: &mut Registers, room: &mut [Word], next: u16) -> Result<(), Stop>
     requires ready { AreReady regs.old }
-    requires room { length room.old ≡ stack_limit }
-    ensures { Performs (own_row negated next (part_in regs.old room.old)) (part_in regs.old room.old) result (part_in regs.new room.new) }
+    requires room { HasRoom regs.old room.old }
+    ensures { Performs (length room.old) (own_row negated next (part_in regs.old room.old)) (part_in regs.old room.old) result (part_in regs.new room.new) }
 {
     let x = top(regs, room)?;
     let Some(a) = x.as_whole() else {
@@ -108,10 +107,10 @@ pub fn negate(regs: &mut Registers, room: &mut [Word], next: u16) -> Result<(), 
 #[inline(always)]
 pub fn push_word(regs: &mut Registers, room: &mut [Word], word: Word, next: u16) -> Result<(), Stop>
     requires ready { AreReady regs.old }
-    requires room { length room.old ≡ stack_limit }
-    ensures { Performs (own_row (λ q. gives (push word q)) next (part_in regs.old room.old)) (part_in regs.old room.old) result (part_in regs.new room.new) }
+    requires room { HasRoom regs.old room.old }
+    ensures { Performs (length room.old) (own_row (λ q. gives (push word q)) next (part_in regs.old room.old)) (part_in regs.old room.old) result (part_in regs.new room.new) }
 {
-    if regs.s >= MOST_STACK_WORDS as u32 {
+    if regs.s as usize >= room.len() {
         return Err(Stop::StackLimit);
     }
     replace(regs, room, 0, word, next);
@@ -122,8 +121,8 @@ pub fn push_word(regs: &mut Registers, room: &mut [Word], word: Word, next: u16)
 #[inline(always)]
 pub fn drop_top(regs: &mut Registers, room: &mut [Word], next: u16) -> Result<(), Stop>
     requires ready { AreReady regs.old }
-    requires room { length room.old ≡ stack_limit }
-    ensures { Performs (own_row dropped next (part_in regs.old room.old)) (part_in regs.old room.old) result (part_in regs.new room.new) }
+    requires room { HasRoom regs.old room.old }
+    ensures { Performs (length room.old) (own_row dropped next (part_in regs.old room.old)) (part_in regs.old room.old) result (part_in regs.new room.new) }
 {
     let _x = top(regs, room)?;
     lower(regs, room, 1, next);
@@ -135,8 +134,8 @@ pub fn drop_top(regs: &mut Registers, room: &mut [Word], next: u16) -> Result<()
 #[inline(always)]
 pub fn exchange(regs: &mut Registers, room: &mut [Word], next: u16) -> Result<(), Stop>
     requires ready { AreReady regs.old }
-    requires room { length room.old ≡ stack_limit }
-    ensures { Performs (own_row exchanged next (part_in regs.old room.old)) (part_in regs.old room.old) result (part_in regs.new room.new) }
+    requires room { HasRoom regs.old room.old }
+    ensures { Performs (length room.old) (own_row exchanged next (part_in regs.old room.old)) (part_in regs.old room.old) result (part_in regs.new room.new) }
 {
     let Some((x, y)) = two(regs, room) else {
         return Err(UNDERFLOW);
@@ -150,8 +149,8 @@ pub fn exchange(regs: &mut Registers, room: &mut [Word], next: u16) -> Result<()
 #[inline(always)]
 pub fn double(regs: &mut Registers, room: &mut [Word], next: u16) -> Result<(), Stop>
     requires ready { AreReady regs.old }
-    requires room { length room.old ≡ stack_limit }
-    ensures { Performs (own_row doubled next (part_in regs.old room.old)) (part_in regs.old room.old) result (part_in regs.new room.new) }
+    requires room { HasRoom regs.old room.old }
+    ensures { Performs (length room.old) (own_row doubled next (part_in regs.old room.old)) (part_in regs.old room.old) result (part_in regs.new room.new) }
 {
     let x = top(regs, room)?;
     push_word(regs, room, x, next)
@@ -161,7 +160,7 @@ pub fn double(regs: &mut Registers, room: &mut [Word], next: u16) -> Result<(), 
 #[inline(always)]
 pub fn go_on(regs: &mut Registers, next: u16)
     requires { regs.old.s ≤ stack_limit }
-    ensures { (room : List Word) → Performs (own_row gives next (part_in regs.old room)) (part_in regs.old room) (Ok tt) (part_in regs.new room) }
+    ensures { (room : List Word) → regs.old.s ≤ length room → Performs (length room) (own_row gives next (part_in regs.old room)) (part_in regs.old room) (Ok tt) (part_in regs.new room) }
 {
     regs.place = next;
 }
@@ -223,8 +222,8 @@ pub fn combine_two(
     next: u16,
 ) -> Result<(), Stop>
     requires ready { AreReady regs.old }
-    requires room { length room.old ≡ stack_limit }
-    ensures { Performs (own_row (logic (bits_by kind)) next (part_in regs.old room.old)) (part_in regs.old room.old) result (part_in regs.new room.new) }
+    requires room { HasRoom regs.old room.old }
+    ensures { Performs (length room.old) (own_row (logic (bits_by kind)) next (part_in regs.old room.old)) (part_in regs.old room.old) result (part_in regs.new room.new) }
 {
     let Some((x, y)) = two(regs, room) else {
         return Err(UNDERFLOW);
@@ -243,8 +242,8 @@ pub fn combine_two(
 #[inline(always)]
 pub fn complement_top(regs: &mut Registers, room: &mut [Word], next: u16) -> Result<(), Stop>
     requires ready { AreReady regs.old }
-    requires room { length room.old ≡ stack_limit }
-    ensures { Performs (own_row complemented next (part_in regs.old room.old)) (part_in regs.old room.old) result (part_in regs.new room.new) }
+    requires room { HasRoom regs.old room.old }
+    ensures { Performs (length room.old) (own_row complemented next (part_in regs.old room.old)) (part_in regs.old room.old) result (part_in regs.new room.new) }
 {
     let x = top(regs, room)?;
     let Some(a) = bits_of(x) else {
@@ -280,8 +279,8 @@ fn stuffed(regs: &Registers, word: Word) -> Result<Word, Stop>
 #[inline(always)]
 pub fn stuff_top(regs: &mut Registers, room: &mut [Word], next: u16) -> Result<(), Stop>
     requires ready { AreReady regs.old }
-    requires room { length room.old ≡ stack_limit }
-    ensures { Performs (own_row stuff next (part_in regs.old room.old)) (part_in regs.old room.old) result (part_in regs.new room.new) }
+    requires room { HasRoom regs.old room.old }
+    ensures { Performs (length room.old) (own_row stuff next (part_in regs.old room.old)) (part_in regs.old room.old) result (part_in regs.new room.new) }
 {
     let x = top(regs, room)?;
     let word = stuffed(regs, x)?;
@@ -293,14 +292,14 @@ pub fn stuff_top(regs: &mut Registers, room: &mut [Word], next: u16) -> Result<(
 #[inline(always)]
 pub fn mark_stack(regs: &mut Registers, room: &mut [Word], next: u16) -> Result<(), Stop>
     requires ready { AreReady regs.old }
-    requires room { length room.old ≡ stack_limit }
-    ensures { Performs (own_row mark next (part_in regs.old room.old)) (part_in regs.old room.old) result (part_in regs.new room.new) }
+    requires room { HasRoom regs.old room.old }
+    ensures { Performs (length room.old) (own_row mark next (part_in regs.old room.old)) (part_in regs.old room.old) result (part_in regs.new room.new) }
 {
     let below = wide(regs.f);
     if below >= regs.s {
         return Err(INVALID);
     }
-    if regs.s >= MOST_STACK_WORDS as u32 {
+    if regs.s as usize >= room.len() {
         return Err(Stop::StackLimit);
     }
     let word = Mscw {
@@ -319,7 +318,7 @@ pub fn mark_stack(regs: &mut Registers, room: &mut [Word], next: u16) -> Result<
 pub fn make_cells(regs: &mut Registers, next: u16) -> Result<(), Stop>
     requires level { regs.old.ll < levels }
     requires room { regs.old.s ≤ stack_limit }
-    ensures { (room : List Word) → Performs (own_row make_cells next (part_in regs.old room)) (part_in regs.old room) result (part_in regs.new room) }
+    ensures { (room : List Word) → regs.old.s ≤ length room → Performs (length room) (own_row make_cells next (part_in regs.old room)) (part_in regs.old room) result (part_in regs.new room) }
 {
     let cells = regs.s.saturating_sub(frame(regs) + 2);
     if cells > u32::from(MOST_CELLS) {
@@ -340,8 +339,8 @@ fn branch_by(
     next: u16,
 ) -> Result<(), Stop>
     requires ready { AreReady regs.old }
-    requires room { length room.old ≡ stack_limit }
-    ensures { Performs (limited length_of (by_bit kind target next (part_in regs.old room.old))) (part_in regs.old room.old) result (part_in regs.new room.new) }
+    requires room { HasRoom regs.old room.old }
+    ensures { Performs (length room.old) (limited length_of (by_bit kind target next (part_in regs.old room.old))) (part_in regs.old room.old) result (part_in regs.new room.new) }
 {
     let x = top(regs, room)?;
     let Some(bits) = bits_of(x) else {
@@ -366,8 +365,8 @@ pub fn branch_to(
     next: u16,
 ) -> Result<(), Stop>
     requires ready { AreReady regs.old }
-    requires room { length room.old ≡ stack_limit }
-    ensures { Performs (limited length_of (branch kind target next (part_in regs.old room.old))) (part_in regs.old room.old) result (part_in regs.new room.new) }
+    requires room { HasRoom regs.old room.old }
+    ensures { Performs (length room.old) (limited length_of (branch kind target next (part_in regs.old room.old))) (part_in regs.old room.old) result (part_in regs.new room.new) }
 {
     match kind {
         BranchKind::Brun => {

@@ -7,7 +7,7 @@ ghost use Rattle.b67_segment.specs.declared.code.Code.{Code};
 ghost use Rattle.b67_segment.specs.Decoded.{found, AreDecoded};
 ghost use Rattle.b67_store.specs.Store.{stack_limit};
 ghost use Rattle.b67_table.specs.Privacy.{Keeps};
-ghost use Rattle.b67_private.specs.Parts.{AreReady, HasPart, IsPart, PlainParts, is_plain, own_next, part_in};
+ghost use Rattle.b67_private.specs.Parts.{AreReady, HasRoom, HasPart, IsPart, PlainParts, is_plain, own_next, part_in};
 ghost use Rattle.b67_private.specs.Performing.{Steps};
 ghost use Rattle.b67_private.specs.Prepared.{IsRowOf};
 
@@ -64,10 +64,10 @@ pub fn perform_fetched(
     table: Option<&Prepared>,
 ) -> bool
     requires ready { AreReady regs.old }
-    requires room { length room.old ≡ stack_limit }
+    requires room { HasRoom regs.old room.old }
     requires segments { All (λ segment. length segment.words ≤ MOST_SEGMENT_WORDS) code.now.segments }
     requires table { IfSome table (λ t. AreDecoded code.now regs.old.segment regs.old.ll t.now) }
-    ensures { Steps (own_next code.now (part_in regs.old room.old)) (part_in regs.old room.old) result (part_in regs.new room.new) }
+    ensures { Steps (length room.old) (own_next code.now (part_in regs.old room.old)) (part_in regs.old room.old) result (part_in regs.new room.new) }
 {
     let at = Pointer {
         segment: regs.segment,
@@ -88,10 +88,10 @@ fn perform_next(
     table: Option<&Prepared>,
 ) -> bool
     requires ready { AreReady regs.old }
-    requires room { length room.old ≡ stack_limit }
+    requires room { HasRoom regs.old room.old }
     requires segments { All (λ segment. length segment.words ≤ MOST_SEGMENT_WORDS) code.now.segments }
     requires table { IfSome table (λ t. AreDecoded code.now regs.old.segment regs.old.ll t.now) }
-    ensures { Steps (own_next code.now (part_in regs.old room.old)) (part_in regs.old room.old) result (part_in regs.new room.new) }
+    ensures { Steps (length room.old) (own_next code.now (part_in regs.old room.old)) (part_in regs.old room.old) result (part_in regs.new room.new) }
 {
     match row_at(table, regs.place) {
         Some((row, next)) => perform(regs, room, row, next).is_ok(),

@@ -1,7 +1,6 @@
 // The words on top of a stack, in its room, and words in their place. S says how many of the room are in use.
 ghost use Rattle.std.specs.Prelude.{◌≡◌, ◌+◌, ◌-◌, ◌∷◌, ◌≤◌, drop, length};
-ghost use Rattle.b67_store.specs.Store.{stack_limit};
-ghost use Rattle.b67_private.specs.Parts.{AreReady, part_in, top_first};
+ghost use Rattle.b67_private.specs.Parts.{AreReady, HasRoom, part_in, top_first};
 ghost use Rattle.b67_private.specs.Performing.{TakesOne, TakesTwo, set_to};
 
 use crate::Stop;
@@ -15,7 +14,7 @@ pub const UNDERFLOW: Stop = Stop::Interrupt(InterruptKind::StackUnderflow);
 #[inline(always)]
 pub fn top(regs: &Registers, room: &[Word]) -> Result<Word, Stop>
     requires ready { AreReady regs.now }
-    requires room { length room.now ≡ stack_limit }
+    requires room { HasRoom regs.now room.now }
     ensures { TakesOne (part_in regs.now room.now) result }
 {
     if floor(regs) >= regs.s {
@@ -28,7 +27,7 @@ pub fn top(regs: &Registers, room: &[Word]) -> Result<Word, Stop>
 #[inline(always)]
 pub fn two(regs: &Registers, room: &[Word]) -> Option<(Word, Word)>
     requires ready { AreReady regs.now }
-    requires room { length room.now ≡ stack_limit }
+    requires room { HasRoom regs.now room.now }
     ensures { TakesTwo (part_in regs.now room.now) result }
 {
     if floor(regs) + 1 >= regs.s {
@@ -41,10 +40,9 @@ pub fn two(regs: &Registers, room: &[Word]) -> Option<(Word, Word)>
 // A word takes the place of so many on top.
 #[inline(always)]
 pub fn replace(regs: &mut Registers, room: &mut [Word], count: u32, word: Word, next: u16)
-    requires room { length room.old ≡ stack_limit }
+    requires room { HasRoom regs.old room.old }
     requires within { count ≤ regs.old.s }
-    requires small { regs.old.s ≤ stack_limit }
-    requires fits { regs.old.s + 1 ≤ stack_limit + count }
+    requires fits { regs.old.s + 1 ≤ length room.old + count }
     ensures registers { regs.new ≡ set_to (regs.old.s + 1 - count) next regs.old }
     ensures words { top_first regs.new.s room.new ≡ word ∷ drop count (top_first regs.old.s room.old) }
 {
@@ -57,9 +55,8 @@ pub fn replace(regs: &mut Registers, room: &mut [Word], count: u32, word: Word, 
 // Words take the places of the two on top.
 #[inline(always)]
 pub fn put_two(regs: &Registers, room: &mut [Word], lower: Word, upper: Word)
-    requires room { length room.old ≡ stack_limit }
+    requires room { HasRoom regs.now room.old }
     requires two { 2 ≤ regs.now.s }
-    requires small { regs.now.s ≤ stack_limit }
     ensures { top_first regs.now.s room.new ≡ upper ∷ lower ∷ drop 2 (top_first regs.now.s room.old) }
 {
     let length = regs.s as usize;
@@ -70,9 +67,8 @@ pub fn put_two(regs: &Registers, room: &mut [Word], lower: Word, upper: Word)
 // So many words on top go.
 #[inline(always)]
 pub fn lower(regs: &mut Registers, room: &[Word], count: u32, next: u16)
-    requires room { length room.now ≡ stack_limit }
+    requires room { HasRoom regs.old room.now }
     requires within { count ≤ regs.old.s }
-    requires small { regs.old.s ≤ stack_limit }
     ensures registers { regs.new ≡ set_to (regs.old.s - count) next regs.old }
     ensures words { top_first regs.new.s room.now ≡ drop count (top_first regs.old.s room.now) }
 {

@@ -11,4 +11,4 @@ pub returns-clause-done : goal.returns-clause-done
 returns-clause-done c = λ done stacks rows there.
     let h = c.in-Some.ensures in
     value_on c.args.regs.now c.args.room.now c.requires.room stacks rows there c.args.couple c.args.next c.in-Some.at h c.index-room-at.result
-    (c.index-room-at.is ∙ get_or_from_slice_get c.args.room.now c.in-Some.at h.word c.index-room-at.result h.stands) (omega (arith, c.if-top-ge-MOST_STACK_WORDS.false))
+    (c.index-room-at.is ∙ get_or_from_slice_get c.args.room.now c.in-Some.at h.word c.index-room-at.result h.stands) (omega (arith, c.if-top-room.false))

@@ -1,9 +1,9 @@
-use Rattle.std.proofs.Common.{sym, subst, Bool}
+use Rattle.std.proofs.Common.{sym, subst, Bool, length}
 use Rattle.b67_private.specs.Parts.{own_next, part_in}
 use Rattle.b67_private.specs.Performing.{Steps}
 use Rattle.b67_private.proofs.Above.{ready_part}
 use Rattle.b67_private.proofs.PlacedRows.{steps_by_row}
-use Rattle.b67_action.proofs.Lent.{part_is, plain_keeps, plain_steps, plain_lends}
+use Rattle.b67_action.proofs.Lent.{part_is, still_held, plain_keeps, plain_steps, plain_lends}
 use Rattle.b67_action.proofs.running.plain_by_row.Goals as goal
 
 pub perform-requires : goal.perform-requires
@@ -21,11 +21,13 @@ returns c =
     let more = c.perform.new.room in
     let old = part_in r room in
     let b = c.is_ok.result in
-    let steps : Steps (own_next code old) old b (part_in q more) =
-    subst (λ (x : Bool). Steps (own_next code old) old x (part_in q more)) (sym c.is_ok.ensures.value)
-    (steps_by_row code old (part_in q more) c.args.row c.args.next c.perform.result c.requires.row c.perform.ensures) in
+    let size = length room in
+    let steps : Steps size (own_next code old) old b (part_in q more) =
+    subst (λ (x : Bool). Steps size (own_next code old) old x (part_in q more)) (sym c.is_ok.ensures.value)
+    (steps_by_row size code old (part_in q more) c.args.row c.args.next c.perform.result c.requires.row c.perform.ensures) in
     record {
-      steps = λ img p l. plain_steps code img p r room l q more b steps;
+      steps = λ img p l. plain_steps code img p r room l q more c.perform.auto.room b steps;
       lends = λ img p l. plain_lends code img p r room l q more b steps;
+      held = still_held size (own_next code old) old (part_in q more) b c.requires.room.0 steps;
       keeps = plain_keeps code c.requires.lent.0 c.requires.lent.1 r room c.requires.lent.2 q more b steps;
     }

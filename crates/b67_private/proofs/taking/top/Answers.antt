@@ -5,7 +5,7 @@ use Rattle.b67_private.proofs.taking.top.Goals as goal
 pub returns : goal.returns
 returns c =
     let above = c.if-floor-regs.false in (
-      top_in c.args.room.now c.args.regs.now.s c.index-room-regs.result _ (omega (arith, above)) (omega (arith, c.requires.ready.room, c.requires.room))
+      top_in c.args.room.now c.args.regs.now.s c.index-room-regs.result _ (omega (arith, above)) c.requires.room.0
           c.index-room-regs.is,
       omega (arith, above, c.floor.ensures.value),
     )

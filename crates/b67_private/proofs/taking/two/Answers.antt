@@ -6,6 +6,6 @@ pub returns : goal.returns
 returns c =
     let above = c.if-floor-regs.false in (
       two_in c.args.room.now c.args.regs.now.s c.index-room-length.result c.index-room-length-2.result _ _ (omega (arith, above))
-          (omega (arith, c.requires.ready.room, c.requires.room)) c.index-room-length.is c.index-room-length-2.is,
+          c.requires.room.0 c.index-room-length.is c.index-room-length-2.is,
       omega (arith, above, c.floor.ensures.value),
     )
