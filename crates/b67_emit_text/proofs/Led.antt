@@ -82,6 +82,3 @@ module _ (left rest : List Label) (l : Label) (spot : Spot) (is : left ≡ l ∷
 
   pub place_here : same_spot l.spot spot ≡ true → place_in left spot ≡ Some l.place
   place_here h = ap (λ (ls : List Label). place_in ls spot) is ∙ ap place h
-
-  pub place_further : same_spot l.spot spot ≡ false → place_in left spot ≡ place_in rest spot
-  place_further h = ap (λ (ls : List Label). place_in ls spot) is ∙ ap place h

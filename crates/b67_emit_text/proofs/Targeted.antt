@@ -1,5 +1,5 @@
 -- Where labels lead, as they are gathered one after another.
-use Rattle.std.proofs.Common.{◌≡◌, ◌∙◌, ℕ, ◌+◌, ◌≤◌, List, [], ◌∷◌, drop, length, map, refl, sym, ap, subst}
+use Rattle.std.proofs.Common.{◌≡◌, ◌∙◌, ℕ, ◌+◌, ◌≤◌, List, ◌∷◌, length, refl, sym, ap, subst}
 use Rattle.std.specs.Prelude.{Option, Some, None}
 use Rattle.std.specs.BTreeMap.{BTreeMap, IsEmpty, is_at}
 use Rattle.std.specs.Map.{lookup}
@@ -8,24 +8,13 @@ use Rattle.algol_tree.specs.declared.token.Spot.{Spot}
 use Rattle.algol_tree.specs.contracts.token.SpotOrd.TheImpl.{ghosts}
 use Rattle.algol_tree.specs.Plain.{PDecls, PStmts}
 use Rattle.b67_emitter.specs.declared.names.Target.{Target}
-use Rattle.b67_emit_text.specs.declared.entries.Declared.{Declared}
-use Rattle.b67_emit_text.specs.Entries.{AllLow, entries_of, entry_of}
-use Rattle.b67_emit_text.specs.Targets.{Adds, IsSmall, or_target, target_at, target_there, targets_from, targets_in, under}
+use Rattle.b67_emit_text.specs.Entries.{AllLow, entries_of}
+use Rattle.b67_emit_text.specs.Targets.{Adds, IsSmall, or_target, targets_from, targets_in, under}
 use Rattle.b67_emit_text.specs.Texts.{Text}
 
 or_assoc : (x y z : Option Target) → or_target (or_target x y) z ≡ or_target x (or_target y z)
 or_assoc None y z = refl
 or_assoc (Some t) y z = refl
-
--- one entry after another
-pub entries_step : (text n : ℕ) (entries : List Declared) (e : Declared) (table after : BTreeMap Spot Target) (target : Target) → drop n entries ≡ e ∷ drop (n + 1) entries →
-    target ≡ target_at text n (entry_of e) → Adds table after (target_there e.name.now.spot target) → (spot : Spot) →
-    or_target (under after spot) (targets_from text (n + 1) (map entry_of (drop (n + 1) entries)) spot) ≡ or_target (under table spot) (targets_from text n (map entry_of (drop n entries)) spot)
-entries_step text n entries e table after target next is adds spot =
-    let rest = targets_from text (n + 1) (map entry_of (drop (n + 1) entries)) spot in
-    ap (λ (o : Option Target). or_target o rest) (adds spot) ∙ or_assoc (under table spot) (target_there e.name.now.spot target spot) rest
-    ∙ ap (λ (t : Target). or_target (under table spot) (or_target (target_there e.name.now.spot t spot) rest)) is
-    ∙ ap (λ (l : List Declared). or_target (under table spot) (targets_from text n (map entry_of l) spot)) (sym next)
 
 -- one text after another
 pub texts_step : (text : ℕ) (t : Text) (left rest : List Text) (table after : BTreeMap Spot Target) → left ≡ t ∷ rest →
@@ -35,11 +24,6 @@ texts_step text t left rest table after next adds spot =
     let later = targets_in (text + 1) rest spot in
     ap (λ (o : Option Target). or_target o later) (adds spot) ∙ or_assoc (under table spot) (targets_from text 0 (entries_of t.level t.decls t.stmts) spot) later
     ∙ ap (λ (l : List Text). or_target (under table spot) (targets_in text l spot)) (sym next)
-
--- nothing is left
-pub none_left : (x : Option Target) → or_target x None ≡ x
-none_left None = refl
-none_left (Some t) = refl
 
 -- ---- a text whose parts are known
 
@@ -66,9 +50,3 @@ first_step t rest now table after none adds same spot =
     ap (λ (o : Option Target). or_target o (targets_in 1 now spot)) (adds spot)
     ∙ ap (λ (es : List (Spot × Target)). or_target (or_target (lookup (is_at (ghosts.cmp spot)) es) (targets_from 0 0 (entries_of t.level t.decls t.stmts) spot)) (targets_in 1 now spot)) none
     ∙ ap (λ (l : List Text). or_target (targets_from 0 0 (entries_of t.level t.decls t.stmts) spot) (targets_in 1 l spot)) same
-
--- no text is left
-pub last_step : (ts : List Text) (n : ℕ) (left : List Text) (table : BTreeMap Spot Target) (spot : Spot) → left ≡ [] →
-    or_target (under table spot) (targets_in n left spot) ≡ targets_in 0 ts spot → under table spot ≡ targets_in 0 ts spot
-last_step ts n left table spot none h =
-    sym (none_left (under table spot)) ∙ ap (λ (l : List Text). or_target (under table spot) (targets_in n l spot)) (sym none) ∙ h

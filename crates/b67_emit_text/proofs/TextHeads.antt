@@ -20,11 +20,6 @@ use Rattle.b67_emit_text.proofs.Entered.{entries_leveled, fit_all_low}
 entries_many : (found : List Declared) → length (map entry_of found) ≡ length found
 entries_many found = length-map found entry_of
 
--- those of no labels
-pub none_found : (found : List Declared) (es : List Entry) → map entry_of found ≡ es → length found ≡ 0 → es ≡ []
-none_found [] es are none = sym are
-none_found (x ∷ xs) es are none = absurd (omega (arith, none))
-
 pub none_celled : (found es : List PExpr) → found ≡ es → length found ≡ 0 → es ≡ []
 none_celled [] es are none = sym are
 none_celled (x ∷ xs) es are none = absurd (omega (arith, none))

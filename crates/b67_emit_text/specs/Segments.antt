@@ -9,8 +9,8 @@ use Rattle.b67_emit_stmt.specs.declared.draft.Known.{Known}
 use Rattle.b67_emit_stmt.specs.Bodies.{HaveInside, IsSmall}
 use Rattle.b67_emit_stmt.specs.Fits.{InsideFits}
 use Rattle.b67_emit_stmt.specs.Lengths.{celled_in}
-use Rattle.b67_emit_stmt.specs.Places.{Later, Place}
-use Rattle.b67_emit_text.specs.Codes.{IsMade, IsNear, Stands, result_index, segment_syllables, zeros_for}
+use Rattle.b67_emit_stmt.specs.Places.{Place}
+use Rattle.b67_emit_text.specs.Codes.{IsMade, IsNear, result_index, segment_syllables, zeros_for}
 use Rattle.b67_emit_text.specs.Texts.{Text}
 
 -- the index of the result's cell, where the text has a result
@@ -35,10 +35,6 @@ pub record CanStand (s : Known) (t : Text) : Type 0 where
   pub fits : HaveInside s t.level t.decls t.stmts
   pub room : code_syllables s t + 5 ≤ MOST_SEGMENT_SYLLABLES
 
--- the code of a text stands in the segment
-abbrev pub HasSegment : Place → Later → Segment → Text → Type 0
-HasSegment sc later segment t = Stands sc later segment t.level (returned_in t) t.decls t.stmts
-
--- .. and was made so, with these formats
+-- the segment and these formats are made of the text
 abbrev pub IsMadeOf : Known → Text → Segment → List Format → Type 0
 IsMadeOf s t segment formats = IsMade s t.level (returned_in t) t.decls t.stmts segment formats
