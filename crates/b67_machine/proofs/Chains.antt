@@ -1,13 +1,14 @@
 -- Entries that go on, one after another, on the machine.
-use Rattle.std.specs.Prelude.{IfSome}
+use Rattle.std.specs.Prelude.{IfSome, slice_get}
 use Rattle.std.proofs.Common.{◌≡◌, refl, sym, ap, subst, ◌∙◌, ℕ, zero, suc, ◌+◌, ◌-◌, ◌<◌, ◌≤◌, Bool, true, false, List, [], ◌∷◌, ◌++◌, length, take, set, append_assoc, append-nil, Option, Some, None, arith}
-use Rattle.std.proofs.lemmas.List.{length-take-le}
+use Rattle.std.proofs.lemmas.List.{length-take-le, length-append}
 use Rattle.b67_list.specs.Numbered.{numbered, set_numbered}
 use Rattle.b67_deeds.specs.declared.Letter.{Letter}
 use Rattle.b67_segment.specs.declared.code.Code.{Code}
 use Rattle.b67_table.specs.declared.ProcessState.{ProcessState}
 use Rattle.b67_table.specs.Image.{Image, is_able}
 use Rattle.b67_table.specs.Runs.{Plains}
+use Rattle.b67_table.specs.Runs as runs
 use Rattle.b67_table.specs.Table.{plain}
 use Rattle.b67_table.specs.Valid.{IsValid}
 use Rattle.b67_table.proofs.Lists.{numbered_set}
@@ -17,7 +18,7 @@ use Rattle.b67_action.specs.declared.done.Done.TheVariants.{Went}
 use Rattle.b67_action.specs.Able.{able_in, AbleAfter}
 use Rattle.b67_action.specs.declared.running.Ran.{Ran}
 use Rattle.b67_machine.specs.declared.entry.Performed.{Performed}
-use Rattle.b67_action.specs.Running.{GoesOn, Walks, stay, go}
+use Rattle.b67_action.specs.Running.{GoesOn, Walks, stay, go, IsOpenAt}
 use Rattle.b67_action.proofs.Runs.{plains_then}
 use Rattle.b67_machine.specs.Kept.{Kept, Counts, counted, or_none}
 use Rattle.b67_machine.specs.Letters.{or_before, last_or}
@@ -274,8 +275,116 @@ module _ (a new : Kept) (p limit : ℕ) (ran : Ran) (noted : List Letter) (h : R
         k.1,
       )
 
-  pub runs_action : ran.operators + ran.plain < limit → plain new.code new.image p ≡ false
-  runs_action less = ap (λ (x : Code). plain x new.image p) (ap (λ (x : Kept). x.code) h.others) ∙ h.run.stops less
+  -- so they are entries that go on, and plain operators after them, within any number of operators that the entries have not
+  pub runs_pass : (left : ℕ) → machine_end a ≡ None → a.lacked ≡ false → is_able (numbered a.image.states p) ≡ true → ran.operators ≤ left → Passing a p left ran noted new
+  runs_pass left going here able within =
+      passing_more p left a [] 0 a entries.stay going here h.begun able h.number h.known limit ran noted noted new h (omega (arith, within)) ran.entries ran.operators refl
+      (omega arith)
+
+  pub runs_action : ran.operators + ran.plain < limit → IsOpenAt ran.entries noted → plain new.code new.image p ≡ false
+  runs_action less is_open = ap (λ (x : Code). plain x new.image p) (ap (λ (x : Kept). x.code) h.others) ∙ h.run.stops less is_open
+
+-- ---- one entry on the process's own stack
+
+-- so many operators: plain ones, and an action of this letter that went on
+record OneWalk (code : Code) (p : ℕ) (old new : Image) (ls : List Letter) (n : ℕ) : Type 0 where
+  quiet : Image
+  l : Letter
+  k : ℕ
+  plains : Plains code p old k quiet
+  on : GoesOn code p l quiet new
+  ls_is : ls ≡ l ∷ []
+  n_is : n ≡ k + 1
+
+none_before : (is : List Letter) (l : Letter) → length (is ++ l ∷ []) ≡ 1 → is ≡ []
+none_before [] l e = refl
+none_before (x ∷ xs) l e = absurd (omega (arith, e, length-append xs (l ∷ [])))
+
+one_walk : (code : Code) (p : ℕ) (old new : Image) (ls : List Letter) (n : ℕ) → Walks code p old ls n new → length ls ≡ 1 → OneWalk code p old new ls n
+one_walk code p old new ls n stay e = absurd (omega (arith, e))
+one_walk code p old new ls n (go {b = b} {c = c} {ls = is} {l = named} {m = m} {k = k} rest plains on) e =
+    let empty = none_before is named e in
+    let z = no_walks code p old b is m rest empty in
+    record {
+      quiet = c;
+      l = named;
+      k = k;
+      plains = subst (λ (x : Image). Plains code p x k c) z.0 plains;
+      on = on;
+      ls_is = ap (λ (xs : List Letter). xs ++ named ∷ []) empty;
+      n_is = omega (arith, z.1);
+    }
+
+no_plains : (code : Code) (p : ℕ) (a b : Image) (n : ℕ) → Plains code p a n b → n ≡ 0 → b ≡ a
+no_plains code p a b n runs.stay e = refl
+no_plains code p a b n (runs.go x y rest) e = absurd (omega (arith, e))
+
+first_is : (ls : List Letter) (l : Letter) → take 1 ls ≡ l ∷ [] → slice_get ls 0 ≡ Some l
+first_is [] l e = cc
+first_is (x ∷ xs) l e = ap (λ (ks : List Letter). slice_get ks 0) e
+
+module _ (a new : Kept) (p most : ℕ) (ran : Ran) (noted : List Letter) (h : Runs a p most ran noted new) (going : machine_end a ≡ None) (here : a.lacked ≡ false)
+    (able : is_able (numbered a.image.states p) ≡ true) (within : ran.operators ≤ most) (one : ran.entries ≡ 1) (none : ran.plain ≡ 0) where
+  walk : OneWalk a.code p a.image h.run.between (take ran.entries noted) ran.operators
+  walk = one_walk a.code p a.image h.run.between (take ran.entries noted) ran.operators h.run.walks (length-take-le ran.entries noted h.run.few ∙ one)
+
+  abbrev quiet_one : Kept
+  quiet_one = record a { image = walk.quiet; counts = more_counts a.counts p walk.k }
+
+  abbrev after_one : Kept
+  after_one = record a { image = h.run.between; counts = new.counts; released = []; letter = Some walk.l }
+
+  is_after : new ≡ after_one
+  is_after =
+      h.others
+      ∙ ap (λ (x : Image). record a { image = x; counts = new.counts; released = released_after ran.entries a.released; letter = last_or (take ran.entries noted) a.letter })
+      (no_plains a.code p h.run.between new.image ran.plain h.run.plains none)
+      ∙ ap (λ (n : ℕ). record a { image = h.run.between; counts = new.counts; released = released_after n a.released; letter = last_or (take ran.entries noted) a.letter }) one
+      ∙ ap (λ (ls : List Letter). record a { image = h.run.between; counts = new.counts; released = []; letter = last_or ls a.letter }) walk.ls_is
+
+  goes_one : Goes a p walk.k quiet_one
+  goes_one =
+      let keeps = plains_keep a.code p a.image walk.quiet walk.k h.begun (live_of (numbered a.image.states p) able) walk.plains in
+      record {
+        performed = walk.plains;
+        counts = counts_more a.counts p walk.k h.number h.known;
+        others = refl;
+        states = keeps.states;
+        started = keeps.started;
+        fault = keeps.fault;
+      }
+
+  one_counted : Counts quiet_one.counts p 1 new.counts
+  one_counted =
+      let sum : ran.operators + ran.plain ≡ walk.k + 1 = omega (arith, walk.n_is, none) in
+      counts_rest a.counts quiet_one.counts new.counts p walk.k 1 (counts_more a.counts p walk.k h.number h.known) (subst (λ (n : ℕ). Counts a.counts p n new.counts) sum h.counts)
+
+  faultless : h.run.between.fault ≡ None
+  faultless = walk.on.calm.fault ∙ goes_one.fault ∙ (goes_on a going).fault
+
+  steps_one : Steps quiet_one p Went after_one
+  steps_one =
+      subst (λ (x : Bool). StepsBy x quiet_one p Went after_one) (sym here)
+      (acts_by quiet_one after_one a.code walk.quiet h.run.between p Went refl refl faultless walk.on.gone.came (sym (without h.run.between faultless))
+      one_counted walk.on.gone.woken (λ q. walk.on.gone.able)
+      (goes_on a going).limit here (sym (ap (λ (x : Option Letter). or_before x a.letter) walk.on.letter_is)) refl)
+
+  passes_one : Passes a p most walk.k walk.l after_one
+  passes_one =
+      passes_by a quiet_one after_one p most walk.k (still_goes a quiet_one p walk.k going goes_one) goes_one (omega (arith, walk.n_is, within)) walk.on.action
+      steps_one walk.on.calm.started refl here walk.on.gone.valid walk.l refl
+
+  pub one_performs : Performs a p most (record { plain = ran.operators - 1; done = Some Went }) new
+  one_performs =
+      let k_is : walk.k ≡ ran.operators - 1 = omega (arith, walk.n_is) in
+      subst (λ (x : Kept). Performs a p most (record { plain = ran.operators - 1; done = Some Went }) x) (sym is_after)
+      (subst (λ (n : ℕ). Performs a p most (record { plain = n; done = Some Went }) after_one) k_is passes_one.performs)
+
+  pub one_able : AbleAfter a.image new.image p new.released
+  one_able = subst (λ (x : Kept). AbleAfter a.image x.image p x.released) (sym is_after) passes_one.able
+
+  pub one_noted : slice_get noted 0 ≡ new.letter
+  one_noted = first_is noted walk.l (subst (λ (n : ℕ). take n noted ≡ walk.l ∷ []) one walk.ls_is) ∙ ap (λ (x : Kept). x.letter) (sym is_after)
 
 -- ---- before the last entry
 

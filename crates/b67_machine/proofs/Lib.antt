@@ -17,6 +17,7 @@ pub mod Lacking
 pub mod Lending
 pub mod Differing
 pub mod Putting
+pub mod Whole
 pub mod Copying
 pub mod Noting
 pub mod Agreeing

@@ -1,13 +1,13 @@
--- A private part that is put in place of the one that is kept.
+-- A part that is put in place of the one that is kept.
 use Rattle.std.specs.Prelude.{IfSome, reverse}
-use Rattle.std.proofs.Common.{◌≡◌, sym, ap, subst, ◌∙◌, ℕ, ◌+◌, ◌≤◌, true, length, take, ◌++◌, Option, Some, arith}
+use Rattle.std.proofs.Common.{◌≡◌, sym, ap, subst, ◌∙◌, ℕ, zero, suc, ◌+◌, ◌-◌, ◌≤◌, true, List, length, take, ◌++◌, set, Option, Some, arith}
 use Rattle.std.proofs.lemmas.List.{length-append, length-reverse, length-take-le}
 use Rattle.b67_list.specs.Numbered.{numbered}
 use Rattle.b67_control.specs.declared.Registers.{Registers}
 use Rattle.b67_segment.specs.declared.code.Code.{Code}
 use Rattle.b67_operators.specs.Leaves.{IsLinkedIn}
 use Rattle.b67_linkage.proofs.Linked.{live_are_linked}
-use Rattle.b67_store.specs.Store.{words_of, with_stack, stack_limit}
+use Rattle.b67_store.specs.Store.{Stacks, Rows, words_of, with_stack, stack_limit}
 use Rattle.b67_table.specs.declared.Private.{Private}
 use Rattle.b67_table.specs.Image.{Image, with_private, private_of, is_live}
 use Rattle.b67_table.specs.Private.{floor}
@@ -24,6 +24,21 @@ use Rattle.b67_machine.specs.Parts.{part_by, private_part}
 use Rattle.b67_machine.specs.Stepping.{IsStretched, Goes}
 use Rattle.b67_machine.proofs.Going.{goes_live}
 use Rattle.b67_machine.proofs.Plainly.{Keeps, live_there, plains_keep}
+
+-- ---- among all processes
+
+pub put_at : (img : Image) (p : ℕ) (r new : Registers) (part : Private) (stacks : Stacks) (rows : Rows) (base : ℕ) → numbered img.regs p ≡ Some r → new ≡ part.regs
+    → stacks ≡ with_stack img.stacks part.regs.stack (take base (words_of img.stacks part.regs.stack) ++ reverse part.words) → rows ≡ img.rows
+    → record img { stacks = stacks; rows = rows; regs = set img.regs (p - 1) new } ≡ with_private img p base part
+put_at img zero r new part stacks rows base has q s w = cc
+put_at img (suc k) r new part stacks rows base has q s w =
+    let k_is : suc k - 1 ≡ k = omega arith in
+    let put : Stacks = with_stack img.stacks part.regs.stack (take base (words_of img.stacks part.regs.stack) ++ reverse part.words) in
+    ap (λ (x : Stacks). record img { stacks = x; rows = rows; regs = set img.regs (suc k - 1) new }) s
+    ∙ ap (λ (x : Rows). record img { stacks = put; rows = x; regs = set img.regs (suc k - 1) new }) w
+    ∙ ap (λ (x : List Registers). record img { stacks = put; regs = x }) (ap (λ (j : ℕ). set img.regs j new) k_is ∙ ap (set img.regs k) q)
+
+-- ---- a private part
 
 -- the part that a process with these registers has
 part_is : (P : Private → Type 0) (img : Image) (o : Option Registers) (r : Registers) → o ≡ Some r → IfSome (part_by img o) P → P (private_of img r)

@@ -1,26 +1,43 @@
--- The private part of a process as a list of words, and where two lists differ first.
+-- A part of a process, private or whole, as a list of words, and where two lists differ first.
 use Rattle.std.specs.Prelude.{◌≡◌, ◌≢◌, ℕ, ◌+◌, ◌*◌, ◌^◌, pos, List, [], ◌∷◌, ◌++◌, length, map, take, slice_get, Option, Some, None}
 use Rattle.b67_list.specs.Numbered.{numbered}
 use Rattle.b67_word.specs.declared.Place.{Place}
 use Rattle.b67_word.specs.Word.{Word, operand}
 use Rattle.b67_control.specs.declared.Registers.{Registers}
 use Rattle.b67_table.specs.declared.Private.{Private}
-use Rattle.b67_table.specs.Image.{Image, private_of}
+use Rattle.b67_table.specs.Image.{Image}
 use Rattle.b67_table.specs.Private.{floor}
+use Rattle.b67_action.specs.Own.{part_from}
 
--- ---- the private part of a process
+-- ---- the parts of a process
+
+-- the registers that a process has, where it has some, and the words of its stack from a place on that they tell
+abbrev pub kept_from : (Registers → ℕ) → Image → Option Registers → Option Private
+kept_from from img None = None
+kept_from from img (Some r) = Some (part_from (from r) img.stacks r)
 
 abbrev pub part_by : Image → Option Registers → Option Private
-part_by img None = None
-part_by img (Some r) = Some (private_of img r)
+part_by img o = kept_from floor img o
 
 -- the private part of a process, where it has registers
 abbrev pub private_part : Image → ℕ → Option Private
 private_part img p = part_by img (numbered img.regs p)
 
+-- the lowest place of a stack
+abbrev pub bottom : Registers → ℕ
+bottom r = 0
+
+-- the registers of a process and all the words of its stack
+abbrev pub whole_part : Image → ℕ → Option Private
+whole_part img p = kept_from bottom img (numbered img.regs p)
+
 -- as many words as its S lies above its floor
 abbrev pub IsWhole : Private → Type 0
 IsWhole p = floor p.regs + length p.words ≡ p.regs.s
+
+-- as many words as its S says
+abbrev pub IsFull : Private → Type 0
+IsFull p = length p.words ≡ p.regs.s
 
 -- ---- as a list of words
 

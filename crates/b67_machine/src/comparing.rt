@@ -1,8 +1,7 @@
-// Where two private parts differ first.
-ghost use Rattle.std.specs.Prelude.{◌≡◌, ◌↔◌, ◌+◌, ◌<◌, ◌^◌, None, IfSome, IsTrue, drop, length, map, reverse};
+// Where two parts of a process differ first.
+ghost use Rattle.std.specs.Prelude.{◌≡◌, ◌↔◌, ◌-◌, ◌<◌, ◌≤◌, ◌^◌, None, IfSome, IsTrue, drop, length, map, reverse};
 ghost use Rattle.b67_control.specs.Display.{levels};
 ghost use Rattle.b67_store.specs.Store.{words_of, stack_limit};
-ghost use Rattle.b67_table.specs.Private.{floor};
 ghost use Rattle.b67_linkage.specs.Held.{IsLinked};
 ghost use Rattle.b67_machine.specs.Parts.{number_word, place_word, first_registers, last_registers, register_list, FirstDiffer, FirstOf};
 
@@ -118,11 +117,12 @@ pub fn first_register(kept: &Registers, given: &Registers) -> Option<(u32, Word,
     }
 }
 
-/// The first position, from the top, at which the private words of a process and given ones differ, and the word of each there.
+/// The first position, from the top, at which the topmost words of a process's stack and as many given ones differ, and the word of each
+/// there.
 pub fn first_word<C: Core>(core: &C, regs: &Registers, given: &Words) -> Option<(u32, Word, Word)>
     requires linked { IsLinked (C.Core.stacks core.now) (C.Core.rows core.now) regs.now }
-    requires whole { floor regs.now + length given.now ≡ regs.now.s }
-    ensures first { FirstOf (reverse (drop (floor regs.now) (words_of (C.Core.stacks core.now) regs.now.stack))) given.now result }
+    requires within { length given.now ≤ regs.now.s }
+    ensures first { FirstOf (reverse (drop (regs.now.s - length given.now) (words_of (C.Core.stacks core.now) regs.now.stack))) given.now result }
     ensures within { IfSome result (λ found. found.0 < stack_limit) }
 {
     'words: for position in 0..given.len() {

@@ -25,6 +25,17 @@ pub struct Entered {
     pub last: Performed,
 }
 
+// One entry, of which this was performed.
+fn only(plain: u32, done: Option<Done>) -> Entered
+    ensures { result ≡ record { entries = 0; operators = 0; last = record { plain = plain; done = done } } }
+{
+    Entered {
+        entries: 0,
+        operators: 0,
+        last: Performed { plain, done },
+    }
+}
+
 impl<C: Core> Machine<C> {
     // Tests that an entry whose operator came to this is passed over: it went on, no process was started above so many, and nobody was released.
     fn is_passed(&self, done: Done, before: u32) -> bool
@@ -48,11 +59,11 @@ impl<C: Core> Machine<C> {
         let before = self.started();
         let room = letters.len() - 1;
         let mut ran = self.run_process(process, &mut letters[..room], most - 1);
-        'passing: while ran.operators + ran.plain + 1 < most {
+        'passing: while (ran.entries as usize) < room && ran.operators + ran.plain + 1 < most {
             let done = self.act(process);
             let at = ran.entries as usize;
             write_letter(&mut letters[at], self.letter());
-            if at == room || !self.is_passed(done, before) {
+            if !self.is_passed(done, before) {
                 return Entered {
                     entries: ran.entries,
                     operators: ran.operators,
@@ -81,6 +92,30 @@ impl<C: Core> Machine<C> {
         }
     }
 
+    // The same with one entry. An action on the process's own stack is performed with its plain operators at once.
+    fn pass_one(&mut self, process: u32, letters: &mut [Letter], most: u32) -> Entered
+        requires able { is_able (numbered self.old.image.states process) ≡ true }
+        requires going { machine_end self.old ≡ None }
+        requires count { counted self.old.counts process + most < 2 ^ 64 }
+        requires here { self.old.lacked ≡ false }
+        requires some { 1 ≤ most }
+        requires room { length letters.old ≡ 1 }
+        ensures performs { PerformsEntries self.old process most result letters.new self.new }
+        ensures size { length letters.new ≡ length letters.old }
+        ensures valid { IsValid self.new.code self.new.image }
+    {
+        let ran = self.run_process(process, letters, most);
+        if ran.entries > 0 {
+            return only(ran.operators - 1, Some(Done::Went));
+        }
+        if ran.plain == most {
+            return only(most, None);
+        }
+        let done = self.act(process);
+        write_letter(&mut letters[0], self.letter());
+        only(ran.plain, Some(done))
+    }
+
     /// Performs entries of a process one after another, as long as each goes on and neither releases nor starts anybody, and at most so many
     /// operators in all. The letter of each is noted, and there is room for that of the last one too, which need not go on.
     pub fn perform_entries(&mut self, process: u32, letters: &mut [Letter], most: u32) -> Entered
@@ -99,6 +134,9 @@ impl<C: Core> Machine<C> {
                 operators: 0,
                 last,
             };
+        }
+        if letters.len() == 1 {
+            return self.pass_one(process, letters, most);
         }
         self.pass(process, letters, most)
     }

@@ -3,7 +3,8 @@
 //! A [`Machine`] begins with the first image of a code ([`Machine::load`]). It performs operators of a process one by one
 //! ([`Machine::step`]), entries of a schedule ([`Machine::perform_entry`]) and whole schedules ([`Machine::replay`]). The private part of a
 //! process is copied ([`Machine::copy_private`]), compared ([`Machine::differs`]) and put back ([`Machine::put_private`]), so that its plain
-//! operators can be performed elsewhere. A word of a stack and the registers of a process are shown ([`Machine::word_at`],
+//! operators can be performed elsewhere. So is the whole of a process ([`Machine::copy_whole`], [`Machine::put_run`]), on which entries of its
+//! own are performed too ([`run_part`]). A word of a stack and the registers of a process are shown ([`Machine::word_at`],
 //! [`Machine::registers`]).
 #![tactic(auto)]
 
@@ -33,6 +34,7 @@ pub use entries::Entered;
 pub use entry::Performed;
 pub use reads::End;
 pub use replay::{Replayed, within_entry};
+pub use running::run_part;
 use std::marker::Model;
 pub use step::lacking_is_kept;
 pub use tables::{Levels, decoded, prepare};

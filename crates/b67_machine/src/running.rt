@@ -1,25 +1,31 @@
 // What a process does on the room of its own stack, on the machine.
-ghost use Rattle.std.specs.Prelude.{◌≡◌, ◌+◌, ◌<◌, ◌≤◌, ◌^◌, List, None, false, true, length, vec_capacity};
+ghost use Rattle.std.specs.Prelude.{◌≡◌, ℕ, ◌+◌, ◌<◌, ◌≤◌, ◌^◌, List, None, Some, IfSome, false, true, length, vec_capacity};
 ghost use Rattle.b67_list.specs.Numbered.{numbered};
 ghost use Rattle.b67_events.specs.Events.{Events};
-ghost use Rattle.b67_table.specs.Image.{is_able};
+ghost use Rattle.b67_segment.specs.Decoded.{AreDecoded};
+ghost use Rattle.b67_table.specs.Image.{Image, is_able};
+ghost use Rattle.b67_table.specs.Privacy.{Keeps};
 ghost use Rattle.b67_table.specs.Valid.{IsValid};
 ghost use Rattle.b67_reach.specs.Images.{image_of};
 ghost use Rattle.b67_reach.specs.Woken.{KeepsPlaces};
 ghost use Rattle.b67_action.specs.Running.{HasRun};
-ghost use Rattle.b67_machine.specs.Chaining.{released_after, Runs};
+ghost use Rattle.b67_machine.specs.Chaining.{released_after, Runs, RunsTo};
 ghost use Rattle.b67_machine.specs.Kept.{counted};
+ghost use Rattle.b67_machine.specs.Parts.{whole_part, IsFull};
 ghost use Rattle.b67_machine.specs.Reads.{machine_end};
 ghost use Rattle.b67_machine.specs.Tables.{AreTables};
 
 use crate::Machine;
 use crate::counting::{count, note_last};
 use crate::tables::{Levels, decoded, prepare};
-use b67_action::{Ran, run_own};
+use b67_action::{Ran, run_on_room, run_own};
 use b67_deeds::Letter;
 use b67_intrinsics::registers;
+use b67_private::Prepared;
 use b67_reach::Parts;
-use b67_store::Core;
+use b67_segment::Code;
+use b67_store::{Core, MOST_STACK_WORDS};
+use b67_table::Private;
 
 // What comes next in a process on its own stack: at most as many entries that go on as letters can be noted, and at most so many operators in
 // all.
@@ -50,6 +56,36 @@ fn run_in<C: Core>(
     if ran.entries > 0 {
         parts.woken.processes.clear();
     }
+    ran
+}
+
+/// Performs on a copy of a process's registers and of its whole stack what comes next in it: at most as many entries that go on as letters can be
+/// noted, at most so many operators in all, and after the entries the plain operators that come next. Wherever the process has
+/// what was copied, this is its run. Takes no memory.
+///
+/// The operators are those of the code. Where the part's segment was decoded at the part's level, the table of its operators saves the
+/// decoding.
+pub fn run_part(
+    part: &mut Private,
+    code: &Code,
+    table: Option<&Prepared>,
+    letters: &mut [Letter],
+    most: u32,
+) -> Ran
+    requires full { IsFull part.old }
+    requires taken { (img : Image) × (p : ℕ) × IsValid code.now img × (is_able (numbered img.states p) ≡ true) × (whole_part img p ≡ Some part.old) }
+    requires table { IfSome table (λ t. AreDecoded code.now part.old.regs.segment part.old.regs.ll t.now) }
+    ensures runs { (p : ℕ) → RunsTo code.now p most part.old result letters.new part.new }
+    ensures full { IsFull part.new }
+    ensures keeps { Keeps part.old.regs part.new.regs }
+    ensures entries { result.entries ≤ length letters.new }
+    ensures counted { result.entries ≤ result.operators }
+    ensures size { length letters.new ≡ length letters.old }
+    ensures most { result.operators + result.plain ≤ most }
+{
+    let room = part.words.room(0);
+    let ran = run_on_room(&mut part.regs, room, code, table, letters, most);
+    part.words.cut(MOST_STACK_WORDS as u32 - part.regs.s);
     ran
 }
 

@@ -1,8 +1,8 @@
-// A word of the stacks, and the registers of a process.
+// A word of the stacks, and the registers and the critical place of a process.
 ghost use Rattle.std.specs.Prelude.{◌≡◌, false, true, IfNone, IfSome, Some};
 ghost use Rattle.b67_list.specs.Numbered.{numbered};
 ghost use Rattle.b67_store.specs.Store.{word_at};
-ghost use Rattle.b67_table.specs.Image.{is_live};
+ghost use Rattle.b67_table.specs.Image.{critical_of, is_live};
 
 use crate::Machine;
 use b67_intrinsics::registers;
@@ -27,6 +27,19 @@ impl<C: Core> Machine<C> {
             Some(registers(&self.parts.regs, process))
         } else {
             None
+        }
+    }
+
+    /// The critical place of a process that there has been, also of one that has ended. None comes exactly where there has been no such process, or it has none.
+    pub fn critical(&self, process: u32) -> Option<Place>
+        ensures { result ≡ critical_of self.now.image.regs process }
+    {
+        match process {
+            0 => None,
+            _ => match self.parts.regs.get(process as usize - 1) {
+                Some(regs) => regs.critical,
+                None => None,
+            },
         }
     }
 

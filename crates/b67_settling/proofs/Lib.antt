@@ -7,6 +7,7 @@ pub mod Moving
 pub mod Passing
 pub mod Criticals
 pub mod Stacks
+pub mod Leaving
 pub mod Earlier
 pub mod Coming
 pub mod Keeping

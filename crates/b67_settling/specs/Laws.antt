@@ -3,14 +3,15 @@ use Rattle.std.specs.Prelude.{◌≡◌, ◌≢◌, ℕ, ◌≤◌, true, List, 
 use Rattle.b67_list.specs.Numbered.{numbered}
 use Rattle.b67_control.specs.declared.Registers.{Registers}
 use Rattle.b67_segment.specs.declared.code.Code.{Code}
+use Rattle.b67_store.specs.Store.{words_of}
 use Rattle.b67_table.specs.declared.Private.{Private}
 use Rattle.b67_table.specs.Beginning.{first_image}
 use Rattle.b67_table.specs.Ending.{ImageEnd, image_end, may_act}
 use Rattle.b67_table.specs.Image.{Image, private_of}
-use Rattle.b67_table.specs.Outcome.{limit}
+use Rattle.b67_table.specs.Outcome.{gives, limit}
 use Rattle.b67_table.specs.Private.{floor}
-use Rattle.b67_table.specs.Runs.{Plains, Runs, Entry}
-use Rattle.b67_table.specs.Sound.{Sound}
+use Rattle.b67_table.specs.Runs.{Plains, Runs, Entry, TableRun}
+use Rattle.b67_table.specs.Sound.{Sound, Lives}
 use Rattle.b67_table.specs.Table.{table, length_in}
 use Rattle.b67_table.specs.Valid.{IsValid}
 use Rattle.b67_private.specs.Parts.{PlainParts}
@@ -71,6 +72,20 @@ abbrev pub TurnsAreLocal : Type 0
 TurnsAreLocal =
     (code : Code) (a : Image) (p n : ℕ) (r : Registers) (part : Private) → IsValid code a → may_act a p ≡ true → numbered a.regs p ≡ Some r
     → PlainParts code (private_of a r) n part → Turns code part → IsLocal code a p
+
+-- ---- stacks that stay own
+
+-- The process has these registers still, and its stack the words that it had, and still nobody depends on that.
+pub record LeavesStack (p : ℕ) (r : Registers) (old new : Image) : Type 0 where
+  pub registers : numbered new.regs p ≡ Some r
+  pub words : words_of new.stacks r.stack ≡ words_of old.stacks r.stack
+  pub nobody : NobodyDepends new r.stack
+
+-- In each valid image to which a run leads, of a code whose stacks stay own, every operator of another leaves so a process on whose stack nobody depends.
+abbrev pub OthersLeaveStacks : Type 0
+OthersLeaveStacks =
+    (code : Code) (schedule tails : List ℕ) (a b : Image) (p q : ℕ) (r : Registers) → StacksStayOwn code → TableRun code schedule tails a → IsValid code a
+    → Lives a p r → NobodyDepends a r.stack → q ≢ p → table code a q ≡ gives b → LeavesStack p r a b
 
 -- ---- many entries
 

@@ -15,11 +15,10 @@ use Rattle.b67_store.specs.Store.{word_at, stack_limit}
 use Rattle.b67_table.specs.declared.Cell.{Cell}
 use Rattle.b67_table.specs.declared.Private.{Private}
 use Rattle.b67_table.specs.Arrays.{as_indexed}
-use Rattle.b67_table.specs.Chains.{place}
 use Rattle.b67_table.specs.Ending.{may_act}
 use Rattle.b67_table.specs.Image.{Image}
 use Rattle.b67_table.specs.Outcome.{gives}
-use Rattle.b67_table.specs.Private.{display_at, floor}
+use Rattle.b67_table.specs.Private.{floor}
 use Rattle.b67_table.specs.References.{cell_place, couple_cell, cell_of}
 use Rattle.b67_table.specs.Runs.{Plains, TableRun}
 use Rattle.b67_table.specs.Sound.{Lives, OperatorTouches}

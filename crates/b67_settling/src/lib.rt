@@ -4,7 +4,7 @@
 //! an image comes of the one after the local entry too: so only images that have settled by such entries need be kept.
 #![tactic(auto)]
 
-ghost use Rattle.b67_settling.specs.Laws.{LocalEntriesPass, OwnEntriesAreLocal, StackEntriesAreLocal, ReadsAreLocal, StoresAreLocal, TurnsAreLocal, Settled, RunsComeTo};
+ghost use Rattle.b67_settling.specs.Laws.{LocalEntriesPass, OwnEntriesAreLocal, StackEntriesAreLocal, OthersLeaveStacks, ReadsAreLocal, StoresAreLocal, TurnsAreLocal, Settled, RunsComeTo};
 
 /// Law: a local entry ends no run and writes no line; each other process has its entry before it and after it alike, and comes to the stack limit alike.
 pub fn local_entries_pass()
@@ -19,6 +19,11 @@ pub fn own_entries_are_local()
 /// Law: of a code whose stacks stay own an entry is local whose action asks and writes only its process's stack, on which nobody depends.
 pub fn stack_entries_are_local()
     ensures { StackEntriesAreLocal }
+{}
+
+/// Law: of a code whose stacks stay own every operator of another leaves a process on whose stack nobody depends its registers and all its words.
+pub fn others_leave_stacks()
+    ensures { OthersLeaveStacks }
 {}
 
 /// Law: so an entry is local whose action is to read a cell there.

@@ -1,6 +1,6 @@
 -- A plant stands after a stretch of a process has landed.
 use Rattle.std.specs.Prelude.{sum}
-use Rattle.std.proofs.Common.{◌≡◌, refl, sym, ap, subst, ◌∙◌, true≢false, ℕ, ◌+◌, ◌≤◌, true, false, List, Some, None, arith}
+use Rattle.std.proofs.Common.{◌≡◌, refl, sym, ap, subst, ◌∙◌, true≢false, ℕ, ◌+◌, ◌≤◌, ◌<◌, true, false, List, Some, None, arith}
 use Rattle.b67_list.specs.Numbered.{numbered}
 use Rattle.b67_schedule.specs.Schedules.{entries}
 use Rattle.b67_segment.specs.declared.code.Code.{Code}
@@ -39,7 +39,7 @@ placed_same a b waiting out e placed q =
     placed q ∙ ap (λ (ss : List ProcessState). one_if (is_able (numbered ss q))) (sym e)
 
 module _ (code : Code) (budget : ℕ) (old : Running) (p n : ℕ) (m : Kept) (stands : Stands code budget old) (going : answer_of budget old ≡ None)
-    (held : IsOut old.out p) (few : n ≤ MOST_STRETCH) (goes : Goes old.machine p n m) where
+    (held : IsOut old.out p) (few : old.spent + n < budget + MOST_STRETCH) (goes : Goes old.machine p n m) where
   g : GoesOn budget old
   g = goes_on budget old going
 
@@ -92,7 +92,7 @@ module _ (code : Code) (budget : ℕ) (old : Running) (p n : ℕ) (m : Kept) (st
         ∙ ap (λ (k : ℕ). k + tail_of (with_more stands.tails p n) q)
         (sym (count_same q on.on.run.history stands.leads.run.history on.on.run.counts stands.leads.run.counts on.same.history on.same.counts));
     spends = omega (arith, stands.spends, sum_more stands.tails p n least, ap sum on.same.counts);
-    below = omega (arith, g.less, few);
+    below = few;
     within = λ h. absurd (h end_none);
     limit = λ q h. let no : None ≡ Some q = sym limit_same ∙ h in cc;
     lacking = λ h. absurd (true≢false (sym h ∙ lacked_same));
@@ -102,7 +102,7 @@ module _ (code : Code) (budget : ℕ) (old : Running) (p n : ℕ) (m : Kept) (st
     left = λ h. absurd (stands.left h going);
   }
 
-pub lands_keep : (code : Code) (budget : ℕ) (old new : Running) (p n : ℕ) → Stands code budget old → answer_of budget old ≡ None → IsOut old.out p → n ≤ MOST_STRETCH
-    → LandsOnce old p n new → Stands code budget new
+pub lands_keep : (code : Code) (budget : ℕ) (old new : Running) (p n : ℕ) → Stands code budget old → answer_of budget old ≡ None → IsOut old.out p
+    → old.spent + n < budget + MOST_STRETCH → LandsOnce old p n new → Stands code budget new
 lands_keep code budget old new p n stands going held few l =
     subst (Stands code budget) (sym l.new_is) (stands_landed code budget old p n new.machine stands going held few l.machine)

@@ -14,7 +14,8 @@ pub mod Landing
 pub mod Returning
 pub mod Acting
 pub mod Idle
-pub mod Kept
 pub mod Alone
 pub mod Turns
+pub mod Staying
+pub mod Kept
 pub mod StayApart

@@ -88,7 +88,7 @@ set_back_at (x ∷ out) zero v h e = ap (λ (y : ℕ). y ∷ out) (sym e)
 set_back_at (x ∷ out) (suc k) v h e = ap (λ (ys : List ℕ). x ∷ ys) (set_back_at out k v (omega (arith, h)) e)
 
 -- who is out no more, and then again
-set_back : (out : List ℕ) (p v : ℕ) → 1 ≤ p → p ≤ length out → holder_of out p ≡ v → set_numbered (set_numbered out p 0) p v ≡ out
+pub set_back : (out : List ℕ) (p v : ℕ) → 1 ≤ p → p ≤ length out → holder_of out p ≡ v → set_numbered (set_numbered out p 0) p v ≡ out
 set_back out zero v one h e = absurd (omega (arith, one))
 set_back out (suc k) v one h e = set_back_at out k v (omega (arith, h)) e
 
@@ -97,7 +97,7 @@ nobody_new n m true e s = absurd (omega (arith, s, leb-true (suc n) m e))
 nobody_new n m false e s = refl
 
 -- who releases and starts nobody is the only one that joins
-only_joins : (before : ℕ) (after : Image) (p : ℕ) (released : List ℕ) → released ≡ [] → after.started ≡ before → able_in after p ≡ true → joining before after p released ≡ p ∷ []
+pub only_joins : (before : ℕ) (after : Image) (p : ℕ) (released : List ℕ) → released ≡ [] → after.started ≡ before → able_in after p ≡ true → joining before after p released ≡ p ∷ []
 only_joins before after p released r s able =
     ap (λ (xs : List ℕ). xs ++ newly before after.started ++ if_able (able_in after p) p) r
     ∙ ap (λ (xs : List ℕ). xs ++ if_able (able_in after p) p) (nobody_new before after.started (nat_lt before after.started) refl s)
@@ -107,7 +107,7 @@ less_is : (n m : ℕ) (b : Bool) → nat_le n m ≡ b → m < n → b ≡ false
 less_is n m true e h = absurd (omega (arith, h, leb-true n m e))
 less_is n m false e h = refl
 
-goes_by : (budget : ℕ) (s : Running) → s.machine.lacked ≡ false → machine_end s.machine ≡ None → s.spent < budget → answer_of budget s ≡ None
+pub goes_by : (budget : ℕ) (s : Running) → s.machine.lacked ≡ false → machine_end s.machine ≡ None → s.spent < budget → answer_of budget s ≡ None
 goes_by budget s l e h =
     ap (λ (b : Bool). answer_by b (machine_end s.machine) (nat_le budget s.spent)) l
     ∙ ap (λ (o : Option End). answer_by false o (nat_le budget s.spent)) e
@@ -129,7 +129,7 @@ pub record Grown (old : Schedule) (p : ℕ) (ls : List Letter) (new : Schedule) 
   pub letters : new.letters ≡ old.letters ++ ls
   pub none : ls ≡ [] → new ≡ old
 
-some_grown : (old : Schedule) (p : ℕ) (ls : List Letter) → (new : Schedule) × Grown old p ls new
+pub some_grown : (old : Schedule) (p : ℕ) (ls : List Letter) → (new : Schedule) × Grown old p ls new
 some_grown old p [] = (old, record { added = sym (append-nil (entries old.runs)); letters = sym (append-nil old.letters); none = λ e. refl })
 some_grown old p (l ∷ ls) = (
   record { runs = old.runs ++ record { process = p; times = suc (length ls) } ∷ []; letters = old.letters ++ l ∷ ls; room = old.room },

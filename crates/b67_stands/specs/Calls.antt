@@ -1,5 +1,5 @@
 -- What the calls on a plant do to it.
-use Rattle.std.specs.Prelude.{◌≡◌, ℕ, ◌+◌, ◌-◌, nat_lt, Bool, true, false, List, [], ◌∷◌, ◌++◌, length, replicate, slice_get, remove, Option, Some, None}
+use Rattle.std.specs.Prelude.{◌≡◌, ℕ, ◌+◌, ◌-◌, ◌<◌, nat_lt, Bool, true, false, List, [], ◌∷◌, ◌++◌, length, replicate, slice_get, remove, Option, Some, None}
 use Rattle.b67_list.specs.Numbered.{set_numbered}
 use Rattle.b67_deeds.specs.declared.Letter.{Letter}
 use Rattle.b67_schedule.specs.Schedules.{entries}
@@ -8,6 +8,7 @@ use Rattle.b67_table.specs.Limits.{most_processes}
 use Rattle.b67_action.specs.Able.{one_if}
 use Rattle.b67_action.specs.declared.done.Done.{Done}
 use Rattle.b67_machine.specs.Beginning.{IsFresh}
+use Rattle.b67_machine.specs.Entries as chains
 use Rattle.b67_machine.specs.declared.entry.Performed.{Performed}
 use Rattle.b67_machine.specs.Stepping.{operators_in, Goes, Performs}
 use Rattle.b67_ready.specs.Ready.{counted_on}
@@ -88,6 +89,17 @@ pub record ActsOnce (budget : ℕ) (old : Running) (p : ℕ) (performed : Perfor
   pub records : Records (is_action performed.done) old p new
   pub takes : new.takes ≡ old.takes
   pub leaves : new.leaves ≡ old.leaves
+
+-- ---- a run
+
+-- Entries of a process that is out have landed, one after another, with these letters and so many operators in all, fewer than the budget
+-- has left. Each goes on, and releases and starts nobody: the process stays out, and nobody joins the queue.
+pub record RunsOn (budget : ℕ) (old : Running) (p : ℕ) (letters : List Letter) (operators : ℕ) (new : Running) : Type 0 where
+  pub machine : chains.Enters p (budget - old.spent) old.machine letters operators new.machine
+  pub within : old.spent + operators < budget
+  pub order : entries new.schedule.runs ≡ entries old.schedule.runs ++ replicate (length letters) p
+  pub noted : new.schedule.letters ≡ old.schedule.letters ++ letters
+  pub new_is : new ≡ record old { machine = new.machine; schedule = new.schedule; spent = old.spent + operators; acts = old.acts + length letters }
 
 -- ---- a leave
 

@@ -34,7 +34,7 @@ passing-init g c =
       entries = omega (arith, c.run_process-ran.ensures.entries, c.run_process-ran.ensures.size, length-take-le room c.args.letters.now (omega arith));
       few = c.run_process-ran.ensures.counted;
       less = omega (arith, c.run_process-ran.ensures.most, c.requires.some);
-      stops = λ less. runs_action a new p (most - 1) ran part h (omega (arith, less));
+      stops = λ less before. runs_action a new p (most - 1) ran part h (omega (arith, less)) (λ some. omega (arith, before, c.run_process-ran.ensures.size, length-take-le room c.args.letters.now (omega arith)));
       counts = h.counts.own;
       able = runs_able a new p (most - 1) ran part h c.requires.able;
       going = runs_going a new p (most - 1) ran part h c.requires.going;
@@ -50,9 +50,9 @@ run_process-more-requires-clause-going g c =
     let a = c.act-done.new.self in
     let k = c.is_passed.ensures c.if-not-is_passed.false in
     let steps : Steps b c.args.process Went a = subst (λ (d : Done). Steps b c.args.process d a) k.0 c.act-done.ensures.steps in
-    let named = steps_named b a c.args.process Went steps (inv.stops (omega (arith, c.passing-test.true))) refl in
+    let named = steps_named b a c.args.process Went steps (inv.stops (omega (arith, c.passing-test.true)) (omega (arith, c.passing-test.true))) refl in
     (passes_by inv.passes.between b a c.args.process (c.args.most - ran.operators) ran.plain inv.going inv.passes.goes (omega (arith, c.passing-test.true))
-    (inv.stops (omega (arith, c.passing-test.true))) steps (k.1 ∙ sym inv.started) k.2 inv.here c.act-done.ensures.valid named.l named.kept).ends
+    (inv.stops (omega (arith, c.passing-test.true)) (omega (arith, c.passing-test.true))) steps (k.1 ∙ sym inv.started) k.2 inv.here c.act-done.ensures.valid named.l named.kept).ends
 
 pub run_process-more-requires-clause-able : goal.run_process-more-requires-clause-able
 run_process-more-requires-clause-able g c =
@@ -62,9 +62,9 @@ run_process-more-requires-clause-able g c =
     let a = c.act-done.new.self in
     let k = c.is_passed.ensures c.if-not-is_passed.false in
     let steps : Steps b c.args.process Went a = subst (λ (d : Done). Steps b c.args.process d a) k.0 c.act-done.ensures.steps in
-    let named = steps_named b a c.args.process Went steps (inv.stops (omega (arith, c.passing-test.true))) refl in
+    let named = steps_named b a c.args.process Went steps (inv.stops (omega (arith, c.passing-test.true)) (omega (arith, c.passing-test.true))) refl in
     (passes_by inv.passes.between b a c.args.process (c.args.most - ran.operators) ran.plain inv.going inv.passes.goes (omega (arith, c.passing-test.true))
-    (inv.stops (omega (arith, c.passing-test.true))) steps (k.1 ∙ sym inv.started) k.2 inv.here c.act-done.ensures.valid named.l named.kept).still
+    (inv.stops (omega (arith, c.passing-test.true)) (omega (arith, c.passing-test.true))) steps (k.1 ∙ sym inv.started) k.2 inv.here c.act-done.ensures.valid named.l named.kept).still
 
 pub passing-preserved : goal.passing-preserved
 passing-preserved g c =
@@ -79,7 +79,7 @@ passing-preserved g c =
     let h = c.run_process-more.ensures.runs in
     let k = c.is_passed.ensures c.if-not-is_passed.false in
     let steps : Steps b p Went a = subst (λ (d : Done). Steps b p d a) k.0 c.act-done.ensures.steps in
-    let action = inv.stops (omega (arith, c.passing-test.true)) in
+    let action = inv.stops (omega (arith, c.passing-test.true)) (omega (arith, c.passing-test.true)) in
     let few : ran.plain < most - ran.operators = omega (arith, c.passing-test.true) in
     let named = steps_named b a p Went steps action refl in
     let pass : Passes inv.passes.between p (most - ran.operators) ran.plain named.l a =
@@ -94,11 +94,11 @@ passing-preserved g c =
     let place = c.write_letter.new.place in
     let noted = set first n place in
     let part = c.run_process-more.new.letters in
-    let upto : n + 1 + (room - (n + 1)) ≡ room = omega (arith, inv.entries, c.if-at-room.false) in
+    let upto : n + 1 + (room - (n + 1)) ≡ room = omega (arith, inv.entries, c.passing-test.true) in
     let rest = drop (room - (n + 1)) (drop (n + 1) noted) in
     let less : n < length first = omega (arith, inv.entries, inv.room) in
     let is_noted : place ≡ named.l = subst (λ (o : Option Letter). IfSome o (λ l. place ≡ l)) (c.letter.ensures ∙ named.kept) c.write_letter.ensures in
-    let long : n + 1 ≤ room = omega (arith, inv.entries, c.if-at-room.false) in
+    let long : n + 1 ≤ room = omega (arith, inv.entries, c.passing-test.true) in
     let size = length-set first n place in
     let whole = whole_again noted part rest (n + 1) room long (omega (arith, inv.room, size)) c.run_process-more.ensures.size
     (drop-drop (room - (n + 1)) (n + 1) noted ∙ ap (λ (k : ℕ). drop k noted) upto) in
@@ -112,7 +112,7 @@ passing-preserved g c =
       entries = omega (arith, c.run_process-more.ensures.entries, c.run_process-more.ensures.size, fits, long);
       few = omega (arith, inv.few, c.run_process-more.ensures.counted, c.passing-test.true);
       less = omega (arith, c.run_process-more.ensures.most, c.passing-test.true);
-      stops = λ less. runs_action a new p limit more part h (omega (arith, less, c.passing-test.true));
+      stops = λ less before. runs_action a new p limit more part h (omega (arith, less, c.passing-test.true)) (λ some. omega (arith, before, c.run_process-more.ensures.size, fits, long));
       counts = omega (arith, h.counts.own, one.counts.own, inv.counts);
       able = runs_able a new p limit more part h pass.still;
       going = runs_going a new p limit more part h pass.ends;
@@ -121,8 +121,8 @@ passing-preserved g c =
     }
 
 -- the entry that goes on no further is the last one
-pub returns-then-at-room-clause-performs : goal.returns-then-at-room-clause-performs
-returns-then-at-room-clause-performs g c =
+pub returns-then-not-is_passed-clause-performs : goal.returns-then-not-is_passed-clause-performs
+returns-then-not-is_passed-clause-performs g c =
     let inv = c.passing.invariant in
     let ran = c.passing.ran in
     let steps = c.act-done.ensures.steps in
@@ -136,11 +136,11 @@ returns-then-at-room-clause-performs g c =
       performs = record {
         between = c.passing.self;
         plains = inv.passes.goes;
-        then = (omega (arith, c.passing-test.true), inv.stops (omega (arith, c.passing-test.true)), steps);
+        then = (omega (arith, c.passing-test.true), inv.stops (omega (arith, c.passing-test.true)) (omega (arith, c.passing-test.true)), steps);
       };
       able = able_after inv.passes.between c.passing.self c.act-done.new.self c.args.process ran.plain c.act-done.result inv.passes.goes steps;
       last = λ one. noted_last c.passing.letters ran.entries c.write_letter.new.place c.letter.result c.passing.self c.args.process c.act-done.new.self (omega (arith, inv.entries, inv.room))
-          c.letter.ensures c.write_letter.ensures (steps_named c.passing.self c.act-done.new.self c.args.process c.act-done.result steps (inv.stops (omega (arith, c.passing-test.true))) one);
+          c.letter.ensures c.write_letter.ensures (steps_named c.passing.self c.act-done.new.self c.args.process c.act-done.result steps (inv.stops (omega (arith, c.passing-test.true)) (omega (arith, c.passing-test.true))) one);
     }
 
 pub returns-clause-performs : goal.returns-clause-performs
@@ -167,8 +167,8 @@ returns-clause-performs g c =
           (follows_named c.perform_entry-last.ensures.performs.between new p f.plain (c.args.most - ran.operators - ran.plain) f.done c.perform_entry-last.ensures.performs.then);
     }
 
-pub returns-then-at-room-clause-size : goal.returns-then-at-room-clause-size
-returns-then-at-room-clause-size g c = length-set c.passing.letters c.passing.ran.entries c.write_letter.new.place ∙ c.passing.invariant.size
+pub returns-then-not-is_passed-clause-size : goal.returns-then-not-is_passed-clause-size
+returns-then-not-is_passed-clause-size g c = length-set c.passing.letters c.passing.ran.entries c.write_letter.new.place ∙ c.passing.invariant.size
 
 pub returns-clause-size : goal.returns-clause-size
 returns-clause-size g c = length-set c.passing.letters c.passing.ran.entries c.write_letter-2.new.place ∙ c.passing.invariant.size

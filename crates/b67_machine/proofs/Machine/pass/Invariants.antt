@@ -15,7 +15,7 @@ invariant-passing g l = record {
   entries : l.ran.entries ≤ l.room;
   few : l.ran.entries ≤ l.ran.operators;
   less : l.ran.operators + l.ran.plain + 1 ≤ l.fn.most;
-  stops : l.ran.operators + l.ran.plain + 1 < l.fn.most → plain l.self.code l.self.image l.fn.process ≡ false;
+  stops : l.ran.operators + l.ran.plain + 1 < l.fn.most → l.ran.entries < l.room → plain l.self.code l.self.image l.fn.process ≡ false;
   counts : counted l.self.counts l.fn.process ≡ counted l.fn.self.counts l.fn.process + (l.ran.operators + l.ran.plain);
   able : is_able (numbered l.self.image.states l.fn.process) ≡ true;
   going : machine_end l.self ≡ None;
