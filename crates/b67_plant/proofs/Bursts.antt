@@ -17,7 +17,7 @@ use Rattle.b67_stands.specs.Placing.{holder_of}
 use Rattle.b67_stands.specs.Stands.{Stands}
 use Rattle.b67_stands.specs.Calls.{TakesOne, is_action, Records}
 use Rattle.b67_stands.specs.Turns.{ActsOn, ActsAgain, stay, go, ActsMany, StandsOut}
-use Rattle.b67_stands.specs.Shared.{Shared, begin, take as takes, land as lands, act as acts_once, leave as leaves, IsFree, with_acts}
+use Rattle.b67_stands.specs.Shared.{Shared, begin, take as takes, land as lands, run as runs, act as acts_once, leave as leaves, IsFree, with_acts}
 use Rattle.b67_stands.proofs.Firsts.{none_out}
 use Rattle.b67_stands.proofs.Places.{got_times, some_is, holder_own, holder_other}
 use Rattle.b67_stands.proofs.Taking.{taken_number}
@@ -103,6 +103,9 @@ module _ (code : Code) (budget : ℕ) (pick : Pick) (processors : ℕ) where
   only_out acts s (lands {old = old} r n shared going out l) me p q one e f =
       let at : (x : ℕ) → holder_of s.out x ≡ me → holder_of old.out x ≡ me = λ x h. sym (ap (λ (y : Running). holder_of y.out x) l.new_is) ∙ h in
       only_out acts old shared me p q one (at p e) (at q f)
+  only_out acts s (runs {acts = before} {old = old} by r letters operators shared going some most mine k) me p q one e f =
+      let at : (x : ℕ) → holder_of s.out x ≡ me → holder_of old.out x ≡ me = λ x h. sym (ap (λ (y : Running). holder_of y.out x) k.new_is) ∙ h in
+      only_out before old shared me p q one (at p e) (at q f)
   only_out acts s (acts_once {acts = before} {old = old} by r performed shared going some most mine a) me p q one e f =
       only_out before old shared me p q one (acted_holder (is_action performed.done) old r s a.records p me one e) (acted_holder (is_action performed.done) old r s a.records q me one f)
   only_out acts s (leaves {old = old} shared ended l) me p q one e f =

@@ -17,7 +17,7 @@ use Rattle.b67_plant.specs.declared.taking.Taken.{Taken}
 use Rattle.b67_plant.specs.declared.taking.Taken.TheVariants as taken
 use Rattle.b67_plant.specs.declared.taking.PlantLanding.{PlantLanding}
 use Rattle.b67_plant.specs.declared.taking.PlantLanding.TheVariants as landings
-use Rattle.b67_plant.specs.Parcels.{Stretch}
+use Rattle.b67_parcel.specs.Parcels.{Stretch}
 use Rattle.b67_plant.specs.Calls.{lacks_in, Acts, Takes, Lands, LeavesOr, HasLacked, IsOver, answer_to, refusal}
 
 module _ (old new : Kept) (p most : ℕ) (performed : Performed) (none : old.lacked ≡ false) (performs : Performs old p most performed new) where

@@ -3,8 +3,8 @@ pub mod Turning
 pub mod Entered
 pub mod Many
 pub mod Lacking
-pub mod Stretching
 pub mod Landing
+pub mod Putting
 pub mod Made
 pub mod Sharing
 pub mod Bursts

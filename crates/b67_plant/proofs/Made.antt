@@ -19,7 +19,7 @@ use Rattle.b67_processors.specs.declared.Acted.TheVariants as acted
 use Rattle.b67_stands.specs.Running.{Running}
 use Rattle.b67_stands.specs.Picked.{Pick}
 use Rattle.b67_stands.specs.Calls.{is_action, Records}
-use Rattle.b67_stands.specs.Shared.{Shared, begin, take as takes, land as lands, act as acts_once, leave as leaves, with_acts, ByProcessors}
+use Rattle.b67_stands.specs.Shared.{Shared, begin, take as takes, land as lands, run as runs, act as acts_once, leave as leaves, with_acts, ByProcessors}
 use Rattle.b67_stands.proofs.Places.{length_set}
 use Rattle.b67_plant.specs.Calls.{answer_to, acts_in, refusal}
 
@@ -112,6 +112,8 @@ module _ (code : Code) (budget : ℕ) (pick : Pick) (processors : ℕ) where
   each_made acts s (begin first) = length-replicate processors 0
   each_made acts s (takes {old = old} me p shared going one most free t) = each_made acts old shared
   each_made acts s (lands {old = old} p n shared going out l) = each_made acts old shared
+  each_made acts s (runs {acts = before} {old = old} me p letters operators shared going one most mine r) =
+      length_set before me (counted before me + length letters) ∙ each_made before old shared
   each_made acts s (acts_once {acts = before} {old = old} me p performed shared going one most mine a) =
       length_set before me (counted before me + one_if (is_action performed.done)) ∙ each_made before old shared
   each_made acts s (leaves {old = old} shared ended l) = each_made acts old shared
@@ -121,6 +123,9 @@ module _ (code : Code) (budget : ℕ) (pick : Pick) (processors : ℕ) where
   all_made acts s (begin first) = omega (arith, sum_by-replicate (λ (y : ℕ). y) processors 0, first.acts)
   all_made acts s (takes {old = old} me p shared going one most free t) = all_made acts old shared ∙ sym (ap (λ (r : Running). r.acts) t.new_is)
   all_made acts s (lands {old = old} p n shared going out l) = all_made acts old shared ∙ sym (ap (λ (r : Running). r.acts) l.new_is)
+  all_made acts s (runs {acts = before} {old = old} me p letters operators shared going one most mine r) =
+      let more = sum_more before me (length letters) one (omega (arith, most, each_made before old shared)) in
+      omega (arith, more, all_made before old shared, ap (λ (x : Running). x.acts) r.new_is)
   all_made acts s (acts_once {acts = before} {old = old} me p performed shared going one most mine a) =
       let more = sum_more before me (one_if (is_action performed.done)) one (omega (arith, most, each_made before old shared)) in
       let then = book (is_action performed.done) old p s a.records in

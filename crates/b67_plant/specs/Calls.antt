@@ -1,5 +1,6 @@
 -- What the calls on a plant answer.
-use Rattle.std.specs.Prelude.{◌≡◌, ◌≢◌, ◌⊎◌, ℕ, nat_le, Bool, true, false, [], Option, Some, None}
+use Rattle.std.specs.Prelude.{◌≡◌, ◌≢◌, ◌⊎◌, ℕ, zero, suc, ◌+◌, ◌≤◌, nat_le, Bool, true, false, List, [], take, Option, Some, None}
+use Rattle.b67_deeds.specs.declared.Letter.{Letter}
 use Rattle.b67_segment.specs.declared.code.Code.{Code}
 use Rattle.b67_word.specs.Word.{Word}
 use Rattle.b67_table.specs.declared.Private.{Private}
@@ -18,10 +19,10 @@ use Rattle.b67_plant.specs.declared.taking.PlantLanding.TheVariants as landings
 use Rattle.b67_stands.specs.Running.{Running, spends, answer_of}
 use Rattle.b67_stands.specs.Placing.{holder_of}
 use Rattle.b67_stands.specs.Picked.{Pick}
-use Rattle.b67_stands.specs.Calls.{TakesOne, LandsOnce, GoesBack, ActsOnce, Leaves}
+use Rattle.b67_stands.specs.Calls.{TakesOne, RunsOn, LandsOnce, GoesBack, ActsOnce, Leaves}
 use Rattle.b67_stands.specs.Turns.{ActsMany}
-use Rattle.b67_machine.specs.Parts.{private_part, part_list, FirstDiffer}
-use Rattle.b67_plant.specs.Parcels.{Stretch, StartsAs, IsWorked}
+use Rattle.b67_machine.specs.Parts.{part_list, FirstDiffer}
+use Rattle.b67_parcel.specs.Parcels.{Stretch, part_for, StartsAs, IsWorked}
 
 -- the run has ended, and not for want of memory
 abbrev pub IsOver : ℕ → Running → Type 0
@@ -46,17 +47,37 @@ Takes pick budget me old taken.Lacked p new = (answer_of budget old ≡ Some NoM
 abbrev pub MayLand : ℕ → ℕ → Stretch → Running → Type 0
 MayLand budget me s old = (answer_of budget old ≡ None) × (holder_of old.out s.process ≡ me)
 
--- The parcel's operators are performed on the machine, whose process still has the parcel's start. All else is as it was, and the run has
+-- the letters of the entries of a parcel
+abbrev pub entries_in : Stretch → List Letter
+entries_in s = take s.ran.entries s.noted
+
+-- a parcel's entries are performed, which go on the schedule, and then its plain operators
+pub record PutsRun (budget : ℕ) (s : Stretch) (old new : Running) : Type 0 where
+  pub between : Running
+  pub runs : RunsOn budget old s.process (entries_in s) s.ran.operators between
+  pub lands : LandsOnce between s.process s.ran.plain new
+
+-- nothing of a parcel was performed, or fewer operators are left of the budget than were performed, or just as many
+abbrev pub IsVain : ℕ → Stretch → Running → Type 0
+IsVain budget s old = (s.ran.operators + s.ran.plain ≡ 0) ⊎ (budget ≤ old.spent + (s.ran.operators + s.ran.plain))
+
+-- What was performed on a private part is performed on the machine. So is what was performed on a whole stack, where more operators are left of
+-- the budget; else nothing is.
+abbrev pub PutsParcel : ℕ → ℕ → Stretch → Running → Running → Type 0
+PutsParcel zero budget s old new = LandsOnce old s.process s.ran.plain new
+PutsParcel (suc n) budget s old new = PutsRun budget s old new ⊎ (IsVain budget s old × (new ≡ old))
+
+-- What the parcel came to is put on the machine, whose process still has the parcel's start: nothing is, where it is vain. All else is as it was, and the run has
 -- ended exactly where its operators have reached the budget.
 pub record LandsWell (budget : ℕ) (s : Stretch) (old new : Running) : Type 0 where
   pub starts : StartsAs old.machine.image s
-  pub lands : LandsOnce old s.process s.count new
+  pub puts : PutsParcel s.room budget s old new
   pub then : answer_of budget new ≡ spends (nat_le budget new.spent)
 
--- the process has another private part than the parcel's start: here the words of both first differ
+-- the process has another part than the parcel's start: here the words of both first differ
 pub record StartsElse (s : Stretch) (old : Running) (place : ℕ) (kept given : Word) : Type 0 where
   pub part : Private
-  pub has : private_part old.machine.image s.process ≡ Some part
+  pub has : part_for s.room old.machine.image s.process ≡ Some part
   pub differ : FirstDiffer (part_list part) (part_list s.start) place kept given
 
 -- and it has gone back to the queue
@@ -78,6 +99,10 @@ LandsOrStays budget me s old (landings.Stale place kept given) new = MayLand bud
 LandsOrStays budget me s old landings.NotOut new = Lands budget me s old landings.NotOut new
 LandsOrStays budget me s old landings.Over new = Lands budget me s old landings.Over new
 LandsOrStays budget me s old landings.Lacked new = Lands budget me s old landings.Lacked new
+
+-- the processor's seat has as many more acts as the book of acts
+abbrev pub IsCounted : Running → ℕ → Running → ℕ → Type 0
+IsCounted old before new now = (before ≤ now) × (now + old.acts ≡ before + new.acts)
 
 -- a worked parcel of this process has landed, which a processor brought, and nothing else was done since then
 pub record HasLanded (code : Code) (budget p : ℕ) (s : Running) : Type 0 where

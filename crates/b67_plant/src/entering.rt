@@ -9,16 +9,17 @@ ghost use Rattle.b67_machine.specs.Reads.{machine_end};
 ghost use Rattle.b67_machine.specs.declared.entry.Performed.{Performed as ThePerformed};
 ghost use Rattle.b67_processors.specs.Acts.{IsActed};
 ghost use Rattle.b67_plant.specs.Calls.{answer_to};
-ghost use Rattle.b67_plant.specs.declared.TheConstants.{NOTES};
+ghost use Rattle.b67_limits.specs.declared.TheConstants.{MOST_LETTERS};
 ghost use Rattle.b67_stands.specs.Calls.{ActsOnce};
 ghost use Rattle.b67_stands.specs.Placing.{holder_of};
 ghost use Rattle.b67_stands.specs.Running.{answer_of};
 ghost use Rattle.b67_stands.specs.Turns.{ActsMany};
 
 use crate::placing::{answer_to, is_action, lacks};
-use crate::{NOTES, Named, Plant, SHARE, Seat};
+use crate::{Named, Plant, SHARE, Seat};
 use b67_deeds::Letter;
 use b67_joining::join_queue;
+use b67_limits::MOST_LETTERS;
 use b67_machine::{Entered, Machine};
 use b67_processors::Acted;
 use b67_ready::Rule;
@@ -68,16 +69,16 @@ impl<N: Named, L: Ledger, C: Core, P: Rule> Plant<N, L, C, P> {
 
     // How many entries a processor that shares the plant may perform beyond one before the others have it: the more, the longer the schedule is.
     pub fn further(&self) -> u32
-        ensures { result < NOTES }
+        ensures { result < MOST_LETTERS }
     {
-        (self.schedule.len() / SHARE).min(NOTES as u64 - 1) as u32
+        (self.schedule.len() / SHARE).min(MOST_LETTERS as u64 - 1) as u32
     }
 
     // How many entries of one process are performed at once: where nobody waits, so many beyond one; else one.
     pub fn at_once(&self, further: u32) -> usize
-        requires { further < NOTES }
+        requires { further < MOST_LETTERS }
         ensures some { 1 ≤ result }
-        ensures few { result ≤ NOTES }
+        ensures few { result ≤ MOST_LETTERS }
         ensures alone { 1 < result → self.now.waiting ≡ [] }
     {
         if self.is_alone() {
@@ -93,7 +94,7 @@ impl<N: Named, L: Ledger, C: Core, P: Rule> Plant<N, L, C, P> {
         requires going { answer_of N.budget self.old ≡ None }
         requires out { 1 ≤ holder_of self.old.out process }
         requires some { 1 ≤ most }
-        requires few { most ≤ NOTES }
+        requires few { most ≤ MOST_LETTERS }
         requires alone { 1 < most → self.old.waiting ≡ [] }
         ensures acts { (performed : ThePerformed) × ActsMany N.pick N.budget self.old process result.1 performed self.new × (result.0 ≡ answer_to performed.done) }
         ensures one { most ≤ 1 → result.1 ≡ 0 }

@@ -4,6 +4,7 @@ ghost use Rattle.b67_processors.specs.Acts.{IsActed};
 ghost use Rattle.b67_stands.specs.Running.{answer_of};
 ghost use Rattle.b67_stands.specs.Shared.{Shared, IsFree};
 ghost use Rattle.b67_plant.specs.Calls.{LandsOrStays, ActsThen, LeavesOr};
+ghost use Rattle.b67_limits.specs.declared.TheConstants.{MOST_LETTERS};
 
 use crate::placing::acts_in;
 use crate::{Ahead, Named, Parcel, Plant, PlantLanding, Seat, Taken};
@@ -88,18 +89,41 @@ impl<N: Named, L: Ledger, C: Core, P: Rule> Floor<N, L, C, P> {
         self.plant.take_ahead(me, ahead)
     }
 
-    // Lands a parcel. A process whose parcel is stale stays out with its processor.
-    pub fn land(&mut self, me: u32, parcel: &Parcel<N>) -> PlantLanding
-        requires { 1 ≤ me }
-        ensures { LandsOrStays N.budget me parcel.now self.old result self.new }
+    // Lands a parcel, and answers how many entries it had. They are counted of the processor, whose seat it is. A process whose parcel is stale
+    // stays out with its processor.
+    pub fn land(
+        &mut self,
+        me: u32,
+        parcel: &Parcel<N>,
+        seat: &mut Seat<N, L>,
+    ) -> (PlantLanding, u64)
+        requires me { (1 ≤ me) × (me ≤ N.processors) }
+        requires whose { seat.old.mark.place + 1 ≡ me }
+        ensures lands { LandsOrStays N.budget me parcel.now self.old result.0 self.new }
+        ensures count { seat.new.count ≡ seat.old.count + result.1 }
+        ensures fits { seat.new.count < 2 ^ 64 }
+        ensures leaves { seat.new.left ≡ seat.old.left }
+        ensures ahead { seat.new.ahead ≡ seat.old.ahead }
+        ensures whose { seat.new.mark.place ≡ seat.old.mark.place }
     {
-        self.plant.land_or_stay(me, parcel)
+        let before = seat.count;
+        let landing = self.plant.land_or_stay(me, parcel, seat);
+        let made = seat.count - before;
+        self.tally.add(&mut seat.mark, made);
+        (landing, made)
     }
 
-    // Actions of a process, as the plant's: what the last one came to, and how many there were before it. They are counted of the processor,
-    // whose seat it is, where they were performed.
-    pub fn act(&mut self, me: u32, process: u32, seat: &mut Seat<N, L>) -> (Acted, u32)
+    // Actions of a process, as the plant's, where nobody waits so many beyond one at most: what the last one came to, and how many there were before
+    // it. They are counted of the processor, whose seat it is, where they were performed.
+    pub fn act(
+        &mut self,
+        me: u32,
+        process: u32,
+        further: u32,
+        seat: &mut Seat<N, L>,
+    ) -> (Acted, u32)
         requires me { (1 ≤ me) × (me ≤ N.processors) }
+        requires further { further < MOST_LETTERS }
         requires whose { seat.old.mark.place + 1 ≡ me }
         ensures acts { ActsThen N.pick N.budget me process self.old result.0 result.1 self.new }
         ensures count { IsActed result.0 (seat.old.count + result.1) seat.new.count }
@@ -107,7 +131,7 @@ impl<N: Named, L: Ledger, C: Core, P: Rule> Floor<N, L, C, P> {
         ensures leaves { seat.new.left ≡ seat.old.left }
         ensures whose { seat.new.mark.place ≡ seat.old.mark.place }
     {
-        let (acted, before) = self.plant.act_many(me, process, seat);
+        let (acted, before) = self.plant.act_many(me, process, further, seat);
         self.tally
             .add(&mut seat.mark, u64::from(before) + acts_in(acted));
         (acted, before)
@@ -140,9 +164,9 @@ impl<N: Named, L: Ledger, C: Core, P: Rule> Floor<N, L, C, P> {
         (made, last > 0)
     }
 
-    // Turns more of a processor after its act, the more, the longer the schedule is; and how many actions were performed. There are none where
-    // somebody is still out with it.
-    pub fn turns(&mut self, me: u32, seat: &mut Seat<N, L>) -> u64
+    // Turns more of a processor after its act, so many at most; and how many actions were performed. There are none where somebody is still out with
+    // it.
+    pub fn turns(&mut self, me: u32, further: u32, seat: &mut Seat<N, L>) -> u64
         requires me { (1 ≤ me) × (me ≤ N.processors) }
         requires whose { seat.old.mark.place + 1 ≡ me }
         requires fits { seat.old.count < 2 ^ 64 }
@@ -151,7 +175,7 @@ impl<N: Named, L: Ledger, C: Core, P: Rule> Floor<N, L, C, P> {
         ensures leaves { seat.new.left ≡ seat.old.left }
         ensures whose { seat.new.mark.place ≡ seat.old.mark.place }
     {
-        let mut left = self.plant.further();
+        let mut left = further;
         if left == 0 || !self.is_free(me) {
             return 0;
         }

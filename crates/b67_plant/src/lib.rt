@@ -4,68 +4,36 @@
 //! what was done. Whenever its lock is free it stands: what the machine holds is a run of the code under that schedule.
 #![tactic(auto)]
 
-mod copying;
 mod entering;
 mod fetching;
 mod floor;
 mod joins;
+mod landings;
 mod making;
 mod placing;
 mod running;
 mod shared;
 mod taking;
-mod working;
 
-ghost use Rattle.std.specs.Prelude.{◌≡◌, ◌≤◌, ℕ, [], length};
-ghost use Rattle.b67_segment.specs.declared.code.Code.{Code as MachineCode};
+ghost use Rattle.std.specs.Prelude.{◌≡◌, ◌≤◌, length};
 
 use b67_deeds::Letter;
 use b67_machine::Machine;
+pub use b67_parcel::{Ahead, Named, Parcel};
 use b67_ready::{Dispatcher, Rule};
 use b67_schedule::Schedule;
 use b67_store::Core;
 use b67_tally::Mark;
-pub use fetching::Ahead;
 pub use floor::Floor;
 pub use joins::{gather, run_all};
 pub use running::{Ran, run_by_caller, run_by_processors};
 pub use shared::{Pass, SharedPlant};
-use std::marker::{Brand, Model};
+use std::marker::Model;
 use std::sync::ledger::{Book, Ledger, Share};
 pub use taking::{PlantLanding, Taken, lacking_is_kept};
-pub use working::Parcel;
-
-// As many letters are noted at once.
-const NOTES: usize = 1_024;
 
 // A processor performs an entry more, before others have the plant, for each so many that the schedule has.
 const SHARE: u64 = 64;
-
-/// Which run a plant is of: nothing of a plant is known across its lock but what its type says.
-pub trait Named: Ledger {
-    ghost code: { MachineCode };
-
-    ghost budget: { ℕ };
-
-    ghost processors: { ℕ };
-
-    ghost pick: { ℕ → ℕ → ℕ };
-
-    /// The name of the tally of the processors' acts.
-    ghost tally: { ℕ };
-}
-
-impl Named for Brand {
-    ghost code = { record { segments = []; formats = [] } };
-
-    ghost budget = { 0 };
-
-    ghost processors = { 0 };
-
-    ghost pick = { λ length takes. 0 };
-
-    ghost tally = { 0 };
-}
 
 /// A processor's shares of the books of acts and of leaves, its mark on the tally of acts, and the process that it has taken ahead. No more
 /// acts are marked than were made.
@@ -122,7 +90,7 @@ pub struct Plant<N: Named, L: Ledger, C: Core, P: Rule> {
 impl<N: Named, L: Ledger, C: Core, P: Rule> Model for Plant<N, L, C, P> {
     ghost use Rattle.b67_stands.specs.Running.{Running};
     ghost use Rattle.std.specs.Prelude.{◌≡◌, ◌≤◌, ◌<◌, ◌+◌, ℕ, length};
-    ghost use Rattle.b67_plant.specs.declared.TheConstants.{NOTES};
+    ghost use Rattle.b67_limits.specs.declared.TheConstants.{MOST_LETTERS};
     ghost use Rattle.b67_table.specs.Limits.{most_processes};
     ghost use Rattle.b67_table.specs.Sound.{Sound};
     ghost use Rattle.b67_limits.specs.declared.TheConstants.{MOST_BUDGET};
@@ -158,7 +126,7 @@ impl<N: Named, L: Ledger, C: Core, P: Rule> Model for Plant<N, L, C, P> {
         × ((n takes : ℕ) → P.pick p.ready.rule n takes ≡ N.pick n takes)
         × (most_processes + 2 ≤ p.ready.room)
         × (p.budget ≤ p.schedule.room)
-        × (length p.notes.items ≡ NOTES)
+        × (length p.notes.items ≡ MOST_LETTERS)
         × (p.lacked ≡ p.machine.lacked)
         × (p.left ≡ p.leaves.total) };
 }

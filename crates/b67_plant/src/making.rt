@@ -5,14 +5,14 @@ ghost use Rattle.b67_table.specs.Limits.{most_processes};
 ghost use Rattle.b67_table.specs.Sound.{Sound};
 ghost use Rattle.b67_limits.specs.declared.TheConstants.{MOST_BUDGET};
 ghost use Rattle.b67_machine.specs.Beginning.{IsFresh};
-ghost use Rattle.b67_plant.specs.declared.TheConstants.{NOTES};
+ghost use Rattle.b67_limits.specs.declared.TheConstants.{MOST_LETTERS};
 ghost use Rattle.b67_plant.specs.Places.{in_order};
 ghost use Rattle.b67_stands.specs.Calls.{IsFirst};
 
-use crate::{Ahead, NOTES, Named, Parcel, Plant, Post, Seat};
+use crate::{Ahead, Named, Parcel, Plant, Post, Seat};
 use b67_deeds::Letter;
 use b67_joining::ROOM;
-use b67_limits::MOST_PROCESSES;
+use b67_limits::{MOST_LETTERS, MOST_PROCESSES};
 use b67_machine::Machine;
 use b67_ready::{Dispatcher, Rule};
 use b67_schedule::Schedule;
@@ -126,7 +126,7 @@ fn rooms_of<P: Rule>(alloc: Global, rule: P, budget: u32) -> Result<Rooms<P>, Al
     ensures room { IfOk result (λ rooms. most_processes + 2 ≤ rooms.ready.room) }
     ensures out { IfOk result (λ rooms. rooms.out.items ≡ replicate most_processes 0) }
     ensures schedule { IfOk result (λ rooms. (rooms.schedule.runs ≡ []) × (rooms.schedule.letters ≡ []) × (budget ≤ rooms.schedule.room)) }
-    ensures notes { IfOk result (λ rooms. length rooms.notes.items ≡ NOTES) }
+    ensures notes { IfOk result (λ rooms. length rooms.notes.items ≡ MOST_LETTERS) }
 {
     let mut ready = Dispatcher::new(alloc, rule, ROOM)?;
     ready.put(1);
@@ -134,7 +134,7 @@ fn rooms_of<P: Rule>(alloc: Global, rule: P, budget: u32) -> Result<Rooms<P>, Al
         ready,
         out: vec![in alloc; 0; MOST_PROCESSES as usize]?,
         schedule: Schedule::with_room(alloc, budget as usize)?,
-        notes: vec![in alloc; Letter::Read; NOTES]?,
+        notes: vec![in alloc; Letter::Read; MOST_LETTERS]?,
     })
 }
 

@@ -12,7 +12,8 @@ ghost use Rattle.b67_stands.specs.Running.{answer_of};
 ghost use Rattle.b67_stands.specs.Stands.{Stands};
 
 use crate::joins::{gather, run_all};
-use crate::{NOTES, Named, Plant, Post};
+use crate::{Named, Plant, Post};
+use b67_limits::MOST_LETTERS;
 use b67_machine::{Machine, Replayed};
 use b67_processors::Gate;
 use b67_ready::{Order, Rule};
@@ -73,7 +74,7 @@ fn work_alone<N: Named, L: Ledger, C: Core, P: Rule>(
         let Some(process) = plant.pick(1) else {
             unreachable!()
         };
-        let most = plant.at_once(NOTES as u32 - 1);
+        let most = plant.at_once(MOST_LETTERS as u32 - 1);
         let _acted = plant.enter_many(process, most, &mut post.seat);
     }
 }

@@ -1,14 +1,16 @@
 // The plant behind its lock.
 //
-// Under the lock lie landing, action and the copy of the process that is taken next: an entry holds it once, from its landing until the next
-// process is taken. In a long run further turns are made meanwhile, so that what lies about an entry is done once for many. Where nobody is ready a processor waits, and takes the lock once more. A parcel is worked outside, and so it begins and
-// ends there.
+// Under the lock lie landing, action and the copy of the process that is taken next: a parcel holds it once, from its landing until the next
+// process is taken. In a long run further turns are made meanwhile, so that what lies about an entry is done once for many, but none after a parcel
+// of many entries: there the work is done outside. Where nobody is ready a processor waits, and takes the lock once more. A parcel is worked
+// outside, and so it begins and ends there.
 ghost use Rattle.std.specs.Prelude.{◌≡◌, ◌≢◌, ℕ, ◌+◌, ◌<◌, ◌≤◌, ◌^◌, List, true, false, Some};
 ghost use Rattle.std.specs.Sync.Mutex.{mutex_guard_value};
 ghost use Rattle.b67_processors.specs.Acts.{IsActed};
 ghost use Rattle.b67_stands.specs.Shared.{Shared};
 ghost use Rattle.b67_plant.specs.Calls.{HasLanded};
-ghost use Rattle.b67_plant.specs.Parcels.{IsWorked};
+ghost use Rattle.b67_parcel.specs.Parcels.{IsWorked};
+ghost use Rattle.b67_limits.specs.declared.TheConstants.{MOST_LETTERS};
 
 use crate::{Floor, Named, Parcel, Plant, PlantLanding, Seat, Taken};
 use b67_processors::{Acted, Landing, Shop, Work};
@@ -33,17 +35,36 @@ pub struct SharedPlant<N: Named, L: Ledger, C: Core, P: Rule> {
 pub struct Pass<'a, N: Named, L: Ledger, C: Core, P: Rule> {
     floor: MutexGuard<'a, Floor<N, L, C, P>>,
     process: u32,
+    // How many entries may follow the next one under this hold of the lock.
+    further: u32,
     ghost landed: { ∥ HasLanded N.code N.budget process (mutex_guard_value floor) ∥₁ },
+    ghost few: { further < MOST_LETTERS },
 }
+
+// After a landing of so many entries no turns but one follow under its hold of the lock.
+const MANY: u64 = 64;
 
 // The leave to act after a landing.
 fn passed<'a, N: Named, L: Ledger, C: Core, P: Rule>(
     floor: MutexGuard<'a, Floor<N, L, C, P>>,
     process: u32,
+    further: u32,
 ) -> Pass<'a, N, L, C, P>
-    requires { HasLanded N.code N.budget process (mutex_guard_value floor) }
+    requires landed { HasLanded N.code N.budget process (mutex_guard_value floor) }
+    requires few { further < MOST_LETTERS }
 {
-    Pass { floor, process }
+    Pass {
+        floor,
+        process,
+        further,
+    }
+}
+
+// How many turns may follow the next one after a landing of so many entries.
+fn further_after<N: Named, L: Ledger, C: Core, P: Rule>(made: u64, plant: &Plant<N, L, C, P>) -> u32
+    ensures { result < MOST_LETTERS }
+{
+    if made >= MANY { 0 } else { plant.further() }
 }
 
 // What a processor is answered whose parcel did not land.
@@ -223,17 +244,22 @@ impl<'a, N: Named + Send + Sync, L: Ledger + Send + Sync, C: Core + Send, P: Rul
         rt: &R,
         me: u32,
         parcel: &Parcel<N>,
-    ) -> Landing<Pass<'a, N, L, C, P>> {
+        seat: &mut Seat<N, L>,
+    ) -> (Landing<Pass<'a, N, L, C, P>>, u64) {
         let shared: &'a SharedPlant<N, L, C, P> = *self;
         let mut floor = shared.floor.lock(rt);
-        let landing = floor.land(me, parcel);
+        let (landing, made) = floor.land(me, parcel, seat);
         if let PlantLanding::Landed = landing {
             if floor.plant().is_spent() {
                 shared.moved.notify_all();
             }
-            return Landing::Landed(passed(floor, parcel.process()));
+            let further = further_after(made, floor.plant());
+            return (
+                Landing::Landed(passed(floor, parcel.process(), further)),
+                made,
+            );
         }
-        refused(landing)
+        (refused(landing), made)
     }
 
     // Under the lock of the landing the processor makes further turns, and takes its next process too, where one is ready. The others are woken
@@ -245,10 +271,14 @@ impl<'a, N: Named + Send + Sync, L: Ledger + Send + Sync, C: Core + Send, P: Rul
         pass: Pass<'a, N, L, C, P>,
         seat: &mut Seat<N, L>,
     ) -> (Acted, u64) {
-        let Pass { mut floor, process } = pass;
+        let Pass {
+            mut floor,
+            process,
+            further,
+        } = pass;
         let before = floor.plant().waiting();
-        let (acted, others) = floor.act(me, process, seat);
-        let more = floor.turns(me, seat);
+        let (acted, others) = floor.act(me, process, further, seat);
+        let more = floor.turns(me, further, seat);
         let has_ended = take_next(&mut *floor, me, seat);
         let joined = floor.plant().waiting().saturating_sub(before);
         drop(floor);

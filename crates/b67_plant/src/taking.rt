@@ -1,11 +1,11 @@
 // The calls on a plant.
-ghost use Rattle.std.specs.Prelude.{◌≡◌, ◌≢◌, ℕ, ◌+◌, ◌-◌, ◌<◌, ◌≤◌, ◌^◌, nat_le, true, false, None, Some, IfSome, length};
+ghost use Rattle.std.specs.Prelude.{◌≡◌, ◌≢◌, ◌+◌, ◌-◌, ◌<◌, ◌≤◌, ◌^◌, nat_le, true, false, None, IfSome, length};
 ghost use Rattle.b67_processors.specs.Acts.{IsActed};
 ghost use Rattle.b67_table.specs.Limits.{most_processes};
 ghost use Rattle.b67_table.specs.Sound.{Sound};
-ghost use Rattle.b67_plant.specs.Calls.{Picks, Takes, Lands, LandsOrStays, LandsWell, Acts, ActsThen, LeavesOr, LackingIsKept};
-ghost use Rattle.b67_plant.specs.Parcels.{IsCopied, StartsAs};
-ghost use Rattle.b67_stands.specs.Calls.{GoesBack};
+ghost use Rattle.b67_plant.specs.Calls.{Picks, Takes, Acts, ActsThen, LeavesOr, LackingIsKept};
+ghost use Rattle.b67_limits.specs.declared.TheConstants.{MOST_LETTERS};
+ghost use Rattle.b67_parcel.specs.Parcels.{IsCopied};
 ghost use Rattle.b67_stands.specs.Placing.{holder_of};
 ghost use Rattle.b67_stands.specs.Running.{answer_of, spends};
 ghost use Rattle.b67_stands.specs.Stands.{Stands};
@@ -38,7 +38,7 @@ pub enum Taken {
 pub enum PlantLanding {
     /// The parcel's end is in place.
     Landed,
-    /// The parcel's start is not the private part that is kept. Of the registers and the words of both the first that differ are these.
+    /// The parcel's start is not the part that is kept. Of the registers and the words of both the first that differ are these.
     Stale { place: u32, kept: Word, given: Word },
     /// The process is not out with the processor.
     NotOut,
@@ -130,8 +130,8 @@ impl<N: Named, L: Ledger, C: Core, P: Rule> Plant<N, L, C, P> {
         Some(process)
     }
 
-    /// Takes the process at the place that the rule picks: it is out with the processor then, and its private part goes into the parcel.
-    /// Takes no memory.
+    /// Takes the process at the place that the rule picks: it is out with the processor then, and a part of it goes into the parcel. Takes no
+    /// memory.
     pub fn take(&mut self, me: u32, parcel: &mut Parcel<N>) -> Taken
         requires { 1 ≤ me }
         ensures taken { Takes N.pick N.budget me self.old result parcel.new.process self.new }
@@ -146,7 +146,7 @@ impl<N: Named, L: Ledger, C: Core, P: Rule> Plant<N, L, C, P> {
         }
         match self.pick(me) {
             Some(process) => {
-                parcel.fill(&self.machine, process);
+                parcel.fill(&self.machine, process, self.room_for(process));
                 Taken::Work
             }
             None => Taken::Idle,
@@ -174,10 +174,17 @@ impl<N: Named, L: Ledger, C: Core, P: Rule> Plant<N, L, C, P> {
         self.enter(process, seat)
     }
 
-    /// Performs entries as [`act`](Plant::act) does: where nobody waits, one after another, after each of which but the last the process is
-    /// taken again, and the more, the longer the schedule is. What is answered is what the last one came to, and how many there were before it.
-    pub fn act_many(&mut self, me: u32, process: u32, seat: &mut Seat<N, L>) -> (Acted, u32)
-        requires { 1 ≤ me }
+    // Performs entries as `act` does: where nobody waits, one after another, so many beyond one at most, after each of which but the last the process
+    // is taken again. What is answered is what the last one came to, and how many there were before it.
+    pub fn act_many(
+        &mut self,
+        me: u32,
+        process: u32,
+        further: u32,
+        seat: &mut Seat<N, L>,
+    ) -> (Acted, u32)
+        requires me { 1 ≤ me }
+        requires further { further < MOST_LETTERS }
         ensures acts { ActsThen N.pick N.budget me process self.old result.0 result.1 self.new }
         ensures count { IsActed result.0 (seat.old.count + result.1) seat.new.count }
         ensures fits { seat.new.count < 2 ^ 64 }
@@ -193,65 +200,8 @@ impl<N: Named, L: Ledger, C: Core, P: Rule> Plant<N, L, C, P> {
         if me != self.holder(process) {
             return (Acted::NotOut, 0);
         }
-        let most = self.at_once(self.further());
+        let most = self.at_once(further);
         self.enter_many(process, most, seat)
-    }
-
-    /// Lands a parcel: its operators are performed on the machine, where its start is the private part that is kept. Else its process goes
-    /// back to the queue.
-    pub fn land(&mut self, me: u32, parcel: &Parcel<N>) -> PlantLanding
-        requires { 1 ≤ me }
-        ensures { Lands N.budget me parcel.now self.old result self.new }
-    {
-        let landing = self.land_or_stay(me, parcel);
-        if let PlantLanding::Stale { .. } = landing {
-            self.put_back(parcel.process());
-        }
-        landing
-    }
-
-    // Lands a parcel, as `land` does. But where its start is not the private part that is kept, its process stays out.
-    pub fn land_or_stay(&mut self, me: u32, parcel: &Parcel<N>) -> PlantLanding
-        requires { 1 ≤ me }
-        ensures { LandsOrStays N.budget me parcel.now self.old result self.new }
-    {
-        match self.answer() {
-            Some(Replayed::NoMemory) => return PlantLanding::Lacked,
-            Some(_) => return PlantLanding::Over,
-            None => {}
-        }
-        if self.holder(parcel.process()) != me {
-            return PlantLanding::NotOut;
-        }
-        let process = parcel.process();
-        if let Some((place, kept, given)) = self.machine.differs(process, parcel.start()) {
-            return PlantLanding::Stale { place, kept, given };
-        }
-        self.put_end(parcel);
-        PlantLanding::Landed
-    }
-
-    // A process that is out goes back to the queue.
-    fn put_back(&mut self, process: u32)
-        requires going { answer_of N.budget self.old ≡ None }
-        requires out { 1 ≤ holder_of self.old.out process }
-        ensures { GoesBack self.old process self.new }
-    {
-        self.out[process as usize - 1] = 0;
-        self.ready.put(process);
-    }
-
-    // The end of a parcel takes the place of its start, which the machine has.
-    fn put_end(&mut self, parcel: &Parcel<N>)
-        requires going { answer_of N.budget self.old ≡ None }
-        requires out { 1 ≤ holder_of self.old.out parcel.now.process }
-        requires starts { StartsAs self.old.machine.image parcel.now }
-        ensures { LandsWell N.budget parcel.now self.old self.new }
-    {
-        let count = parcel.count();
-        self.machine
-            .put_private(parcel.process(), parcel.end(), count);
-        self.spent += count;
     }
 
     /// A processor stops, since the run has an end or lacked memory; the machine is as it was. It does not exactly where that can not be

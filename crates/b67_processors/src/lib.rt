@@ -87,15 +87,22 @@ pub trait Shop: Sync {
     fn work(&self, parcel: &mut Self::Parcel) -> u32
         ensures { worked self.now parcel.new };
 
-    /// Lands a parcel that was worked.
+    /// Lands a parcel that was worked, and answers how many actions it had.
     fn land<R: Threads + Wait + Sync>(
         &self,
         rt: &R,
         me: u32,
         parcel: &Self::Parcel,
-    ) -> Landing<Self::Pass>
+        seat: &mut Self::Seat,
+    ) -> (Landing<Self::Pass>, u64)
         requires me { (1 ≤ me) × (me ≤ processors self.now) }
-        requires worked { worked self.now parcel.now };
+        requires whose { whose seat.old ≡ me }
+        requires worked { worked self.now parcel.now }
+        ensures count { count seat.new ≡ count seat.old + result.1 }
+        ensures fits { count seat.new < 2 ^ 64 }
+        ensures leaves { leaves seat.new ≡ leaves seat.old }
+        ensures parts { parts seat.new ≡ parts seat.old }
+        ensures whose { whose seat.new ≡ whose seat.old };
 
     /// Performs actions, by leave of a landing, and answers what the last one came to, and how many were performed before it.
     fn act<R: Threads + Wait + Sync>(
@@ -166,16 +173,17 @@ fn lands_and_acts<S: Shop, R: Threads + Wait + Sync>(
     ensures parts { S.parts seat.new ≡ S.parts seat.old }
     ensures whose { S.whose seat.new ≡ S.whose seat.old }
 {
-    match shop.land(rt, me, parcel) {
+    let (landing, landed) = shop.land(rt, me, parcel, seat);
+    match landing {
         Landing::Landed(pass) => match shop.act(rt, me, pass, seat) {
-            (Acted::Went, before) => before + 1,
-            (Acted::Waits, before) => before + 1,
-            (Acted::NotOut, before) => before,
-            (Acted::Over, before) => before,
-            (Acted::NoMemory, before) => before,
+            (Acted::Went, before) => landed + before + 1,
+            (Acted::Waits, before) => landed + before + 1,
+            (Acted::NotOut, before) => landed + before,
+            (Acted::Over, before) => landed + before,
+            (Acted::NoMemory, before) => landed + before,
         },
-        Landing::Stale => 0,
-        Landing::NotOut => 0,
-        Landing::Over => 0,
+        Landing::Stale => landed,
+        Landing::NotOut => landed,
+        Landing::Over => landed,
     }
 }

@@ -2,7 +2,7 @@ use Rattle.std.proofs.Common.{ℕ, List, [], ◌∷◌, ◌++◌, length, ap, �
 use Rattle.std.proofs.lemmas.List.{length-replicate}
 use Rattle.b67_deeds.specs.declared.Letter.{Letter}
 use Rattle.b67_deeds.specs.declared.Letter.TheVariants as letters
-use Rattle.b67_plant.specs.declared.TheConstants.{NOTES}
+use Rattle.b67_limits.specs.declared.TheConstants.{MOST_LETTERS}
 use Rattle.b67_plant.proofs.making.rooms_of.Goals as goal
 
 pub returns-clause-queue : goal.returns-clause-queue
@@ -21,4 +21,4 @@ pub returns-clause-schedule : goal.returns-clause-schedule
 returns-clause-schedule g c = (c.in_ok-with_room.ensures.empty.0, c.in_ok-with_room.ensures.empty.1, omega (arith, c.in_ok-with_room.ensures.room))
 
 pub returns-clause-notes : goal.returns-clause-notes
-returns-clause-notes g c = ap length (c.in_ok-vec-2.ensures.items_if_clones_equal (λ y h. h)) ∙ length-replicate {A = Letter} NOTES letters.Read
+returns-clause-notes g c = ap length (c.in_ok-vec-2.ensures.items_if_clones_equal (λ y h. h)) ∙ length-replicate {A = Letter} MOST_LETTERS letters.Read
