@@ -1,6 +1,8 @@
 -- From what a machine performs to entries of its code.
-use Rattle.std.proofs.Common.{◌≡◌, sym, ap, subst, ◌∙◌, ℕ, ◌≤◌, length, All, Bool, true, false, true≢false, not, Option, Some, None, is_some}
+use Rattle.std.proofs.Common.{◌≡◌, refl, sym, ap, subst, ◌∙◌, ℕ, suc, ◌+◌, ◌-◌, ◌^◌, ◌<◌, ◌≤◌, List, [], ◌∷◌, ◌++◌, length, take, arith, All, Bool, true, false, true≢false, not, Option, Some, None, is_some}
+use Rattle.std.proofs.lemmas.List.{length_push, length-take-le}
 use Rattle.std.proofs.lemmas.Option.{same_Some, none-some}
+use Rattle.b67_deeds.specs.declared.Letter.{Letter}
 use Rattle.b67_num.specs.declared.FaultKind.{FaultKind}
 use Rattle.b67_segment.specs.declared.TheConstants.{MOST_SEGMENT_WORDS}
 use Rattle.b67_segment.specs.declared.code.Code.{Code}
@@ -11,7 +13,7 @@ use Rattle.b67_table.specs.Image.{Image, is_able}
 use Rattle.b67_table.specs.Ending.{ImageEnd, image_end, goes_on, may_act, failed}
 use Rattle.b67_table.specs.Ending as image_ends
 use Rattle.b67_table.specs.Outcome.{gives, faults, limit}
-use Rattle.b67_table.specs.Runs.{Plains, acts, fails}
+use Rattle.b67_table.specs.Runs.{Plains, acts, fails, Entry}
 use Rattle.b67_table.specs.Runs as runs
 use Rattle.b67_table.specs.Table.{table, plain, length_in}
 use Rattle.b67_action.specs.declared.done.Done.{Done}
@@ -21,8 +23,15 @@ use Rattle.b67_machine.specs.declared.reads.End.{End}
 use Rattle.b67_machine.specs.declared.reads.End.TheVariants as ends
 use Rattle.b67_machine.specs.Kept.{Kept}
 use Rattle.b67_machine.specs.Reads.{end_by, limit_end, machine_end, shown, shown_end}
-use Rattle.b67_machine.specs.Stepping.{Acts, StepsBy, Follows, Goes, Performs}
-use Rattle.b67_outcomes.specs.Entering.{Enters}
+use Rattle.b67_machine.specs.declared.entries.Entered.{Entered}
+use Rattle.b67_machine.specs.Entries.{stay, go, PerformsEntries}
+use Rattle.b67_machine.specs.Entries as machine
+use Rattle.b67_machine.specs.Stepping.{Acts, Steps, StepsBy, Follows, Goes, Performs}
+use Rattle.b67_action.specs.Able.{able_in}
+use Rattle.b67_machine.proofs.Ends as machine_ends
+use Rattle.b67_outcomes.specs.Entering.{Enters, IsNumber, Repeats}
+use Rattle.b67_outcomes.proofs.Repeating.{first_may}
+use Rattle.b67_outcomes.specs.Entering as entering
 use Rattle.b67_explorer.specs.Entries.{entered_by}
 
 -- an entry is performed, or the process comes to the stack limit; nothing is said where neither is so
@@ -84,6 +93,72 @@ module _ (old : Kept) (p n : ℕ) (quiet : Kept) (may : may_act old.image p ≡ 
 pub entered_as : (old : Kept) (p most : ℕ) (performed : Performed) (new : Kept) (b : Bool) → may_act old.image p ≡ true → Performs old p most performed new
     → entered_by performed.done ≡ Some b → Enters old.code p old.image b new.image
 entered_as old p most performed new b may k e = by_follow old p performed.plain k.between may k.plains most performed.done new b k.then e
+
+-- ---- entries one after another
+
+-- a process that is able may act where the machine has no end
+may_in : (m : Kept) (p : ℕ) → machine_end m ≡ None → able_in m.image p ≡ true → may_act m.image p ≡ true
+unfolding may_act
+may_in m p going able = ap (λ (o : Option ImageEnd). goes_on o (is_able (numbered m.image.states p))) (machine_ends.goes_on m going).end ∙ able
+
+code_by : (old : Kept) (p : ℕ) (done : Done) (new : Kept) → Steps old p done new → new.code ≡ old.code
+code_by old p done new s = by old.lacked s
+  where
+    by : (b : Bool) → StepsBy b old p done new → new.code ≡ old.code
+    by true x = ap (λ (k : Kept). k.code) x.1
+    by false x = x.code
+
+-- an entry leaves the code
+performed_code : (old : Kept) (p most : ℕ) (performed : Performed) (new : Kept) → may_act old.image p ≡ true → Performs old p most performed new → new.code ≡ old.code
+performed_code old p most performed new may k = by performed.done k.then ∙ same_code old p performed.plain k.between may k.plains
+  where
+    by : (o : Option Done) → Follows k.between p performed.plain most o new → new.code ≡ k.between.code
+    by None f = ap (λ (x : Kept). x.code) f.1
+    by (Some d) f = code_by k.between p d new f.2
+
+-- the process has performed so many entries of the code, and may act again
+pub record Repeated (p k : ℕ) (old new : Kept) : Type 0 where
+  pub code : new.code ≡ old.code
+  pub may : may_act new.image p ≡ true
+  pub entered : Repeats old.code p k old.image new.image
+
+-- those that went on
+repeated : (p most : ℕ) (old new : Kept) (letters : List Letter) (operators : ℕ) → may_act old.image p ≡ true → machine.Enters p most old letters operators new
+    → Repeated p (length letters) old new
+repeated p most old new letters operators may stay = record { code = refl; may = may; entered = entering.none }
+repeated p most old new letters operators may (go {b = b} {ls = ls} {l = l} {m = m} {k = k} enters more) =
+    let before = repeated p most old b ls m may enters in
+    let e = entered_as b p (most - m) (record { plain = k; done = Some dones.Went }) new true before.may more.performs refl in
+    let same = before.code in
+    let size : suc (length ls) ≡ length (ls ++ l ∷ []) = omega (arith, length_push ls l) in
+    record {
+      code = performed_code b p (most - m) (record { plain = k; done = Some dones.Went }) new before.may more.performs ∙ same;
+      may = may_in new p more.ends more.still;
+      entered = subst (λ (z : ℕ). Repeats old.code p z old.image new.image) size
+          (entering.again before.entered (subst (λ (c : Code). Entry c p b.image e.0 new.image) same e.1));
+    }
+
+-- and one more
+pub repeated_all : (p most : ℕ) (old new : Kept) (entered : Entered) (letters : List Letter) → may_act old.image p ≡ true
+    → PerformsEntries old p most entered letters new → entered_by entered.last.done ≡ Some true → Repeats old.code p (entered.entries + 1) old.image new.image
+repeated_all p most old new entered letters may k is =
+    let few = k.few in
+    let before = repeated p most old k.between (take entered.entries letters) entered.operators may k.enters in
+    let e = entered_as k.between p (most - entered.operators) entered.last new true before.may k.performs is in
+    let size : suc (length (take entered.entries letters)) ≡ entered.entries + 1 = omega (arith, few, length-take-le entered.entries letters (omega (arith, few))) in
+    subst (λ (z : ℕ). Repeats old.code p z old.image new.image) size
+    (entering.again before.entered (subst (λ (c : Code). Entry c p k.between.image e.0 new.image) before.code e.1))
+
+pub repeated_code : (p most : ℕ) (old new : Kept) (entered : Entered) (letters : List Letter) → may_act old.image p ≡ true
+    → PerformsEntries old p most entered letters new → new.code ≡ old.code
+repeated_code p most old new entered letters may k =
+    let before = repeated p most old k.between (take entered.entries letters) entered.operators may k.enters in
+    performed_code k.between p (most - entered.operators) entered.last new before.may k.performs ∙ before.code
+
+-- the number of a process that has an entry
+pub repeats_number : (code : Code) (p k last : ℕ) (a b : Image) → 1 ≤ k → Repeats code p k a b → last < 2 ^ 16
+    → ((q : ℕ) → may_act a q ≡ true → (1 ≤ q) × (q ≤ last)) → IsNumber p
+repeats_number code p k last a b some r few all = let one = all p (first_may code p k a b some r) in (one.0, omega (arith, one.1, few))
 
 -- a process that may act is able
 pub is_able_there : (img : Image) (p : ℕ) → may_act img p ≡ true → is_able (numbered img.states p) ≡ true

@@ -4,7 +4,7 @@ use Rattle.b67_list.specs.Numbered.{numbered}
 use Rattle.b67_word.specs.declared.Place.{Place}
 use Rattle.b67_table.specs.Valid.{IsValid}
 use Rattle.b67_table.proofs.Lists.{numbered_within}
-use Rattle.std.proofs.Common.{◌≡◌, true≢false, zero, refl, sym, ap, ◌∙◌, subst, ℕ, suc, ◌+◌, ◌<◌, ◌≤◌, Bool, true, false, List, length, Option, Some, None, Result, Ok, arith}
+use Rattle.std.proofs.Common.{◌≡◌, true≢false, zero, sym, ap, ◌∙◌, ℕ, suc, ◌+◌, ◌≤◌, Bool, true, false, Option, Some, Result, Ok, arith}
 use Rattle.b67_control.specs.declared.Registers.{Registers}
 use Rattle.b67_segment.specs.declared.code.Code.{Code}
 use Rattle.b67_ops.specs.declared.Operator.{Operator}
@@ -12,7 +12,7 @@ use Rattle.b67_ops.specs.declared.Operator.TheVariants as ops
 use Rattle.b67_ops.specs.declared.PlainKind.{PlainKind}
 use Rattle.b67_ops.specs.declared.BadCode.{BadCode}
 use Rattle.b67_table.specs.declared.Private.{Private}
-use Rattle.b67_table.specs.Image.{Image}
+use Rattle.b67_table.specs.Image.{Image, critical_in, critical_of}
 use Rattle.b67_table.specs.Table.{operator_at}
 use Rattle.b67_settling.specs.Local.{NobodyDepends, StoresCell, store_kind}
 use Rattle.b67_explorer.specs.Cells.{StoresOwn}
@@ -47,19 +47,15 @@ unfolding FreeUpTo
 free_first img stack zero o c low e i s = cc
 free_first img stack (suc k) o c low e i s = absurd (omega (arith, low))
 
-pub free_next : (img : Image) (stack done : ℕ) (r : Registers) (lies : Bool) → FreeUpTo img stack done → numbered img.regs (done + 1) ≡ Some r → lies ≡ false
-    → ((c : Place) → r.critical ≡ Some c → c.stack ≡ stack → lies ≡ true) → FreeUpTo img stack (done + 1)
+pub free_next : (img : Image) (stack done : ℕ) (critical : Option Place) (lies : Bool) → FreeUpTo img stack done → critical ≡ critical_of img.regs (done + 1) → lies ≡ false
+    → ((c : Place) → critical ≡ Some c → c.stack ≡ stack → lies ≡ true) → FreeUpTo img stack (done + 1)
 unfolding FreeUpTo
-free_next img stack done r lies before has clear in_stack k o c low e i s = by_number (ℕ_discrete k (done + 1))
+free_next img stack done critical lies before is clear in_stack k o c low e i s = by_number (ℕ_discrete k (done + 1))
   where
     by_number : Dec (k ≡ done + 1) → ⊥
     by_number (no other) = before k o c (omega (arith, low, other)) e i s
     by_number (yes same) =
-        let one : r ≡ o = some_same (sym has ∙ ap (numbered img.regs) (sym same) ∙ e) in
-        true≢false (sym (in_stack c (ap (λ (x : Registers). x.critical) one ∙ i) s) ∙ clear)
-      where
-        some_same : Some r ≡ Some o → r ≡ o
-        some_same j = cc
+        true≢false (sym (in_stack c (is ∙ ap (critical_of img.regs) (sym same) ∙ ap critical_in e ∙ i) s) ∙ clear)
 
 pub free_all : (code : Code) (img : Image) (stack done last : ℕ) → IsValid code img → last ≡ img.started → last ≤ done → FreeUpTo img stack done → NobodyDepends img stack
 unfolding FreeUpTo

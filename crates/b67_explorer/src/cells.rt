@@ -26,7 +26,7 @@ fn lies_in(place: Option<Place>, stack: u16) -> bool
     }
 }
 
-// Tests that all processes that there have been live, and that the stack has no place that is critical for one.
+// Tests that the stack has no place that is critical for a process that there has been.
 fn is_free<C: Again>(machine: &Machine<C>, stack: u16) -> bool
     requires valid { IsValid machine.now.code machine.now.image }
     ensures { result ≡ true → NobodyDepends machine.now.image stack }
@@ -34,13 +34,8 @@ fn is_free<C: Again>(machine: &Machine<C>, stack: u16) -> bool
     let last = machine.started();
     let mut done = 0;
     'processes: while done < last {
-        match machine.registers(done + 1) {
-            Some(regs) => {
-                if lies_in(regs.critical, stack) {
-                    return false;
-                }
-            }
-            None => return false,
+        if lies_in(machine.critical(done + 1), stack) {
+            return false;
         }
         done += 1;
     }
@@ -135,8 +130,8 @@ fn touches_own<C: Again>(
     }
 }
 
-/// Tests that the next operator of a private part of a process reads a cell of the process's own stack, or stores in one, and that nobody depends on that
-/// stack. It says so only where all processes that there have been live.
+/// Tests that the next operator of a private part of a process reads a cell of the process's own stack, or stores in one, and that no process that there has been
+/// depends on that stack.
 pub fn accesses_own<C: Again>(machine: &Machine<C>, part: &Private, process: u32) -> bool
     requires valid { IsValid machine.now.code machine.now.image }
     requires part_level { part.now.regs.ll ≤ MOST_LEVEL }

@@ -45,7 +45,9 @@ fn text_of(alloc: Global, found: &Found, book: &Book) -> Result<Explored, AllocE
 }
 
 /// The outcomes of the source of a code, where at most so many states are kept: from 1 on, and no more than a schedule may have entries.
-/// `Err` comes where memory runs out.
+/// `Err` comes where memory runs out. The same answer stands for what comes of no source that memory holds: more than 900,000,000 steps
+/// ([`MOST_STEPS`](b67_outcomes::MOST_STEPS)); more than 2^63 operators of a process in one schedule, or 2^32 plain ones before an action; an operator that meets an ill-tagged word, which
+/// no faithful code has; and an entry that is asked of a machine whose run has an end.
 pub fn outcomes(alloc: Global, code: Code, most: u32) -> Result<Explored, AllocError>
     requires some { 1 ≤ most }
     requires few { most ≤ most_entries }

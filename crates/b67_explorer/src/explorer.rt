@@ -1,12 +1,14 @@
 //! The machine, as it is searched.
-ghost use Rattle.std.specs.Prelude.{◌≡◌, true, false, Some, IfOk};
+ghost use Rattle.std.specs.Prelude.{◌≡◌, ◌≤◌, true, false, Some, IfOk};
 ghost use Rattle.b67_table.specs.Ending.{may_act};
-ghost use Rattle.b67_outcomes.specs.Entering.{Enters, IsNumber};
+ghost use Rattle.b67_table.specs.Image.{Image};
+ghost use Rattle.b67_outcomes.specs.Entering.{Enters, IsNumber, Repeats};
 ghost use Rattle.b67_explorer.specs.Entries.{entered_by};
 
 use crate::local::is_own;
 use b67_action::Done;
 use b67_again::Again;
+use b67_deeds::Letter;
 use b67_machine::Machine;
 use b67_outcomes::Walker;
 use b67_table::Private;
@@ -23,6 +25,9 @@ pub struct Explorer<C: Again> {
 // So many operators of a process are counted at most.
 pub const MOST_COUNT: u64 = 9_223_372_036_854_775_807;
 
+// So many entries are performed at once at most.
+const MOST_AT_ONCE: usize = 256;
+
 // Whether an entry was performed, or the process came to the stack limit, by what the operator after its plain ones came to; none where
 // neither is so.
 fn entered_by(done: Option<Done>) -> Option<bool>
@@ -33,6 +38,13 @@ fn entered_by(done: Option<Done>) -> Option<bool>
         Some(Done::StackLimit) => Some(false),
         Some(Done::Interrupt(_) | Done::NoMemory) | None => None,
     }
+}
+
+// Tests that an entry was performed, by what the operator after its plain ones came to.
+fn is_entered(done: Option<Done>) -> bool
+    ensures { result ≡ true → entered_by done ≡ Some true }
+{
+    matches!(entered_by(done), Some(true))
 }
 
 impl<C: Again> Explorer<C> {
@@ -57,6 +69,29 @@ impl<C: Again> Explorer<C> {
             Some(entered) => Ok(entered),
             None => Err(AllocError),
         }
+    }
+
+    // Performs entries of the process, one after another, where it has so many: at most these, and one at least. It answers how many.
+    fn go_some(&mut self, process: u32, most: usize) -> Result<usize, AllocError>
+        requires some { 1 ≤ most }
+        requires has { (img : Image) × Repeats self.old.machine.code process most self.old.machine.image img }
+        ensures code { self.new.machine.code ≡ self.old.machine.code }
+        ensures some { IfOk result (λ count. 1 ≤ count) }
+        ensures within { IfOk result (λ count. count ≤ most) }
+        ensures entered { IfOk result (λ count. Repeats self.old.machine.code process count self.old.machine.image self.new.machine.image) }
+    {
+        if self.machine.end().is_some() || self.machine.count(process) > MOST_COUNT {
+            return Err(AllocError);
+        }
+        let mut letters = [Letter::Read; MOST_AT_ONCE];
+        let room = MOST_AT_ONCE.min(most);
+        let entered = self
+            .machine
+            .perform_entries(process, &mut letters[..room], u32::MAX);
+        if !is_entered(entered.last.done) {
+            return Err(AllocError);
+        }
+        Ok(entered.entries as usize + 1)
     }
 }
 
@@ -83,6 +118,15 @@ impl<C: Again> Walker for Explorer<C> {
 
     fn enter(&mut self, process: u32) -> Result<bool, AllocError> {
         self.go(process)
+    }
+
+    fn enter_run(&mut self, process: u32, count: usize) -> Result<(), AllocError> {
+        let _last = self.machine.last_process();
+        let mut done = 0;
+        'entries: while done < count {
+            done += self.go_some(process, count - done)?;
+        }
+        Ok(())
     }
 
     fn is_local(&mut self, process: u32) -> Result<bool, AllocError> {

@@ -15,7 +15,7 @@ use Rattle.b67_outcomes.specs.declared.found.Limit.{Limit}
 use Rattle.b67_outcomes.specs.declared.found.Found.{Found}
 use Rattle.b67_outcomes.specs.Entering.{LeadsTo}
 use Rattle.b67_outcomes.specs.Settling.{Last, ended, stopped, Comes, at_end, at_limit, after, LocalsPass}
-use Rattle.b67_outcomes.specs.Finding.{History, first, IsLed, IsKept, IsEndKept, IsStopKept, IsSearched, Grows, IsArrived, IsFollowed, IsExpanded, AreAll}
+use Rattle.b67_outcomes.specs.Finding.{History, first, IsLed, IsKept, IsEndKept, IsStopKept, IsSearched, Grows, IsArrived, IsFollowed, IsExpanded, AreNoted, AreAll}
 use Rattle.b67_outcomes.proofs.Determined.{led_one}
 use Rattle.b67_outcomes.proofs.Histories.{history_one, led_none, led_more}
 use Rattle.b67_outcomes.proofs.Keeping.{followed_stays, expanded_stays}
@@ -26,12 +26,11 @@ use Rattle.b67_outcomes.proofs.Passing.{settled, from_first}
 module _ (code : Code) (Local : Image → ℕ → Type 0) where
   -- those before the next one are followed
   pub followed_next : (old new : Found) (number : ℕ) (h : List ℕ) (process : ℕ) → Grows old new
-      → (old.cut ≡ false → (p : ℕ) → 1 ≤ p → p < process → IsFollowed code Local old number h p)
-      → (new.cut ≡ false → IsFollowed code Local new number h process)
-      → new.cut ≡ false → (p : ℕ) → 1 ≤ p → p < process + 1 → IsFollowed code Local new number h p
-  followed_next old new number h process g before this whole p least below =
+      → ((p : ℕ) → 1 ≤ p → p < process → IsFollowed code Local old number h p) → IsFollowed code Local new number h process
+      → (p : ℕ) → 1 ≤ p → p < process + 1 → IsFollowed code Local new number h p
+  followed_next old new number h process g before this p least below =
       below_more (λ (q : ℕ). 1 ≤ q → IsFollowed code Local new number h q) process
-      (λ (q : ℕ) (lt : q < process) (one : 1 ≤ q). followed_stays code Local old new number h q g (before (g.cut whole) q one lt)) (λ (one : 1 ≤ process). this whole) p
+      (λ (q : ℕ) (lt : q < process) (one : 1 ≤ q). followed_stays code Local old new number h q g (before q one lt)) (λ (one : 1 ≤ process). this) p
       below least
 
   -- and so all, where those after them may not act
@@ -44,9 +43,9 @@ module _ (code : Code) (Local : Image → ℕ → Type 0) where
         is = is;
         each = λ p.
             record {
-              entries = λ a b n m e.
+              entries = λ whole a b n m e.
                   let one = all p (subst (λ (x : Image). may_act x p ≡ true) (led_one code h a here m l) e.may) in
-                  let f = each p one.0 (omega (arith, one.1, past)) in f.entries a b n m e;
+                  let f = each p one.0 (omega (arith, one.1, past)) in f.entries whole a b n m e;
               stops = λ a quiet m may s.
                   let one = all p (subst (λ (x : Image). may_act x p ≡ true) (led_one code h a here m l) may) in
                   let f = each p one.0 (omega (arith, one.1, past)) in f.stops a quiet m may s;
@@ -66,9 +65,8 @@ grown_back (y ∷ xs) more (suc k) x below e = grown_back xs more k x (omega (ar
 
 -- and the next one
 pub expanded_next : (code : Code) (Local : Image → ℕ → Type 0) (old new : Found) (done : ℕ) (this : State) → Grows old new → slice_get old.states.items done ≡ Some this
-    → (old.cut ≡ false → AreExpanded code Local old done) → (new.cut ≡ false → IsExpanded code Local new this.number) → new.cut ≡ false
-    → AreExpanded code Local new (done + 1)
-expanded_next code Local old new done this g there before here whole k s below is = by (cases_lt k done)
+    → AreExpanded code Local old done → IsExpanded code Local new this.number → AreExpanded code Local new (done + 1)
+expanded_next code Local old new done this g there before here k s below is = by (cases_lt k done)
   where
     was : k ≤ done → slice_get old.states.items k ≡ Some s
     was within =
@@ -76,11 +74,11 @@ expanded_next code Local old new done this g there before here whole k s below i
         grown_back old.states.items g.more_states k s (omega (arith, within, length_is)) (ap (λ (z : List State). slice_get z k) (sym g.states) ∙ is)
 
     by : (k < done) ⊎ (done ≤ k) → IsExpanded code Local new s.number
-    by (inl less) = expanded_stays code Local old new s.number g (before (g.cut whole) k s less (was (omega (arith, less))))
+    by (inl less) = expanded_stays code Local old new s.number g (before k s less (was (omega (arith, less))))
     by (inr more) =
         let same : done ≡ k = omega (arith, more, below) in
         let one : this ≡ s = same_Some this s (sym there ∙ ap (λ (i : ℕ). slice_get old.states.items i) same ∙ was (omega (arith, below))) in
-        subst (λ (x : State). IsExpanded code Local new x.number) one (here whole)
+        subst (λ (x : State). IsExpanded code Local new x.number) one here
 
 -- ---- nothing was found yet
 
@@ -101,9 +99,18 @@ begun_searched code most found steps states limits cut =
       cause = λ e. absurd (true≢false (sym e ∙ cut));
     }
 
+-- ---- the stack limits
+
+pub all_noted : (code : Code) (Local : Image → ℕ → Type 0) (found : Found)
+    → ((k : ℕ) (s : State) → slice_get found.states.items k ≡ Some s → IsExpanded code Local found s.number) → AreNoted code found
+all_noted code Local found all k p s h img quiet there is leads may stops =
+    let x = all k s there in
+    let f = x.each p in
+    f.stops img quiet (subst (λ (g : List ℕ). LeadsTo code g img) (history_one found.steps.items s.number h x.history is x.is) leads) may stops
+
 -- ---- all
 
-module _ (code : Code) (Local : Image → ℕ → Type 0) (laws : LocalsPass code Local) (found : Found)
+module _ (code : Code) (Local : Image → ℕ → Type 0) (laws : LocalsPass code Local) (found : Found) (whole : found.cut ≡ false)
     (all : (k : ℕ) (s : State) → slice_get found.states.items k ≡ Some s → IsExpanded code Local found s.number) where
   -- the last is that of a state
   IsLastKept : List (List ℕ) → Last → Type 0
@@ -128,16 +135,16 @@ module _ (code : Code) (Local : Image → ℕ → Type 0) (laws : LocalsPass cod
   comes_kept zero k few a output last kept (after e more) = absurd (omega (arith, few))
   comes_kept (suc most) k few a output last kept (after {b = b} {p = p} {n = n} {k = j} e more) =
       let f = of_state a kept p in
-      let x = f.entries a b n kept.leads e in
-      let sooner = settled code Local laws b x.image j output last (p ∷ kept.history, led_more code kept.history p a b n kept.leads e) x.settles more in
+      let x = f.entries whole a b n kept.leads e in
+      let sooner = settled code Local laws b x.image x.settled j output last (p ∷ kept.history, led_more code kept.history p a b n kept.leads e) x.settles more in
       let less = sooner.less in
       comes_kept most sooner.count (omega (arith, less, few)) x.image output last x.kept sooner.comes
 
   from_runs : IsArrived code Local found first_image → (h counts : List ℕ) (img : Image) (output : List (List ℕ)) (last : Last) → Runs code h counts img
       → Comes code img 0 output last → IsLastKept output last
   from_runs x h counts img output last r c =
-      let whole = from_first code h counts img 0 output last r c in
-      let sooner = settled code Local laws first_image x.image whole.0 output last ([], led_none code) x.settles whole.1 in
+      let all_of = from_first code h counts img 0 output last r c in
+      let sooner = settled code Local laws first_image x.image x.settled all_of.0 output last ([], led_none code) x.settles all_of.1 in
       comes_kept sooner.count sooner.count (omega arith) x.image output last x.kept sooner.comes
 
   pub closure : IsArrived code Local found first_image → AreAll code found

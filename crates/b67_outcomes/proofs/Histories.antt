@@ -1,8 +1,9 @@
 -- A number has one history, and its entries are performed one after another.
-use Rattle.std.proofs.Common.{◌≡◌, refl, sym, ap, subst, ◌∙◌, ℕ, zero, suc, ◌+◌, ◌-◌, ◌<◌, ◌≤◌, Bool, true, false, List, [], ◌∷◌, ◌++◌, length, drop, Some, append_assoc, append-nil, below_more, Result, Ok, Err, arith}
-use Rattle.std.specs.Prelude.{slice_get, IfOk}
+use Rattle.std.proofs.Common.{◌≡◌, refl, sym, ap, subst, ◌∙◌, ℕ, zero, suc, ◌+◌, ◌-◌, ◌<◌, ◌≤◌, Bool, true, false, List, [], ◌∷◌, ◌++◌, length, take, drop, reverse, get_or, Some, append_assoc, append-nil, below_more, Result, Ok, Err, arith, inl, inr}
+use Rattle.std.specs.Prelude.{◌⊎◌, slice_get, IfOk}
 use Rattle.std.specs.List.{All}
-use Rattle.std.proofs.lemmas.List.{drop_all, length_push}
+use Rattle.std.proofs.Math.Seq.{take-suc}
+use Rattle.std.proofs.lemmas.List.{drop_all, length_push, length-append, map-append, reverse-append, take-append-drop}
 use Rattle.std.proofs.lemmas.List.Elements.{All-cons}
 use Rattle.std.proofs.lemmas.Option.{slice_get_within, same_Some, none-some}
 use Rattle.b67_segment.specs.declared.code.Code.{Code}
@@ -10,9 +11,10 @@ use Rattle.b67_table.specs.Image.{Image}
 use Rattle.b67_table.specs.Beginning.{first_image}
 use Rattle.b67_table.specs.Ending.{may_act}
 use Rattle.b67_table.specs.Runs.{Entry, Runs, begin, entry}
+use Rattle.b67_outcomes.specs.declared.found.TheConstants.{MOST_STEPS}
 use Rattle.b67_outcomes.specs.declared.found.Step.{Step}
 use Rattle.b67_outcomes.specs.Entering.{Enters, IsNumber, LeadsTo, Leads}
-use Rattle.b67_outcomes.specs.Finding.{History, first, later, IsLed, AreLed}
+use Rattle.b67_outcomes.specs.Finding.{History, first, later, IsLed, IsAt, IsAfter, AreLed, before_of, HoldsPath}
 use Rattle.b67_outcomes.proofs.Determined.{entry_one, no_entry, led_one}
 
 -- ---- lists
@@ -25,6 +27,17 @@ stays (y ∷ xs) more (suc k) x e = stays xs more k x e
 pub last_is : {X : Type 0} (xs : List X) (x : X) → slice_get (xs ++ x ∷ []) (length xs) ≡ Some x
 last_is [] x = refl
 last_is (y ∷ xs) x = last_is xs x
+
+pub joined : {X : Type 0} (xs more : List X) (k : ℕ) (x : X) → slice_get (xs ++ more) k ≡ Some x
+    → (slice_get xs k ≡ Some x) ⊎ ((j : ℕ) × (k ≡ length xs + j) × (slice_get more j ≡ Some x))
+joined [] more k x e = inr (k, omega arith, e)
+joined (y ∷ xs) more zero x e = inl e
+joined (y ∷ xs) more (suc k) x e = by (joined xs more k x e)
+  where
+    by : (slice_get xs k ≡ Some x) ⊎ ((j : ℕ) × (k ≡ length xs + j) × (slice_get more j ≡ Some x))
+        → (slice_get (y ∷ xs) (suc k) ≡ Some x) ⊎ ((j : ℕ) × (suc k ≡ length (y ∷ xs) + j) × (slice_get more j ≡ Some x))
+    by (inl old) = inl old
+    by (inr new) = let at = new.1 in inr (new.0, omega (arith, at), new.2)
 
 -- ---- histories
 
@@ -89,7 +102,7 @@ walk_next steps number k done h last step there all e is =
           ∙ ap (λ (z : List ℕ). z ++ last.rest) (sym e)) is,
     )
 
-no_steps : (steps : List Step) (h : List ℕ) → History steps 0 h → h ≡ []
+pub no_steps : (steps : List Step) (h : List ℕ) → History steps 0 h → h ≡ []
 no_steps steps h first = refl
 
 -- and at the first state
@@ -182,16 +195,110 @@ next_led code h i left p a b r on l there at e =
     subst (λ (z : Image). LeadsTo code (drop i h) z)
     (entered code p a b r x.count x.to e (subst (λ (z : Image). Entry code p z x.count x.to) same x.is)) x.after
 
--- ---- the steps of a path
+-- ---- paths
 
--- a run of the path has one of each part of it
-pub part_led : (code : Code) (path : List ℕ) (i : ℕ) (img : Image) → LeadsTo code path img → Leads code (drop i path)
-part_led code path i img l = by path l.0 i img l.1
+-- an entry more at the end of a path is one at the head of its history
+pub path_end : (path : List ℕ) (p : ℕ) (h : List ℕ) → reverse (path ++ p ∷ []) ++ h ≡ p ∷ (reverse path ++ h)
+path_end path p h = ap (λ (z : List ℕ). z ++ h) (reverse-append path (p ∷ []))
+
+-- a run of entries after others has one of those
+pub rest_leads : (code : Code) (more h counts : List ℕ) (img : Image) → Runs code (more ++ h) counts img → Leads code h
+rest_leads code [] h counts img r = (img, (counts, r))
+rest_leads code (p ∷ more) h counts img (entry {counts = c} {a = a} r e) = rest_leads code more h c a r
+
+-- where a machine stands at the history of a number, that history leads to its image
+pub at_history : (code : Code) (steps : List Step) (n : ℕ) (img : Image) (h : List ℕ) → IsAt code steps n img → History steps n h → LeadsTo code h img
+at_history code steps n img h x is = subst (λ (g : List ℕ). LeadsTo code g img) (history_one steps n x.history h x.is is) x.leads
+
+pub at_stays : (code : Code) (xs more ys : List Step) (n : ℕ) (img : Image) → ys ≡ xs ++ more → IsAt code xs n img → IsAt code ys n img
+at_stays code xs more ys n img e x =
+    record { history = x.history; is = subst (λ (z : List Step). History z n x.history) (sym e) (history_stays xs more n x.history x.is); leads = x.leads }
+
+pub at_led : (code : Code) (steps : List Step) (n : ℕ) (img : Image) → IsAt code steps n img → IsLed code steps n
+at_led code steps n img x = record { history = x.history; image = img; is = x.is; leads = x.leads }
+
+pub at_one : (code : Code) (steps : List Step) (n : ℕ) (a b : Image) → IsAt code steps n a → IsAt code steps n b → a ≡ b
+at_one code steps n a b x y = led_one code y.history a b (at_history code steps n a y.history x y.is) y.leads
+
+-- and where it stands after a path
+pub after_history : (code : Code) (steps : List Step) (n : ℕ) (path : List ℕ) (img : Image) (h : List ℕ) → IsAfter code steps n path img → History steps n h
+    → LeadsTo code (reverse path ++ h) img
+after_history code steps n path img h x is =
+    subst (λ (g : List ℕ). LeadsTo code (reverse path ++ g) img) (history_one steps n x.history h x.is is) x.leads
+
+pub after_one : (code : Code) (steps : List Step) (n : ℕ) (path : List ℕ) (a b : Image) → IsAfter code steps n path a → IsAfter code steps n path b → a ≡ b
+after_one code steps n path a b x y =
+    led_one code (reverse path ++ y.history) a b (after_history code steps n path a y.history x y.is) y.leads
+
+-- no entry
+pub after_none : (code : Code) (steps : List Step) (n : ℕ) (path : List ℕ) (img : Image) → path ≡ [] → IsAt code steps n img → IsAfter code steps n path img
+after_none code steps n path img e x =
+    subst (λ (z : List ℕ). IsAfter code steps n z img) (sym e) (record { history = x.history; is = x.is; leads = x.leads })
+
+-- an entry more
+pub after_more : (code : Code) (steps : List Step) (n : ℕ) (path longer : List ℕ) (p k : ℕ) (a b : Image) → longer ≡ path ++ p ∷ []
+    → IsAfter code steps n path a → Entry code p a k b → IsAfter code steps n longer b
+after_more code steps n path longer p k a b same x e =
+    record {
+      history = x.history;
+      is = x.is;
+      leads = subst (λ (z : List ℕ). LeadsTo code z b) (sym (ap (λ (z : List ℕ). reverse z ++ x.history) same ∙ path_end path p x.history))
+          (led_more code (reverse path ++ x.history) p a b k x.leads e);
+    }
+
+-- after the first entries of a path that has a run
+pub part_leads : (code : Code) (steps : List Step) (n : ℕ) (path : List ℕ) (i : ℕ) (img : Image) → IsAfter code steps n path img
+    → (part : Image) × IsAfter code steps n (take i path) part
+part_leads code steps n path i img x =
+    let whole : reverse path ++ x.history ≡ reverse (drop i path) ++ (reverse (take i path) ++ x.history) =
+    ap (λ (z : List ℕ). reverse z ++ x.history) (sym (take-append-drop i path)) ∙ ap (λ (z : List ℕ). z ++ x.history) (reverse-append (take i path) (drop i path))
+    ∙ append_assoc (reverse (drop i path)) (reverse (take i path)) x.history in
+    let part = rest_leads code (reverse (drop i path)) (reverse (take i path) ++ x.history) x.leads.0 img
+    (subst (λ (z : List ℕ). Runs code z x.leads.0 img) whole x.leads.1) in
+    (part.0, record { history = x.history; is = x.is; leads = part.1 })
+
+-- the last entry of a path
+pub record LastEntry (code : Code) (steps : List Step) (n : ℕ) (path : List ℕ) (p : ℕ) (to : Image) : Type 0 where
+  pub from : Image
+  pub count : ℕ
+  pub before : IsAfter code steps n path from
+  pub is : Entry code p from count to
+
+pub last_entry : (code : Code) (steps : List Step) (n : ℕ) (path longer : List ℕ) (p : ℕ) (to : Image) → longer ≡ path ++ p ∷ []
+    → IsAfter code steps n longer to → LastEntry code steps n path p to
+last_entry code steps n path longer p to same x =
+    by x.leads.0 (subst (λ (z : List ℕ). Runs code z x.leads.0 to) (ap (λ (z : List ℕ). reverse z ++ x.history) same ∙ path_end path p x.history) x.leads.1)
   where
-    by : (path counts : List ℕ) (i : ℕ) (img : Image) → Runs code path counts img → Leads code (drop i path)
-    by path counts zero img r = (img, (counts, r))
-    by [] counts (suc i) img begin = (first_image, ([], begin))
-    by (p ∷ path) counts (suc i) img (entry {counts = c} {a = a} r e) = by path c i a r
+    by : (counts : List ℕ) → Runs code (p ∷ (reverse path ++ x.history)) counts to → LastEntry code steps n path p to
+    by counts (entry {counts = c} {a = a} {n = k} r e) =
+        record { from = a; count = k; before = record { history = x.history; is = x.is; leads = (c, r) }; is = e }
+
+-- the entry at a place of a path that has a run
+entry_after : (code : Code) (steps : List Step) (n : ℕ) (path : List ℕ) (i : ℕ) (img a : Image) → i < length path → IsAfter code steps n path img
+    → IsAfter code steps n (take i path) a → (to : Image) × (count : ℕ) × Entry code (get_or path i 0) a count to
+entry_after code steps n path i img a below x here =
+    let part = part_leads code steps n path (suc i) img x in
+    let last = last_entry code steps n (take i path) (take (suc i) path) (get_or path i 0) part.0 (take-suc path i 0 below) part.1 in
+    let same = after_one code steps n (take i path) last.from a last.before here in
+    (part.0, last.count, subst (λ (z : Image). Entry code (get_or path i 0) z last.count part.0) same last.is)
+
+-- the machine that stands after the entries before it may perform it
+pub path_may : (code : Code) (steps : List Step) (n : ℕ) (path : List ℕ) (i : ℕ) (img a : Image) → i < length path → IsAfter code steps n path img
+    → IsAfter code steps n (take i path) a → may_act a (get_or path i 0) ≡ true
+path_may code steps n path i img a below x here = let e = entry_after code steps n path i img a below x here in e.2.may
+
+-- and stands after it then
+pub path_after : (code : Code) (steps : List Step) (n : ℕ) (path : List ℕ) (i : ℕ) (img a b : Image) (r : Bool) → i < length path
+    → IsAfter code steps n path img → IsAfter code steps n (take i path) a → Enters code (get_or path i 0) a r b → IsAfter code steps n (take (i + 1) path) b
+path_after code steps n path i img a b r below x here e =
+    let y = entry_after code steps n path i img a below x here in
+    let same = entered code (get_or path i 0) a b r y.1 y.0 e y.2 in
+    let one : suc i ≡ i + 1 = omega arith in
+    subst (λ (k : ℕ). IsAfter code steps n (take k path) b) one
+    (after_more code steps n (take i path) (take (suc i) path) (get_or path i 0) y.1 a b (take-suc path i 0 below) here
+    (subst (λ (z : Image). Entry code (get_or path i 0) a y.1 z) same y.2))
+
+-- ---- the steps of a path
 
 led_stays : (code : Code) (xs more : List Step) (k : ℕ) → IsLed code xs k → IsLed code (xs ++ more) k
 led_stays code xs more k x = record { history = x.history; image = x.image; is = history_stays xs more k x.history x.is; leads = x.leads }
@@ -208,27 +315,64 @@ new_led code xs s h led is leads k within =
     (record { history = s.process ∷ h; image = leads.0; is = new_history xs s h is; leads = leads.1 })
     k (omega (arith, within, length_push xs s))
 
--- a step more of a path
-pub path_next : (old xs ys : List Step) (path : List ℕ) (left : ℕ) (s : Step) → 0 < left → ys ≡ xs ++ s ∷ [] → slice_get path (left - 1) ≡ Some s.process
-    → History xs s.before (drop left path) → ((more : List Step) × (xs ≡ old ++ more))
-    → ((code : Code) (img : Image) → LeadsTo code path img → AreLed code old → AreLed code xs)
-    → History ys (suc (length xs)) (drop (left - 1) path) × ((more : List Step) × (ys ≡ old ++ more))
-    × ((code : Code) (img : Image) → LeadsTo code path img → AreLed code old → AreLed code ys)
-path_next old xs ys path left s positive same there is more led =
-    let on : suc (left - 1) ≡ left = omega (arith, positive) in
-    let next : drop (left - 1) path ≡ s.process ∷ drop left path =
-    drop_next path (left - 1) s.process there ∙ ap (λ (k : ℕ). s.process ∷ drop k path) on in (
-      subst (λ (z : List Step). History z (suc (length xs)) (drop (left - 1) path)) (sym same)
-          (subst (λ (h : List ℕ). History (xs ++ s ∷ []) (suc (length xs)) h) (sym next) (new_history xs s (drop left path) is)),
-      (more.0 ++ s ∷ [], same ∙ ap (λ (z : List Step). z ++ s ∷ []) more.1 ∙ append_assoc old more.0 (s ∷ [])),
-      λ code img l of.
-          subst (λ (z : List Step). AreLed code z) (sym same)
-          (new_led code xs s (drop left path) (led code img l of) is
-          (subst (λ (h : List ℕ). Leads code h) next (part_led code path (left - 1) img l))),
-    )
+-- no entry yet
+pub held_none : (steps : List Step) (number : ℕ) → length steps ≤ MOST_STEPS → HoldsPath steps number [] number steps
+held_none steps number short =
+    record {
+      more = [];
+      steps = sym (append-nil steps);
+      entries = refl;
+      chained = λ k s e. absurd (none-some s e);
+      at_is = refl;
+      is = λ h is. is;
+      short = short;
+      led = λ code h img is l led. led;
+    }
+
+-- a step more
+pub held_next : (old steps longer : List Step) (number at : ℕ) (path : List ℕ) (s : Step) → HoldsPath old number path at steps → s.before ≡ at
+    → longer ≡ steps ++ s ∷ [] → length steps < MOST_STEPS → HoldsPath old number (path ++ s.process ∷ []) (suc (length steps)) longer
+held_next old steps longer number at path s x before same room =
+    subst (λ (z : List Step). HoldsPath old number (path ++ s.process ∷ []) (suc (length steps)) z) (sym same)
+    record {
+      more = x.more ++ s ∷ [];
+      steps = ap (λ (z : List Step). z ++ s ∷ []) x.steps ∙ append_assoc old x.more (s ∷ []);
+      entries = map-append (λ (z : Step). z.process) x.more (s ∷ []) ∙ ap (λ (z : List ℕ). z ++ s.process ∷ []) x.entries;
+      chained = λ k t e. chain k t (joined x.more (s ∷ []) k t e);
+      at_is = at_end;
+      is = λ h is.
+          subst (λ (z : List ℕ). History (steps ++ s ∷ []) (suc (length steps)) z) (sym (path_end path s.process h))
+          (new_history steps s (reverse path ++ h) (there h is));
+      short = omega (arith, room, length_push steps s);
+      led = λ code h img is l led.
+          let longer_led = subst (λ (z : List ℕ). LeadsTo code z img) (path_end path s.process h) l in
+          let before_led = rest_leads code (s.process ∷ []) (reverse path ++ h) longer_led.0 img longer_led.1 in
+          new_led code steps s (reverse path ++ h) (x.led code h before_led.0 is before_led.1 led) (there h is) (img, longer_led);
+    }
+  where
+    chain : (k : ℕ) (t : Step) → (slice_get x.more k ≡ Some t) ⊎ ((j : ℕ) × (k ≡ length x.more + j) × (slice_get (s ∷ []) j ≡ Some t))
+        → t.before ≡ before_of number (length old) k
+    chain k t (inl was) = x.chained k t was
+    chain k t (inr (zero, place, there)) =
+        ap (λ (z : Step). z.before) (sym (same_Some s t there)) ∙ before ∙ x.at_is ∙ ap (λ (i : ℕ). before_of number (length old) i) (omega (arith, place))
+    chain k t (inr (suc j, place, there)) = absurd (none-some t there)
+
+    at_end : suc (length steps) ≡ before_of number (length old) (length (x.more ++ s ∷ []))
+    at_end =
+        let size = ap (λ (z : List Step). length z) x.steps ∙ length-append old x.more in
+        let longer : suc (length x.more) ≡ length (x.more ++ s ∷ []) = omega (arith, length_push x.more s) in
+        let end : suc (length steps) ≡ length old + suc (length x.more) = omega (arith, size) in
+        end ∙ ap (λ (i : ℕ). before_of number (length old) i) longer
+
+    there : (h : List ℕ) → History old number h → History steps s.before (reverse path ++ h)
+    there h is = subst (λ (k : ℕ). History steps k (reverse path ++ h)) (sym before) (x.is h is)
 
 -- ---- answers
 
 pub ok_map : {A E : Type 0} (r : Result A E) (P Q : A → Type 0) → ((a : A) → P a → Q a) → IfOk r P → IfOk r Q
 ok_map (Ok a) P Q f x = f a x
 ok_map (Err e) P Q f x = x
+
+pub ok_both : {A E : Type 0} (r : Result A E) (P Q R : A → Type 0) → ((a : A) → P a → Q a → R a) → IfOk r P → IfOk r Q → IfOk r R
+ok_both (Ok a) P Q R f p q = f a p q
+ok_both (Err e) P Q R f p q = p

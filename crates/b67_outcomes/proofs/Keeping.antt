@@ -1,7 +1,6 @@
 -- What is kept and noted stays so, and what is kept besides comes of runs too.
-use Rattle.std.proofs.Common.{◌≡◌, refl, sym, ap, subst, ◌∙◌, ℕ, zero, suc, ◌+◌, ◌-◌, ◌<◌, ◌≤◌, true, false, List, [], ◌∷◌, ◌++◌, length, drop, Some, true≢false, append_assoc, append-nil, arith}
+use Rattle.std.proofs.Common.{◌≡◌, refl, sym, ap, subst, ◌∙◌, ℕ, zero, suc, ◌+◌, ◌<◌, ◌≤◌, true, false, List, [], ◌∷◌, ◌++◌, length, reverse, Some, true≢false, append_assoc, append-nil, arith}
 use Rattle.std.specs.Prelude.{slice_get}
-use Rattle.std.proofs.Math.Seq.{drop-append_seam}
 use Rattle.std.proofs.lemmas.List.{length_push, length-append}
 use Rattle.std.proofs.lemmas.Option.{same_Some, none-some}
 use Rattle.b67_segment.specs.declared.code.Code.{Code}
@@ -14,7 +13,7 @@ use Rattle.b67_outcomes.specs.declared.found.State.{State}
 use Rattle.b67_outcomes.specs.declared.found.Limit.{Limit}
 use Rattle.b67_outcomes.specs.declared.found.Found.{Found}
 use Rattle.b67_outcomes.specs.Entering.{Enters, Stops, LeadsTo}
-use Rattle.b67_outcomes.specs.Finding.{History, AreLed, AreStates, IsKept, IsStop, IsNoted, IsSearched, HoldsState, Grows, IsArrived, IsFollowed, IsExpanded}
+use Rattle.b67_outcomes.specs.Finding.{History, IsAt, IsAfter, AreLed, AreStates, IsKept, IsStop, IsNoted, IsSearched, HoldsState, Grows, IsArrived, IsFollowed, IsExpanded}
 use Rattle.b67_outcomes.proofs.Determined.{entry_one, no_entry, led_one}
 use Rattle.b67_outcomes.proofs.Histories.{history_within, history_stays, stays, last_is}
 
@@ -73,13 +72,13 @@ noted_stays old new number p g x =
 
 module _ (code : Code) (Local : Image → ℕ → Type 0) where
   pub arrived_stays : (old new : Found) (img : Image) → Grows old new → IsArrived code Local old img → IsArrived code Local new img
-  arrived_stays old new img g x = record { image = x.image; settles = x.settles; kept = kept_stays code old new x.image g x.kept }
+  arrived_stays old new img g x = record { image = x.image; settled = x.settled; settles = x.settles; kept = kept_stays code old new x.image g x.kept }
 
   pub followed_stays : (old new : Found) (number : ℕ) (h : List ℕ) (p : ℕ) → Grows old new → IsFollowed code Local old number h p
       → IsFollowed code Local new number h p
   followed_stays old new number h p g f =
       record {
-        entries = λ a b n l e. arrived_stays old new b g (f.entries a b n l e);
+        entries = λ whole a b n l e. arrived_stays old new b g (f.entries (g.cut whole) a b n l e);
         stops = λ a quiet l may s. noted_stays old new number p g (f.stops a quiet l may s);
       }
 
@@ -98,7 +97,7 @@ module _ (code : Code) (Local : Image → ℕ → Type 0) where
       → IsFollowed code Local found number h p
   followed_idle found number h p here l idle =
       record {
-        entries = λ a b n m e. absurd (true≢false (sym (subst (λ (x : Image). may_act x p ≡ true) (led_one code h a here m l) e.may) ∙ idle));
+        entries = λ whole a b n m e. absurd (true≢false (sym (subst (λ (x : Image). may_act x p ≡ true) (led_one code h a here m l) e.may) ∙ idle));
         stops = λ a quiet m may s. absurd (true≢false (sym (subst (λ (x : Image). may_act x p ≡ true) (led_one code h a here m l) may) ∙ idle));
       }
 
@@ -107,18 +106,18 @@ module _ (code : Code) (Local : Image → ℕ → Type 0) where
       → Stops code p here there → IsNoted found.limits.items number p → IsFollowed code Local found number h p
   followed_limit found number h p here there l x noted =
       record {
-        entries = λ a b n m e. no_entry code p here there b n _ x (subst (λ (y : Image). Entry code p y n b) (led_one code h a here m l) e);
+        entries = λ whole a b n m e. no_entry code p here there b n _ x (subst (λ (y : Image). Entry code p y n b) (led_one code h a here m l) e);
         stops = λ a quiet m may s. noted;
       }
 
   -- to where another leads the search has come
   pub followed_arrived : (found : Found) (number : ℕ) (h : List ℕ) (p : ℕ) (here there : Image) → LeadsTo code h here
-      → Enters code p here true there → IsArrived code Local found there → IsFollowed code Local found number h p
+      → Enters code p here true there → (found.cut ≡ false → IsArrived code Local found there) → IsFollowed code Local found number h p
   followed_arrived found number h p here there l x k =
       record {
-        entries = λ a b n m e.
+        entries = λ whole a b n m e.
             subst (λ (z : Image). IsArrived code Local found z)
-            (entry_one code p here there b x.0 n x.1 (subst (λ (y : Image). Entry code p y n b) (led_one code h a here m l) e)) k;
+            (entry_one code p here there b x.0 n x.1 (subst (λ (y : Image). Entry code p y n b) (led_one code h a here m l) e)) (k whole);
         stops = λ a quiet m may s.
             no_entry code p here quiet there x.0 _ (subst (λ (y : Image). Stops code p y quiet) (led_one code h a here m l) s) x.1;
       }
@@ -204,8 +203,8 @@ noted_searched code most old new l h here quiet s steps states limits cut is lea
 
 -- ---- a state is kept
 
-pub held_grows : (old new : Found) (path : List ℕ) → HoldsState old path new → Grows old new
-held_grows old new path x =
+pub held_grows : (old new : Found) (number : ℕ) (path : List ℕ) (at : ℕ) → HoldsState old number path at new → Grows old new
+held_grows old new number path at x =
     record {
       more = x.path_held.more;
       steps = x.path_held.steps;
@@ -216,18 +215,19 @@ held_grows old new path x =
       cut = λ e. sym x.cut ∙ e;
     }
 
-pub held_searched : (code : Code) (most : ℕ) (old new : Found) (path : List ℕ) (there : Image) → IsSearched code most old → HoldsState old path new
-    → LeadsTo code path there → length old.states.items < most → IsSearched code most new
-held_searched code most old new path there s x leads room =
+pub held_searched : (code : Code) (most : ℕ) (old new : Found) (number : ℕ) (path : List ℕ) (at : ℕ) (there : Image) → IsSearched code most old
+    → HoldsState old number path at new → IsAfter code old.steps.items number path there → length old.states.items < most → IsSearched code most new
+held_searched code most old new number path at there s x after room =
     let longer : length new.steps.items ≡ length old.steps.items + length x.path_held.more =
     ap (λ (z : List Step). length z) x.path_held.steps ∙ length-append old.steps.items x.path_held.more in
     let one_more : length new.states.items ≡ length old.states.items + 1 =
     ap (λ (z : List State). length z) x.states ∙ length_push old.states.items x.state in
     record {
-      led = x.path_held.led code there leads s.led;
+      led = x.path_held.led code after.history there after.is after.leads s.led;
       states = λ k y e.
           last_or old.states.items x.state y k (λ (z : State). z.number ≤ length new.steps.items)
-          (λ j z f. let within = s.states j z f in omega (arith, within, longer)) (history_within new.steps.items x.state.number path x.path_held.is)
+          (λ j z f. let within = s.states j z f in omega (arith, within, longer)) (subst (λ (k : ℕ). k ≤ length new.steps.items) (sym x.number_is)
+          (history_within new.steps.items at (reverse path ++ after.history) (x.path_held.is after.history after.is)))
           (sym (ap (λ (z : List State). slice_get z k) x.states) ∙ e);
       stops = λ k y e.
           let was = s.stops k y (sym (ap (λ (z : List Limit). slice_get z k) x.limits) ∙ e) in
@@ -235,7 +235,7 @@ held_searched code most old new path there s x leads room =
             history = was.history;
             image = was.image;
             quiet = was.quiet;
-            is = grown_history old new y.state was.history (held_grows old new path x) was.is;
+            is = grown_history old new y.state was.history (held_grows old new number path at x) was.is;
             leads = was.leads;
             may = was.may;
             stops = was.stops;
@@ -245,20 +245,19 @@ held_searched code most old new path there s x leads room =
       cause = λ e. let full = s.cause (sym x.cut ∙ e) in absurd (omega (arith, full, room));
     }
 
-pub held_kept : (code : Code) (old new : Found) (path : List ℕ) (there : Image) → HoldsState old path new → LeadsTo code path there
-    → IsKept code new.steps.items new.states.items there
-held_kept code old new path there x leads =
-    record {
-      number = x.state.number;
-      history = path;
-      state = (length old.states.items, x.state, ap (λ (z : List State). slice_get z (length old.states.items)) x.states ∙ last_is old.states.items x.state, refl);
-      is = x.path_held.is;
-      leads = leads;
-    }
+-- and a machine that stands after the path stands at its end
+pub held_at : (code : Code) (old new : Found) (number : ℕ) (path : List ℕ) (at : ℕ) (there : Image) → HoldsState old number path at new
+    → IsAfter code old.steps.items number path there → IsAt code new.steps.items at there
+held_at code old new number path at there x after =
+    record { history = reverse path ++ after.history; is = x.path_held.is after.history after.is; leads = after.leads }
 
--- a path that goes on from a history ends with it
-pub ends_with : (path more history : List ℕ) → path ≡ more ++ history → drop (length path - length history) path ≡ history
-ends_with path more history e =
-    let size : length path ≡ length more + length history = ap (λ (z : List ℕ). length z) e ∙ length-append more history in
-    let same : length path - length history ≡ length more = omega (arith, size) in
-    ap (λ (k : ℕ). drop k path) same ∙ ap (λ (z : List ℕ). drop (length more) z) e ∙ drop-append_seam more history
+pub held_kept : (code : Code) (old new : Found) (number : ℕ) (path : List ℕ) (at : ℕ) (there : Image) → HoldsState old number path at new
+    → IsAfter code old.steps.items number path there → IsKept code new.steps.items new.states.items there
+held_kept code old new number path at there x after =
+    record {
+      number = at;
+      history = reverse path ++ after.history;
+      state = (length old.states.items, x.state, ap (λ (z : List State). slice_get z (length old.states.items)) x.states ∙ last_is old.states.items x.state, x.number_is);
+      is = x.path_held.is after.history after.is;
+      leads = after.leads;
+    }

@@ -113,18 +113,18 @@ module _ (code : Code) (Local : Image → ℕ → Type 0) (laws : LocalsPass cod
   by_settled a b p n k output last r (inl only) x c = by_only a b p n k output last only x c
   by_settled a b p n k output last r (inr local) x c = by_local a b p n k output last r local.1 x c
 
-  reached_settled : (a b : Image) → IsReached code a → Settles code Local a b → IsReached code b
-  reached_settled a b r rest = r
-  reached_settled a b r (settle {b = x} {p = p} {n = n} s can e) = reached_next code x b p n (reached_settled a x r s) e
+  reached_settled : (a b : Image) (h : List ℕ) → IsReached code a → Settles code Local a h b → IsReached code b
+  reached_settled a b h r rest = r
+  reached_settled a b h r (settle {b = x} {p = p} {n = n} {settled = g} s can e) = reached_next code x b p n (reached_settled a x g r s) e
 
   -- all of them
-  pub settled : (a b : Image) (k : ℕ) (output : List (List ℕ)) (last : Last) → IsReached code a → Settles code Local a b → Comes code a k output last
-      → Sooner code b k output last
-  settled a b k output last r rest c = record { count = k; less = omega arith; comes = c }
-  settled a b k output last r (settle {b = x} {p = p} {n = n} s can e) c =
-      let first = settled a x k output last r s c in
+  pub settled : (a b : Image) (h : List ℕ) (k : ℕ) (output : List (List ℕ)) (last : Last) → IsReached code a → Settles code Local a h b
+      → Comes code a k output last → Sooner code b k output last
+  settled a b h k output last r rest c = record { count = k; less = omega arith; comes = c }
+  settled a b h k output last r (settle {b = x} {p = p} {n = n} {settled = g} s can e) c =
+      let first = settled a x g k output last r s c in
       let less = first.less in
-      let next = by_settled x b p n first.count output last (reached_settled a x r s) can e first.comes in
+      let next = by_settled x b p n first.count output last (reached_settled a x g r s) can e first.comes in
       let also = next.less in
       record { count = next.count; less = omega (arith, less, also); comes = next.comes }
 

@@ -1,5 +1,5 @@
 -- What an entry of a process leads to, and what a history of entries.
-use Rattle.std.specs.Prelude.{◌≡◌, ℕ, ◌<◌, ◌≤◌, ◌^◌, Bool, true, false, List}
+use Rattle.std.specs.Prelude.{◌≡◌, ℕ, suc, ◌<◌, ◌≤◌, ◌^◌, Bool, true, false, List}
 use Rattle.b67_segment.specs.declared.code.Code.{Code}
 use Rattle.b67_table.specs.Image.{Image}
 use Rattle.b67_table.specs.Outcome.{limit}
@@ -20,6 +20,11 @@ pub record Stops (code : Code) (p : ℕ) (a quiet : Image) : Type 0 where
 abbrev pub Enters : Code → ℕ → Image → Bool → Image → Type 0
 Enters code p a true b = (n : ℕ) × Entry code p a n b
 Enters code p a false b = Stops code p a b
+
+-- so many entries of the process, one after another, lead from one image to the other
+pub data Repeats (code : Code) (p : ℕ) : ℕ → Image → Image → Type 0 where
+  none : {a : Image} → Repeats code p 0 a a
+  again : {k n : ℕ} {a b c : Image} → Repeats code p k a b → Entry code p b n c → Repeats code p (suc k) a c
 
 -- the run of a history leads to the image
 abbrev pub LeadsTo : Code → List ℕ → Image → Type 0

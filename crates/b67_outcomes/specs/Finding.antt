@@ -1,5 +1,5 @@
 -- What a search for everything to which runs lead has found, and when that is all.
-use Rattle.std.specs.Prelude.{◌≡◌, ℕ, suc, ◌≤◌, true, false, List, [], ◌∷◌, ◌++◌, length, Some, slice_get}
+use Rattle.std.specs.Prelude.{◌≡◌, ℕ, zero, suc, ◌+◌, ◌<◌, ◌≤◌, true, false, List, [], ◌∷◌, ◌++◌, length, map, reverse, Option, None, Some, slice_get}
 use Rattle.b67_segment.specs.declared.code.Code.{Code}
 use Rattle.b67_table.specs.Image.{Image}
 use Rattle.b67_table.specs.Ending.{ImageEnd, image_end, may_act}
@@ -32,6 +32,18 @@ pub record IsLed (code : Code) (steps : List Step) (number : ℕ) : Type 0 where
 abbrev pub AreLed : Code → List Step → Type 0
 AreLed code steps = (number : ℕ) → number ≤ length steps → IsLed code steps number
 
+-- the history of the number leads to the image
+pub record IsAt (code : Code) (steps : List Step) (number : ℕ) (img : Image) : Type 0 where
+  pub history : List ℕ
+  pub is : History steps number history
+  pub leads : LeadsTo code history img
+
+-- a path goes on from the history of the number, its entries in the order in which they are performed, and leads to the image
+pub record IsAfter (code : Code) (steps : List Step) (number : ℕ) (path : List ℕ) (img : Image) : Type 0 where
+  pub history : List ℕ
+  pub is : History steps number history
+  pub leads : LeadsTo code (reverse path ++ history) img
+
 -- ---- states
 
 -- a state has the history of this number
@@ -49,6 +61,20 @@ pub record IsKept (code : Code) (steps : List Step) (states : List State) (img :
   pub state : IsState states number
   pub is : History steps number history
   pub leads : LeadsTo code history img
+
+-- ---- what is kept once
+
+-- no step is kept twice
+abbrev pub AreOnce : List Step → Type 0
+AreOnce steps = (j k : ℕ) (s : Step) → slice_get steps j ≡ Some s → slice_get steps k ≡ Some s → j ≡ k
+
+-- the numbers of the states grow
+abbrev pub AreGrowing : List State → Type 0
+AreGrowing states = (j k : ℕ) (s t : State) → j < k → slice_get states j ≡ Some s → slice_get states k ≡ Some t → s.number < t.number
+
+-- the steps after the history of this number are of processes below this one
+abbrev pub AreBelow : List Step → ℕ → ℕ → Type 0
+AreBelow steps number p = (k : ℕ) (s : Step) → slice_get steps k ≡ Some s → s.before ≡ number → s.process < p
 
 -- ---- the stack limit
 
@@ -70,6 +96,12 @@ AreStops code steps limits = (k : ℕ) (l : Limit) → slice_get limits k ≡ So
 abbrev pub IsNoted : List Limit → ℕ → ℕ → Type 0
 IsNoted limits number p = (k : ℕ) × (l : Limit) × (slice_get limits k ≡ Some l) × (l.state ≡ number) × (l.process ≡ p)
 
+-- so it is with each process that comes to it after a state
+abbrev pub AreNoted : Code → Found → Type 0
+AreNoted code found =
+    (k p : ℕ) (s : State) (history : List ℕ) (img quiet : Image) → slice_get found.states.items k ≡ Some s → History found.steps.items s.number history
+    → LeadsTo code history img → may_act img p ≡ true → Stops code p img quiet → IsNoted found.limits.items s.number p
+
 -- ---- the search
 
 -- All that is kept comes of runs, and there are at most so many states; a search that was cut has as many.
@@ -81,18 +113,34 @@ pub record IsSearched (code : Code) (most : ℕ) (found : Found) : Type 0 where
   pub few : length found.states.items ≤ most
   pub cause : found.cut ≡ true → length found.states.items ≡ most
 
--- the path is the history of this number, its steps stand after the others, and each of them comes of a run where the path does
-pub record HoldsPath (old : List Step) (path : List ℕ) (number : ℕ) (new : List Step) : Type 0 where
+-- after which history the step at this place of a path stands, where there were so many steps before the path: the first after that of the number, each
+-- other after the one before it
+abbrev pub before_of : ℕ → ℕ → ℕ → ℕ
+before_of number old zero = number
+before_of number old (suc k) = old + suc k
+
+-- so it is with each step of the path
+abbrev pub AreChained : ℕ → ℕ → List Step → Type 0
+AreChained number old more = (k : ℕ) (s : Step) → slice_get more k ≡ Some s → s.before ≡ before_of number old k
+
+-- the path, which goes on from the history of the number, ends the history of the number `at`; its steps, one for each entry, stand after the others,
+-- and each of them comes of a run where the path does
+pub record HoldsPath (old : List Step) (number : ℕ) (path : List ℕ) (at : ℕ) (new : List Step) : Type 0 where
   pub more : List Step
   pub steps : new ≡ old ++ more
-  pub is : History new number path
+  pub entries : map (λ (x : Step). x.process) more ≡ path
+  pub chained : AreChained number (length old) more
+  pub at_is : at ≡ before_of number (length old) (length more)
+  pub is : (history : List ℕ) → History old number history → History new at (reverse path ++ history)
   pub short : length new ≤ MOST_STEPS
-  pub led : (code : Code) (img : Image) → LeadsTo code path img → AreLed code old → AreLed code new
+  pub led : (code : Code) (history : List ℕ) (img : Image) → History old number history → LeadsTo code (reverse path ++ history) img → AreLed code old
+      → AreLed code new
 
--- and a state has this history
-pub record HoldsState (old : Found) (path : List ℕ) (new : Found) : Type 0 where
+-- and a state has that history
+pub record HoldsState (old : Found) (number : ℕ) (path : List ℕ) (at : ℕ) (new : Found) : Type 0 where
   pub state : State
-  pub path_held : HoldsPath old.steps.items path state.number new.steps.items
+  pub number_is : state.number ≡ at
+  pub path_held : HoldsPath old.steps.items number path at new.steps.items
   pub states : new.states.items ≡ old.states.items ++ state ∷ []
   pub limits : new.limits.items ≡ old.limits.items
   pub cut : new.cut ≡ old.cut
@@ -111,12 +159,13 @@ module _ (code : Code) (Local : Image → ℕ → Type 0) where
   -- an image is kept to which entries that can be performed at once lead from this one
   pub record IsArrived (found : Found) (img : Image) : Type 0 where
     pub image : Image
-    pub settles : Settles code Local img image
+    pub settled : List ℕ
+    pub settles : Settles code Local img settled image
     pub kept : IsKept code found.steps.items found.states.items image
 
-  -- so it is after an entry of the process after the history, and where it comes to the stack limit that is noted
+  -- so it is after an entry of the process after the history, where the search is not cut; and where the process comes to the stack limit that is noted
   pub record IsFollowed (found : Found) (number : ℕ) (history : List ℕ) (p : ℕ) : Type 0 where
-    pub entries : (a b : Image) (n : ℕ) → LeadsTo code history a → Entry code p a n b → IsArrived found b
+    pub entries : found.cut ≡ false → (a b : Image) (n : ℕ) → LeadsTo code history a → Entry code p a n b → IsArrived found b
     pub stops : (a quiet : Image) → LeadsTo code history a → may_act a p ≡ true → Stops code p a quiet → IsNoted found.limits.items number p
 
   -- so it is with each process
@@ -124,6 +173,11 @@ module _ (code : Code) (Local : Image → ℕ → Type 0) where
     pub history : List ℕ
     pub is : History found.steps.items number history
     pub each : (p : ℕ) → IsFollowed found number history p
+
+-- the last process that may act, where one may
+abbrev pub IsLastAble : Image → Option ℕ → Type 0
+IsLastAble img None = (p : ℕ) → may_act img p ≡ false
+IsLastAble img (Some last) = (may_act img last ≡ true) × ((p : ℕ) → may_act img p ≡ true → (1 ≤ p) × (p ≤ last))
 
 -- ---- all
 

@@ -1,5 +1,5 @@
 -- Entries that can be performed at once, since no outcome is lost by it.
-use Rattle.std.specs.Prelude.{◌≡◌, ◌≢◌, ◌⊎◌, ℕ, suc, true, List, Some}
+use Rattle.std.specs.Prelude.{◌≡◌, ◌≢◌, ◌⊎◌, ℕ, suc, true, List, [], ◌∷◌, Some}
 use Rattle.b67_segment.specs.declared.code.Code.{Code}
 use Rattle.b67_table.specs.Image.{Image}
 use Rattle.b67_table.specs.Ending.{ImageEnd, image_end, may_act}
@@ -54,7 +54,8 @@ pub record IsOnly (img : Image) (p : ℕ) : Type 0 where
 abbrev pub CanSettle : (Image → ℕ → Type 0) → Image → ℕ → Type 0
 CanSettle Local img p = IsOnly img p ⊎ ((may_act img p ≡ true) × Local img p)
 
--- one image leads to the other by such entries
-pub data Settles (code : Code) (Local : Image → ℕ → Type 0) : Image → Image → Type 0 where
-  rest : {a : Image} → Settles code Local a a
-  settle : {a b c : Image} {p n : ℕ} → Settles code Local a b → CanSettle Local b p → Entry code p b n c → Settles code Local a c
+-- one image leads to the other by such entries, of these processes, the last first
+pub data Settles (code : Code) (Local : Image → ℕ → Type 0) : Image → List ℕ → Image → Type 0 where
+  rest : {a : Image} → Settles code Local a [] a
+  settle : {a b c : Image} {p n : ℕ} {settled : List ℕ} → Settles code Local a settled b → CanSettle Local b p → Entry code p b n c
+      → Settles code Local a (p ∷ settled) c

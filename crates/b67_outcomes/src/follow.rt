@@ -1,13 +1,14 @@
 // A process is followed from a state.
-ghost use Rattle.std.specs.Prelude.{◌≡◌, ℕ, ◌++◌, List, false, true, IfOk};
+ghost use Rattle.std.specs.Prelude.{◌≡◌, ◌⊎◌, ℕ, ◌+◌, List, false, true, IfOk, IfSome};
 ghost use Rattle.b67_table.specs.Ending.{may_act};
-ghost use Rattle.b67_outcomes.specs.Entering.{LeadsTo};
-ghost use Rattle.b67_outcomes.specs.Finding.{Grows, History, IsArrived, IsFollowed, IsSearched};
+ghost use Rattle.b67_outcomes.specs.Finding.{Grows, History, IsAfter, IsArrived, IsAt, IsFollowed, IsSearched, IsState};
+ghost use Rattle.b67_outcomes.specs.Kept.{IsHeld, IsReady, IsSame, IsTree};
+ghost use Rattle.b67_outcomes.specs.declared.follow.TheConstants.{MOST_SETTLED};
 
 use crate::buckets::Buckets;
 use crate::keep::{is_kept, keep};
 use crate::settling::settle;
-use crate::walking::perform;
+use crate::walking::walk;
 use crate::{Found, Limit, Walker};
 use std::alloc::{AllocError, Global};
 
@@ -17,10 +18,12 @@ const MOST_SETTLED: u32 = 500;
 // So many steps may be kept without regard to the number of states, and for each state so many more.
 const FREE_STEPS: usize = 1_000_000;
 
-const STEPS_OF_STATE: usize = 5;
+const STEPS_OF_STATE: usize = 3;
 
 // How many entries may be settled at once: none where there are too many steps for the states.
-fn room_of(found: &Found) -> u32 {
+fn room_of(found: &Found) -> u32
+    ensures { (result ≡ 0) ⊎ (result ≡ MOST_SETTLED) }
+{
     if found.steps.len() / STEPS_OF_STATE > FREE_STEPS / STEPS_OF_STATE + found.states.len() {
         0
     } else {
@@ -29,7 +32,7 @@ fn room_of(found: &Found) -> u32 {
 }
 
 /// A machine stands after a path, which goes on from the history of this number. Entries that can be performed at once are performed, and
-/// the state to which they lead is kept.
+/// the state to which they lead is kept. It answers the number of the history at which the machine stands, where the state was kept.
 pub fn arrive<W: Walker>(
     alloc: Global,
     walker: &mut W,
@@ -37,62 +40,64 @@ pub fn arrive<W: Walker>(
     found: &mut Found,
     buckets: &mut Buckets,
     number: u32,
-    history: &[u32],
-    path: Vec<u32>,
+    path: &mut Vec<u32>,
     most: u32,
-) -> Result<(), AllocError>
+) -> Result<Option<u32>, AllocError>
     requires codes { W.code second.old ≡ W.code walker.old }
     requires searched { IsSearched (W.code walker.old) most found.old }
-    requires is { History found.old.steps.items number history.now }
-    requires goes_on { (more : List ℕ) × (path.items ≡ more ++ history.now) }
-    requires stands { LeadsTo (W.code walker.old) path.items (W.image walker.old) }
+    requires stands { IsAfter (W.code walker.old) found.old.steps.items number path.old.items (W.image walker.old) }
     ensures code { W.code walker.new ≡ W.code walker.old }
     ensures second { W.code second.new ≡ W.code second.old }
     ensures grows { IfOk result (λ u. Grows found.old found.new) }
     ensures searched { IfOk result (λ u. IsSearched (W.code walker.old) most found.new) }
+    ensures stands { IfOk result (λ at. IfSome at (λ number. IsAt (W.code walker.old) found.new.steps.items number (W.image walker.new))) }
+    ensures keeps { IfOk result (λ u. IsSame most found.old found.new ⊎ IsHeld (W.code walker.old) (W.Local (W.code walker.old)) found.old number path.old.items (W.image walker.old) found.new) }
     ensures arrived { IfOk result (λ u. found.new.cut ≡ false → IsArrived (W.code walker.old) (W.Local (W.code walker.old)) found.new (W.image walker.old)) }
 {
-    let mut path = path;
-    settle(walker, &mut path, room_of(found))?;
+    let room = room_of(found);
+    settle(alloc, walker, found.steps.as_slice(), number, path, room)?;
     let hash = walker.hash();
     let newest = buckets.newest(hash);
     let steps = found.steps.as_slice();
     let states = found.states.as_slice();
     let kept = is_kept(alloc, walker, second, steps, states, newest)?;
     if kept {
-        return Ok(());
+        return Ok(None);
     }
     if found.states.len() >= most as usize {
         found.cut = true;
-        return Ok(());
+        return Ok(None);
     }
-    let more = path.len() - history.len();
-    keep(found, buckets, number, path.as_slice(), more, hash)
+    let at = keep(found, buckets, number, path.as_slice(), hash)?;
+    Ok(Some(at))
 }
 
-// An entry of the process is performed on a machine that stands at this state. The state to which it leads is kept, or that the process comes to
-// the stack limit.
-fn find<W: Walker>(
+/// An entry of the process is performed on a machine that stands at the history of this number. The state to which it leads is kept, or that the
+/// process comes to the stack limit. It answers the number of the history at which the machine stands, where the state was kept. `path` is written over.
+pub fn find<W: Walker>(
     alloc: Global,
     walker: &mut W,
     second: &mut W,
     found: &mut Found,
     buckets: &mut Buckets,
     number: u32,
-    history: &[u32],
+    path: &mut Vec<u32>,
     process: u32,
     most: u32,
-) -> Result<(), AllocError>
+) -> Result<Option<u32>, AllocError>
     requires codes { W.code second.old ≡ W.code walker.old }
     requires searched { IsSearched (W.code walker.old) most found.old }
-    requires is { History found.old.steps.items number history.now }
-    requires stands { LeadsTo (W.code walker.old) history.now (W.image walker.old) }
+    requires stands { IsAt (W.code walker.old) found.old.steps.items number (W.image walker.old) }
     requires may { may_act (W.image walker.old) process ≡ true }
+    requires state { IsState found.old.states.items number }
+    requires tree { IsTree (W.code walker.old) (W.Local (W.code walker.old)) found.old × IsReady found.old number process }
     ensures code { W.code walker.new ≡ W.code walker.old }
     ensures second { W.code second.new ≡ W.code second.old }
     ensures grows { IfOk result (λ u. Grows found.old found.new) }
     ensures searched { IfOk result (λ u. IsSearched (W.code walker.old) most found.new) }
-    ensures followed { IfOk result (λ u. found.new.cut ≡ false → IsFollowed (W.code walker.old) (W.Local (W.code walker.old)) found.new number history.now process) }
+    ensures stands { IfOk result (λ at. IfSome at (λ number. IsAt (W.code walker.old) found.new.steps.items number (W.image walker.new))) }
+    ensures tree { IfOk result (λ u. IsTree (W.code walker.old) (W.Local (W.code walker.old)) found.new × IsReady found.new number (process + 1)) }
+    ensures followed { IfOk result (λ u. (history : List ℕ) → History found.old.steps.items number history → IsFollowed (W.code walker.old) (W.Local (W.code walker.old)) found.new number history process) }
 {
     let entered = walker.enter(process)?;
     if !entered {
@@ -100,18 +105,15 @@ fn find<W: Walker>(
             state: number,
             process,
         })?;
-        return Ok(());
+        return Ok(None);
     }
-    let mut path = Vec::new(alloc);
+    path.clear();
     path.push(process)?;
-    path.extend_from_slice(history)?;
-    arrive(
-        alloc, walker, second, found, buckets, number, history, path, most,
-    )
+    arrive(alloc, walker, second, found, buckets, number, path, most)
 }
 
-/// A process is followed from this state, on a machine that stands there: the state to which its entry leads is kept, or that it comes to the
-/// stack limit. The machine stands there again.
+/// A process is followed from the history of this number, on a machine that stands there: the state to which its entry leads is kept, or that it comes
+/// to the stack limit. The machine stands there again. `path` is written over.
 pub fn follow<W: Walker>(
     alloc: Global,
     walker: &mut W,
@@ -119,26 +121,28 @@ pub fn follow<W: Walker>(
     found: &mut Found,
     buckets: &mut Buckets,
     number: u32,
-    history: &[u32],
+    path: &mut Vec<u32>,
     process: u32,
     most: u32,
 ) -> Result<(), AllocError>
     requires codes { W.code second.old ≡ W.code walker.old }
     requires searched { IsSearched (W.code walker.old) most found.old }
-    requires is { History found.old.steps.items number history.now }
-    requires stands { LeadsTo (W.code walker.old) history.now (W.image walker.old) }
+    requires stands { IsAt (W.code walker.old) found.old.steps.items number (W.image walker.old) }
+    requires state { IsState found.old.states.items number }
+    requires tree { IsTree (W.code walker.old) (W.Local (W.code walker.old)) found.old × IsReady found.old number process }
     ensures code { W.code walker.new ≡ W.code walker.old }
     ensures second { W.code second.new ≡ W.code second.old }
     ensures grows { IfOk result (λ u. Grows found.old found.new) }
     ensures searched { IfOk result (λ u. IsSearched (W.code walker.old) most found.new) }
-    ensures stands { IfOk result (λ u. LeadsTo (W.code walker.old) history.now (W.image walker.new)) }
-    ensures followed { IfOk result (λ u. found.new.cut ≡ false → IsFollowed (W.code walker.old) (W.Local (W.code walker.old)) found.new number history.now process) }
+    ensures stands { IfOk result (λ u. IsAt (W.code walker.old) found.new.steps.items number (W.image walker.new)) }
+    ensures tree { IfOk result (λ u. IsTree (W.code walker.old) (W.Local (W.code walker.old)) found.new × IsReady found.new number (process + 1)) }
+    ensures followed { IfOk result (λ u. (history : List ℕ) → History found.old.steps.items number history → IsFollowed (W.code walker.old) (W.Local (W.code walker.old)) found.new number history process) }
 {
     if !walker.may_act(process) {
         return Ok(());
     }
     find(
-        alloc, walker, second, found, buckets, number, history, process, most,
+        alloc, walker, second, found, buckets, number, path, process, most,
     )?;
-    perform(walker, history)
+    walk(alloc, walker, found.steps.as_slice(), number)
 }

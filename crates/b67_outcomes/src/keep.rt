@@ -1,11 +1,11 @@
 // Where a search has come to is looked for among what is kept, and is kept where it is not there.
-ghost use Rattle.std.specs.Prelude.{◌≡◌, ◌+◌, ◌<◌, ◌≤◌, ◌^◌, true, drop, length, IfOk};
+ghost use Rattle.std.specs.Prelude.{◌≡◌, ◌+◌, ◌<◌, ◌≤◌, ◌^◌, true, length, IfOk};
 ghost use Rattle.b67_outcomes.specs.declared.found.TheConstants.{MOST_STEPS};
-ghost use Rattle.b67_outcomes.specs.Finding.{AreLed, AreStates, History, HoldsPath, HoldsState, IsKept};
+ghost use Rattle.b67_outcomes.specs.Finding.{AreLed, AreStates, HoldsPath, HoldsState, IsKept};
 
 use crate::buckets::Buckets;
 use crate::found::MOST_STEPS;
-use crate::walking::{history_of, perform};
+use crate::walking::walk;
 use crate::{Found, State, Step, Walker};
 use std::alloc::{AllocError, Global};
 
@@ -29,8 +29,7 @@ pub fn is_kept<W: Walker>(
     'older: while at > 0 && at as usize <= states.len() {
         let state = states[at as usize - 1];
         if state.hash == hash {
-            let history = history_of(alloc, steps, state.number)?;
-            perform(second, history.as_slice())?;
+            walk(alloc, second, steps, state.number)?;
             if walker.same(second) {
                 return Ok(true);
             }
@@ -43,55 +42,45 @@ pub fn is_kept<W: Walker>(
     Ok(false)
 }
 
-// Adds the first entries of a path, so many, the last of them first, after the history of this number, and answers the number of the path.
-fn add_steps(
-    steps: &mut Vec<Step>,
-    number: u32,
-    path: &[u32],
-    more: usize,
-) -> Result<u32, AllocError>
-    requires within { more ≤ length path.now }
-    requires is { History steps.old.items number (drop more path.now) }
+// Adds the entries of a path, which goes on from the history of this number, and answers the number of its end.
+fn add_steps(steps: &mut Vec<Step>, number: u32, path: &[u32]) -> Result<u32, AllocError>
     requires short { length steps.old.items ≤ MOST_STEPS }
-    ensures { IfOk result (λ number. HoldsPath steps.old.items path.now number steps.new.items) }
+    ensures { IfOk result (λ at. HoldsPath steps.old.items number path.now at steps.new.items) }
 {
     let mut at = number;
-    let mut left = more;
-    'entries: while left > 0 {
+    let mut done = 0;
+    'entries: while done < path.len() {
         if steps.len() >= MOST_STEPS {
             return Err(AllocError);
         }
-        left -= 1;
         steps.push(Step {
             before: at,
-            process: path[left],
+            process: path[done],
         })?;
         at = steps.len() as u32;
+        done += 1;
     }
     Ok(at)
 }
 
-/// Keeps the state to which a path has led, whose last entries, the first `more` of the path, were performed after the history of this number.
+/// Keeps the state to which a path has led, which goes on from the history of this number. It answers the number of the history of the state.
 pub fn keep(
     found: &mut Found,
     buckets: &mut Buckets,
     number: u32,
     path: &[u32],
-    more: usize,
     hash: u64,
-) -> Result<(), AllocError>
-    requires within { more ≤ length path.now }
-    requires is { History found.old.steps.items number (drop more path.now) }
+) -> Result<u32, AllocError>
     requires short { length found.old.steps.items ≤ MOST_STEPS }
     requires few { length found.old.states.items + 1 < 2 ^ 32 }
-    ensures { IfOk result (λ u. HoldsState found.old path.now found.new) }
+    ensures held { IfOk result (λ at. HoldsState found.old number path.now at found.new) }
 {
-    let at = add_steps(&mut found.steps, number, path, more)?;
+    let at = add_steps(&mut found.steps, number, path)?;
     found.states.push(State {
         number: at,
         older: buckets.newest(hash),
         hash,
     })?;
     buckets.put(hash, found.states.len() as u32);
-    Ok(())
+    Ok(at)
 }

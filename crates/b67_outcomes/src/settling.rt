@@ -1,11 +1,12 @@
 // Entries that can be performed at once are performed.
-ghost use Rattle.std.specs.Prelude.{◌≡◌, ℕ, ◌++◌, List, IfOk, IfSome};
-ghost use Rattle.b67_outcomes.specs.Entering.{IsReached, LeadsTo};
+ghost use Rattle.std.specs.Prelude.{◌≡◌, ℕ, ◌++◌, List, reverse, IfOk, IfSome};
+ghost use Rattle.b67_outcomes.specs.Entering.{IsReached};
+ghost use Rattle.b67_outcomes.specs.Finding.{IsAfter};
 ghost use Rattle.b67_outcomes.specs.Settling.{CanSettle, IsOnly, Settles};
 
-use crate::Walker;
-use crate::walking::perform;
-use std::alloc::AllocError;
+use crate::walking::walk_on;
+use crate::{Step, Walker};
+use std::alloc::{AllocError, Global};
 
 // The process that may act, where it is the only one.
 fn only_one<W: Walker>(walker: &W) -> Option<u32>
@@ -61,14 +62,20 @@ fn next_settled<W: Walker>(walker: &mut W) -> Result<Option<u32>, AllocError>
     first_local(walker)
 }
 
-/// Entries are performed that can be performed at once, at most so many, on a machine that stands after the entries of a path, the last first; the path
-/// goes on by them.
-pub fn settle<W: Walker>(walker: &mut W, path: &mut Vec<u32>, most: u32) -> Result<(), AllocError>
-    requires stands { LeadsTo (W.code walker.old) path.old.items (W.image walker.old) }
+/// Entries are performed that can be performed at once, at most so many, on a machine that stands after a path, which goes on from the history of
+/// this number; the path goes on by them.
+pub fn settle<W: Walker>(
+    alloc: Global,
+    walker: &mut W,
+    steps: &[Step],
+    number: u32,
+    path: &mut Vec<u32>,
+    most: u32,
+) -> Result<(), AllocError>
+    requires stands { IsAfter (W.code walker.old) steps.now number path.old.items (W.image walker.old) }
     ensures code { W.code walker.new ≡ W.code walker.old }
-    ensures stands { IfOk result (λ u. LeadsTo (W.code walker.old) path.new.items (W.image walker.new)) }
-    ensures longer { IfOk result (λ u. (more : List ℕ) × (path.new.items ≡ more ++ path.old.items)) }
-    ensures settles { IfOk result (λ u. Settles (W.code walker.old) (W.Local (W.code walker.old)) (W.image walker.old) (W.image walker.new)) }
+    ensures stands { IfOk result (λ u. IsAfter (W.code walker.old) steps.now number path.new.items (W.image walker.new)) }
+    ensures settles { IfOk result (λ u. (more : List ℕ) × (path.new.items ≡ path.old.items ++ more) × Settles (W.code walker.old) (W.Local (W.code walker.old)) (W.image walker.old) (reverse more) (W.image walker.new)) }
 {
     let mut count = 0;
     'entries: while count < most {
@@ -78,9 +85,9 @@ pub fn settle<W: Walker>(walker: &mut W, path: &mut Vec<u32>, most: u32) -> Resu
         };
         let entered = walker.enter(process)?;
         if !entered {
-            return perform(walker, path.as_slice());
+            return walk_on(alloc, walker, steps, number, path.as_slice());
         }
-        path.insert(0, process)?;
+        path.push(process)?;
         count += 1;
     }
     Ok(())

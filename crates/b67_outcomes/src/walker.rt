@@ -8,7 +8,7 @@ pub trait Walker: Drop {
     ghost use Rattle.b67_table.specs.Image.{Image};
     ghost use Rattle.b67_table.specs.Beginning.{first_image};
     ghost use Rattle.b67_table.specs.Ending.{may_act};
-    ghost use Rattle.b67_outcomes.specs.Entering.{Enters, IsNumber, IsReached};
+    ghost use Rattle.b67_outcomes.specs.Entering.{Enters, IsNumber, IsReached, Repeats};
 
     ghost code: { Self → Code };
 
@@ -39,6 +39,15 @@ pub trait Walker: Drop {
         ensures code { code self.new ≡ code self.old }
         ensures number { IsNumber process }
         ensures entered { IfOk result (λ entered. Enters (code self.old) process (image self.old) entered (image self.new)) };
+
+    /// Performs so many entries of the process, one after another, from an image to which a run leads, where it has so many.
+    fn enter_run(&mut self, process: u32, count: usize) -> Result<(), AllocError>
+        requires some { 1 ≤ count }
+        requires has { (img : Image) × Repeats (code self.old) process count (image self.old) img }
+        requires reached { IsReached (code self.old) (image self.old) }
+        ensures code { code self.new ≡ code self.old }
+        ensures number { IsNumber process }
+        ensures entered { IfOk result (λ u. Repeats (code self.old) process count (image self.old) (image self.new)) };
 
     /// Tests that the next entry of a process that may act is local, in an image to which a run leads. `false` says nothing.
     fn is_local(&mut self, process: u32) -> Result<bool, AllocError>

@@ -1,2 +1,3 @@
 mod Telling
 pub mod Outcomes
+pub mod Kept

@@ -1,5 +1,5 @@
 -- Everything that a source can print: its outcomes, each with a schedule, and when they are all.
-use Rattle.std.specs.Prelude.{◌≡◌, ◌⊎◌, ℕ, ◌+◌, ◌<◌, ◌≤◌, Bool, true, false, List, [], ◌∷◌, ◌++◌, length, All, Contains, Some}
+use Rattle.std.specs.Prelude.{◌≡◌, ◌⊎◌, ℕ, ◌+◌, ◌<◌, ◌≤◌, Bool, true, false, List, [], ◌∷◌, ◌++◌, length, reverse, All, Contains, Some}
 use Rattle.b67_limits.specs.declared.TheConstants.{MOST_BUDGET}
 use Rattle.b67_list.specs.Numbered.{numbered}
 use Rattle.algol_tree.specs.Plain.{PProgram}
@@ -22,9 +22,11 @@ use Rattle.b67_told.specs.declared.Told.{Told}
 use Rattle.b67_told.specs.Telling.{outcomes_in, AreDifferent, IsTold}
 use Rattle.b67_told.specs.Texts.{told_text, told_texts, OutcomesText}
 use Rattle.b67_outcomes.specs.declared.found.Found.{Found}
+use Rattle.b67_settling.specs.Local.{IsLocal}
 use Rattle.b67_outcomes.specs.Entering.{Stops}
 use Rattle.b67_outcomes.specs.Finding.{AreAll}
-use Rattle.b67_teller.specs.Following.{IsOutcomeEnd}
+use Rattle.b67_outcomes.specs.Kept.{AreKept}
+use Rattle.b67_teller.specs.Following.{IsOutcomeEnd, EndsAs, StopsAs}
 use Rattle.b67_teller.specs.Books.{AreTold, IsTooLong}
 
 -- ---- one outcome
@@ -108,16 +110,27 @@ pub record IsFull (tree : PProgram) (told : List Told) : Type 0 where
   pub other : IsTold told item.outcome → ⊥
   pub long : MOST_TEXT_BYTES < length (told_texts told) + length (told_text item)
 
--- These are outcomes of the source, each confirmed by a replay; they differ; their text is not too long; at most so many states were kept. Where
--- nothing was cut they are all. Where something was, that many states were kept, or another outcome was left out: its schedule is too long for a
--- replay, or the text would be too long with it.
+-- what comes of a history, its last entry first, is told: the outcome of its image, where that has an end, and that of each stack limit to which a process
+-- comes after it
+pub record IsHistoryTold (code : Code) (told : List Told) (history : List ℕ) : Type 0 where
+  pub ended : (o : Outcome) → EndsAs code (reverse history) o → IsTold told o
+  pub stopped : (p : ℕ) (o : Outcome) → StopsAs code (reverse (p ∷ history)) o → IsTold told o
+
+-- These are outcomes of the source, each confirmed by a replay; they differ; their text is not too long. As many states were kept as is said, and at most
+-- so many: each has a history, and no two have the same; and what comes of each is told, unless an outcome was left out. Where nothing was cut these
+-- are all outcomes. Where something was, the most states were kept, or an outcome was left out: its schedule is too long for a replay, or the text would
+-- be too long with it.
 pub record AreOutcomes (tree : PProgram) (most : ℕ) (t : Telling) : Type 0 where
   pub code : Code
   pub faithful : Faithful tree code
   pub confirmed : All (λ (x : Told). Confirms tree x.schedule x.outcome) t.told
   pub different : AreDifferent t.told
-  pub states : t.states ≤ most
   pub short : length (told_texts t.told) ≤ MOST_TEXT_BYTES
+  pub histories : List (List ℕ)
+  pub kept : AreKept code (IsLocal code) histories
+  pub states : t.states ≡ length histories
+  pub few : t.states ≤ most
+  pub told : All (IsHistoryTold code t.told) histories ⊎ IsTooLong code t.told ⊎ IsFull tree t.told
   pub all : t.cut ≡ false → AreAllOutcomes tree code (outcomes_in t.told)
   pub cause : t.cut ≡ true → (t.states ≡ most) ⊎ IsTooLong code t.told ⊎ IsFull tree t.told
 

@@ -1,12 +1,13 @@
 -- From one history of a state to all that is told of it.
-use Rattle.std.proofs.Common.{◌≡◌, refl, sym, ap, ap₂, subst, ◌∙◌, ℕ, ◌<◌, ◌≤◌, true, List, ◌∷◌, length, reverse, Option, Some, None, Result, Ok, Err, arith, inl, inr}
-use Rattle.std.specs.Prelude.{IfOk}
-use Rattle.std.proofs.lemmas.Option.{same_Some, none-some}
+use Rattle.std.proofs.Common.{◌≡◌, refl, sym, ap, ap₂, subst, ◌∙◌, ℕ, suc, ◌-◌, ◌<◌, ◌≤◌, true, List, ◌∷◌, length, reverse, Option, Some, None, Result, Ok, Err, arith, inl, inr}
+use Rattle.std.specs.Prelude.{IfOk, slice_get}
+use Rattle.std.proofs.lemmas.Option.{same_Some, none-some, slice_get_within}
 use Rattle.b67_list.specs.Numbered.{numbered}
 use Rattle.b67_segment.specs.declared.code.Code.{Code}
 use Rattle.b67_table.specs.Image.{Image}
 use Rattle.b67_table.specs.Ending.{ImageEnd, image_end, may_act}
 use Rattle.b67_table.specs.Table.{length_in}
+use Rattle.b67_table.specs.Runs.{Runs, entry}
 use Rattle.b67_schedule.specs.Schedules.{most}
 use Rattle.b67_report.specs.declared.EndWords.{EndWords}
 use Rattle.b67_report.specs.declared.EndWords.TheVariants as ends
@@ -17,10 +18,11 @@ use Rattle.b67_outcomes.specs.declared.found.Step.{Step}
 use Rattle.b67_outcomes.specs.declared.found.Limit.{Limit}
 use Rattle.b67_outcomes.specs.declared.found.Found.{Found}
 use Rattle.b67_outcomes.specs.Entering.{Stops, LeadsTo}
-use Rattle.b67_outcomes.specs.Finding.{History, IsStop}
+use Rattle.b67_outcomes.specs.Finding.{History, AreLed, IsStop}
 use Rattle.b67_outcomes.proofs.Determined.{led_one, stops_one}
-use Rattle.b67_outcomes.proofs.Histories.{history_one, history_short, history_within}
-use Rattle.b67_teller.specs.Following.{words_of_image, image_words, stopped_outcome, HasOutcome}
+use Rattle.b67_outcomes.proofs.Histories.{history_one, history_short, history_within, last_step}
+use Rattle.b67_outcomes.proofs.Passing.{not_ended}
+use Rattle.b67_teller.specs.Following.{words_of_image, image_words, stopped_outcome, ended_outcome, HasOutcome}
 use Rattle.b67_teller.specs.Books.{IsStateTold, IsLimitTold, IsHistoryWith, IsSettled, IsOpen, HasOther}
 
 pub ok_map : {A E : Type 0} (r : Result A E) (P Q : A → Type 0) → ((a : A) → P a → Q a) → IfOk r P → IfOk r Q
@@ -149,3 +151,23 @@ short_of steps number history is few =
     let short = history_short steps number history is in
     let within = history_within steps number history is in
     omega (arith, short, within, few)
+
+-- where an entry was performed after the history of a state, its image has no end
+pub followed_told : (code : Code) (found : Found) (told : List Told) (number k : ℕ) (step : Step) → AreLed code found.steps.items
+    → slice_get found.steps.items k ≡ Some step → step.before ≡ number → IsStateTold code found told number
+followed_told code found told number k step led there before = λ history img e is leads ends.
+    let within = slice_get_within found.steps.items k step there in
+    let more = led (suc k) (omega (arith, within)) in
+    let last = last_step found.steps.items (suc k) more.history (omega arith) more.is in
+    let one : suc k - 1 ≡ k = omega arith in
+    let same : last.step ≡ step = same_Some last.step step (sym last.there ∙ ap (λ (i : ℕ). slice_get found.steps.items i) one ∙ there) in
+    let number_is : last.step.before ≡ number = ap (λ (s : Step). s.before) same ∙ before in
+    let rest = subst (λ (n : ℕ). History found.steps.items n last.rest) number_is last.before in
+    let history_is = history_one found.steps.items number last.rest history rest is in
+    by history img e leads ends last.step.process more.leads.0
+    (subst (λ (h : List ℕ). Runs code h more.leads.0 more.image) (last.is ∙ ap (λ (h : List ℕ). last.step.process ∷ h) history_is) more.leads.1)
+  where
+    by : (history : List ℕ) (img : Image) (e : ImageEnd) → LeadsTo code history img → image_end img ≡ Some e → (p : ℕ) (counts : List ℕ)
+        → {to : Image} → Runs code (p ∷ history) counts to → IsTold told (ended_outcome img e)
+    by history img e leads ends p counts (entry {counts = c} {a = a} r x) =
+        not_ended img p e _ (subst (λ (i : Image). may_act i p ≡ true) (led_one code history a img (c, r) leads) x.may) ends

@@ -1,5 +1,5 @@
 //! The outcomes of states and of stack limits.
-ghost use Rattle.std.specs.Prelude.{◌≡◌, ◌<◌, ◌≤◌, ◌∷◌, true, false, length, All, IfOk};
+ghost use Rattle.std.specs.Prelude.{◌≡◌, ◌<◌, ◌≤◌, ◌∷◌, ℕ, true, false, length, slice_get, All, IfOk, Some};
 ghost use Rattle.b67_list.specs.Numbered.{numbered};
 ghost use Rattle.b67_schedule.specs.Schedules.{most};
 ghost use Rattle.b67_table.specs.Image.{Image};
@@ -28,13 +28,34 @@ fn is_settled(told: &[Told], output: &[Line], end: Option<EndWords>) -> bool
     }
 }
 
-// The outcome of a state is told, where its image has an end.
+// The place, from this one on, at which an entry after the history of this number is looked for: those of earlier states stand before it. Nothing is said of it.
+fn next_step(steps: &[Step], from: usize, number: u32) -> usize {
+    let mut at = from;
+    'later: while at < steps.len() {
+        let before = steps[at].before;
+        if before == number || (before > number && before as usize != at) {
+            return at;
+        }
+        at += 1;
+    }
+    at
+}
+
+// Tests that the entry at this place was performed after the history of this number.
+fn is_followed(steps: &[Step], at: usize, number: u32) -> bool
+    ensures { result ≡ true → (k : ℕ) × (step : Step) × (slice_get steps.now k ≡ Some step) × (step.before ≡ number) }
+{
+    at < steps.len() && steps[at].before == number
+}
+
+// The outcome of a state is told, where its image has an end. It has none where an entry was performed after its history, which is looked for at this place.
 fn tell_state<T: Teller>(
     alloc: Global,
     teller: &mut T,
     found: &Found,
     book: &mut Book,
     number: u32,
+    next: usize,
 ) -> Result<(), AllocError>
     requires known { T.Known (T.code teller.old) }
     requires led { AreLed (T.code teller.old) found.now.steps.items }
@@ -50,6 +71,9 @@ fn tell_state<T: Teller>(
         return Ok(());
     }
     let steps = found.steps.as_slice();
+    if is_followed(steps, next, number) {
+        return Ok(());
+    }
     let history = history_of(alloc, steps, number)?;
     let entries = history.as_slice();
     perform(teller, entries)?;
@@ -208,11 +232,13 @@ pub fn tell<T: Teller>(alloc: Global, teller: &mut T, found: &Found) -> Result<B
     };
     let mut at = 0;
     let mut place = 0;
+    let mut next = 0;
     'states: while place < found.states.len() {
         let to = limits_before(found, at, place);
         tell_limits(alloc, teller, found, &mut book, at, to)?;
         let number = found.states[place].number;
-        tell_state(alloc, teller, found, &mut book, number)?;
+        next = next_step(found.steps.as_slice(), next, number);
+        tell_state(alloc, teller, found, &mut book, number, next)?;
         at = to;
         place += 1;
     }

@@ -7,7 +7,7 @@ processes-init g c = record { free = free_first c.args.machine.now.image c.args.
 pub processes-preserved : goal.processes-preserved
 processes-preserved g c =
     record {
-      free = free_next c.args.machine.now.image c.args.stack c.processes.done c.in-Some.regs.now c.lies_in.result c.processes.invariant.free c.in-Some.ensures.found.0 c.if-lies_in.false c.lies_in.ensures;
+      free = free_next c.args.machine.now.image c.args.stack c.processes.done c.critical.result c.lies_in.result c.processes.invariant.free c.critical.ensures c.if-lies_in.false c.lies_in.ensures;
     }
 
 pub returns : goal.returns

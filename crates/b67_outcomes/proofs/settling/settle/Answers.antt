@@ -1,29 +1,54 @@
-use Rattle.std.proofs.Common.{◌≡◌, refl, sym, ap, subst, ◌∙◌, Bool, true, Option, List, [], ◌∷◌, ℕ}
-use Rattle.std.specs.Prelude.{IfSome}
+use Rattle.std.proofs.Common.{◌≡◌, refl, sym, ap, subst, ◌∙◌, Bool, true, Option, List, [], ◌∷◌, ◌++◌, append-nil, append_assoc, ℕ}
+use Rattle.std.specs.Prelude.{IfSome, reverse}
+use Rattle.std.proofs.lemmas.List.{reverse-append}
 use Rattle.b67_segment.specs.declared.code.Code.{Code}
 use Rattle.b67_table.specs.Image.{Image}
-use Rattle.b67_outcomes.specs.Entering.{Enters, LeadsTo}
+use Rattle.b67_outcomes.specs.Entering.{Enters, IsReached}
+use Rattle.b67_outcomes.specs.Finding.{IsAfter}
 use Rattle.b67_outcomes.specs.Settling.{CanSettle, Settles, rest, settle}
-use Rattle.b67_outcomes.proofs.Determined.{led_one}
-use Rattle.b67_outcomes.proofs.Histories.{led_more, ok_map}
+use Rattle.b67_outcomes.proofs.Histories.{after_more, after_one, ok_map}
 use Rattle.b67_outcomes.proofs.settling.settle.Goals as goal
 
 pub entries-init : goal.entries-init
-entries-init g c = (refl, c.requires.stands, ([], refl), rest)
+entries-init g c = (refl, c.requires.stands, ([], sym (append-nil c.args.path.now.items), rest))
+
+-- some run leads to where the machine stands
+pub next_settled-requires : goal.next_settled-requires
+next_settled-requires g c =
+    let i = c.entries.invariant in
+    record { reached = subst (λ (k : Code). IsReached k (g.W.Walker.image c.entries.walker)) (sym i.0) (reverse c.entries.path.items ++ i.1.history, i.1.leads) }
+
+pub walk_on-requires : goal.walk_on-requires
+walk_on-requires g c =
+    let i = c.entries.invariant in
+    let same = c.enter.ensures.code ∙ c.next_settled.ensures.code ∙ i.0 in
+    record {
+      leads = (
+        g.W.Walker.image c.entries.walker,
+        subst (λ (k : Code). IsAfter k c.args.steps.now c.args.number c.as_slice.result.now (g.W.Walker.image c.entries.walker)) (sym same)
+            (subst (λ (z : List ℕ). IsAfter (g.W.Walker.code c.args.walker.now) c.args.steps.now c.args.number z (g.W.Walker.image c.entries.walker)) (sym c.as_slice.ensures.value) i.1),
+      );
+    }
 
 pub returns-then-not-entered-clause-settles : goal.returns-then-not-entered-clause-settles
 returns-then-not-entered-clause-settles g c =
     let i = c.entries.invariant in
     let code = g.W.Walker.code c.args.walker.now in
-    let there = g.W.Walker.image c.perform.new.walker in
+    let steps = c.args.steps.now in
+    let there = g.W.Walker.image c.walk_on.new.walker in
     let same : g.W.Walker.code c.enter.new.self ≡ code = c.enter.ensures.code ∙ c.next_settled.ensures.code ∙ i.0 in
-    ok_map c.perform.result (λ u. LeadsTo (g.W.Walker.code c.enter.new.self) c.as_slice.result.now there)
-    (λ u. Settles code (g.W.Walker.Local code) (g.W.Walker.image c.args.walker.now) there)
-    (λ u l.
-    subst (λ (x : Image). Settles code (g.W.Walker.Local code) (g.W.Walker.image c.args.walker.now) x)
-    (led_one code c.entries.path.items (g.W.Walker.image c.entries.walker) there i.1
-    (subst (λ (h : List ℕ). LeadsTo code h there) c.as_slice.ensures.value (subst (λ (k : Code). LeadsTo k c.as_slice.result.now there) same l))) i.3)
-    c.perform.ensures.led
+    ok_map c.walk_on.result (λ u. IsAfter (g.W.Walker.code c.enter.new.self) steps c.args.number c.as_slice.result.now there)
+    (λ u. (more : List ℕ) × (c.entries.path.items ≡ c.args.path.now.items ++ more)
+    × Settles code (g.W.Walker.Local code) (g.W.Walker.image c.args.walker.now) (reverse more) there)
+    (λ u l. (
+      i.2.0,
+      i.2.1,
+      subst (λ (x : Image). Settles code (g.W.Walker.Local code) (g.W.Walker.image c.args.walker.now) (reverse i.2.0) x)
+          (after_one code steps c.args.number c.entries.path.items (g.W.Walker.image c.entries.walker) there i.1
+          (subst (λ (z : List ℕ). IsAfter code steps c.args.number z there) c.as_slice.ensures.value
+          (subst (λ (k : Code). IsAfter k steps c.args.number c.as_slice.result.now there) same l))) i.2.2,
+    ))
+    c.walk_on.ensures.after
 
 pub entries-preserved : goal.entries-preserved
 entries-preserved g c =
@@ -39,10 +64,13 @@ entries-preserved g c =
     subst (λ (k : Code). Enters k p here true there) (c.next_settled.ensures.code ∙ i.0)
     (subst (λ (x : Image). Enters (g.W.Walker.code c.next_settled.new.walker) p x true there) c.next_settled.ensures.stays
     (subst (λ (b : Bool). Enters (g.W.Walker.code c.next_settled.new.walker) p (g.W.Walker.image c.next_settled.new.walker) b there) c.if-not-entered.false
-    c.in_ok-entered.ensures.entered)) in
-    let items = c.in_ok-insert.ensures.items in (
+    c.in_ok-entered.ensures.entered)) in (
       c.enter.ensures.code ∙ c.next_settled.ensures.code ∙ i.0,
-      subst (λ (h : List ℕ). LeadsTo code h there) (sym items) (led_more code c.entries.path.items p here there entered.0 i.1 entered.1),
-      (p ∷ i.2.0, items ∙ ap (λ (z : List ℕ). p ∷ z) i.2.1),
-      settle i.3 can entered.1,
+      after_more code c.args.steps.now c.args.number c.entries.path.items c.push.new.self.items p entered.0 here there c.in_ok-push.ensures.items i.1 entered.1,
+      (
+        i.2.0 ++ p ∷ [],
+        c.in_ok-push.ensures.items ∙ ap (λ (z : List ℕ). z ++ p ∷ []) i.2.1 ∙ append_assoc c.args.path.now.items i.2.0 (p ∷ []),
+        subst (λ (z : List ℕ). Settles code (g.W.Walker.Local code) (g.W.Walker.image c.args.walker.now) z there) (sym (reverse-append i.2.0 (p ∷ [])))
+            (settle i.2.2 can entered.1),
+      ),
     )

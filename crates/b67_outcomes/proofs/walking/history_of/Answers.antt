@@ -4,7 +4,7 @@ use Rattle.b67_outcomes.proofs.walking.history_of.Goals as goal
 pub back-init : goal.back-init
 back-init c =
     let h = c.requires.found in
-    (h.0, h.1, walk_begun c.args.steps.now c.args.number h.0 c.new-history.result.items c.new-history.ensures.items h.1)
+    (h.0, h.1, walk_begun c.args.steps.now c.args.number h.0 c.in_ok-history.history.items c.in_ok-history.ensures.items h.1)
 
 pub step_at-step-requires-clause-within : goal.step_at-step-requires-clause-within
 step_at-step-requires-clause-within c = let i = c.back.invariant in history_within c.args.steps.now c.back.at i.0 i.1

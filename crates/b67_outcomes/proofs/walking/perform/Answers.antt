@@ -1,33 +1,45 @@
-use Rattle.std.proofs.Common.{subst, ◌∙◌, ◌-◌, get_or, arith}
-use Rattle.std.proofs.lemmas.Option.{slice_get-get_or}
+use Rattle.std.proofs.Common.{sym, subst, ◌∙◌, ℕ, ◌-◌, List, drop, get_or, arith}
+use Rattle.std.specs.List.{All}
 use Rattle.b67_segment.specs.declared.code.Code.{Code}
-use Rattle.b67_outcomes.specs.Entering.{Enters}
-use Rattle.b67_outcomes.proofs.Histories.{led_begun, next_may, next_led, numbers_begun, numbers_next}
+use Rattle.b67_table.specs.Image.{Image}
+use Rattle.b67_outcomes.specs.Entering.{IsNumber, IsReached, Leads, LeadsTo, Repeats}
+use Rattle.b67_outcomes.proofs.Histories.{led_begun, numbers_begun}
+use Rattle.b67_outcomes.proofs.Repeating.{has_repeats, led_repeats, numbers_repeat, part_leads}
 use Rattle.b67_outcomes.proofs.walking.perform.Goals as goal
 
-pub entries-init : goal.entries-init
-entries-init g c =
+pub runs-init : goal.runs-init
+runs-init g c =
     (c.restart.ensures.code, omega arith, led_begun (g.W.Walker.code c.args.walker.now) c.args.history.now (g.W.Walker.image c.restart.new.self) c.in_ok-restart.ensures.first, numbers_begun c.args.history.now)
 
-pub enter-requires-clause-may : goal.enter-requires-clause-may
-enter-requires-clause-may g c =
-    let i = c.entries.invariant in
-    let positive = c.entries-test.true in
-    next_may (g.W.Walker.code c.args.walker.now) c.args.history.now (c.entries.left - 1) c.entries.left (get_or c.args.history.now (c.entries.left - 1) 0)
-    (g.W.Walker.image c.entries.walker) (omega (arith, positive)) c.requires.leads
-    (slice_get-get_or c.args.history.now (c.entries.left - 1) 0 (omega (arith, positive, i.1))) i.2
+pub enter_run-requires : goal.enter_run-requires
+enter_run-requires g c =
+    let i = c.runs.invariant in
+    let code = g.W.Walker.code c.args.walker.now in
+    let h = c.args.history.now in
+    let here = g.W.Walker.image c.runs.walker in
+    let p = get_or h (c.runs.left - 1) 0 in
+    let rest = drop c.runs.left h in
+    let leads = subst (λ (z : List ℕ). Leads code z) c.times-count.ensures.same (part_leads code h (c.runs.left - c.times-count.result) c.requires.leads) in
+    let has = has_repeats code p c.times-count.result rest here leads i.2 in
+    record {
+      some = c.times-count.ensures.some;
+      has = subst (λ (k : Code). (img : Image) × Repeats k p c.times-count.result here img) (sym i.0) has;
+      reached = subst (λ (k : Code). IsReached k here) (sym i.0) (rest, i.2);
+    }
 
-pub entries-preserved : goal.entries-preserved
-entries-preserved g c =
-    let i = c.entries.invariant in
-    let positive = c.entries-test.true in (
-      c.enter.ensures.code ∙ i.0,
+pub runs-preserved : goal.runs-preserved
+runs-preserved g c =
+    let i = c.runs.invariant in
+    let code = g.W.Walker.code c.args.walker.now in
+    let h = c.args.history.now in
+    let here = g.W.Walker.image c.runs.walker in
+    let there = g.W.Walker.image c.enter_run.new.self in
+    let p = get_or h (c.runs.left - 1) 0 in
+    let rest = drop c.runs.left h in
+    let count = c.times-count.result in
+    let entered = subst (λ (k : Code). Repeats k p count here there) i.0 c.in_ok-enter_run.ensures.entered in (
+      c.enter_run.ensures.code ∙ i.0,
       omega (arith, i.1),
-      next_led (g.W.Walker.code c.args.walker.now) c.args.history.now (c.entries.left - 1) c.entries.left (get_or c.args.history.now (c.entries.left - 1) 0)
-          (g.W.Walker.image c.entries.walker) (g.W.Walker.image c.enter.new.self) c.in_ok-enter.field-0 (omega (arith, positive)) c.requires.leads
-          (slice_get-get_or c.args.history.now (c.entries.left - 1) 0 (omega (arith, positive, i.1))) i.2
-          (subst (λ (k : Code). Enters k (get_or c.args.history.now (c.entries.left - 1) 0) (g.W.Walker.image c.entries.walker) c.in_ok-enter.field-0
-          (g.W.Walker.image c.enter.new.self)) i.0 c.in_ok-enter.ensures.entered),
-      numbers_next c.args.history.now (c.entries.left - 1) c.entries.left (get_or c.args.history.now (c.entries.left - 1) 0) (omega (arith, positive))
-          (slice_get-get_or c.args.history.now (c.entries.left - 1) 0 (omega (arith, positive, i.1))) c.enter.ensures.number i.3,
+      subst (λ (z : List ℕ). LeadsTo code z there) (sym c.times-count.ensures.same) (led_repeats code p count rest here there i.2 entered),
+      subst (λ (z : List ℕ). All IsNumber z) (sym c.times-count.ensures.same) (numbers_repeat count p rest c.enter_run.ensures.number i.3),
     )

@@ -4,10 +4,10 @@ use Rattle.b67_outcomes.specs.Entering.{IsNumber, LeadsTo}
 use Rattle.b67_outcomes.proofs.walking.perform.Given as goal
 
 -- the entries from this place on are performed
-abbrev pub invariant-entries : goal.invariant-entries
-invariant-entries g l =
+abbrev pub invariant-runs : goal.invariant-runs
+invariant-runs g l =
     (g.W.Walker.code l.walker ≡ g.W.Walker.code l.fn.walker) × (l.left ≤ length l.history)
     × LeadsTo (g.W.Walker.code l.fn.walker) (drop l.left l.history) (g.W.Walker.image l.walker) × All IsNumber (drop l.left l.history)
 
-abbrev pub decreases-entries : goal.decreases-entries
-decreases-entries g l = l.left
+abbrev pub decreases-runs : goal.decreases-runs
+decreases-runs g l = l.left

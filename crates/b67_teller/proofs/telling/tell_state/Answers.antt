@@ -1,4 +1,5 @@
-use Rattle.std.proofs.Common.{◌≡◌, sym, ap, subst, ◌∙◌, ℕ, ◌≤◌, false, List, length, reverse}
+use Rattle.std.proofs.Common.{◌≡◌, sym, ap, subst, ◌∙◌, ℕ, ◌≤◌, false, List, length, reverse, Some}
+use Rattle.std.specs.Prelude.{slice_get}
 use Rattle.b67_segment.specs.declared.code.Code.{Code}
 use Rattle.b67_schedule.specs.Giving.{given_entries}
 use Rattle.b67_schedule.specs.Schedules.{most}
@@ -11,8 +12,14 @@ use Rattle.b67_outcomes.specs.Finding.{History}
 use Rattle.b67_outcomes.proofs.Histories.{led_leads}
 use Rattle.b67_teller.specs.Following.{HasOutcome}
 use Rattle.b67_teller.specs.Books.{IsSettled, IsOpen, HasOther, IsStateTold}
-use Rattle.b67_teller.proofs.States.{ok_map, open_end, state_settled, state_told, state_has, state_other, short_of}
+use Rattle.b67_teller.proofs.States.{ok_map, open_end, state_settled, state_told, state_has, state_other, short_of, followed_told}
 use Rattle.b67_teller.proofs.telling.tell_state.Goals as goal
+
+pub returns-then-is_followed-clause-told : goal.returns-then-is_followed-clause-told
+returns-then-is_followed-clause-told g c = λ e.
+    let x = c.is_followed.ensures c.if-is_followed.true in
+    followed_told (g.T.Walker.code c.args.teller.now) c.args.found.now c.args.book.now.told.items c.args.number x.0 x.1 c.requires.led
+    (subst (λ (xs : List Step). slice_get xs x.0 ≡ Some x.1) c.as_slice-steps.ensures.value x.2) x.3
 
 pub history_of-requires : goal.history_of-requires
 history_of-requires g c =

@@ -1,0 +1,44 @@
+use Rattle.std.proofs.Common.{◌≡◌, refl, ap, subst, ◌∙◌, ℕ, ◌<◌, List, length, take, get_or, arith}
+use Rattle.std.proofs.Math.Seq.{take-length}
+use Rattle.b67_segment.specs.declared.code.Code.{Code}
+use Rattle.b67_outcomes.specs.Entering.{Enters}
+use Rattle.b67_outcomes.specs.Finding.{IsAfter}
+use Rattle.b67_outcomes.proofs.Histories.{after_none, part_leads, path_may, path_after}
+use Rattle.b67_outcomes.proofs.walking.walk_on.Goals as goal
+
+pub walk-requires : goal.walk-requires
+walk-requires g c =
+    let begun = part_leads (g.W.Walker.code c.args.walker.now) c.args.steps.now c.args.number c.args.path.now 0 c.requires.leads.0 c.requires.leads.1 in
+    record { led = record { history = begun.1.history; image = begun.0; is = begun.1.is; leads = begun.1.leads } }
+
+pub entries-init : goal.entries-init
+entries-init g c = (
+  c.walk.ensures.code,
+  omega arith,
+  after_none (g.W.Walker.code c.args.walker.now) c.args.steps.now c.args.number _ (g.W.Walker.image c.walk.new.walker) refl c.in_ok-walk.ensures.at,
+)
+
+pub enter-requires-clause-may : goal.enter-requires-clause-may
+enter-requires-clause-may g c =
+    let i = c.entries.invariant in
+    path_may (g.W.Walker.code c.args.walker.now) c.args.steps.now c.args.number c.args.path.now c.entries.done c.requires.leads.0
+    (g.W.Walker.image c.entries.walker) (omega (arith, c.entries-test.true)) c.requires.leads.1 i.2
+
+pub entries-preserved : goal.entries-preserved
+entries-preserved g c =
+    let i = c.entries.invariant in
+    let below : c.entries.done < length c.args.path.now = omega (arith, c.entries-test.true) in (
+      c.enter.ensures.code ∙ i.0,
+      omega (arith, below),
+      path_after (g.W.Walker.code c.args.walker.now) c.args.steps.now c.args.number c.args.path.now c.entries.done c.requires.leads.0
+          (g.W.Walker.image c.entries.walker) (g.W.Walker.image c.enter.new.self) c.in_ok-enter.field-0 below c.requires.leads.1 i.2
+          (subst (λ (k : Code). Enters k (get_or c.args.path.now c.entries.done 0) (g.W.Walker.image c.entries.walker) c.in_ok-enter.field-0
+          (g.W.Walker.image c.enter.new.self)) i.0 c.in_ok-enter.ensures.entered),
+    )
+
+pub returns-clause-after : goal.returns-clause-after
+returns-clause-after g c =
+    let i = c.entries.invariant in
+    let all : c.entries.done ≡ length c.args.path.now = omega (arith, c.entries-test.false, i.1) in
+    subst (λ (z : List ℕ). IsAfter (g.W.Walker.code c.args.walker.now) c.args.steps.now c.args.number z (g.W.Walker.image c.entries.walker))
+    (ap (λ (k : ℕ). take k c.args.path.now) all ∙ take-length c.args.path.now) i.2
