@@ -75,15 +75,15 @@ fn push_calls<N: Named, L: Ledger, P: Rule>(
     push_take(text, plant, 1, first);
     number(text, b"WORK ", u64::from(first.parcel.work(code)));
     say(text, b"\nLAND");
-    push_landing(text, plant.land(2, &first.parcel));
-    push_landing(text, plant.land(1, &first.parcel));
+    push_landing(text, plant.land(2, &first.parcel, &mut second.seat));
+    push_landing(text, plant.land(1, &first.parcel, &mut first.seat));
     say(text, b"\nACT");
     say(text, acted_words(plant.act(1, 1, &mut first.seat)));
     number(text, b" ", plant.machine().count(1));
     say(text, b"\n");
     push_take(text, plant, 1, second);
     say(text, b"LAND");
-    push_landing(text, plant.land(1, &first.parcel));
+    push_landing(text, plant.land(1, &first.parcel, &mut first.seat));
     say(text, b"\n");
     push_take(text, plant, 2, second);
 }
@@ -101,7 +101,8 @@ fn landed<N: Named + Send + Sync, L: Ledger + Send + Sync, R: Threads + Wait + S
         return 0;
     };
     let count = shop.work(&mut post.parcel);
-    match shop.land(rt, 1, &post.parcel) {
+    let (landing, _made) = shop.land(rt, 1, &post.parcel, &mut post.seat);
+    match landing {
         Landing::Landed(pass) => {
             discard(pass);
             count

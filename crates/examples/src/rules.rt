@@ -131,7 +131,7 @@ fn push_calls<N: Named, L: Ledger, P: Rule>(
     say(text, taken_words(plant.take(1, &mut post.parcel)));
     number(text, b" ", u64::from(post.parcel.process()));
     say(text, taken_words(plant.take(1, &mut post.parcel)));
-    push_landing(text, plant.land(1, &post.parcel));
+    push_landing(text, plant.land(1, &post.parcel, &mut post.seat));
     let process = post.parcel.process();
     say(text, acted_words(plant.act(1, process, &mut post.seat)));
     let mut taken = plant.take(1, &mut post.parcel);

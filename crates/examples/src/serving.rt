@@ -91,13 +91,20 @@ impl Shop for Bench {
         0
     }
 
-    fn land<R: Threads + Wait + Sync>(&self, _rt: &R, me: u32, _parcel: &u32) -> Landing<Leave> {
+    fn land<R: Threads + Wait + Sync>(
+        &self,
+        _rt: &R,
+        me: u32,
+        _parcel: &u32,
+        seat: &mut Stool,
+    ) -> (Landing<Leave>, u64) {
+        let _acts = seat.acts;
         self.note(4);
         if me == 1 {
             self.met
                 .store(self.second.load(Ordering::SeqCst), Ordering::SeqCst);
         }
-        Landing::Landed(Leave)
+        (Landing::Landed(Leave), 0)
     }
 
     fn act<R: Threads + Wait + Sync>(

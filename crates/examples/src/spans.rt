@@ -2,10 +2,10 @@
 //!
 //! In `spans.sheet` the input of a case has a line for each call on a flat memory in which nothing is open: `row N` opens a row of N words,
 //! `close N` closes row N, `stack N` opens stack N, and `end N` closes it. The answer has a line for each, with the number of the
-//! row that was opened, or with what was refused. Then come the spans in ascending order, each with the number of its row or stack, its place and its length, and
-//! the number of all words.
+//! row that was opened, or with what was refused. Then come the spans in ascending order, each with the number of its row, its place and its length, and
+//! the number of all words of rows.
 
-use b67_flat::{FlatCore, Holder, Span};
+use b67_flat::{FlatCore, Span};
 use b67_store::{Core, MOST_COUNTED_WORDS};
 use case_sheet::{number, say};
 use std::alloc::Global;
@@ -51,10 +51,7 @@ fn call(core: &mut FlatCore, line: &str, text: &mut Vec<u8>) {
 
 /// Appends a span.
 fn push_span(text: &mut Vec<u8>, span: &Span) {
-    match span.holder {
-        Holder::Row(row) => number(text, b"SPAN OF ROW ", u64::from(row)),
-        Holder::Stack(stack) => number(text, b"SPAN OF STACK ", u64::from(stack)),
-    }
+    number(text, b"SPAN OF ROW ", u64::from(span.row));
     number(text, b": ", span.place);
     number(text, b" ", u64::from(span.length));
     say(text, b"\n");
