@@ -7,8 +7,8 @@
 //! form of a sheet. The setting of a case may say `read N fails` or `write N fails`, where the calls are counted from 0, `room N`, the
 //! number of bytes for which the sink has room, or `cut N`, that of the bytes of the input that there are. Each source is read at most 7
 //! bytes at a time. The cases of `shared.sheet`, where nothing fails, are answered by processors that share the work, each in a thread of
-//! its own; by the setting `hold N` they are held at the gate from their passing N on, counted from 0, until two of them stand there. The
-//! schedule that is printed has to have the same listing, output and end when it is replayed. Of `landings.sheet` it is told in `landings`.
+//! its own; by the setting `meet N` each is held at the gate until another stands there too, N times, once the first process has started
+//! another. The schedule that is printed has to have the same listing, output and end when it is replayed. Of `landings.sheet` it is told in `landings`.
 //!
 //! These cases are the tests of `b67_desk` and, through it, of what it calls: the front end, the compiler, the listing, the
 //! machine from its first image to its end, the schedules and the reports, and by texts of code the assembler, the operators, the

@@ -14,51 +14,57 @@ use std::thread::Threads;
 /// How often the gate looks in one passing.
 const LOOKS: u64 = 20_000_000;
 
-/// A gate that lets so many pass, and then holds each until two have stood in it at once. It is right where they have, or where it lets
-/// all pass.
+/// So many pass before the gate holds anyone: in these passings the first process starts another.
+const FREE: u64 = 4;
+
+/// A gate that holds each who comes until another stands in it too, and so for a number of meetings, after which it lets all pass. It is right
+/// where there were so many meetings, and nobody left before another came.
 #[derive(Drop)]
-struct Pair {
-    free: u64,
+struct Meetings {
+    wanted: u64,
     passed: AtomicU64,
-    inside: AtomicU64,
-    met: AtomicBool,
+    met: AtomicU64,
+    left: AtomicBool,
 }
 
-impl Pair {
-    /// The gate that lets so many pass as the setting of a case says by `hold N`, and else all.
-    fn of(setting: &str) -> Pair {
-        Pair {
-            free: match setting.strip_prefix("hold ") {
+impl Meetings {
+    /// The gate with as many meetings as the setting of a case says by `meet N`, and else none.
+    fn of(setting: &str) -> Meetings {
+        Meetings {
+            wanted: match setting.strip_prefix("meet ") {
                 Some(number) => number.parse().unwrap_or(0),
-                None => u64::MAX,
+                None => 0,
             },
             passed: AtomicU64::new(0),
-            inside: AtomicU64::new(0),
-            met: AtomicBool::new(false),
+            met: AtomicU64::new(0),
+            left: AtomicBool::new(false),
         }
     }
 
-    /// Whether two have stood in it, if it holds anyone.
+    /// Whether there were as many meetings as were wanted.
     fn is_right(&self) -> bool {
-        self.free == u64::MAX || self.met.load(Ordering::SeqCst)
+        self.met.load(Ordering::SeqCst) == self.wanted && !self.left.load(Ordering::SeqCst)
     }
 }
 
-impl Gate for Pair {
+impl Gate for Meetings {
     fn pass<R: Threads + Wait + Sync>(&self, _rt: &R, _processor: u32, _turn: u64) {
-        if self.passed.fetch_add(1, Ordering::SeqCst) < self.free {
+        let passed = self.passed.fetch_add(1, Ordering::SeqCst);
+        if passed < FREE || (passed - FREE) / 2 >= self.wanted {
             return;
         }
-        if self.inside.fetch_add(1, Ordering::SeqCst) > 0 {
-            self.met.store(true, Ordering::SeqCst);
+        let before = (passed - FREE) / 2;
+        if (passed - FREE) % 2 == 1 {
+            self.met.fetch_add(1, Ordering::SeqCst);
+            return;
         }
-        'looks: for _ in 0..LOOKS {
-            if self.met.load(Ordering::SeqCst) {
-                break;
+        for _ in 0..LOOKS {
+            if self.met.load(Ordering::SeqCst) > before {
+                return;
             }
             thread::yield_now();
         }
-        self.inside.fetch_sub(1, Ordering::SeqCst);
+        self.left.store(true, Ordering::SeqCst);
     }
 }
 
@@ -69,7 +75,7 @@ fn push_shared<R: Threads + Wait + Sync>(
     alloc: Global,
     case: &Case,
 ) -> Result<(), AllocError> {
-    let gate = Pair::of(case.setting.as_str());
+    let gate = Meetings::of(case.setting.as_str());
     let told = shared(rt, alloc, case, &gate)?;
     let is_met = case.is_met(told.status, told.bytes.as_slice());
     let is_met = is_replayed(alloc, case, &told)? && is_met && gate.is_right();
