@@ -11,10 +11,10 @@ use Rattle.b67_num.specs.declared.NumFault.{NumFault}
 use Rattle.algol_meaning.specs.Value.{Value, truth_of, Cell}
 use Rattle.algol_meaning.specs.Operators.{result_of}
 use Rattle.algol_meaning.specs.Rest.{Given, valued, passed, refers, names, Hole, read, element, index, tests, broken, enter, inside, subscript, argument, left, right, negated, inverted, condition, Actuals, pass, in_value, Half, val, busy, HalfGiven, given, wants, Aim, resolve, place_index, inside_place, place_subscript, HalfPlace, at, aims, Answer, done, value, cell, place, entered, subscripts_of}
-use Rattle.algol_meaning.specs.Settle.{after_result, right_of, left_of, negated_of, inverted_of, condition_of, named_of, subscripted_of, called_of, valued_of, alone_of, left_alone_of, aimed_of, half_of, half_place_of, sort_at, other_of, actual_of, settle, settle_actuals, put, put_actuals, settle_place, indexed_of, put_place}
+use Rattle.algol_meaning.specs.Settle.{after_result, right_of, left_of, negated_of, inverted_of, condition_of, named_of, subscripted_of, called_of, valued_of, alone_of, left_alone_of, aimed_of, half_of, half_place_of, sort_at, other_of, actual_of, settle, settle_actuals, answer_put, put_actuals, settle_place, indexed_of, put_place}
 use Rattle.algol_meaning.specs.Asks as asks
 use Rattle.algol_meaning.specs.Asks.{ask_hole, ask_actuals, ask_aim}
-use Rattle.algol_calls.specs.Fits.{IsLink, IsByValue, NextThen, Leads, IsCallee, wanted, AloneFits, StandsFor, ExprFits, ExprsFit, ActualsFit, GivenFits, GivenThen, GivensFit, PassFits, HoleFits, ActualsLeft, PlaceFits, AimFits, LeftFits, AnswerFits}
+use Rattle.algol_calls.specs.Fits.{IsLink, IsByValue, NextThen, NameLeads, IsCallee, sorts_wanted, AloneFits, ParameterStandsFor, CalledExprFits, ExprsFit, ActualsFit, GivenFits, GivenThen, GivensFit, PassFits, HoleFits, ActualsLeft, CalledPlaceFits, AimFits, LeftFits, AnswerFits}
 use Rattle.algol_calls.proofs.Sorts.{true_false, variable_no_formal, by_name_else, link_true, link_for}
 
 module _ (sc : Scopes) where
@@ -27,7 +27,7 @@ module _ (sc : Scopes) where
   HalfGivenFits (wants x) all = ActualsLeft sc x all
 
   abbrev pub HalfPlaceFits : HalfPlace → Type 0
-  HalfPlaceFits (at p) = PlaceFits sc p
+  HalfPlaceFits (at p) = CalledPlaceFits sc p
   HalfPlaceFits (aims x) = AimFits sc x
 
   -- ---- operators
@@ -40,7 +40,7 @@ module _ (sc : Scopes) where
   right_fits op v (val w) i = after_fits op v w (result_of op v w)
   right_fits op v (busy h) i = i
 
-  left_fits : (op : Op) (x : Half) (b : PExpr) (s : Half) → HalfFits x → ExprFits sc b → HalfFits s → HalfFits (left_of op x b s)
+  left_fits : (op : Op) (x : Half) (b : PExpr) (s : Half) → HalfFits x → CalledExprFits sc b → HalfFits s → HalfFits (left_of op x b s)
   left_fits op (val v) b s i j l = right_fits op v s l
   left_fits op (busy h) b s i j l = (i, j)
 
@@ -56,7 +56,7 @@ module _ (sc : Scopes) where
   either_fits true s t i j = i
   either_fits false s t i j = j
 
-  condition_fits : (x : Half) (a b : PExpr) (s t : Half) → HalfFits x → ExprFits sc a → ExprFits sc b → HalfFits s → HalfFits t → HalfFits (condition_of x a b s t)
+  condition_fits : (x : Half) (a b : PExpr) (s t : Half) → HalfFits x → CalledExprFits sc a → CalledExprFits sc b → HalfFits s → HalfFits t → HalfFits (condition_of x a b s t)
   condition_fits (val v) a b s t i j l m n = either_fits (truth_of v) s t m n
   condition_fits (busy h) a b s t i j l m n = (i, j, l)
 
@@ -66,12 +66,12 @@ module _ (sc : Scopes) where
   named_fits (Some block) n p = p
   named_fits None n p = p
 
-  subscripted_fits : (n : Named) (ks : List ℕ) (x : Half) (es : PExprs) → Leads sc n → HalfFits x → ExprsFit sc es → HalfFits (subscripted_of n ks x es)
+  subscripted_fits : (n : Named) (ks : List ℕ) (x : Half) (es : PExprs) → NameLeads sc n → HalfFits x → ExprsFit sc es → HalfFits (subscripted_of n ks x es)
   subscripted_fits n ks (busy h) es p i j = (p, i, j)
   subscripted_fits n ks (val v) tree.none p i j = p
   subscripted_fits n ks (val v) (tree.more e es) p i j = (p, j.0, j.1)
 
-  called_fits : (n : Named) (x : HalfGiven) → IsCallee sc n → HalfGivenFits x (wanted sc n) → HalfFits (called_of n x)
+  called_fits : (n : Named) (x : HalfGiven) → IsCallee sc n → HalfGivenFits x (sorts_wanted sc n) → HalfFits (called_of n x)
   called_fits n (given gs) p i = (p, i)
   called_fits n (wants x) p i = (p, i)
 
@@ -127,7 +127,7 @@ module _ (sc : Scopes) where
     gives x f = g (gs ++ x ∷ []) (one_more s sorts all gs x f i)
 
     alone_fits : (o : Option ℕ) (formal : Bool) (n : Named) → procedure_in (sort_at sc n) ≡ o → is_formal (sort_at sc n) ≡ formal → AloneFits sc (procedure_in (sort_at sc n)) n →
-        StandsFor sc s (tree.variable (tree.subscripted n tree.none)) → HalfGivenFits (alone_of o formal gs n sorts es go_on) all
+        ParameterStandsFor sc s (tree.variable (tree.subscripted n tree.none)) → HalfGivenFits (alone_of o formal gs n sorts es go_on) all
     alone_fits (Some block) formal n e f p stands =
         gives (names (tree.variable (tree.subscripted n tree.none))) (p, by_name_else s (λ y z. some_none (sym e ∙ (stands y z).0)))
       where
@@ -137,22 +137,22 @@ module _ (sc : Scopes) where
         (then_next (PassFits sc n) s sorts all gs (record { told = subst (λ o. AloneFits sc o n) e p; formal = f; links = λ y z. (stands y z).1 }) i, l)
     alone_fits None false n e f p stands = gives (refers n) (record { told = subst (λ o. AloneFits sc o n) e p; no_formal = f }, λ y. tt)
 
-    other_fits : (e : PExpr) → ExprFits sc e → StandsFor sc s e → HalfGivenFits (other_of sc (name_alone e) e gs sorts es go_on) all
+    other_fits : (e : PExpr) → CalledExprFits sc e → ParameterStandsFor sc s e → HalfGivenFits (other_of sc (name_alone e) e gs sorts es go_on) all
     other_fits (tree.variable (tree.subscripted n tree.none)) p stands = alone_fits (procedure_in (sort_at sc n)) (is_formal (sort_at sc n)) n refl refl p stands
     other_fits e p stands = gives (names e) (p, by_name_else s stands)
 
-    actual_fits : (by_value : Bool) (e : PExpr) (x : Half) → is_variable s ≡ by_value → ExprFits sc e → StandsFor sc s e → HalfFits x →
+    actual_fits : (by_value : Bool) (e : PExpr) (x : Half) → is_variable s ≡ by_value → CalledExprFits sc e → ParameterStandsFor sc s e → HalfFits x →
         HalfGivenFits (actual_of sc by_value e x gs sorts es go_on) all
     actual_fits true e x f p stands h = valued_fits gs x sorts all es go_on (then_next IsByValue s sorts all gs (variable_no_formal s f) i) h l g
     actual_fits false e x f p stands h = other_fits e p stands
 
   mutual
-    pub settle_fits : (e : PExpr) → ExprFits sc e → HalfFits (settle sc e)
+    pub settle_fits : (e : PExpr) → CalledExprFits sc e → HalfFits (settle sc e)
     settle_fits (tree.number z spot) i = tt
     settle_fits (tree.truth b spot) i = tt
     settle_fits (tree.variable (tree.subscripted n tree.none)) i = named_fits (procedure_in (sort_at sc n)) n i
     settle_fits (tree.variable (tree.subscripted n (tree.more e es))) i = subscripted_fits n [] (settle sc e) es i.0 (settle_fits e i.1) i.2
-    settle_fits (tree.call (tree.called n es)) i = called_fits n (settle_actuals sc es (wanted sc n) []) i.0 (settle_actuals_fit es (wanted sc n) (wanted sc n) [] i.1 refl)
+    settle_fits (tree.call (tree.called n es)) i = called_fits n (settle_actuals sc es (sorts_wanted sc n) []) i.0 (settle_actuals_fit es (sorts_wanted sc n) (sorts_wanted sc n) [] i.1 refl)
     settle_fits (tree.tested test es spot) i = i
     settle_fits (tree.paren e spot) i = settle_fits e i
     settle_fits (tree.plus e spot) i = settle_fits e i
@@ -182,7 +182,7 @@ module _ (sc : Scopes) where
       (link_true (is_by_name (sort_at sc n)) c link, λ formal. link_for (is_by_name s) (is_by_name (sort_at sc n)) c (λ e. f.links formal e) link)
 
   mutual
-    pub put_fits : (h : Hole) (a : Answer) → HoleFits sc h → AnswerFits sc (ask_hole h) a → HalfFits (put sc h a)
+    pub put_fits : (h : Hole) (a : Answer) → HoleFits sc h → AnswerFits sc (ask_hole h) a → HalfFits (answer_put sc h a)
     put_fits (read n) a i f = half_fits a
     put_fits (element n ks v) a i f = half_fits a
     put_fits (index n ks v e es) a i f = subscripted_fits n (subscripts_of a) (settle sc e) es i.0 (settle_fits e i.1) i.2
@@ -190,14 +190,14 @@ module _ (sc : Scopes) where
     put_fits (broken op v w fault) a i f = half_fits a
     put_fits (enter n gs) a i f = half_fits a
     put_fits inside a i f = half_fits a
-    put_fits (subscript n ks h es) a i f = subscripted_fits n ks (put sc h a) es i.0 (put_fits h a i.1 f) i.2
-    put_fits (argument n x) a i f = called_fits n (put_actuals sc x a) i.0 (put_actuals_fit x a (wanted sc n) i.1 f)
-    put_fits (left op h b) a i f = left_fits op (put sc h a) b (settle sc b) (put_fits h a i.0 f) i.1 (settle_fits b i.1)
-    put_fits (right op v h) a i f = right_fits op v (put sc h a) (put_fits h a i f)
-    put_fits (negated h) a i f = negated_fits (put sc h a) (put_fits h a i f)
-    put_fits (inverted h) a i f = inverted_fits (put sc h a) (put_fits h a i f)
+    put_fits (subscript n ks h es) a i f = subscripted_fits n ks (answer_put sc h a) es i.0 (put_fits h a i.1 f) i.2
+    put_fits (argument n x) a i f = called_fits n (put_actuals sc x a) i.0 (put_actuals_fit x a (sorts_wanted sc n) i.1 f)
+    put_fits (left op h b) a i f = left_fits op (answer_put sc h a) b (settle sc b) (put_fits h a i.0 f) i.1 (settle_fits b i.1)
+    put_fits (right op v h) a i f = right_fits op v (answer_put sc h a) (put_fits h a i f)
+    put_fits (negated h) a i f = negated_fits (answer_put sc h a) (put_fits h a i f)
+    put_fits (inverted h) a i f = inverted_fits (answer_put sc h a) (put_fits h a i f)
     put_fits (condition h x y) a i f =
-        condition_fits (put sc h a) x y (settle sc x) (settle sc y) (put_fits h a i.0 f) i.1 i.2 (settle_fits x i.1) (settle_fits y i.2)
+        condition_fits (answer_put sc h a) x y (settle sc x) (settle sc y) (put_fits h a i.0 f) i.1 i.2 (settle_fits x i.1) (settle_fits y i.2)
 
     pub put_actuals_fit : (x : Actuals) (a : Answer) (all : List Sort) → ActualsLeft sc x all → AnswerFits sc (ask_actuals x) a → HalfGivenFits (put_actuals sc x a) all
     put_actuals_fit (pass gs n sorts es) (cell c) all i f =
@@ -207,7 +207,7 @@ module _ (sc : Scopes) where
     put_actuals_fit (pass gs n sorts es) (place p) all i f = absurd f
     put_actuals_fit (pass gs n sorts es) entered all i f = absurd f
     put_actuals_fit (in_value gs h sorts es) a all i f =
-        valued_fits gs (put sc h a) sorts all es (settle_actuals sc es sorts) i.0 (put_fits h a i.1 f) i.2 (λ more k. settle_actuals_fit es sorts all more i.2 k)
+        valued_fits gs (answer_put sc h a) sorts all es (settle_actuals sc es sorts) i.0 (put_fits h a i.1 f) i.2 (λ more k. settle_actuals_fit es sorts all more i.2 k)
 
   -- ---- left sides
 
@@ -215,7 +215,7 @@ module _ (sc : Scopes) where
   left_alone_fits true n e i = (i.0, e)
   left_alone_fits false n e i = record { told = i.0; no_formal = i.1 ∙ e }
 
-  aimed_fits : (n : Named) (ks : List ℕ) (x : Half) (es : PExprs) → Leads sc n → HalfFits x → ExprsFit sc es → HalfPlaceFits (aimed_of n ks x es)
+  aimed_fits : (n : Named) (ks : List ℕ) (x : Half) (es : PExprs) → NameLeads sc n → HalfFits x → ExprsFit sc es → HalfPlaceFits (aimed_of n ks x es)
   aimed_fits n ks (busy h) es p i j = (p, i, j)
   aimed_fits n ks (val v) es p i j = (p, j)
 
@@ -225,7 +225,7 @@ module _ (sc : Scopes) where
 
   -- a place that answers fits
   abbrev AnswersPlace : Answer → Type 0
-  AnswersPlace (place p) = PlaceFits sc p
+  AnswersPlace (place p) = CalledPlaceFits sc p
   AnswersPlace _ = Unit {0}
 
   half_place_fits : (a : Answer) → AnswersPlace a → HalfPlaceFits (half_place_of a)
@@ -244,7 +244,7 @@ module _ (sc : Scopes) where
   given_place (place p) f = f
   given_place _ f = tt
 
-  indexed_fits : (n : Named) (a : Answer) (es : PExprs) → Leads sc n → AnswersPlace a → ExprsFit sc es → HalfPlaceFits (indexed_of sc n a es)
+  indexed_fits : (n : Named) (a : Answer) (es : PExprs) → NameLeads sc n → AnswersPlace a → ExprsFit sc es → HalfPlaceFits (indexed_of sc n a es)
   indexed_fits n a tree.none p j i = half_place_fits a j
   indexed_fits n a (tree.more e es) p j i = aimed_fits n (subscripts_of a) (settle sc e) es p (settle_fits e i.0) i.1
 
@@ -252,4 +252,4 @@ module _ (sc : Scopes) where
   put_place_fits (resolve n) a i f = half_place_fits a (resolved_place n a f)
   put_place_fits (place_index n ks v es) a i f = indexed_fits n a es i.0 (index_place n ks v a f) i.1
   put_place_fits inside_place a i f = half_place_fits a (given_place a f)
-  put_place_fits (place_subscript n ks h es) a i f = aimed_fits n ks (put sc h a) es i.0 (put_fits h a i.1 f) i.2
+  put_place_fits (place_subscript n ks h es) a i f = aimed_fits n ks (answer_put sc h a) es i.0 (put_fits h a i.1 f) i.2

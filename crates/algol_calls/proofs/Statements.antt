@@ -11,7 +11,7 @@ use Rattle.algol_meaning.specs.Value.{Value, whole_of, truth_of}
 use Rattle.algol_meaning.specs.Rest.{Place, Half, val, busy, HalfGiven, given, wants, HalfPlace, at, aims, Loop, Item, run, turn, count, check, test, result, make_arrays, make_event, Rest, turning}
 use Rattle.algol_meaning.specs.Settle.{settle, settle_actuals, settle_place}
 use Rattle.algol_meaning.specs.Statements.{items, run_and, turn_and, assigned_of, aimed_at, chosen_of, looped_of, checked_of, repeated_of, counted_of, after_count, selected_of, statement_called_of, prepared_of, item_of, bound_of, is_past, difference_in, stepped, assignment, settle_line, settle_bounds, settle_stmt, settle_stmts, counted_body, again, tested_of, differed_of, settle_items}
-use Rattle.algol_calls.specs.Fits.{IsCallee, wanted, ExprFits, ExprsFit, PairsFit, PlaceFits, LeftFits, TaskFits, StmtFits, StmtsFit, LoopFits, ItemsFit, RestFits}
+use Rattle.algol_calls.specs.Fits.{IsCallee, sorts_wanted, CalledExprFits, ExprsFit, PairsFit, CalledPlaceFits, LeftFits, TaskFits, CalledStmtFits, CalledStmtsFit, LoopFits, ItemsFit, RestFits}
 use Rattle.algol_calls.proofs.Expressions.{HalfFits, HalfGivenFits, HalfPlaceFits, settle_fits, settle_actuals_fit, settle_place_fits}
 
 module _ (sc : Scopes) where
@@ -22,22 +22,22 @@ module _ (sc : Scopes) where
   Fit = ItemsFit sc
 
   abbrev StatementFits : PStmt → Type 0
-  StatementFits = StmtFits sc
+  StatementFits = CalledStmtFits sc
 
   abbrev ValueFits : PExpr → Type 0
-  ValueFits = ExprFits sc
+  ValueFits = CalledExprFits sc
 
   either_fits : (b : Bool) (x y : Rest) → Fits x → Fits y → Fits (if b then x else y)
   either_fits true x y i j = i
   either_fits false x y i j = j
 
-  items_fit : (ss : PStmts) (k : List Item) → StmtsFit sc ss → Fit k → Fit (items ss k)
+  items_fit : (ss : PStmts) (k : List Item) → CalledStmtsFit sc ss → Fit k → Fit (items ss k)
   items_fit tree.no_stmts k i j = j
   items_fit (tree.stmts s ss) k i j = (i.0, items_fit ss k i.1 j)
 
   -- ---- one lemma for each form that settling and resuming share
 
-  pub assigned_fits : (p : Place) (x : Half) (k : List Item) → PlaceFits sc p → HalfFits sc x → Fit k → Fits (assigned_of p x k)
+  pub assigned_fits : (p : Place) (x : Half) (k : List Item) → CalledPlaceFits sc p → HalfFits sc x → Fit k → Fits (assigned_of p x k)
   assigned_fits p (val v) k i h j = (i, j)
   assigned_fits p (busy h) k i l j = (i, l, j)
 
@@ -66,15 +66,15 @@ module _ (sc : Scopes) where
   counted_fits (val v) b k body r h i j m n = repeated_fits (whole_of v) body r m n
   counted_fits (busy x) b k body r h i j m n = (h, i, j)
 
-  pub selected_fits : (x : Half) (ss : PStmts) (k : List Item) → HalfFits sc x → StmtsFit sc ss → Fit k → Fits (selected_of x ss k)
+  pub selected_fits : (x : Half) (ss : PStmts) (k : List Item) → HalfFits sc x → CalledStmtsFit sc ss → Fit k → Fits (selected_of x ss k)
   selected_fits (val v) ss k h i j = (i, j)
   selected_fits (busy x) ss k h i j = (h, i, j)
 
-  pub called_fits : (n : Named) (x : HalfGiven) (k : List Item) → IsCallee sc n → HalfGivenFits sc x (wanted sc n) → Fit k → Fits (statement_called_of n x k)
+  pub called_fits : (n : Named) (x : HalfGiven) (k : List Item) → IsCallee sc n → HalfGivenFits sc x (sorts_wanted sc n) → Fit k → Fits (statement_called_of n x k)
   called_fits n (given gs) k p i j = (p, i, j)
   called_fits n (wants x) k p i j = (p, i, j)
 
-  pub prepared_fits : (n : Named) (x : HalfGiven) (task : Option Named) (k : List Item) → IsCallee sc n → HalfGivenFits sc x (wanted sc n) → TaskFits sc task → Fit k →
+  pub prepared_fits : (n : Named) (x : HalfGiven) (task : Option Named) (k : List Item) → IsCallee sc n → HalfGivenFits sc x (sorts_wanted sc n) → TaskFits sc task → Fit k →
       Fits (prepared_of n x task k)
   prepared_fits n (given gs) task k p i t j = (p, i, t, j)
   prepared_fits n (wants x) task k p i t j = (p, i, t, j)
@@ -111,7 +111,7 @@ module _ (sc : Scopes) where
     stmt_fits (tree.assign (tree.subscripted m es) e) k r i j n =
         aimed_fits (settle_place sc (tree.subscripted m es)) e (settle sc e) k (settle_place_fits sc m es i.0) i.1 (settle_fits sc e i.1) j
     stmt_fits (tree.call_of (tree.called m es)) k r i j n =
-        called_fits m (settle_actuals sc es (wanted sc m) []) k i.0 (settle_actuals_fit sc es (wanted sc m) (wanted sc m) [] i.1 refl) j
+        called_fits m (settle_actuals sc es (sorts_wanted sc m) []) k i.0 (settle_actuals_fit sc es (sorts_wanted sc m) (sorts_wanted sc m) [] i.1 refl) j
     stmt_fits (tree.go_to m) k r i j n = i
     stmt_fits (tree.block (tree.body spot tree.no_decls ss)) k r i j n = stmts_fit ss k r i j n
     stmt_fits (tree.block (tree.body spot (tree.decls d ds) ss)) k r i j n = j
@@ -132,11 +132,11 @@ module _ (sc : Scopes) where
         (λ z. stmt_fits b (turn ∷ after_count z b k) (turning (after_count z b k)) i.1 (tt, (i.1, j)) (i.1, j)) n
     stmt_fits (tree.case e ss) k r i j n = selected_fits (settle sc e) ss k (settle_fits sc e i.0) i.1 j
     stmt_fits (tree.process (tree.called m es) task) k r i j n =
-        prepared_fits m (settle_actuals sc es (wanted sc m) []) task k i.0 (settle_actuals_fit sc es (wanted sc m) (wanted sc m) [] i.1 refl) i.2 j
+        prepared_fits m (settle_actuals sc es (sorts_wanted sc m) []) task k i.0 (settle_actuals_fit sc es (sorts_wanted sc m) (sorts_wanted sc m) [] i.1 refl) i.2 j
     stmt_fits (tree.event act e) k r i j n = (i, j)
     stmt_fits (tree.write m spot phrases es) k r i j n = line_fits es phrases k [] i j
 
-    stmts_fit : (ss : PStmts) (k : List Item) (r : Rest) → StmtsFit sc ss → Fit k → Fits r → Fits (settle_stmts sc ss k r)
+    stmts_fit : (ss : PStmts) (k : List Item) (r : Rest) → CalledStmtsFit sc ss → Fit k → Fits r → Fits (settle_stmts sc ss k r)
     stmts_fit tree.no_stmts k r i j n = n
     stmts_fit (tree.stmts s ss) k r i j n = stmt_fits s (items ss k) (settle_stmts sc ss k r) i.0 (items_fit ss k i.1 j) (stmts_fit ss k r i.1 j n)
 

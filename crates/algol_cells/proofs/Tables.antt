@@ -7,7 +7,7 @@ use Rattle.algol_tree.specs.declared.token.Spot.{Spot}
 use Rattle.algol_tree.specs.Blocks.{same_spot, number_at}
 use Rattle.algol_tree.specs.Scopes as scoping
 use Rattle.algol_tree.specs.Scopes.{declared_in}
-use Rattle.algol_places.specs.Numbers.{number_from, number_of}
+use Rattle.algol_places.specs.Numbers.{number_from, place_number_of}
 use Rattle.algol_cells.specs.Placed.{places_of_blocks, places_of_uses}
 use Rattle.algol_cells.specs.SeenScope.{block, used}
 use Rattle.algol_cells.specs.declared.scope.Block.{Block}
@@ -28,19 +28,19 @@ counts [] k spot = refl
 counts (b ∷ bs) k spot =
     counts_step (same_spot b.spot spot) k (number_at (map block bs) spot) (length bs) (number_from (k + 1) (places_of_blocks bs) spot) (counts bs (k + 1) spot)
 
-counted : (bs : List Block) (spot : Spot) → unwrap_or (number_of (places_of_blocks bs) spot) (length bs) ≡ number_at (map block bs) spot
+counted : (bs : List Block) (spot : Spot) → unwrap_or (place_number_of (places_of_blocks bs) spot) (length bs) ≡ number_at (map block bs) spot
 counted bs spot =
     let before : length bs ≡ 0 + length bs = omega arith in
     let after : 0 + number_at (map block bs) spot ≡ number_at (map block bs) spot = omega arith in
-    ap (unwrap_or (number_of (places_of_blocks bs) spot)) before ∙ counts bs 0 spot ∙ after
+    ap (unwrap_or (place_number_of (places_of_blocks bs) spot)) before ∙ counts bs 0 spot ∙ after
 
-pub block_there : (bs : List Block) (places : List Spot) (spot : Spot) (n : ℕ) → places ≡ places_of_blocks bs → Some n ≡ number_of places spot → n ≡ number_at (map block bs) spot
+pub block_there : (bs : List Block) (places : List Spot) (spot : Spot) (n : ℕ) → places ≡ places_of_blocks bs → Some n ≡ place_number_of places spot → n ≡ number_at (map block bs) spot
 block_there bs places spot n same e =
-    ap (λ o. unwrap_or o (length bs)) (e ∙ ap (λ ps. number_of ps spot) same) ∙ counted bs spot
+    ap (λ o. unwrap_or o (length bs)) (e ∙ ap (λ ps. place_number_of ps spot) same) ∙ counted bs spot
 
-pub no_block_there : (bs : List Block) (places : List Spot) (spot : Spot) → places ≡ places_of_blocks bs → None ≡ number_of places spot → length bs ≡ number_at (map block bs) spot
+pub no_block_there : (bs : List Block) (places : List Spot) (spot : Spot) → places ≡ places_of_blocks bs → None ≡ place_number_of places spot → length bs ≡ number_at (map block bs) spot
 no_block_there bs places spot same e =
-    ap (λ o. unwrap_or o (length bs)) (e ∙ ap (λ ps. number_of ps spot) same) ∙ counted bs spot
+    ap (λ o. unwrap_or o (length bs)) (e ∙ ap (λ ps. place_number_of ps spot) same) ∙ counted bs spot
 
 pub ruleset number_laws = (block_there, no_block_there)
 
@@ -76,23 +76,23 @@ module _ (lows : Spot → List ℤ) (number : Spot → ℕ) where
   misses [] k spot e = refl
   misses (u ∷ us) k spot e = misses_step (same_spot u.spot spot) u k (number_from (k + 1) (places_of_uses us) spot) (declared_in (map (used lows number) us) spot) (misses us (k + 1) spot) e
 
-  use_there : (us : List Use) (places : List Spot) (spot : Spot) (n : ℕ) → places ≡ places_of_uses us → Some n ≡ number_of places spot →
+  use_there : (us : List Use) (places : List Spot) (spot : Spot) (n : ℕ) → places ≡ places_of_uses us → Some n ≡ place_number_of places spot →
       option_map (used lows number) (slice_get us n) ≡ declared_in (map (used lows number) us) spot
   use_there us places spot n same e =
       let whole : n ≡ n - 0 = omega arith in
-      ap (λ j. option_map (used lows number) (slice_get us j)) whole ∙ (finds us 0 n spot (sym (e ∙ ap (λ ps. number_of ps spot) same))).1
+      ap (λ j. option_map (used lows number) (slice_get us j)) whole ∙ (finds us 0 n spot (sym (e ∙ ap (λ ps. place_number_of ps spot) same))).1
 
-  pub use_read : (us : List Use) (places : List Spot) (spot : Spot) (n : ℕ) (u : Use) → places ≡ places_of_uses us → Some n ≡ number_of places spot → true ≡ nat_lt n (length us) →
+  pub use_read : (us : List Use) (places : List Spot) (spot : Spot) (n : ℕ) (u : Use) → places ≡ places_of_uses us → Some n ≡ place_number_of places spot → true ≡ nat_lt n (length us) →
       u ≡ slice_index_or us n u → Some (used lows number u) ≡ declared_in (map (used lows number) us) spot
   use_read us places spot n u same e b r =
       sym (ap (option_map (used lows number)) (slice_get_read us (length us) n u refl (ltb-true n (length us) (sym b)) r)) ∙ use_there us places spot n same e
 
-  pub use_past : (us : List Use) (places : List Spot) (spot : Spot) (n : ℕ) → places ≡ places_of_uses us → Some n ≡ number_of places spot → false ≡ nat_lt n (length us) →
+  pub use_past : (us : List Use) (places : List Spot) (spot : Spot) (n : ℕ) → places ≡ places_of_uses us → Some n ≡ place_number_of places spot → false ≡ nat_lt n (length us) →
       None ≡ declared_in (map (used lows number) us) spot
   use_past us places spot n same e b =
       sym (ap (option_map (used lows number)) (slice_get_past us n (ltb-false n (length us) (sym b)))) ∙ use_there us places spot n same e
 
-  pub no_use_there : (us : List Use) (places : List Spot) (spot : Spot) → places ≡ places_of_uses us → None ≡ number_of places spot → None ≡ declared_in (map (used lows number) us) spot
-  no_use_there us places spot same e = sym (misses us 0 spot (sym (e ∙ ap (λ ps. number_of ps spot) same)))
+  pub no_use_there : (us : List Use) (places : List Spot) (spot : Spot) → places ≡ places_of_uses us → None ≡ place_number_of places spot → None ≡ declared_in (map (used lows number) us) spot
+  no_use_there us places spot same e = sym (misses us 0 spot (sym (e ∙ ap (λ ps. place_number_of ps spot) same)))
 
 pub ruleset use_laws = (use_read, use_past, no_use_there)

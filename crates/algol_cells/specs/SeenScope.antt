@@ -51,9 +51,9 @@ by_value_or_none None = None
 by_value_or_none (Some s) = Some (plain.is_variable s)
 
 -- the lower bounds of a parameter for an array
-abbrev pub lows_in : plain.Sort → Option (List ℤ)
-lows_in (plain.formal_array lows) = Some lows
-lows_in _ = None
+abbrev pub lows_in_sort : plain.Sort → Option (List ℤ)
+lows_in_sort (plain.formal_array lows) = Some lows
+lows_in_sort _ = None
 
 -- ---- uses of names
 
@@ -98,9 +98,9 @@ abbrev pub name_of : Option Owner → List ℕ
 name_of None = []
 name_of (Some o) = o.name.now
 
-abbrev pub result_of : Option Owner → Option Kind
-result_of None = None
-result_of (Some o) = o.result
+abbrev pub result_of_owner : Option Owner → Option Kind
+result_of_owner None = None
+result_of_owner (Some o) = o.result
 
 abbrev pub block : Block → blocks.Block
 block b =
@@ -109,7 +109,7 @@ block b =
       outer = b.outer;
       name = name_of b.owner;
       parameters = map parameter b.parameters;
-      result = result_of b.owner;
+      result = result_of_owner b.owner;
       decls = decls b.decls.now;
       stmts = in_block b.stmts;
     }

@@ -4,8 +4,8 @@ ghost use Rattle.std.specs.Prelude.{◌≡◌, ℕ, ℤ, List, map, slice_get};
 ghost use Rattle.algol_tree.specs.Sorts as sorts;
 ghost use Rattle.algol_tree.specs.Scopes as scoping;
 ghost use Rattle.algol_meaning.specs.Settle as settling;
-ghost use Rattle.algol_cells.specs.Shown.{shown};
-ghost use Rattle.algol_cells.specs.SeenScope.{sort_as, is_by_value, by_value_or_none, lows_in, lows_under, used_in, scoped, parameter, result_of, block_or_none};
+ghost use Rattle.algol_cells.specs.Shown.{shown_cell};
+ghost use Rattle.algol_cells.specs.SeenScope.{sort_as, is_by_value, by_value_or_none, lows_in_sort, lows_under, used_in, scoped, parameter, result_of_owner, block_or_none};
 
 use crate::table::{Blocks, LowerBounds, Uses};
 use algol_sorts::Sort;
@@ -129,7 +129,7 @@ impl<'p> Scopes<'p> {
 
     /// The lower bounds of the parameter for an array that is used, none where it is no such parameter.
     fn lows_of(&self, found: Use) -> Option<&'p [i64]>
-        ensures { shown result ≡ lows_in ((used_in self.now found).sort) }
+        ensures { shown_cell result ≡ lows_in_sort ((used_in self.now found).sort) }
     {
         match found.sort {
             Sort::FormalArray(_, _) => Some(self.lows_at(found.declared)),
@@ -147,7 +147,7 @@ impl<'p> Scopes<'p> {
     /// The lower bounds from which the subscripts of a parameter for an array count, none where a name is no such
     /// parameter.
     pub fn lows(&self, n: &Named) -> Option<&'p [i64]>
-        ensures { shown result ≡ lows_in (settling.sort_at (scoped self.now) n.now) }
+        ensures { shown_cell result ≡ lows_in_sort (settling.sort_at (scoped self.now) n.now) }
     {
         self.lows_of(self.use_of(n))
     }
@@ -198,7 +198,7 @@ impl<'p> Scopes<'p> {
 impl<'p> Block<'p> {
     /// Tests that it is the block of a procedure that has a result.
     pub fn has_result(&self) -> bool
-        ensures { result ≡ settling.has_result (result_of self.now.owner) }
+        ensures { result ≡ settling.has_result (result_of_owner self.now.owner) }
     {
         match self.owner {
             None => false,

@@ -1,6 +1,6 @@
 ghost use Rattle.std.specs.Prelude.{◌≡◌, [], ◌∷◌, ◌++◌, slice_get, reverse, IfOk};
 ghost use Rattle.algol_cells.specs.SeenStack.{Popped};
-ghost use Rattle.algol_cells.specs.Shown.{shown};
+ghost use Rattle.algol_cells.specs.Shown.{shown_cell};
 
 use b67_list::{List, discard};
 use std::alloc::{AllocError, Global};
@@ -53,7 +53,7 @@ impl<T> Stack<T> {
 
     /// The item before which so many newer ones stand.
     pub fn under(&self, newer: usize) -> Option<&T>
-        ensures { shown result ≡ slice_get self.now newer }
+        ensures { shown_cell result ≡ slice_get self.now newer }
     {
         let place = self.items.len().checked_sub(newer)?.checked_sub(1)?;
         self.items.get(place)

@@ -39,7 +39,7 @@ use Rattle.algol_sites.specs.Noting.{noted_along, noted_at}
 use Rattle.algol_check.specs.declared.checker.Checker.{Checker}
 use Rattle.algol_check.specs.Walking.{IsCounted, IsTyped, WalksBody, WalksGuarded, WalksStmt, WalksStmts}
 use Rattle.algol_check.specs.Announced.{bodies_for, body_at, body_for}
-use Rattle.algol_check.specs.Declaring.{Enters, EntersProcedure, Opens, WalksDecl, WalksDecls, decls_in}
+use Rattle.algol_check.specs.Declaring.{PlaceEnters, EntersProcedure, BlockOpens, WalksDecl, WalksDecls, decls_in}
 use Rattle.algol_check.proofs.Bodied.{arrays_walk, body_walks, decls_end, decls_more, forward_walks, labels_walk, procedure_walks, quiet_walks}
 use Rattle.algol_check.proofs.Bodies.{announced_at}
 use Rattle.algol_check.proofs.Stated.{block_walks, case_walks, empty_walks, for_walks, if_else_walks, if_then_walks, stmts_end, stmts_more, thru_walks, until_walks, while_walks}
@@ -180,13 +180,13 @@ module _ (scopes : Scopes) where
   label_arm s n x y c d begin listed is inner w =
       stmt_as c d s (tree.label n (stmt y)) begin listed (ap stmt is ∙ label_is n x ∙ ap (λ (z : Stmt). tree.label n (stmt z)) (sym inner)) w
 
-  opens_alike : (opened : Bool) (p q r : Place) → Opens opened p q → r.block ≡ q.block → r.around.items ≡ q.around.items → Opens opened p r
+  opens_alike : (opened : Bool) (p q r : Place) → BlockOpens opened p q → r.block ≡ q.block → r.around.items ≡ q.around.items → BlockOpens opened p r
   opens_alike true p q r h b o = o ∙ h
   opens_alike false p q r h b o = (b ∙ h.0, o ∙ h.1)
 
   pub block_ends : (b : Body) (c d e g : Checker) (opened : Bool) (begin : Begin) (listed : Bool) →
-      d ≡ record c { place = d.place } → Opens opened c.place d.place → Enters c.place d.place (body b) begin → WalksBody scopes d e (body b) → g ≡ record e { place = g.place } →
-      ((before : Place) → Opens opened before e.place → (g.place.block ≡ before.block) × (g.place.around.items ≡ before.around.items)) →
+      d ≡ record c { place = d.place } → BlockOpens opened c.place d.place → PlaceEnters c.place d.place (body b) begin → WalksBody scopes d e (body b) → g ≡ record e { place = g.place } →
+      ((before : Place) → BlockOpens opened before e.place → (g.place.block ≡ before.block) × (g.place.around.items ≡ before.around.items)) →
       WalksStmt scopes c g (tree.block (body b)) begin listed
   block_ends b c d e g opened begin listed r o en w u ends =
       let ended = ends c.place (opens_alike opened c.place d.place e.place o w.stays.block w.stays.outer) in

@@ -20,19 +20,19 @@ use Rattle.algol_sites.specs.declared.place.Place.{Place}
 use Rattle.algol_sites.specs.Headings.{forward_site, missing, referring}
 use Rattle.algol_sites.specs.Labelling.{labels_at, standing_as, standings_at}
 use Rattle.algol_sites.specs.Noting.{noted_along, noted_at}
-use Rattle.algol_sites.specs.Placing.{AreFound, IsFound, IsPlaced, outer_of}
+use Rattle.algol_sites.specs.Placing.{AreFound, BlockIsFound, SiteIsPlaced, outer_of}
 use Rattle.algol_sites.proofs.Headed.{procedure_noted}
 use Rattle.algol_sites.proofs.Telling.{first_told, last_told}
 use Rattle.algol_check.specs.declared.checker.Checker.{Checker}
-use Rattle.algol_check.specs.Walking.{IsAt, Noted, Stays, WalksBody, WalksStmt, WalksStmts, stmt_sites}
-use Rattle.algol_check.specs.Declaring.{Enters, EntersProcedure, WalksDecl, WalksDecls, begins}
+use Rattle.algol_check.specs.Walking.{PlaceIsAt, PartsNoted, Stays, WalksBody, WalksStmt, WalksStmts, stmt_sites}
+use Rattle.algol_check.specs.Declaring.{PlaceEnters, EntersProcedure, WalksDecl, WalksDecls, begins}
 use Rattle.algol_check.proofs.Silent.{pairs_silent}
 use Rattle.algol_check.proofs.Walked.{found_alike, found_both, noted_both, noted_none, outer_alike, placed_alike, stays_at, stays_both}
 
-known_kept : (blocks : List Block) (p : Place) (d : PDecl) (later : PDecls) (a : Surroundings) → IsPlaced blocks p a → IsPlaced blocks p (knowing blocks d later a)
+known_kept : (blocks : List Block) (p : Place) (d : PDecl) (later : PDecls) (a : Surroundings) → SiteIsPlaced blocks p a → SiteIsPlaced blocks p (knowing blocks d later a)
 known_kept blocks p d later a h = record { number = h.number; outer = h.outer; are_blocks = h.are_blocks }
 
-all_kept : (blocks : List Block) (p : Place) (ds : PDecls) (a : Surroundings) → IsPlaced blocks p a → IsPlaced blocks p (knowing_all blocks ds a)
+all_kept : (blocks : List Block) (p : Place) (ds : PDecls) (a : Surroundings) → SiteIsPlaced blocks p a → SiteIsPlaced blocks p (knowing_all blocks ds a)
 all_kept blocks p tree.no_decls a h = h
 all_kept blocks p (tree.decls d ds) a h = all_kept blocks p ds (knowing blocks d ds a) (known_kept blocks p d ds a h)
 
@@ -48,8 +48,8 @@ module _ (scopes : Scopes) where
   declaration d later a = record { part = site.declaration d later; around = a }
 
   -- after the declaration
-  decl_at : (blocks : List Block) (c d : Checker) (x : PDecl) (later : PDecls) (a : Surroundings) → Stays c d → IsAt scopes blocks c.place a →
-      IsAt scopes blocks d.place (knowing blocks x later a)
+  decl_at : (blocks : List Block) (c d : Checker) (x : PDecl) (later : PDecls) (a : Surroundings) → Stays c d → PlaceIsAt scopes blocks c.place a →
+      PlaceIsAt scopes blocks d.place (knowing blocks x later a)
   decl_at blocks c d x later a s at =
       let now = stays_at scopes blocks a c d s at in record { placed = known_kept blocks d.place x later a now.placed; numbers = now.numbers }
 
@@ -63,7 +63,7 @@ module _ (scopes : Scopes) where
         notes =
             λ blocks a first at t f.
             let its = q blocks a first in
-            let P : List Site → Type 0 = λ xs. Noted blocks c c (declaration d later a ∷ xs) in
+            let P : List Site → Type 0 = λ xs. PartsNoted blocks c c (declaration d later a ∷ xs) in
             subst P (sym its.1.0)
             (record {
               faults = sym its.0;
@@ -136,7 +136,7 @@ module _ (scopes : Scopes) where
             let placed = known_kept blocks d.place (tree.procedure h s) later a (placed_alike blocks a c.place d.place block_d outer_d at.placed) in
             let F : List Spot → Type 0 = λ outer. AreFound blocks (procedure_block h s outer ∷ blocks_of s of_procedure (h.name.spot ∷ outer)) in
             let found_d = subst F (sym same) found in
-            let at_e : IsAt scopes blocks e.place (inside_procedure blocks h now) =
+            let at_e : PlaceIsAt scopes blocks e.place (inside_procedure blocks h now) =
             record { placed = en.placed blocks now s placed found_d.0; numbers = at.numbers } in
             let G : List Spot → Type 0 = λ outer. AreFound blocks (blocks_of s of_procedure outer) in
             let parts = stmt_sites s of_procedure false blocks (inside_procedure blocks h now) in
@@ -186,7 +186,7 @@ module _ (scopes : Scopes) where
             let xs : List Site = sites_in_decls blocks ds a a.known in
             let ys : List Site = sites_in_stmts blocks ss (has_decls ds) all in
             let at_d = stays_at scopes blocks a c d w.stays at in
-            let at_all : IsAt scopes blocks d.place all = record { placed = all_kept blocks d.place ds a at_d.placed; numbers = at_d.numbers } in
+            let at_all : PlaceIsAt scopes blocks d.place all = record { placed = all_kept blocks d.place ds a at_d.placed; numbers = at_d.numbers } in
             let fs = found_both blocks (blocks_in_decls ds (outer_of c.place)) (blocks_in_stmts ss (outer_of c.place)) found in
             let same = outer_alike c.place d.place w.stays.block w.stays.outer in
             noted_both blocks c d e xs ys (w.notes blocks a a.known at (first_told scopes xs ys t) fs.0)
@@ -197,8 +197,8 @@ module _ (scopes : Scopes) where
 -- ---- blocks of statements
 
 pub enters_block : (p q : Place) (b : PBody) (begin : Begin) (spot : Spot) → true ≡ begins begin b → spot ≡ spot_of b → q.block ≡ spot → q.around.items ≡ p.around.items ++ p.block ∷ [] →
-    ((blocks : List Block) (x : Block) (a k : Surroundings) → IsPlaced blocks p a → IsFound blocks x → x.spot ≡ spot → x.outer ≡ outer_of p → k.block ≡ number_at blocks spot →
-    IsPlaced blocks q k) → Enters p q b begin
+    ((blocks : List Block) (x : Block) (a k : Surroundings) → SiteIsPlaced blocks p a → BlockIsFound blocks x → x.spot ≡ spot → x.outer ≡ outer_of p → k.block ≡ number_at blocks spot →
+    SiteIsPlaced blocks q k) → PlaceEnters p q b begin
 enters_block p q b of_procedure spot t e qb qo h = absurd (let clash : true ≡ false = t in cc)
 enters_block p q (tree.body at tree.no_decls ss) of_statement spot t e qb qo h = absurd (let clash : true ≡ false = t in cc)
 enters_block p q (tree.body at (tree.decls d ds) ss) of_statement spot t e qb qo h =
@@ -210,7 +210,7 @@ enters_block p q (tree.body at (tree.decls d ds) ss) of_statement spot t e qb qo
           (record { block = number_at blocks at; depth = a.depth + 1; known = a.known }) placed found.0 (sym e) refl (ap (number_at blocks) (sym e));
     }
 
-pub enters_none : (p : Place) (b : PBody) (begin : Begin) → false ≡ begins begin b → Enters p p b begin
+pub enters_none : (p : Place) (b : PBody) (begin : Begin) → false ≡ begins begin b → PlaceEnters p p b begin
 enters_none p b of_procedure t = record { outer = refl; placed = λ blocks a placed found. placed }
 enters_none p (tree.body at tree.no_decls ss) of_statement t = record { outer = refl; placed = λ blocks a placed found. placed }
 enters_none p (tree.body at (tree.decls d ds) ss) of_statement t = absurd (let clash : false ≡ true = t in cc)
@@ -218,8 +218,8 @@ enters_none p (tree.body at (tree.decls d ds) ss) of_statement t = absurd (let c
 -- ---- procedures
 
 pub enters_procedure : (p q : Place) (h : Heading) → q.block ≡ h.name.spot → q.around.items ≡ p.around.items ++ p.block ∷ [] →
-    ((blocks : List Block) (x : Block) (a k : Surroundings) → IsPlaced blocks p a → IsFound blocks x → x.spot ≡ h.name.spot → x.outer ≡ outer_of p →
-    k.block ≡ number_at blocks h.name.spot → IsPlaced blocks q k) → EntersProcedure p q h
+    ((blocks : List Block) (x : Block) (a k : Surroundings) → SiteIsPlaced blocks p a → BlockIsFound blocks x → x.spot ≡ h.name.spot → x.outer ≡ outer_of p →
+    k.block ≡ number_at blocks h.name.spot → SiteIsPlaced blocks q k) → EntersProcedure p q h
 enters_procedure p q h b o placed =
     record {
       block = b;

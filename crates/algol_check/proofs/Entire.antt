@@ -24,10 +24,10 @@ use Rattle.algol_told.proofs.Told.{each-part-is-told}
 use Rattle.algol_sites.specs.declared.label.Standing.{Standing}
 use Rattle.algol_sites.specs.Labelling.{bad_in, labels_at, standing_as, standings_at}
 use Rattle.algol_sites.specs.Noting.{noted_along}
-use Rattle.algol_sites.specs.Placing.{AreFound, IsFound, IsPlaced, Numbers, outer_of}
+use Rattle.algol_sites.specs.Placing.{AreFound, BlockIsFound, SiteIsPlaced, BlockNumbers, outer_of}
 use Rattle.algol_sites.proofs.Checked.{checked}
 use Rattle.algol_check.specs.declared.checker.Checker.{Checker}
-use Rattle.algol_check.specs.Walking.{IsAt, WalksBody}
+use Rattle.algol_check.specs.Walking.{PlaceIsAt, WalksBody}
 use Rattle.algol_check.proofs.Arms.{body_is}
 use Rattle.algol_check.proofs.Ordered.{itself, stand_apart}
 use Rattle.algol_check.proofs.Walked.{found_alike}
@@ -36,12 +36,12 @@ use Rattle.algol_check.proofs.Walked.{found_alike}
 pub record IsFresh (c : Checker) (begin : Spot) : Type 0 where
   pub block : c.place.block ≡ begin
   pub around : c.place.around.items ≡ []
-  pub placed : (blocks : List Block) (b : Block) (a : Surroundings) → IsFound blocks b → b.spot ≡ begin → b.outer ≡ [] → a.block ≡ number_at blocks begin → IsPlaced blocks c.place a
+  pub placed : (blocks : List Block) (b : Block) (a : Surroundings) → BlockIsFound blocks b → b.spot ≡ begin → b.outer ≡ [] → a.block ≡ number_at blocks begin → SiteIsPlaced blocks c.place a
   pub labels : c.labels.items ≡ []
   pub standings : c.standings.items ≡ []
   pub faults : c.faults.first ≡ None
 
-numbers : (p : PProgram) (scopes : Scopes) → AreOf p scopes → Numbers scopes (blocks_of_program p)
+numbers : (p : PProgram) (scopes : Scopes) → AreOf p scopes → BlockNumbers scopes (blocks_of_program p)
 unfolding number_of_block
 numbers p scopes are = are.numbers
 
@@ -59,7 +59,7 @@ plain_first scopes spot ds ss c d g order are fresh w q =
     let blocks = outer_block b ∷ blocks_in_body b (spot ∷ []) in
     let found : AreFound blocks blocks = stand_apart p order in
     let number : 0 ≡ number_at blocks spot = sym (ap (λ same. if same then 0 else number_at (blocks_in_body b (spot ∷ [])) spot + 1) (itself spot)) in
-    let at : IsAt scopes blocks c.place outermost =
+    let at : PlaceIsAt scopes blocks c.place outermost =
     record { placed = fresh.placed blocks (outer_block b) outermost found.0 refl refl number; numbers = numbers p scopes are } in
     let n = w.notes blocks outermost at (each-part-is-told p scopes order are)
     (found_alike blocks (blocks_in_body b (spot ∷ [])) (blocks_in_body b (outer_of c.place)) (ap (blocks_in_body b) (sym (fresh_outer c spot fresh))) found.1) in

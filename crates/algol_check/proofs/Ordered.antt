@@ -9,7 +9,7 @@ use Rattle.algol_tree.specs.Blocks.{Begin, of_statement, of_procedure, Block, be
 use Rattle.algol_tree.specs.Accepted.{is_before}
 use Rattle.algol_tree.specs.Ascending.{Ascends, IsInOrder, spots_of_body, spots_of_decl, spots_of_decls, spots_of_stmt, spots_of_stmts, spots_of_names, spots_of_expr}
 use Rattle.algol_tree.specs.Names.{specified}
-use Rattle.algol_sites.specs.Placing.{AreFound, IsFound, StandApart}
+use Rattle.algol_sites.specs.Placing.{AreFound, BlockIsFound, StandApart}
 
 -- ---- some of the places of a list, in their order
 
@@ -89,7 +89,7 @@ found_first : (b : Block) (bs : List Block) (same : Bool) → same ≡ true → 
 found_first b bs true e = refl
 found_first b bs false e = absurd (let clash : false ≡ true = e in cc)
 
-found_later : (b x : Block) (bs : List Block) (same : Bool) → same ≡ false → IsFound bs x → slice_get (b ∷ bs) (if same then 0 else number_at bs x.spot + 1) ≡ Some x
+found_later : (b x : Block) (bs : List Block) (same : Bool) → same ≡ false → BlockIsFound bs x → slice_get (b ∷ bs) (if same then 0 else number_at bs x.spot + 1) ≡ Some x
 found_later b x bs true e h = absurd (let clash : true ≡ false = e in cc)
 found_later b x bs false e h = let next : number_at bs x.spot + 1 ≡ suc (number_at bs x.spot) = omega arith in ap (slice_get (b ∷ bs)) next ∙ h
 

@@ -23,21 +23,21 @@ use Rattle.algol_tree.specs.Sites.{Site, sites, inside_list, inside_actuals, her
 use Rattle.algol_tree.specs.Accepted.{noted_all}
 use Rattle.algol_rules.specs.declared.fault.Faults.{Faults}
 use Rattle.algol_frames.specs.declared.scopes.Scopes.{Scopes}
-use Rattle.algol_told.specs.Telling.{Tells, TellsAll}
+use Rattle.algol_told.specs.Telling.{ScopesTell, TellsAll}
 use Rattle.algol_sites.specs.declared.label.Standing.{Standing}
 use Rattle.algol_sites.specs.declared.place.Place.{Place}
 use Rattle.algol_sites.specs.declared.wanted.Wanted.TheVariants as wanted
 use Rattle.algol_sites.specs.Labelling.{label_site, standing_as, standings_at, labels_at}
 use Rattle.algol_sites.specs.Noting.{differs, mistyped, noted_along, noted_at}
-use Rattle.algol_sites.specs.Placing.{IsPlaced, Numbers, outer_of}
+use Rattle.algol_sites.specs.Placing.{SiteIsPlaced, BlockNumbers, outer_of}
 use Rattle.algol_sites.specs.Seeing.{Notes, NotesAt, stmt_parts, for_site}
 use Rattle.algol_sites.specs.Wanting.{unfit}
 use Rattle.algol_sites.proofs.Notes.{noted_along-append}
 use Rattle.algol_sites.proofs.Telling.{first_told, last_told}
 use Rattle.algol_sites.proofs.Whole.{noted_later}
 use Rattle.algol_check.specs.declared.checker.Checker.{Checker}
-use Rattle.algol_check.specs.Walking.{IsAt, IsTyped, Noted, Walks, WalksBody, WalksStmt, WalksStmts, no_blocks, stmt_sites}
-use Rattle.algol_check.specs.Declaring.{Enters}
+use Rattle.algol_check.specs.Walking.{PlaceIsAt, IsTyped, PartsNoted, CheckWalks, WalksBody, WalksStmt, WalksStmts, no_blocks, stmt_sites}
+use Rattle.algol_check.specs.Declaring.{PlaceEnters}
 use Rattle.algol_check.proofs.Silent.{IsSilent, silent_both, list_silent, actuals_silent, sites_silent}
 use Rattle.algol_check.proofs.Walked.{found_alike, found_both, walks_both, walks_none, walks_silent}
 
@@ -98,10 +98,10 @@ module _ (scopes : Scopes) where
 
   -- a label, and how it stands there
   pub label_kept : (c : Checker) (f : Faults) (v : Vec Standing Global) (n : Named) (listed : Bool) (more : List Standing) (s : PStmt) →
-      ((a : Surroundings) → Tells scopes a n → f.first ≡ noted_all c.faults.first (unfit wanted.Label codes.WrongType n a)) → v.items ≡ c.standings.items ++ more →
-      ((blocks : List Block) (a : Surroundings) (s' : PStmt) → Tells scopes a n → Numbers scopes blocks → IsPlaced blocks c.place a →
+      ((a : Surroundings) → ScopesTell scopes a n → f.first ≡ noted_all c.faults.first (unfit wanted.Label codes.WrongType n a)) → v.items ≡ c.standings.items ++ more →
+      ((blocks : List Block) (a : Surroundings) (s' : PStmt) → ScopesTell scopes a n → BlockNumbers scopes blocks → SiteIsPlaced blocks c.place a →
       map standing_as more ≡ standings_at (label_site n s' listed a)) →
-      Walks scopes c (record c { faults = f; standings = v }) no_blocks (λ blocks a. label_site n s listed a ∷ [])
+      CheckWalks scopes c (record c { faults = f; standings = v }) no_blocks (λ blocks a. label_site n s listed a ∷ [])
   label_kept c f v n listed more s p q h =
       record {
         stays = record { block = refl; outer = refl };
@@ -122,7 +122,7 @@ module _ (scopes : Scopes) where
   led : (c d : Checker) (f : Faults) (inner : List Spot → List Block) (own : Surroundings → Site) (ts : Surroundings → List Site) (ys : List Block → Surroundings → List Site) →
       ((a : Surroundings) → IsQuiet (own a)) → ((a : Surroundings) → IsSilent (ts a)) →
       ((blocks : List Block) (a : Surroundings) → TellsAll scopes (own a ∷ ts a) → f.first ≡ noted_along blocks (noted_at blocks c.faults.first (own a)) (ts a)) →
-      Walks scopes (record c { faults = f }) d inner ys → Walks scopes c d inner (λ blocks a. own a ∷ (ts a ++ ys blocks a))
+      CheckWalks scopes (record c { faults = f }) d inner ys → CheckWalks scopes c d inner (λ blocks a. own a ∷ (ts a ++ ys blocks a))
   led c d f inner own ts ys q s h w =
       walks_both scopes c (record c { faults = f }) d no_blocks inner (λ blocks a. own a ∷ ts a) ys
       (walks_silent scopes c f (λ blocks a. own a ∷ ts a) (λ blocks a. after (own a) (ts a) (q a) (s a)) (λ blocks a at t. h blocks a t)) w
@@ -152,7 +152,7 @@ module _ (scopes : Scopes) where
       (λ a. record { labels = refl; standings = refl }) (λ a. sites_silent a e) (λ blocks a t. h blocks a t.1) w
 
   pub for_walks : (c d : Checker) (f : Faults) (v : Named) (x s l : PExpr) (b : PStmt) (begin : Begin) (listed : Bool) →
-      ((blocks : List Block) (a : Surroundings) (s' : PStmt) (listed' : Bool) → Tells scopes a v → TellsAll scopes (sites x a ++ sites s a ++ sites l a) →
+      ((blocks : List Block) (a : Surroundings) (s' : PStmt) (listed' : Bool) → ScopesTell scopes a v → TellsAll scopes (sites x a ++ sites s a ++ sites l a) →
       f.first ≡ noted_along blocks (noted_at blocks c.faults.first (for_site v x s l s' listed' a)) (sites x a ++ sites s a ++ sites l a)) →
       WalksStmt scopes (record c { faults = f }) d b of_statement false → WalksStmt scopes c d (tree.for v x s l b) begin listed
   for_walks c d f v x s l b begin listed h w =
@@ -163,13 +163,13 @@ module _ (scopes : Scopes) where
 
   -- the same parts in other words
   walks_as : (c d : Checker) (i : List Spot → List Block) (xs ys : List Block → Surroundings → List Site) → ((blocks : List Block) (a : Surroundings) → xs blocks a ≡ ys blocks a) →
-      Walks scopes c d i xs → Walks scopes c d i ys
+      CheckWalks scopes c d i xs → CheckWalks scopes c d i ys
   walks_as c d i xs ys e w =
       record {
         stays = w.stays;
         notes =
             λ blocks a at t f.
-            let P : List Site → Type 0 = Noted blocks c d in
+            let P : List Site → Type 0 = PartsNoted blocks c d in
             let Q : List Site → Type 0 = TellsAll scopes in
             subst P (e blocks a) (w.notes blocks a at (subst Q (sym (e blocks a)) t) f);
       }
@@ -213,13 +213,13 @@ module _ (scopes : Scopes) where
       }
 
   pub label_walks : (c d e : Checker) (n : Named) (s : PStmt) (begin : Begin) (listed : Bool) →
-      Walks scopes c d no_blocks (λ blocks a. here_stmt (tree.label n s) listed a ∷ []) → WalksStmt scopes d e s of_statement listed → WalksStmt scopes c e (tree.label n s) begin listed
+      CheckWalks scopes c d no_blocks (λ blocks a. here_stmt (tree.label n s) listed a ∷ []) → WalksStmt scopes d e s of_statement listed → WalksStmt scopes c e (tree.label n s) begin listed
   label_walks c d e n s begin listed h w =
       walks_both scopes c d e no_blocks (blocks_of s of_statement) (λ blocks a. here_stmt (tree.label n s) listed a ∷ []) (stmt_sites s of_statement listed) h w
 
   -- ---- blocks
 
-  pub block_walks : (c : Checker) (p : Place) (d : Checker) (q : Place) (b : PBody) (begin : Begin) (listed : Bool) → Enters c.place p b begin →
+  pub block_walks : (c : Checker) (p : Place) (d : Checker) (q : Place) (b : PBody) (begin : Begin) (listed : Bool) → PlaceEnters c.place p b begin →
       WalksBody scopes (record c { place = p }) d b → q.block ≡ c.place.block → q.around.items ≡ c.place.around.items →
       WalksStmt scopes c (record d { place = q }) (tree.block b) begin listed
   block_walks c p d q b begin listed en w qb qo =
@@ -228,7 +228,7 @@ module _ (scopes : Scopes) where
         notes =
             λ blocks a at t found.
             let fs = found_both blocks (begin_block begin b (outer_of c.place)) (blocks_in_body b (begin_outer begin b (outer_of c.place))) found in
-            let entered : IsAt scopes blocks p (inside blocks begin b a) = record { placed = en.placed blocks a at.placed fs.0; numbers = at.numbers } in
+            let entered : PlaceIsAt scopes blocks p (inside blocks begin b a) = record { placed = en.placed blocks a at.placed fs.0; numbers = at.numbers } in
             let n = w.notes blocks (inside blocks begin b a) entered t.1 (found_alike blocks (blocks_in_body b (begin_outer begin b (outer_of c.place))) (blocks_in_body b (outer_of p)) (ap (blocks_in_body b) (sym en.outer)) fs.1) in
             record { faults = n.faults; labels = n.labels; standings = n.standings };
       }

@@ -12,11 +12,11 @@ use Rattle.algol_frames.specs.declared.scopes.Scopes.{Scopes}
 use Rattle.algol_told.specs.Telling.{TellsAll}
 use Rattle.algol_sites.specs.Labelling.{standing_as, standings_at, labels_at}
 use Rattle.algol_sites.specs.Noting.{noted_along}
-use Rattle.algol_sites.specs.Placing.{AreBlocks, AreFound, IsPlaced, outer_of}
+use Rattle.algol_sites.specs.Placing.{AreBlocks, AreFound, SiteIsPlaced, outer_of}
 use Rattle.algol_sites.proofs.Telling.{first_told, last_told}
 use Rattle.algol_sites.proofs.Notes.{noted_along-append}
 use Rattle.algol_check.specs.declared.checker.Checker.{Checker}
-use Rattle.algol_check.specs.Walking.{IsAt, Noted, Stays, Walks, no_blocks}
+use Rattle.algol_check.specs.Walking.{PlaceIsAt, PartsNoted, Stays, CheckWalks, no_blocks}
 use Rattle.algol_check.proofs.Silent.{IsSilent}
 
 -- ---- the same place, in other words
@@ -24,7 +24,7 @@ use Rattle.algol_check.proofs.Silent.{IsSilent}
 pub outer_alike : (p q : Place) → q.block ≡ p.block → q.around.items ≡ p.around.items → outer_of q ≡ outer_of p
 outer_alike p q b o = ap (λ (s : Spot). s ∷ reverse q.around.items) b ∙ ap (λ (ss : List Spot). p.block ∷ reverse ss) o
 
-pub placed_alike : (blocks : List Block) (a : Surroundings) (p q : Place) → q.block ≡ p.block → q.around.items ≡ p.around.items → IsPlaced blocks p a → IsPlaced blocks q a
+pub placed_alike : (blocks : List Block) (a : Surroundings) (p q : Place) → q.block ≡ p.block → q.around.items ≡ p.around.items → SiteIsPlaced blocks p a → SiteIsPlaced blocks q a
 placed_alike blocks a p q b o h =
     let P : List Spot → Type 0 = AreBlocks blocks in
     record {
@@ -34,10 +34,10 @@ placed_alike blocks a p q b o h =
     }
 
 pub at_alike : (scopes : Scopes) (blocks : List Block) (a : Surroundings) (p q : Place) → q.block ≡ p.block → q.around.items ≡ p.around.items →
-    IsAt scopes blocks p a → IsAt scopes blocks q a
+    PlaceIsAt scopes blocks p a → PlaceIsAt scopes blocks q a
 at_alike scopes blocks a p q b o h = record { placed = placed_alike blocks a p q b o h.placed; numbers = h.numbers }
 
-pub stays_at : (scopes : Scopes) (blocks : List Block) (a : Surroundings) (c d : Checker) → Stays c d → IsAt scopes blocks c.place a → IsAt scopes blocks d.place a
+pub stays_at : (scopes : Scopes) (blocks : List Block) (a : Surroundings) (c d : Checker) → Stays c d → PlaceIsAt scopes blocks c.place a → PlaceIsAt scopes blocks d.place a
 stays_at scopes blocks a c d s h = at_alike scopes blocks a c.place d.place s.block s.outer h
 
 pub stays_both : (c d e : Checker) → Stays c d → Stays d e → Stays c e
@@ -45,11 +45,11 @@ stays_both c d e s t = record { block = t.block ∙ s.block; outer = t.outer ∙
 
 -- ---- what is noted
 
-pub noted_none : (blocks : List Block) (c : Checker) → Noted blocks c c []
+pub noted_none : (blocks : List Block) (c : Checker) → PartsNoted blocks c c []
 noted_none blocks c =
     record { faults = refl; labels = sym (append-nil c.labels.items); standings = sym (append-nil (map standing_as c.standings.items)) }
 
-pub noted_both : (blocks : List Block) (c d e : Checker) (xs ys : List Site) → Noted blocks c d xs → Noted blocks d e ys → Noted blocks c e (xs ++ ys)
+pub noted_both : (blocks : List Block) (c d e : Checker) (xs ys : List Site) → PartsNoted blocks c d xs → PartsNoted blocks d e ys → PartsNoted blocks c e (xs ++ ys)
 noted_both blocks c d e xs ys h k =
     record {
       faults = k.faults ∙ ap (λ f. noted_along blocks f ys) h.faults ∙ sym (noted_along-append blocks c.faults.first xs ys);
@@ -64,7 +64,7 @@ noted_both blocks c d e xs ys h k =
 
 -- only faults were noted
 pub noted_silent : (blocks : List Block) (c : Checker) (f : Faults) (xs : List Site) → IsSilent xs → f.first ≡ noted_along blocks c.faults.first xs →
-    Noted blocks c (record c { faults = f }) xs
+    PartsNoted blocks c (record c { faults = f }) xs
 noted_silent blocks c f xs s h =
     record {
       faults = h;
@@ -82,11 +82,11 @@ pub found_alike : (blocks xs ys : List Block) → xs ≡ ys → AreFound blocks 
 found_alike blocks xs ys e h = let P : List Block → Type 0 = AreFound blocks in subst P e h
 
 module _ (scopes : Scopes) where
-  pub walks_none : (c : Checker) → Walks scopes c c no_blocks (λ blocks a. [])
+  pub walks_none : (c : Checker) → CheckWalks scopes c c no_blocks (λ blocks a. [])
   walks_none c = record { stays = record { block = refl; outer = refl }; notes = λ blocks a at t f. noted_none blocks c }
 
-  pub walks_both : (c d e : Checker) (i j : List Spot → List Block) (xs ys : List Block → Surroundings → List Site) → Walks scopes c d i xs → Walks scopes d e j ys →
-      Walks scopes c e (λ outer. i outer ++ j outer) (λ blocks a. xs blocks a ++ ys blocks a)
+  pub walks_both : (c d e : Checker) (i j : List Spot → List Block) (xs ys : List Block → Surroundings → List Site) → CheckWalks scopes c d i xs → CheckWalks scopes d e j ys →
+      CheckWalks scopes c e (λ outer. i outer ++ j outer) (λ blocks a. xs blocks a ++ ys blocks a)
   walks_both c d e i j xs ys h k =
       record {
         stays = stays_both c d e h.stays k.stays;
@@ -101,8 +101,8 @@ module _ (scopes : Scopes) where
 
   -- parts that no block begins in, at which only faults are noted
   pub walks_silent : (c : Checker) (f : Faults) (xs : List Block → Surroundings → List Site) → ((blocks : List Block) (a : Surroundings) → IsSilent (xs blocks a)) →
-      ((blocks : List Block) (a : Surroundings) → IsAt scopes blocks c.place a → TellsAll scopes (xs blocks a) →
-      f.first ≡ noted_along blocks c.faults.first (xs blocks a)) → Walks scopes c (record c { faults = f }) no_blocks xs
+      ((blocks : List Block) (a : Surroundings) → PlaceIsAt scopes blocks c.place a → TellsAll scopes (xs blocks a) →
+      f.first ≡ noted_along blocks c.faults.first (xs blocks a)) → CheckWalks scopes c (record c { faults = f }) no_blocks xs
   walks_silent c f xs s h =
       record {
         stays = record { block = refl; outer = refl };

@@ -12,9 +12,9 @@ ghost use Rattle.algol_tree.specs.Sites.{has_decls};
 ghost use Rattle.algol_tree.specs.Surroundings.{Surroundings};
 ghost use Rattle.algol_sites.specs.declared.place.Place.{Place};
 ghost use Rattle.algol_sites.specs.Labelling.{bad_in, label_site};
-ghost use Rattle.algol_sites.specs.Placing.{IsFound, IsPlaced};
-ghost use Rattle.algol_check.specs.Walking.{IsCounted, IsTyped, Walks, WalksStmt, begin_as, no_blocks};
-ghost use Rattle.algol_check.specs.Declaring.{Enters, Opens, begins, decls_in};
+ghost use Rattle.algol_sites.specs.Placing.{BlockIsFound, SiteIsPlaced};
+ghost use Rattle.algol_check.specs.Walking.{IsCounted, IsTyped, CheckWalks, WalksStmt, begin_as, no_blocks};
+ghost use Rattle.algol_check.specs.Declaring.{PlaceEnters, BlockOpens, begins, decls_in};
 
 use algol_frames::Scopes;
 use algol_rules::Faults;
@@ -65,7 +65,7 @@ impl Checker {
     pub fn new(alloc: Global, begin: Spot) -> Checker
         ensures block { result.place.block ≡ begin }
         ensures around { result.place.around.items ≡ [] }
-        ensures placed { (blocks : List Block) (b : Block) (a : Surroundings) → IsFound blocks b → b.spot ≡ begin → b.outer ≡ [] → a.block ≡ number_at blocks begin → IsPlaced blocks result.place a }
+        ensures placed { (blocks : List Block) (b : Block) (a : Surroundings) → BlockIsFound blocks b → b.spot ≡ begin → b.outer ≡ [] → a.block ≡ number_at blocks begin → SiteIsPlaced blocks result.place a }
         ensures labels { result.labels.items ≡ [] }
         ensures standings { result.standings.items ≡ [] }
         ensures faults { result.faults.first ≡ None }
@@ -83,7 +83,7 @@ impl Checker {
 
     /// A label before a statement, which is in the list of statements of its block or is not.
     pub fn label(&mut self, scopes: &Scopes, name: &Named, listed: bool) -> Result<(), AllocError>
-        ensures { OnOk result ((s : PStmt) → Walks scopes.now self.old self.new no_blocks (λ blocks a. label_site name.now s listed a ∷ [])) }
+        ensures { OnOk result ((s : PStmt) → CheckWalks scopes.now self.old self.new no_blocks (λ blocks a. label_site name.now s listed a ∷ [])) }
     {
         want_name(
             scopes,
@@ -172,8 +172,8 @@ impl Checker {
 
     /// A BEGIN, with which a block begins or not.
     pub fn begin(&mut self, b: &Body, begin: Begin) -> Result<bool, AllocError>
-        ensures opens { IfOk result (λ opened. Opens opened self.old.place self.new.place) }
-        ensures enters { OnOk result (Enters self.old.place self.new.place (body b.now) (begin_as begin)) }
+        ensures opens { IfOk result (λ opened. BlockOpens opened self.old.place self.new.place) }
+        ensures enters { OnOk result (PlaceEnters self.old.place self.new.place (body b.now) (begin_as begin)) }
         ensures rest { self.new ≡ record self.old { place = self.new.place } }
     {
         let opened = begins_block(b, begin);
@@ -185,7 +185,7 @@ impl Checker {
 
     /// The END, of a block or not.
     pub fn end(&mut self, opened: bool)
-        ensures ends { (before : Place) → Opens opened before self.old.place → (self.new.place.block ≡ before.block) × (self.new.place.around.items ≡ before.around.items) }
+        ensures ends { (before : Place) → BlockOpens opened before self.old.place → (self.new.place.block ≡ before.block) × (self.new.place.around.items ≡ before.around.items) }
         ensures rest { self.new ≡ record self.old { place = self.new.place } }
     {
         if opened {

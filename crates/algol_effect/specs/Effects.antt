@@ -17,7 +17,7 @@ use Rattle.algol_cells.specs.SeenScope.{scoped}
 use Rattle.algol_cells.specs.SeenValue.{value}
 use Rattle.algol_cells.specs.SeenCell as seen
 use Rattle.algol_cells.specs.SeenCell.{reference}
-use Rattle.algol_rest_expr.specs.SeenExpression.{answered}
+use Rattle.algol_rest_expr.specs.SeenExpression.{rest_answered}
 use Rattle.algol_instances.specs.SeenInstance.{named_cells}
 use Rattle.algol_world.specs.SeenWorld as views
 use Rattle.algol_world.specs.SeenWorld.{world_of, process_of}
@@ -43,17 +43,17 @@ module _ (sc : Scopes) (w : world.World) (p : ℕ) (q : world.Process) (part : w
   -- the choice that an effect stands for
   abbrev pub choice_by : Effect → Choice
   choice_by effects.Nothing = choices.chosen sc w p q part outer actions.Fault w
-  choice_by (effects.Goes a x) = choices.goes sc w p q part outer a w (answered x)
+  choice_by (effects.Goes a x) = choices.goes sc w p q part outer a w (rest_answered x)
   choice_by (effects.Stores r v) = choices.goes sc w p q part outer actions.Store (world.set_cell w (reference r) (simple (value v))) rest.done
   choice_by (effects.StoresElement r ks v) = choices.stored sc w p q part outer (rest.element_of (reference r) ks) (value v)
   choice_by (effects.Evaluates inner) = choices.opens sc w p q part outer w (views.part sc inner)
   choice_by (effects.EntersProcedure j parent cells) = choices.entered_procedure sc w p q part outer j parent (map seen.cell cells.items)
   choice_by (effects.EntersBlock j) = choices.entered_block sc w p q part outer j
-  choice_by (effects.Leaves x) = choices.left sc w p q part outer (answered x)
+  choice_by (effects.Leaves x) = choices.left_choice sc w p q part outer (rest_answered x)
   choice_by (effects.GoesTo n i) = choices.goes_to sc w p q part outer n.now i
   choice_by (effects.Starts j parent cells task) = choices.starts sc w p q part outer j parent (map seen.cell cells.items) (views.task task)
-  choice_by (effects.Acts act r) = choices.does sc w p q part outer (acts act) (reference r) (deed (acts act) p (event_at w (reference r)))
-  choice_by (effects.Fixes r) = choices.does sc w p q part outer (tests test.Fix) (reference r) (deed (tests test.Fix) p (event_at w (reference r)))
+  choice_by (effects.Acts act r) = choices.deed_does sc w p q part outer (acts act) (reference r) (deed (acts act) p (event_at w (reference r)))
+  choice_by (effects.Fixes r) = choices.deed_does sc w p q part outer (tests test.Fix) (reference r) (deed (tests test.Fix) p (event_at w (reference r)))
   choice_by (effects.Waits rs) = choices.waits_here sc w p q part outer (map reference rs)
   choice_by (effects.Wakes v) =
       choices.chosen sc w p q part outer actions.Woke

@@ -13,8 +13,8 @@ use Rattle.algol_tree.specs.declared.token.Symbol.{Symbol}
 use Rattle.algol_tree.specs.Plain.{PExprs, none}
 use Rattle.algol_tree.specs.DueExpr.{list_in}
 use Rattle.algol_tree.specs.Due.{Value, many, Make, Due, make, plain, nests, takes, makes, skips}
-use Rattle.algol_tree.specs.Reading.{turn, read}
-use Rattle.algol_tree.specs.Found.{IsRest, Passes, Finds, Completes, Extends, Lists, Fails}
+use Rattle.algol_tree.specs.Reading.{reading_turn, read}
+use Rattle.algol_tree.specs.Found.{IsRest, TokenPasses, ReaderFinds, Completes, Extends, Lists, Fails}
 use Rattle.algol_expr.specs.declared.stop.Stop.{Stop}
 use Rattle.algol_expr.proofs.Turns.{takes_step, opens_step, skips_step, makes_step, make_step, deep_step}
 
@@ -29,10 +29,10 @@ pub starting : (s : Due) (tokens : List Token) → Reaches (s ∷ []) [] tokens 
 starting s tokens = record { run = λ due vs. refl }
 
 module _ {from : List Due} {us : List Value} {tokens : List Token} {s : Due} {ds : List Due} {ws : List Value} {mid rest : List Token} where
-  pub past : Reaches from us tokens (s ∷ ds) ws mid → Passes s mid rest → Reaches from us tokens ds ws rest
+  pub past : Reaches from us tokens (s ∷ ds) ws mid → TokenPasses s mid rest → Reaches from us tokens ds ws rest
   past r p = record { run = λ due vs. r.run due vs ∙ p.run (ds ++ due) (ws ++ vs) }
 
-  pub via : {v : Value} → Reaches from us tokens (s ∷ ds) ws mid → Finds s mid v rest → Reaches from us tokens ds (v ∷ ws) rest
+  pub via : {v : Value} → Reaches from us tokens (s ∷ ds) ws mid → ReaderFinds s mid v rest → Reaches from us tokens ds (v ∷ ws) rest
   via r p = record { run = λ due vs. r.run due vs ∙ p.run (ds ++ due) (ws ++ vs) }
 
   pub completing : {v : Value} → Reaches from us tokens (s ∷ ds) ws mid → Completes s mid v rest → Reaches from us tokens ds (v ∷ ws) rest
@@ -55,8 +55,8 @@ pub making : {from : List Due} {us : List Value} {tokens : List Token} {m : Make
     Reaches from us tokens (make m ∷ ds) ws rest → ((vs : List Value) → m (ws ++ vs) ≡ xs ++ vs) → Reaches from us tokens ds xs rest
 making {m = m} {ds = ds} {ws = ws} {rest = rest} r e = record { run = λ due vs. r.run due vs ∙ make_step 0 rest m (ds ++ due) (ws ++ vs) ∙ ap (read 0 rest (ds ++ due)) (e vs) }
 
-pub done : {s : Due} {tokens rest : List Token} {v w : Value} → Reaches (s ∷ []) [] tokens [] (v ∷ []) rest → w ≡ v → IsRest tokens rest → Finds s tokens w rest
-done {s = s} {tokens = tokens} {rest = rest} r is b = subst (λ x. Finds s tokens x rest) (sym is) (record { run = λ due vs. r.run due vs; behind = b })
+pub done : {s : Due} {tokens rest : List Token} {v w : Value} → Reaches (s ∷ []) [] tokens [] (v ∷ []) rest → w ≡ v → IsRest tokens rest → ReaderFinds s tokens w rest
+done {s = s} {tokens = tokens} {rest = rest} r is b = subst (λ x. ReaderFinds s tokens x rest) (sym is) (record { run = λ due vs. r.run due vs; behind = b })
 
 pub completes_done : {s : Due} {tokens rest : List Token} {v w : Value} → Reaches (s ∷ []) [] tokens [] (v ∷ []) rest → w ≡ v → EndsOnce rest →
     length rest ≤ length tokens → Completes s tokens w rest
@@ -77,15 +77,15 @@ no_memory r from us tokens e p q = left_as r (λ e. Fails from us tokens e.left 
 -- a result that is returned as it is
 module _ {T : Type 0} (r : Result T Stop) (tree : T → Value) (end : T → List Token) where
   pub finds_as : {s p : Due} {tokens : List Token} → Reaches (s ∷ []) [] tokens (p ∷ []) [] tokens →
-      IfOk r (λ x. Finds p tokens (tree x) (end x)) → IfOk r (λ x. Finds s tokens (tree x) (end x))
+      IfOk r (λ x. ReaderFinds p tokens (tree x) (end x)) → IfOk r (λ x. ReaderFinds s tokens (tree x) (end x))
   finds_as a h = IfOk-weaker r _ _ (λ x f. record { run = (via a f).run; behind = f.behind }) h
 
   pub extends_to : {s m : Due} {tokens mid : List Token} {left : Value} → Reaches (s ∷ []) [] tokens (m ∷ []) (left ∷ []) mid → length mid < length tokens →
-      IfOk r (λ x. Extends m mid left (tree x) (end x)) → IfOk r (λ x. Finds s tokens (tree x) (end x))
+      IfOk r (λ x. Extends m mid left (tree x) (end x)) → IfOk r (λ x. ReaderFinds s tokens (tree x) (end x))
   extends_to a b h = IfOk-weaker r _ _ (λ x f. record { run = (extending a f).run; behind = record { ended = f.ended; shorter = omega (arith, f.no_longer) } }) h
 
   pub completes_to : {s n : Due} {tokens mid : List Token} → Reaches (s ∷ []) [] tokens (n ∷ []) [] mid → length mid < length tokens →
-      IfOk r (λ x. Completes n mid (tree x) (end x)) → IfOk r (λ x. Finds s tokens (tree x) (end x))
+      IfOk r (λ x. Completes n mid (tree x) (end x)) → IfOk r (λ x. ReaderFinds s tokens (tree x) (end x))
   completes_to a b h = IfOk-weaker r _ _ (λ x f. record { run = (completing a f).run; behind = record { ended = f.ended; shorter = omega (arith, f.no_longer) } }) h
 
 pub fails_as : {T : Type 0} (r : Result T Stop) {from : List Due} {us : List Value} {p : Due} {tokens mid : List Token} {ds : List Due} {ws : List Value} →
@@ -119,14 +119,14 @@ rest_first e p = record { ended = p.ended; shorter = omega (arith, p.shorter, ap
 
 -- one token
 
-pub takes_first : (t : Token) (ts : List Token) (s : Due) (ds : List Due) → turn s t.spot t.kind ≡ takes plain ds → Reaches (s ∷ []) [] (t ∷ ts) ds [] ts
+pub takes_first : (t : Token) (ts : List Token) (s : Due) (ds : List Due) → reading_turn s t.spot t.kind ≡ takes plain ds → Reaches (s ∷ []) [] (t ∷ ts) ds [] ts
 takes_first t ts s ds e = record { run = λ due vs. takes_step 0 t ts s ds due vs e }
 
-pub opens_first : (d : ℕ) (t : Token) (ts : List Token) (s : Due) (ds : List Due) → turn s t.spot t.kind ≡ takes (nests d) ds → d < 64 →
+pub opens_first : (d : ℕ) (t : Token) (ts : List Token) (s : Due) (ds : List Due) → reading_turn s t.spot t.kind ≡ takes (nests d) ds → d < 64 →
     Reaches (s ∷ []) [] (t ∷ ts) ds [] ts
 opens_first d t ts s ds e o = record { run = λ due vs. opens_step 0 d t ts s ds due vs e (inl o) }
 
-pub too_deep : (d : ℕ) (t : Token) (ts : List Token) (s : Due) (ds : List Due) (left : ℕ) (e : Refusal) → turn s t.spot t.kind ≡ takes (nests d) ds → MOST_NESTING ≤ d →
+pub too_deep : (d : ℕ) (t : Token) (ts : List Token) (s : Due) (ds : List Due) (left : ℕ) (e : Refusal) → reading_turn s t.spot t.kind ≡ takes (nests d) ds → MOST_NESTING ≤ d →
     left ≡ length (t ∷ ts) → e ≡ At t.spot codes.TooDeep → Fails (s ∷ []) [] (t ∷ ts) left e
 too_deep d t ts s ds left e is o l r = record {
   run = λ spot code q due vs.
@@ -142,10 +142,10 @@ turning {ds = ds} {es = es} {ws = ws} {rest = rest} r p = record {
       r.run due vs ∙ p.run (ds ++ due) (ws ++ vs) ∙ ap (λ x. read 0 rest x (ws ++ vs)) (sym (append_assoc es ds due));
 }
 
-pub skips_first : (t : Token) (ts : List Token) (s : Due) → turn s t.spot t.kind ≡ skips → Reaches (s ∷ []) [] (t ∷ ts) [] [] (t ∷ ts)
+pub skips_first : (t : Token) (ts : List Token) (s : Due) → reading_turn s t.spot t.kind ≡ skips → Reaches (s ∷ []) [] (t ∷ ts) [] [] (t ∷ ts)
 skips_first t ts s e = record { run = λ due vs. skips_step 0 t ts s due vs e }
 
-pub puts_first : (t : Token) (ts : List Token) (s : Due) (m : Make) → turn s t.spot t.kind ≡ makes m → Reaches (s ∷ []) [] (t ∷ ts) (make m ∷ []) [] (t ∷ ts)
+pub puts_first : (t : Token) (ts : List Token) (s : Due) (m : Make) → reading_turn s t.spot t.kind ≡ makes m → Reaches (s ∷ []) [] (t ∷ ts) (make m ∷ []) [] (t ∷ ts)
 puts_first t ts s m e = record { run = λ due vs. makes_step 0 t ts s due vs m e ∙ sym (make_step 0 (t ∷ ts) m due vs) }
 
 -- where the tokens are known by an equation

@@ -6,7 +6,7 @@ use Rattle.algol_tree.specs.Operators.{Part, level, not_part, primary}
 use Rattle.algol_tree.specs.Due.{Value, Due, one, part, more_of}
 use Rattle.algol_tree.specs.DueExpr.{is_sign}
 use Rattle.algol_tree.specs.Reading.{read}
-use Rattle.algol_tree.specs.Found.{IsRest, Finds, Extends, Fails}
+use Rattle.algol_tree.specs.Found.{IsRest, ReaderFinds, Extends, Fails}
 use Rattle.algol_tree.specs.Plain.{PExpr}
 use Rattle.algol_tree.specs.declared.token.Token.{Token}
 use Rattle.algol_tree.specs.declared.token.TokenKind.{TokenKind}
@@ -17,7 +17,7 @@ use Rattle.algol_expr.specs.declared.step.Start.{Start}
 use Rattle.algol_expr.specs.declared.step.Start.TheVariants.{Not, Sign, Primary}
 use Rattle.algol_expr.specs.declared.step.Step.{Step}
 use Rattle.algol_expr.specs.declared.step.Step.TheVariants.{Operators, Relation}
-use Rattle.algol_expr.specs.Steps.{not_or, sign_or_primary, start_of, IsStart, first_place, end_place, steps, part_of, due_of, begins_with, leaves, Begins}
+use Rattle.algol_expr.specs.Steps.{not_or, sign_or_primary, start_of, IsStart, first_place, end_place, steps, part_of_step, due_of, begins_with, leaves, ExprBegins}
 use Rattle.algol_expr.proofs.Chain.{Reaches, starting, turning, extending, failing, failing_on, done}
 use Rattle.algol_expr.proofs.Starts.{level_starts, not_is, rel_starts}
 
@@ -148,7 +148,7 @@ module _ (d : ℕ) (tokens : List Token) (t : Token) (ts : List Token) (is : tok
   primary_under p ss r e f = turning (signed_under p ss r e) (sum_primary f)
 
   abbrev Opens : Step → Start → Type 0
-  Opens last start = From (part_of last) (begins_with start) (over start last)
+  Opens last start = From (part_of_step last) (begins_with start) (over start last)
 
   opens : (last : Step) (start : Start) → start ≡ start_of last t.kind → Opens last start
   opens (Operators levels.Term) Primary e = term_primary
@@ -193,11 +193,11 @@ left_over Not d (Operators levels.Eqv) due k e = refl
 
 -- Reading up to the step `last` from `tokens` is reading on from `rest`, after the expression `left`, through the steps `above`.
 pub record Climbs (last : Step) (d : ℕ) (tokens : List Token) (above : List Step) (left : PExpr) (rest : List Token) : Type 0 where
-  pub run : Reaches (part (part_of last) d ∷ []) [] tokens (dues d above) (one left ∷ []) rest
+  pub run : Reaches (part (part_of_step last) d ∷ []) [] tokens (dues d above) (one left ∷ []) rest
   pub behind : IsRest tokens rest
 
 pub steps_begin : (last : Step) (d : ℕ) (tokens : List Token) (t : Token) (ts : List Token) (start : Start) (items : List Step) (left : PExpr) (rest : List Token) →
-    tokens ≡ t ∷ ts → start ≡ start_of last t.kind → items ≡ steps start last → Begins start d tokens (one left) rest → Climbs last d tokens items left rest
+    tokens ≡ t ∷ ts → start ≡ start_of last t.kind → items ≡ steps start last → ExprBegins start d tokens (one left) rest → Climbs last d tokens items left rest
 steps_begin last d tokens t ts start items left rest is e at b = subst (λ (x : List Step). Climbs last d tokens x left rest) (sym at) (record {
   run = record {
     run = λ due vs. (opens d tokens t ts is last start e).run due vs ∙ b.run (dues d (over start last) ++ due) vs
@@ -207,7 +207,7 @@ steps_begin last d tokens t ts start items left rest is e at b = subst (λ (x : 
 })
 
 pub steps_fail_first : (last : Step) (d : ℕ) (tokens : List Token) (t : Token) (ts : List Token) (start : Start) (at_ : ℕ) (r : Refusal) →
-    tokens ≡ t ∷ ts → start ≡ start_of last t.kind → Fails (part (begins_with start) d ∷ []) [] tokens at_ r → Fails (part (part_of last) d ∷ []) [] tokens at_ r
+    tokens ≡ t ∷ ts → start ≡ start_of last t.kind → Fails (part (begins_with start) d ∷ []) [] tokens at_ r → Fails (part (part_of_step last) d ∷ []) [] tokens at_ r
 steps_fail_first last d tokens t ts start at_ r is e f = failing (opens d tokens t ts is last start e) f
 
 -- the step at this place is the next of them
@@ -218,8 +218,8 @@ split items i m other h e =
 
 module _ (last : Step) (d : ℕ) (tokens rest : List Token) (items : List Step) (i : ℕ) (m other : Step) (left : PExpr) where
   next_due : i < length items → m ≡ get_or items i other → Climbs last d tokens (drop i items) left rest →
-      Reaches (part (part_of last) d ∷ []) [] tokens (due_of d m ∷ dues d (drop (i + 1) items)) (one left ∷ []) rest
-  next_due h e g = subst (λ (x : List Step). Reaches (part (part_of last) d ∷ []) [] tokens (dues d x) (one left ∷ []) rest) (split items i m other h e) g.run
+      Reaches (part (part_of_step last) d ∷ []) [] tokens (due_of d m ∷ dues d (drop (i + 1) items)) (one left ∷ []) rest
+  next_due h e g = subst (λ (x : List Step). Reaches (part (part_of_step last) d ∷ []) [] tokens (dues d x) (one left ∷ []) rest) (split items i m other h e) g.run
 
   pub steps_go_on : (whole : PExpr) (after : List Token) → i < length items → m ≡ get_or items i other → Climbs last d tokens (drop i items) left rest →
       Extends (due_of d m) rest (one left) (one whole) after → Climbs last d tokens (drop (i + 1) items) whole after
@@ -229,31 +229,31 @@ module _ (last : Step) (d : ℕ) (tokens rest : List Token) (items : List Step) 
   }
 
   pub steps_fail : (at_ : ℕ) (r : Refusal) → i < length items → m ≡ get_or items i other → Climbs last d tokens (drop i items) left rest →
-      Fails (due_of d m ∷ []) (one left ∷ []) rest at_ r → Fails (part (part_of last) d ∷ []) [] tokens at_ r
+      Fails (due_of d m ∷ []) (one left ∷ []) rest at_ r → Fails (part (part_of_step last) d ∷ []) [] tokens at_ r
   steps_fail at_ r h e g f = failing_on (next_due h e g) f
 
 pub steps_done : (last : Step) (d : ℕ) (tokens rest : List Token) (items : List Step) (i : ℕ) (left : PExpr) → length items ≤ i →
-    Climbs last d tokens (drop i items) left rest → Finds (part (part_of last) d) tokens (one left) rest
+    Climbs last d tokens (drop i items) left rest → ReaderFinds (part (part_of_step last) d) tokens (one left) rest
 steps_done last d tokens rest items i left h g =
-    done (subst (λ (x : List Step). Reaches (part (part_of last) d ∷ []) [] tokens (dues d x) (one left ∷ []) rest) (drop_all i items h) g.run) refl g.behind
+    done (subst (λ (x : List Step). Reaches (part (part_of_step last) d ∷ []) [] tokens (dues d x) (one left ∷ []) rest) (drop_all i items h) g.run) refl g.behind
 
 -- each beginning by itself
 
-pub begins_so : (start s : Start) (d : ℕ) (tokens us : List Token) (v : Value) (rest : List Token) → start ≡ s → tokens ≡ us → Begins s d us v rest → Begins start d tokens v rest
-begins_so start s d tokens us v rest e is b = subst (λ (x : Start). Begins x d tokens v rest) (sym e) (subst (λ (x : List Token). Begins s d x v rest) (sym is) b)
+pub begins_so : (start s : Start) (d : ℕ) (tokens us : List Token) (v : Value) (rest : List Token) → start ≡ s → tokens ≡ us → ExprBegins s d us v rest → ExprBegins start d tokens v rest
+begins_so start s d tokens us v rest e is b = subst (λ (x : Start). ExprBegins x d tokens v rest) (sym e) (subst (λ (x : List Token). ExprBegins s d x v rest) (sym is) b)
 
 pub fails_so : (start s : Start) (d : ℕ) (tokens us : List Token) (at_ : ℕ) (r : Refusal) → start ≡ s → tokens ≡ us → Fails (part (begins_with s) d ∷ []) [] us at_ r →
     Fails (part (begins_with start) d ∷ []) [] tokens at_ r
 fails_so start s d tokens us at_ r e is f = subst (λ (x : Start). Fails (part (begins_with x) d ∷ []) [] tokens at_ r) (sym e) (subst (λ (x : List Token). Fails (part (begins_with s) d ∷ []) [] x at_ r) (sym is) f)
 
 -- the operand of a NOT, or a primary
-pub begins_not : (d : ℕ) (tokens : List Token) (v : Value) (rest : List Token) → Finds (part not_part d) tokens v rest → Begins Not d tokens v rest
+pub begins_not : (d : ℕ) (tokens : List Token) (v : Value) (rest : List Token) → ReaderFinds (part not_part d) tokens v rest → ExprBegins Not d tokens v rest
 begins_not d tokens v rest f = record { run = λ due vs. f.run due vs; behind = f.behind }
 
-pub begins_primary : (d : ℕ) (tokens : List Token) (v : Value) (rest : List Token) → Finds (part primary d) tokens v rest → Begins Primary d tokens v rest
+pub begins_primary : (d : ℕ) (tokens : List Token) (v : Value) (rest : List Token) → ReaderFinds (part primary d) tokens v rest → ExprBegins Primary d tokens v rest
 begins_primary d tokens v rest f = record { run = λ due vs. f.run due vs; behind = f.behind }
 
 -- a first operand with its sign
 pub begins_signed : (d : ℕ) (tokens : List Token) (v w : Value) (rest : List Token) → Reaches (part (level levels.Sum) d ∷ []) [] tokens (more_of levels.Sum d ∷ []) (v ∷ []) rest →
-    w ≡ v → IsRest tokens rest → Begins Sign d tokens w rest
-begins_signed d tokens v w rest r is b = subst (λ (x : Value). Begins Sign d tokens x rest) (sym is) (record { run = λ due vs. r.run due vs; behind = b })
+    w ≡ v → IsRest tokens rest → ExprBegins Sign d tokens w rest
+begins_signed d tokens v w rest r is b = subst (λ (x : Value). ExprBegins Sign d tokens x rest) (sym is) (record { run = λ due vs. r.run due vs; behind = b })

@@ -11,16 +11,16 @@ use Rattle.algol_tree.specs.Plain as trees
 use Rattle.algol_tree.specs.Plain.{PExpr, PExprs, none, more, subscripted}
 use Rattle.algol_tree.specs.Tokens.{IsSymbol, IsName, is_word, is_symbol}
 use Rattle.algol_tree.specs.Operators.{Part, expr, level, not_part, rel, primary, operand}
-use Rattle.algol_tree.specs.Expressions.{Opens, IsEvent, IsEvents, IsPart, IsMore, IsExprs}
-use Rattle.algol_tree.specs.Due.{Value, one, many, put, Due, make, symbol, spelled, part, more_of, relation, behind_name, exprs_more, opening, event, events_more, behind_event, event_named, event_names, plain, nests, takes, makes, skips, refuses, either, optional}
-use Rattle.algol_tree.specs.DueExpr.{behind, all_of, listed, turn_primary, turn_sum, turn_not, turn_expr, on_with, related, turn_behind_name, turn_event, turn_behind_event, turn_events_more, event_added}
+use Rattle.algol_tree.specs.Expressions.{TokenOpens, IsEvent, IsEvents, IsExprPart, IsMore, IsExprs}
+use Rattle.algol_tree.specs.Due.{Value, one, many, value_put, Due, make, symbol, spelled, part, more_of, relation, behind_name, exprs_more, opening, event, events_more, behind_event, event_named, event_names, plain, nests, takes, makes, skips, refuses, either, optional}
+use Rattle.algol_tree.specs.DueExpr.{behind, all_of, list_made, turn_primary, turn_sum, turn_not, turn_expr, on_with, related, turn_behind_name, turn_event, turn_behind_event, turn_events_more, event_added}
 use Rattle.algol_tree.specs.Reading.{read}
 use Rattle.algol_tree.specs.declared.level.Level.{Level}
 use Rattle.algol_tree.specs.declared.level.Level.TheVariants as levels
 use Rattle.algol_tree.specs.Expressions as grammar
 use Rattle.algol_expr.proofs.Reading.{Leads}
 use Rattle.algol_expr.proofs.Turns.{takes_step, skips_step, skips_end, makes_step, makes_end, make_step, opens_step, word_step, symbol_step, spelled_step, symbol_is}
-use Rattle.algol_tree.specs.Ends.{ends, Ends}
+use Rattle.algol_tree.specs.Ends.{part_ends, Ends}
 use Rattle.algol_expr.proofs.Ends.{operator_ends, relop_ends, operand_ends, level_over, rel_ends, primary_over}
 use Rattle.algol_expr.proofs.Parts.{if_refuses, not_refuses, test_turn, tested, expr_at, not_at, rel_at, level_at, signless, none_empty, more_over, more_end}
 
@@ -54,10 +54,10 @@ relation_left free d (t ∷ rest) due vs e = skips_step free t rest (relation d)
 
 name_left : (free : ℕ) (n : Named) (d : ℕ) (rest : List Token) (due : List Due) (vs : List Value) → Ends primary rest →
     read free rest (behind_name n d ∷ due) vs ≡ read free rest due (one (trees.variable (subscripted n none)) ∷ vs)
-name_left free n d [] due vs e = makes_end free (behind_name n d) due vs (put (one (trees.variable (subscripted n none)))) refl
+name_left free n d [] due vs e = makes_end free (behind_name n d) due vs (value_put (one (trees.variable (subscripted n none)))) refl
 name_left free n d (t ∷ rest) due vs e =
     let p = primary_over t.kind e in
-    makes_step free t rest (behind_name n d) due vs (put (one (trees.variable (subscripted n none))))
+    makes_step free t rest (behind_name n d) due vs (value_put (one (trees.variable (subscripted n none))))
     (rw (p.0, p.1) refl)
 
 -- the token of a name makes what may stand after that name due
@@ -70,7 +70,7 @@ name_step free t n d ts due vs k =
 exprs_left : (free d : ℕ) (s : Symbol) (t : Token) (rest : List Token) (due : List Due) (vs : List Value) → IsSymbol s t →
     is_symbol symbols.Comma (kinds.Symbol s) ≡ false → read free (t ∷ rest) (exprs_more d ∷ symbol s ∷ due) vs ≡ read free rest due vs
 exprs_left free d s t rest due vs c e = skips_step free t rest (exprs_more d) (symbol s ∷ due) vs
-    (ap (λ b. either b (takes plain (part expr d ∷ make listed ∷ exprs_more d ∷ [])) skips) (ap (is_symbol symbols.Comma) c ∙ e))
+    (ap (λ b. either b (takes plain (part expr d ∷ make list_made ∷ exprs_more d ∷ [])) skips) (ap (is_symbol symbols.Comma) c ∙ e))
     ∙ symbol_step free t rest s due vs c
 
 ends_operand : (l : Level) (rest : List Token) → Ends (level l) rest → Ends (operand l) rest
@@ -107,8 +107,8 @@ event_to : (free : ℕ) (from : List Token) (e : EventName) (v : Token) (rest : 
 event_to free _ _ v rest s (grammar.declared t n _ k) c p due vs =
     event_step free t n (v ∷ rest) _ vs k
     ∙ makes_step free v rest (behind_event n) _ vs _ (ap (turn_behind_event n) c
-    ∙ ap (λ b. either b (takes plain (spelled (codes "EXCEPTIONEVENT") ∷ make (put (event_named (record { name = n; task = true }))) ∷ []))
-    (makes (put (event_named (record { name = n; task = false }))))) p)
+    ∙ ap (λ b. either b (takes plain (spelled (codes "EXCEPTIONEVENT") ∷ make (value_put (event_named (record { name = n; task = true }))) ∷ []))
+    (makes (value_put (event_named (record { name = n; task = false }))))) p)
 event_to free _ _ v rest s (grammar.of_task t u w n _ k p q) c _ due vs =
     event_step free t n (u ∷ w ∷ v ∷ rest) _ vs k
     ∙ takes_step free u (w ∷ v ∷ rest) (behind_event n) _ _ vs (ap (turn_behind_event n) p)
@@ -137,13 +137,13 @@ events_read free _ _ v rest acc due vs (grammar.comma t e es from after _ x k y)
     ∙ ap (λ es. read free rest due (event_names es ∷ vs)) (append_assoc acc (e ∷ []) es)
 
 mutual
-  pub part_read : (free : ℕ) (p : Part) (d : ℕ) (from : List Token) (e : PExpr) (rest : List Token) → IsPart free p d from e rest → Ends p rest →
+  pub part_read : (free : ℕ) (p : Part) (d : ℕ) (from : List Token) (e : PExpr) (rest : List Token) → IsExprPart free p d from e rest → Ends p rest →
       Leads free (part p d) from (one e) rest
   part_read free _ _ _ _ rest (grammar.conditional t u v d c a b from yes_ otherwise _ w o x wu y wv z) end = λ due vs.
       opens_step free d t from (part expr d) _ due vs (ap (turn_expr d t.spot) w) o
-      ∙ part_read free expr (d + 1) from c (u ∷ yes_) x (ap (ends expr) wu) _ vs
+      ∙ part_read free expr (d + 1) from c (u ∷ yes_) x (ap (part_ends expr) wu) _ vs
       ∙ word_step free u yes_ reserved.Then _ _ wu
-      ∙ part_read free (level levels.Eqv) (d + 1) yes_ a (v ∷ otherwise) y (ap (ends (level levels.Eqv)) wv) _ _
+      ∙ part_read free (level levels.Eqv) (d + 1) yes_ a (v ∷ otherwise) y (ap (part_ends (level levels.Eqv)) wv) _ _
       ∙ word_step free v otherwise reserved.Else _ _ wv
       ∙ part_read free expr (d + 1) otherwise b rest z end _ _
       ∙ make_step free rest _ due _
@@ -209,7 +209,7 @@ mutual
       ∙ make_step free rest _ due _
   part_read free _ _ _ _ rest (grammar.grouped t u d e from _ s o x c) end = λ due vs.
       opens_step free d t from (part primary d) _ due vs (ap (turn_primary d t.spot) s) o
-      ∙ part_read free expr (d + 1) from e (u ∷ rest) x (ap (ends expr) c) _ vs
+      ∙ part_read free expr (d + 1) from e (u ∷ rest) x (ap (part_ends expr) c) _ vs
       ∙ symbol_step free u rest symbols.CloseRound _ _ c
       ∙ make_step free rest _ due _
 
@@ -230,17 +230,17 @@ mutual
 
   -- expressions after those of acc, and the symbol that closes them
   pub exprs_read : (free d : ℕ) (from : List Token) (es : PExprs) (v : Token) (rest : List Token) (s : Symbol) (acc : PExprs) (due : List Due) (vs : List Value) →
-      IsExprs free d from es (v ∷ rest) → IsSymbol s v → ends expr (kinds.Symbol s) ≡ true → is_symbol symbols.Comma (kinds.Symbol s) ≡ false →
-      read free from (part expr d ∷ make listed ∷ exprs_more d ∷ symbol s ∷ due) (many acc ∷ vs) ≡ read free rest due (many (all_of acc es) ∷ vs)
+      IsExprs free d from es (v ∷ rest) → IsSymbol s v → part_ends expr (kinds.Symbol s) ≡ true → is_symbol symbols.Comma (kinds.Symbol s) ≡ false →
+      read free from (part expr d ∷ make list_made ∷ exprs_more d ∷ symbol s ∷ due) (many acc ∷ vs) ≡ read free rest due (many (all_of acc es) ∷ vs)
   exprs_read free _ _ _ v rest s acc due vs (grammar.one d e from _ x) c end comma =
-      part_read free expr d from e (v ∷ rest) x (ap (ends expr) c ∙ end) _ _
-      ∙ make_step free (v ∷ rest) listed _ _
+      part_read free expr d from e (v ∷ rest) x (ap (part_ends expr) c ∙ end) _ _
+      ∙ make_step free (v ∷ rest) list_made _ _
       ∙ exprs_left free d s v rest due _ c comma
       ∙ ap (λ es. read free rest due (many es ∷ vs)) (behind-all_of acc e)
   exprs_read free _ _ _ v rest s acc due vs (grammar.comma t d e es from after _ x k y) c end comma =
-      part_read free expr d from e (t ∷ after) x (ap (ends expr) k) _ _
-      ∙ make_step free (t ∷ after) listed _ _
-      ∙ takes_step free t after (exprs_more d) _ _ _ (ap (λ k. either (is_symbol symbols.Comma k) (takes plain (part expr d ∷ make listed ∷ exprs_more d ∷ [])) skips) k)
+      part_read free expr d from e (t ∷ after) x (ap (part_ends expr) k) _ _
+      ∙ make_step free (t ∷ after) list_made _ _
+      ∙ takes_step free t after (exprs_more d) _ _ _ (ap (λ k. either (is_symbol symbols.Comma k) (takes plain (part expr d ∷ make list_made ∷ exprs_more d ∷ [])) skips) k)
       ∙ exprs_read free d after es v rest s (behind acc e) due vs y c end comma
       ∙ ap (λ es. read free rest due (many es ∷ vs)) (all_of-behind acc e es)
 

@@ -9,9 +9,9 @@ use Rattle.algol_tree.specs.declared.level.Level.{Level}
 use Rattle.algol_tree.specs.declared.level.Level.TheVariants as levels
 use Rattle.algol_tree.specs.Tokens.{is_symbol}
 use Rattle.algol_tree.specs.Operators.{level, rel, operand, operator, relop}
-use Rattle.algol_tree.specs.Ends.{nothing, ends_primary, ends}
+use Rattle.algol_tree.specs.Ends.{nothing, ends_primary, part_ends}
 
-pub level_ends : (l : Level) (k : TokenKind) → ends (level l) k ≡ (ends (operand l) k && nothing (operator l k))
+pub level_ends : (l : Level) (k : TokenKind) → part_ends (level l) k ≡ (part_ends (operand l) k && nothing (operator l k))
 level_ends levels.Eqv k = refl
 level_ends levels.Imp k = refl
 level_ends levels.Or k = refl
@@ -29,7 +29,7 @@ nothing_is None e = refl
 nothing_is (Some op) e = cc
 
 -- an operator ends what stands before it
-pub operator_ends : (l : Level) (k : TokenKind) (op : Op) → operator l k ≡ Some op → ends (operand l) k ≡ true
+pub operator_ends : (l : Level) (k : TokenKind) (op : Op) → operator l k ≡ Some op → part_ends (operand l) k ≡ true
 operator_ends levels.Eqv (kinds.Word reserved.Eqv) op e = refl
 operator_ends levels.Imp (kinds.Word reserved.Imp) op e = refl
 operator_ends levels.Or (kinds.Word reserved.Or) op e = refl
@@ -42,7 +42,7 @@ operator_ends levels.Term (kinds.Word reserved.Div) op e = refl
 operator_ends levels.Term (kinds.Word reserved.Mod) op e = refl
 operator_ends l k op e = cc
 
-pub relop_ends : (k : TokenKind) (op : Op) → relop k ≡ Some op → ends (level levels.Sum) k ≡ true
+pub relop_ends : (k : TokenKind) (op : Op) → relop k ≡ Some op → part_ends (level levels.Sum) k ≡ true
 relop_ends (kinds.Word reserved.Lss) op e = refl
 relop_ends (kinds.Word reserved.Leq) op e = refl
 relop_ends (kinds.Word reserved.Eql) op e = refl
@@ -58,18 +58,18 @@ relop_ends (kinds.Symbol symbols.Greater) op e = refl
 relop_ends k op e = cc
 
 -- what a level begins with ends before what the level goes on with
-pub operand_ends : (l : Level) (k : TokenKind) → ends (level l) k ≡ true → ends (operand l) k ≡ true
-operand_ends l k e = (both (ends (operand l) k) (nothing (operator l k)) (sym' e)).0
+pub operand_ends : (l : Level) (k : TokenKind) → part_ends (level l) k ≡ true → part_ends (operand l) k ≡ true
+operand_ends l k e = (both (part_ends (operand l) k) (nothing (operator l k)) (sym' e)).0
   where
-    sym' : ends (level l) k ≡ true → (ends (operand l) k && nothing (operator l k)) ≡ true
+    sym' : part_ends (level l) k ≡ true → (part_ends (operand l) k && nothing (operator l k)) ≡ true
     sym' e = rw (level_ends l k) at e
 
 -- and the level doesn't go on
-pub level_over : (l : Level) (k : TokenKind) → ends (level l) k ≡ true → operator l k ≡ None
-level_over l k e = nothing_is (operator l k) (both (ends (operand l) k) (nothing (operator l k)) (rw (level_ends l k) at e)).1
+pub level_over : (l : Level) (k : TokenKind) → part_ends (level l) k ≡ true → operator l k ≡ None
+level_over l k e = nothing_is (operator l k) (both (part_ends (operand l) k) (nothing (operator l k)) (rw (level_ends l k) at e)).1
 
-pub rel_ends : (k : TokenKind) → ends rel k ≡ true → (ends (level levels.Sum) k ≡ true) × (relop k ≡ None)
-rel_ends k e = let p = both (ends (level levels.Sum) k) (nothing (relop k)) e in (p.0, nothing_is (relop k) p.1)
+pub rel_ends : (k : TokenKind) → part_ends rel k ≡ true → (part_ends (level levels.Sum) k ≡ true) × (relop k ≡ None)
+rel_ends k e = let p = both (part_ends (level levels.Sum) k) (nothing (relop k)) e in (p.0, nothing_is (relop k) p.1)
 
 pub primary_over : (k : TokenKind) → ends_primary k ≡ true → (is_symbol symbols.OpenSquare k ≡ false) × (is_symbol symbols.OpenRound k ≡ false)
 primary_over (kinds.Symbol symbols.OpenSquare) e = cc

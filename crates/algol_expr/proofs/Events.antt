@@ -7,7 +7,7 @@ use Rattle.algol_tree.specs.declared.token.Reserved.TheVariants as reserved
 use Rattle.algol_tree.specs.Due.{Value, event_named, event_names, Due, make, symbol, part, opening, event, events_more, plain, takes, skips, either}
 use Rattle.algol_tree.specs.DueExpr.{event_added, waited}
 use Rattle.algol_tree.specs.Reading.{read}
-use Rattle.algol_tree.specs.Found.{Passes, Finds, Fails, Lists}
+use Rattle.algol_tree.specs.Found.{TokenPasses, ReaderFinds, Fails, Lists}
 use Rattle.algol_tree.specs.declared.token.Token.{Token}
 use Rattle.algol_tree.specs.declared.token.TokenKind.TheVariants as kinds
 use Rattle.algol_tree.specs.declared.token.Symbol.TheVariants as symbols
@@ -26,7 +26,7 @@ pub record EventsGoOn (tokens : List Token) (events : List EventName) (rest : Li
 
 -- an event and what is due after it
 event_added_at : (tokens rest after : List Token) (found new : List EventName) (e : EventName) → new ≡ found ++ e ∷ [] →
-    EventsGoOn tokens found rest → Finds event rest (event_named e) after →
+    EventsGoOn tokens found rest → ReaderFinds event rest (event_named e) after →
     Reaches events_in (event_names [] ∷ []) tokens (events_more ∷ symbol symbols.CloseRound ∷ []) (event_names new ∷ []) after
 event_added_at tokens rest after found new e is g f = making (via g.run f) (λ vs. ap (λ es. event_names es ∷ vs) (sym is))
 
@@ -38,7 +38,7 @@ events_begin tokens events e ended = record {
 }
 
 pub events_go_on : (tokens rest after : List Token) (t : Token) (ts : List Token) (found new : List EventName) (e : EventName) → new ≡ found ++ e ∷ [] →
-    EventsGoOn tokens found rest → Finds event rest (event_named e) after → after ≡ t ∷ ts → is_symbol symbols.Comma t.kind ≡ true → EventsGoOn tokens new ts
+    EventsGoOn tokens found rest → ReaderFinds event rest (event_named e) after → after ≡ t ∷ ts → is_symbol symbols.Comma t.kind ≡ true → EventsGoOn tokens new ts
 events_go_on tokens rest after t ts found new e more g f is comma =
     let b = behind_first t ts (subst EndsOnce is f.behind.ended) (λ q. let no : kinds.Symbol symbols.Comma ≡ kinds.End = sym (symbol_from t.kind symbols.Comma comma) ∙ q in cc) in
     record {
@@ -50,7 +50,7 @@ events_go_on tokens rest after t ts found new e more g f is comma =
     }
 
 events_over : (tokens rest after : List Token) (t : Token) (ts : List Token) (found new : List EventName) (e : EventName) → new ≡ found ++ e ∷ [] →
-    EventsGoOn tokens found rest → Finds event rest (event_named e) after → after ≡ t ∷ ts → is_symbol symbols.Comma t.kind ≡ false →
+    EventsGoOn tokens found rest → ReaderFinds event rest (event_named e) after → after ≡ t ∷ ts → is_symbol symbols.Comma t.kind ≡ false →
     Reaches events_in (event_names [] ∷ []) tokens (symbol symbols.CloseRound ∷ []) (event_names new ∷ []) after
 events_over tokens rest after t ts found new e more g f is comma =
     turning (event_added_at tokens rest after found new e more g f)
@@ -58,8 +58,8 @@ events_over tokens rest after t ts found new e more g f is comma =
     (ap (λ b. either b (takes plain (event ∷ make event_added ∷ events_more ∷ [])) skips) comma)))
 
 pub events_done : (tokens rest after end : List Token) (t : Token) (ts : List Token) (found new : List EventName) (e : EventName) → new ≡ found ++ e ∷ [] →
-    EventsGoOn tokens found rest → Finds event rest (event_named e) after → after ≡ t ∷ ts → is_symbol symbols.Comma t.kind ≡ false →
-    Passes (symbol symbols.CloseRound) after end → Lists events_in tokens (event_names []) (event_names new) end
+    EventsGoOn tokens found rest → ReaderFinds event rest (event_named e) after → after ≡ t ∷ ts → is_symbol symbols.Comma t.kind ≡ false →
+    TokenPasses (symbol symbols.CloseRound) after end → Lists events_in tokens (event_names []) (event_names new) end
 events_done tokens rest after end t ts found new e more g f is comma p = record {
   run = λ due vs. (past (events_over tokens rest after t ts found new e more g f is comma) p).run due vs;
   behind = record { ended = p.behind.ended; shorter = omega (arith, p.behind.shorter, f.behind.shorter, g.no_longer) };
@@ -70,12 +70,12 @@ pub events_fail : (tokens rest : List Token) (found : List EventName) (left : �
 events_fail tokens rest found left e g f = failing g.run f
 
 pub events_fail_closing : (tokens rest after : List Token) (t : Token) (ts : List Token) (found new : List EventName) (e : EventName) (left : ℕ) (r : Refusal) →
-    new ≡ found ++ e ∷ [] → EventsGoOn tokens found rest → Finds event rest (event_named e) after → after ≡ t ∷ ts →
+    new ≡ found ++ e ∷ [] → EventsGoOn tokens found rest → ReaderFinds event rest (event_named e) after → after ≡ t ∷ ts →
     is_symbol symbols.Comma t.kind ≡ false → Fails (symbol symbols.CloseRound ∷ []) [] after left r → Fails events_in (event_names [] ∷ []) tokens left r
 events_fail_closing tokens rest after t ts found new e left r more g f is comma p = failing (events_over tokens rest after t ts found new e more g f is comma) p
 
 -- WAIT and the parenthesis after it, and then a list of events
-pub wait_opens : (d : ℕ) (t : Token) (ts mid : List Token) → is_word reserved.Wait t.kind ≡ true → Passes (opening symbols.OpenRound d) ts mid →
+pub wait_opens : (d : ℕ) (t : Token) (ts mid : List Token) → is_word reserved.Wait t.kind ≡ true → TokenPasses (opening symbols.OpenRound d) ts mid →
     Reaches (part primary d ∷ []) [] (t ∷ ts) (events_in ++ make (waited t.spot) ∷ []) (event_names [] ∷ []) mid
 wait_opens d t ts mid w p = making (past (waited_starts d t ts w) p) (λ vs. refl)
 

@@ -8,10 +8,10 @@ use Rattle.algol_tree.specs.declared.token.Token.{Token}
 use Rattle.algol_tree.specs.declared.refusal.Code.TheVariants as codes
 use Rattle.algol_tree.specs.Plain.{PExpr}
 use Rattle.algol_tree.specs.Operators.{expr}
-use Rattle.algol_tree.specs.Expressions.{IsPart, IsShort, IsWhole}
+use Rattle.algol_tree.specs.Expressions.{IsExprPart, IsShortExpression, IsWholeExpression}
 use Rattle.algol_tree.specs.Refused.{Expressions, IsUnexpected, IsTooDeep, IsLongest}
 use Rattle.algol_tree.specs.Due.{Value, one, Due, part}
-use Rattle.algol_tree.specs.Reading.{Count, outside, Step, goes, over, stops, step, Reading, to, refused, cut_off, read_on, judged, reading, read}
+use Rattle.algol_tree.specs.Reading.{Count, outside, ReadingStep, goes, over, stops, step, Reading, to, refused, cut_off, read_on, judged, reading, read}
 use Rattle.algol_expr.proofs.Inner.{Inners}
 use Rattle.algol_expr.proofs.Turns.{read_nothing}
 use Rattle.algol_expr.proofs.Steps.{strict, judged_strict, inner_goes, step_any, stop_any, over_any, would_go, step_code}
@@ -25,14 +25,14 @@ use Rattle.algol_expr.proofs.Idle.{cut_short}
 abbrev pub all_due : ℕ → List Due
 all_due d = part expr d ∷ []
 
-made_part : (free d : ℕ) (from : List Token) (ws : List Value) → IsAll free (all_due d) [] from ws [] → (e : PExpr) × IsPart free expr d from e []
+made_part : (free d : ℕ) (from : List Token) (ws : List Value) → IsAll free (all_due d) [] from ws [] → (e : PExpr) × IsExprPart free expr d from e []
 made_part free d from ws (cons _ _ _ _ _ _ _ _ x (nil _ _)) = of_makes ws [] x
   where
-    of_makes : (ws : List Value) (rest : List Token) → Makes free expr d from [] ws rest → (e : PExpr) × IsPart free expr d from e rest
+    of_makes : (ws : List Value) (rest : List Token) → Makes free expr d from [] ws rest → (e : PExpr) × IsExprPart free expr d from e rest
     of_makes _ _ (it e rest x) = (e, x)
 
 -- an expression is read, whatever its limits
-whole_reads : (free d : ℕ) (text : List Token) (e : PExpr) → IsWhole free d text e [] → read free text (all_due d) [] ≡ to [] (one e ∷ [])
+whole_reads : (free d : ℕ) (text : List Token) (e : PExpr) → IsWholeExpression free d text e [] → read free text (all_due d) [] ≡ to [] (one e ∷ [])
 whole_reads free d text e x = part_read free expr d text e [] x.reads tt [] [] ∙ read_nothing free [] (one e ∷ [])
 
 module _ (d : ℕ) (front : List Token) (t : Token) (ds : List Due) (us : List Value) (f : Fed (all_due d) [] front ds us) where
@@ -150,7 +150,7 @@ unfolding reading
 goes_over [] t rest due vs i later = at_token (step strict due t.spot t.kind outside vs) refl
     (subst (λ j. IsLater (read_on (step j due t.spot t.kind outside vs) t rest (reading 0 rest)) (length (t ∷ rest))) (judged_strict 0 t rest (omega arith)) later)
   where
-    at_token : (x : Step) → step strict due t.spot t.kind outside vs ≡ x → IsLater (read_on x t rest (reading 0 rest)) (length (t ∷ rest)) → GoesOver due vs [] t
+    at_token : (x : ReadingStep) → step strict due t.spot t.kind outside vs ≡ x → IsLater (read_on x t rest (reading 0 rest)) (length (t ∷ rest)) → GoesOver due vs [] t
     at_token (goes c es xs) is later = record { ds = due; us = vs; es = es; xs = xs; fed_so = nothing_fed due vs; so = goes_steady strict due t.spot t.kind vs c es xs i is }
     at_token (over c xs) is later = absurd (omega arith)
     at_token (stops spot code) is later = absurd (omega arith)
@@ -159,7 +159,7 @@ goes_over (u ∷ front) t rest due vs i later = at_token (step strict due u.spot
     (judged_strict 0 u (front ++ t ∷ rest) (omega arith)) later)
     (λ ds us i later. goes_over front t rest ds us i later)
   where
-    at_token : (x : Step) → step strict due u.spot u.kind outside vs ≡ x → IsLater (read_on x u (front ++ t ∷ rest) (reading 0 (front ++ t ∷ rest))) (length (t ∷ rest)) →
+    at_token : (x : ReadingStep) → step strict due u.spot u.kind outside vs ≡ x → IsLater (read_on x u (front ++ t ∷ rest) (reading 0 (front ++ t ∷ rest))) (length (t ∷ rest)) →
         ((ds : List Due) (us : List Value) → Inners ds → IsLater (read 0 (front ++ t ∷ rest) ds us) (length (t ∷ rest)) → GoesOver ds us front t) →
         GoesOver due vs (u ∷ front) t
     at_token (goes c ds us) is later more =
@@ -194,7 +194,7 @@ long_exact d front t rest e later =
       none = λ more x. too_long more (x.1).short;
     }
   where
-    too_long : (more : List Token) → IsShort (length more) (front ++ t ∷ more) [] → ⊥
+    too_long : (more : List Token) → IsShortExpression (length more) (front ++ t ∷ more) [] → ⊥
     too_long more (inl le) = grind (arith, length-append, e)
     too_long more (inr le) = grind (arith, length-append, e)
 

@@ -12,8 +12,8 @@ use Rattle.algol_tree.specs.Plain as trees
 use Rattle.algol_tree.specs.Plain.{none}
 use Rattle.algol_tree.specs.Tokens.{is_symbol}
 use Rattle.algol_tree.specs.Operators.{Part, expr, level, not_part, rel, primary, operator, relop}
-use Rattle.algol_tree.specs.Due.{Value, one, event_named, put, Due, make, word, symbol, spelled, part, more_of, relation, behind_name, exprs_more, opening, event, events_more, behind_event, plain, nests, takes, makes, skips, either, optional}
-use Rattle.algol_tree.specs.DueExpr.{event_added, listed, element, applied, exprs_in, on_with, related}
+use Rattle.algol_tree.specs.Due.{Value, one, event_named, value_put, Due, make, word, symbol, spelled, part, more_of, relation, behind_name, exprs_more, opening, event, events_more, behind_event, plain, nests, takes, makes, skips, either, optional}
+use Rattle.algol_tree.specs.DueExpr.{event_added, list_made, element, applied, exprs_in, on_with, related}
 use Rattle.algol_tree.specs.Reading.{Count, outside, goes, stops, unless, stepped, step, cut_off, read_end, unjudged, nowhere}
 use Rattle.algol_expr.proofs.Ends.{operator_end}
 use Rattle.algol_expr.proofs.Steps.{strict}
@@ -51,13 +51,13 @@ module _ (due : List Due) (here spot : Spot) (k : TokenKind) (vs : List Value) w
   test_cut true ds e again = cc
   test_cut false ds e again = again e
 
-  event_cut : (b : Bool) (ds : List Due) (v : Value) → stepped strict outside here (either b (takes plain ds) (makes (put v))) due vs (step strict due here k)
+  event_cut : (b : Bool) (ds : List Due) (v : Value) → stepped strict outside here (either b (takes plain ds) (makes (value_put v))) due vs (step strict due here k)
       ≡ stops spot refusal_codes.Unexpected → (step strict due here k outside (v ∷ vs) ≡ stops spot refusal_codes.Unexpected → IsCut due (v ∷ vs)) → IsCut due (v ∷ vs)
   event_cut true ds v e again = cc
   event_cut false ds v e again = again e
 
   name_cut : (a b : Bool) (d : ℕ) (ds es : List Due) (v : Value) →
-      stepped strict outside here (either a (takes (nests d) ds) (either b (takes (nests d) es) (makes (put v)))) due vs (step strict due here k)
+      stepped strict outside here (either a (takes (nests d) ds) (either b (takes (nests d) es) (makes (value_put v)))) due vs (step strict due here k)
       ≡ stops spot refusal_codes.Unexpected → (step strict due here k outside (v ∷ vs) ≡ stops spot refusal_codes.Unexpected → IsCut due (v ∷ vs)) → IsCut due (v ∷ vs)
   name_cut true b d ds es v e again = absurd (unless_deep (nat_le MOST_NESTING d && true) here spot outside (ds ++ due) vs e)
   name_cut false true d ds es v e again = absurd (unless_deep (nat_le MOST_NESTING d && true) here spot outside (es ++ due) vs e)
@@ -80,7 +80,7 @@ cut_short (behind_name n d ∷ due) here k vs spot i e =
     name_cut due here spot k vs (is_symbol symbols.OpenSquare k) (is_symbol symbols.OpenRound k) d (exprs_in d symbols.CloseSquare (element n)) (exprs_in d symbols.CloseRound (applied n)) v e
     (cut_short due here k (v ∷ vs) spot i.1)
 cut_short (exprs_more d ∷ due) here k vs spot i e =
-    test_cut due here spot k vs (is_symbol symbols.Comma k) (part expr d ∷ make listed ∷ exprs_more d ∷ []) e (cut_short due here k vs spot i.1)
+    test_cut due here spot k vs (is_symbol symbols.Comma k) (part expr d ∷ make list_made ∷ exprs_more d ∷ []) e (cut_short due here k vs spot i.1)
 cut_short (opening s d ∷ due) here k vs spot i e = refl
 cut_short (event ∷ due) here k vs spot i e = refl
 cut_short (events_more ∷ due) here k vs spot i e =

@@ -11,7 +11,7 @@ use Rattle.algol_tree.specs.Tokens.{is_word, is_symbol, is_spelled}
 use Rattle.algol_tree.specs.Operators.{Part, expr, level, not_part, rel, primary, operator, relop}
 use Rattle.algol_tree.specs.Due.{Due, make, word, symbol, spelled, part, more_of, relation, behind_name, exprs_more, opening, event, events_more, behind_event, plain, nests, Turn, takes, skips, closes, refuses, followed, either, optional}
 use Rattle.algol_tree.specs.DueExpr.{is_sign, turn_event, turn_primary, turn_term, turn_sum, turn_rel, turn_not, turn_and, turn_or, turn_imp, turn_eqv, turn_expr, turn_part, on_with, related}
-use Rattle.algol_tree.specs.Reading.{turn}
+use Rattle.algol_tree.specs.Reading.{reading_turn}
 
 -- it is of an expression
 abbrev pub IsInner : Due → Type 0
@@ -117,7 +117,7 @@ event_stays : (spot : Spot) (k : TokenKind) → Stays (turn_event spot k)
 event_stays spot (kinds.Name name) = (tt, tt)
 event_stays spot k = tt
 
-pub inner_stays : (s : Due) (spot : Spot) (k : TokenKind) → IsInner s → Stays (turn s spot k)
+pub inner_stays : (s : Due) (spot : Spot) (k : TokenKind) → IsInner s → Stays (reading_turn s spot k)
 inner_stays (make m) spot k i = tt
 inner_stays (word w) spot k i = either_stays (is_word w k) (takes plain []) refuses tt tt
 inner_stays (symbol s) spot k i = either_stays (is_symbol s k) (takes plain []) refuses tt tt

@@ -10,10 +10,10 @@ use Rattle.algol_tree.specs.declared.refusal.Code.{Code}
 use Rattle.algol_tree.specs.declared.refusal.Code.TheVariants as codes
 use Rattle.std.proofs.lemmas.List.{append-nil}
 use Rattle.algol_tree.specs.Operators.{expr}
-use Rattle.algol_tree.specs.Expressions.{IsShort}
+use Rattle.algol_tree.specs.Expressions.{IsShortExpression}
 use Rattle.algol_tree.specs.Due.{Value, Due, part, whole, whole_ends, plain, nests, label, begun, Turn, takes, makes, skips, closes, refuses, followed, begins}
 use Rattle.algol_tree.specs.DueExpr.{turn_expr}
-use Rattle.algol_tree.specs.Reading.{turn, Count, outside, inside, full, Judged, Step, goes, over, stops, unless, stepped, step, to, refused, read_on, read_end, judged, unjudged, nowhere, reading, read}
+use Rattle.algol_tree.specs.Reading.{reading_turn, Count, outside, inside, full, Judged, ReadingStep, goes, over, stops, unless, stepped, step, to, refused, read_on, read_end, judged, unjudged, nowhere, reading, read}
 use Rattle.algol_expr.proofs.Reading.{Takes, taken, refused_, joined, step-append}
 use Rattle.algol_expr.proofs.Sound.{part_takes}
 use Rattle.algol_expr.proofs.Exact.{IsLater}
@@ -29,7 +29,7 @@ unless_in false here c a n es ds vs us e = let p = goes_is a n es ds vs us e in 
 goes_inside : (j : Judged) (c : ℕ) (due : List Due) (here : Spot) (k : TokenKind) (vs : List Value) (n : Count) (ds : List Due) (us : List Value) → Inners due →
     (full (inside c) && j.here) ≡ false → step j due here k outside vs ≡ goes n ds us → step j due here k (inside c) vs ≡ goes (inside (c + 1)) ds us
 goes_inside j c [] here k vs n ds us i room e = cc
-goes_inside j c (s ∷ due) here k vs n ds us i room e = by_turn (turn s here k) (inner_stays s here k i.0) e (λ vs e. goes_inside j c due here k vs n ds us i.1 room e)
+goes_inside j c (s ∷ due) here k vs n ds us i room e = by_turn (reading_turn s here k) (inner_stays s here k i.0) e (λ vs e. goes_inside j c due here k vs n ds us i.1 room e)
   where
     by_turn : (x : Turn) → Stays x → stepped j outside here x due vs (step j due here k) ≡ goes n ds us →
         ((vs : List Value) → step j due here k outside vs ≡ goes n ds us → step j due here k (inside c) vs ≡ goes (inside (c + 1)) ds us) →
@@ -49,7 +49,7 @@ goes_inside j c (s ∷ due) here k vs n ds us i room e = by_turn (turn s here k)
 full_inside : (j : Judged) (c : ℕ) (due : List Due) (here : Spot) (k : TokenKind) (vs : List Value) (n : Count) (ds : List Due) (us : List Value) → Inners due →
     (full (inside c) && j.here) ≡ true → step j due here k outside vs ≡ goes n ds us → step j due here k (inside c) vs ≡ stops here codes.TooDeep
 full_inside j c [] here k vs n ds us i room e = cc
-full_inside j c (s ∷ due) here k vs n ds us i room e = by_turn (turn s here k) (inner_stays s here k i.0) e (λ vs e. full_inside j c due here k vs n ds us i.1 room e)
+full_inside j c (s ∷ due) here k vs n ds us i room e = by_turn (reading_turn s here k) (inner_stays s here k i.0) e (λ vs e. full_inside j c due here k vs n ds us i.1 room e)
   where
     by_turn : (x : Turn) → Stays x → stepped j outside here x due vs (step j due here k) ≡ goes n ds us →
         ((vs : List Value) → step j due here k outside vs ≡ goes n ds us → step j due here k (inside c) vs ≡ stops here codes.TooDeep) →
@@ -66,7 +66,7 @@ full_inside j c (s ∷ due) here k vs n ds us i room e = by_turn (turn s here k)
 over_inside : (j : Judged) (c : ℕ) (due : List Due) (here : Spot) (k : TokenKind) (vs : List Value) (n : Count) (us : List Value) → Inners due →
     step j due here k outside vs ≡ over n us → step j due here k (inside c) vs ≡ over (inside c) us
 over_inside j c [] here k vs n us i e = let same : vs ≡ us = cc in ap (over (inside c)) same
-over_inside j c (s ∷ due) here k vs n us i e = by_turn (turn s here k) (inner_stays s here k i.0) e (λ vs e. over_inside j c due here k vs n us i.1 e)
+over_inside j c (s ∷ due) here k vs n us i e = by_turn (reading_turn s here k) (inner_stays s here k i.0) e (λ vs e. over_inside j c due here k vs n us i.1 e)
   where
     by_turn : (x : Turn) → Stays x → stepped j outside here x due vs (step j due here k) ≡ over n us →
         ((vs : List Value) → step j due here k outside vs ≡ over n us → step j due here k (inside c) vs ≡ over (inside c) us) →
@@ -86,7 +86,7 @@ over_inside j c (s ∷ due) here k vs n us i e = by_turn (turn s here k) (inner_
 stop_inside : (j : Judged) (c : ℕ) (due : List Due) (here : Spot) (k : TokenKind) (vs : List Value) (spot : Spot) (code : Code) → Inners due →
     step j due here k outside vs ≡ stops spot code → step j due here k (inside c) vs ≡ stops spot code
 stop_inside j c [] here k vs spot code i e = cc
-stop_inside j c (s ∷ due) here k vs spot code i e = by_turn (turn s here k) (inner_stays s here k i.0) e (λ vs e. stop_inside j c due here k vs spot code i.1 e)
+stop_inside j c (s ∷ due) here k vs spot code i e = by_turn (reading_turn s here k) (inner_stays s here k i.0) e (λ vs e. stop_inside j c due here k vs spot code i.1 e)
   where
     by_turn : (x : Turn) → Stays x → stepped j outside here x due vs (step j due here k) ≡ stops spot code →
         ((vs : List Value) → step j due here k outside vs ≡ stops spot code → step j due here k (inside c) vs ≡ stops spot code) →
@@ -121,13 +121,13 @@ to_shorter : (free : ℕ) (ts : List Token) (c : Count) (due : List Due) (vs : L
 unfolding reading
 to_shorter free [] c due vs rest ws e = at_end (step unjudged due nowhere kinds.End c vs) e
   where
-    at_end : (x : Step) → read_end x ≡ to rest ws → length rest ≤ 0
+    at_end : (x : ReadingStep) → read_end x ≡ to rest ws → length rest ≤ 0
     at_end (goes n ds us) e = cc
     at_end (over n us) e = let same : [] ≡ rest = cc in omega (arith, ap length same)
     at_end (stops spot code) e = cc
 to_shorter free (t ∷ ts) c due vs rest ws e = at_token (step (judged free (t ∷ ts)) due t.spot t.kind c vs) e (λ n ds us e. to_shorter free ts n ds us rest ws e)
   where
-    at_token : (x : Step) → read_on x t ts (reading free ts) ≡ to rest ws →
+    at_token : (x : ReadingStep) → read_on x t ts (reading free ts) ≡ to rest ws →
         ((n : Count) (ds : List Due) (us : List Value) → reading free ts n ds us ≡ to rest ws → length rest ≤ length ts) → length rest ≤ length (t ∷ ts)
     at_token (goes n ds us) e more = omega (arith, more n ds us e)
     at_token (over n us) e more = let same : t ∷ ts ≡ rest = cc in omega (arith, ap length same)
@@ -138,13 +138,13 @@ refused_shorter : (free : ℕ) (ts : List Token) (c : Count) (due : List Due) (v
 unfolding reading
 refused_shorter free [] c due vs left spot code e = at_end (step unjudged due nowhere kinds.End c vs) e
   where
-    at_end : (x : Step) → read_end x ≡ refused left spot code → left ≤ 0
+    at_end : (x : ReadingStep) → read_end x ≡ refused left spot code → left ≤ 0
     at_end (goes n ds us) e = cc
     at_end (over n us) e = cc
     at_end (stops place c) e = cc
 refused_shorter free (t ∷ ts) c due vs left spot code e = at_token (step (judged free (t ∷ ts)) due t.spot t.kind c vs) e (λ n ds us e. refused_shorter free ts n ds us left spot code e)
   where
-    at_token : (x : Step) → read_on x t ts (reading free ts) ≡ refused left spot code →
+    at_token : (x : ReadingStep) → read_on x t ts (reading free ts) ≡ refused left spot code →
         ((n : Count) (ds : List Due) (us : List Value) → reading free ts n ds us ≡ refused left spot code → left ≤ length ts) → left ≤ length (t ∷ ts)
     at_token (goes n ds us) e more = omega (arith, more n ds us e)
     at_token (over n us) e more = cc
@@ -158,7 +158,7 @@ module _ (free : ℕ) (due : List Due) where
   unfolding reading
   found_inside [] c a vs rest ws i room e = at_end (step unjudged a nowhere kinds.End outside vs) refl e
     where
-      at_end : (x : Step) → step unjudged a nowhere kinds.End outside vs ≡ x → read_end x ≡ to rest ws →
+      at_end : (x : ReadingStep) → step unjudged a nowhere kinds.End outside vs ≡ x → read_end x ≡ to rest ws →
           reading free [] (inside c) (a ++ whole_ends ∷ due) vs ≡ read free rest due ws
       at_end (goes n ds us) is e = cc
       at_end (over n us) is e =
@@ -171,7 +171,7 @@ module _ (free : ℕ) (due : List Due) where
   found_inside (t ∷ ts) c a vs rest ws i room e = at_token (step (judged free (t ∷ ts)) a t.spot t.kind outside vs) refl e
       (λ ds us i room e. found_inside ts (c + 1) ds us rest ws i room e)
     where
-      at_token : (x : Step) → step (judged free (t ∷ ts)) a t.spot t.kind outside vs ≡ x → read_on x t ts (reading free ts) ≡ to rest ws →
+      at_token : (x : ReadingStep) → step (judged free (t ∷ ts)) a t.spot t.kind outside vs ≡ x → read_on x t ts (reading free ts) ≡ to rest ws →
           ((ds : List Due) (us : List Value) → Inners ds → HasRoom free (c + 1) ts (length rest) → read free ts ds us ≡ to rest ws →
           reading free ts (inside (c + 1)) (ds ++ whole_ends ∷ due) us ≡ read free rest due ws) →
           reading free (t ∷ ts) (inside c) (a ++ whole_ends ∷ due) vs ≡ read free rest due ws
@@ -197,14 +197,14 @@ module _ (free : ℕ) (due : List Due) where
   unfolding reading
   refused_inside [] c a vs left spot code i room e = at_end (step unjudged a nowhere kinds.End outside vs) e
     where
-      at_end : (x : Step) → read_end x ≡ refused left spot code → reading free [] (inside c) (a ++ whole_ends ∷ due) vs ≡ refused left spot code
+      at_end : (x : ReadingStep) → read_end x ≡ refused left spot code → reading free [] (inside c) (a ++ whole_ends ∷ due) vs ≡ refused left spot code
       at_end (goes n ds us) e = cc
       at_end (over n us) e = cc
       at_end (stops place k) e = cc
   refused_inside (t ∷ ts) c a vs left spot code i room e = at_token (step (judged free (t ∷ ts)) a t.spot t.kind outside vs) refl e
       (λ ds us i room e. refused_inside ts (c + 1) ds us left spot code i room e)
     where
-      at_token : (x : Step) → step (judged free (t ∷ ts)) a t.spot t.kind outside vs ≡ x → read_on x t ts (reading free ts) ≡ refused left spot code →
+      at_token : (x : ReadingStep) → step (judged free (t ∷ ts)) a t.spot t.kind outside vs ≡ x → read_on x t ts (reading free ts) ≡ refused left spot code →
           ((ds : List Due) (us : List Value) → Inners ds → HasRoom free (c + 1) ts left → read free ts ds us ≡ refused left spot code →
           reading free ts (inside (c + 1)) (ds ++ whole_ends ∷ due) us ≡ refused left spot code) →
           reading free (t ∷ ts) (inside c) (a ++ whole_ends ∷ due) vs ≡ refused left spot code
@@ -230,7 +230,7 @@ long_inside : (due : List Due) (front : List Token) (t : Token) (rest : List Tok
 unfolding reading
 long_inside due [] t rest c a vs i at later = at_token (step (judged 0 (t ∷ rest)) a t.spot t.kind outside vs) refl later
   where
-    at_token : (x : Step) → step (judged 0 (t ∷ rest)) a t.spot t.kind outside vs ≡ x → IsLater (read_on x t rest (reading 0 rest)) (length (t ∷ rest)) →
+    at_token : (x : ReadingStep) → step (judged 0 (t ∷ rest)) a t.spot t.kind outside vs ≡ x → IsLater (read_on x t rest (reading 0 rest)) (length (t ∷ rest)) →
         reading 0 (t ∷ rest) (inside c) (a ++ whole_ends ∷ due) vs ≡ refused (length (t ∷ rest)) t.spot codes.TooDeep
     at_token (goes n ds us) is later =
         let f : (full (inside c) && (judged 0 (t ∷ rest)).here) ≡ true = grind (arith, nat_tests) in
@@ -242,7 +242,7 @@ long_inside due [] t rest c a vs i at later = at_token (step (judged 0 (t ∷ re
 long_inside due (u ∷ front) t rest c a vs i at later = at_token (step (judged 0 (u ∷ (front ++ t ∷ rest))) a u.spot u.kind outside vs) refl later
     (λ ds us i later. long_inside due front t rest (c + 1) ds us i (omega (arith, at)) later)
   where
-    at_token : (x : Step) → step (judged 0 (u ∷ (front ++ t ∷ rest))) a u.spot u.kind outside vs ≡ x →
+    at_token : (x : ReadingStep) → step (judged 0 (u ∷ (front ++ t ∷ rest))) a u.spot u.kind outside vs ≡ x →
         IsLater (read_on x u (front ++ t ∷ rest) (reading 0 (front ++ t ∷ rest))) (length (t ∷ rest)) →
         ((ds : List Due) (us : List Value) → Inners ds → IsLater (read 0 (front ++ t ∷ rest) ds us) (length (t ∷ rest)) →
         reading 0 (front ++ t ∷ rest) (inside (c + 1)) (ds ++ whole_ends ∷ due) us ≡ refused (length (t ∷ rest)) t.spot codes.TooDeep) →
@@ -312,12 +312,12 @@ first_token free d t ts due vs = by_turn (turn_expr d t.spot t.kind) refl (part_
 
 -- what is read as an expression is read as one that stands in no other, where it is short
 pub whole_found : (free d : ℕ) (from : List Token) (vs : List Value) (rest : List Token) (ws : List Value) → read free from (part expr d ∷ []) vs ≡ to rest ws →
-    IsShort free from rest → (due : List Due) → read free from (whole d ∷ due) vs ≡ read free rest due ws
+    IsShortExpression free from rest → (due : List Due) → read free from (whole d ∷ due) vs ≡ read free rest due ws
 unfolding reading
 whole_found free d [] vs rest ws e short due = cc
 whole_found free d (t ∷ ts) vs rest ws e short due = by_first (first_token free d t ts due vs)
   where
-    room : IsShort free (t ∷ ts) rest → HasRoom free 1 ts (length rest)
+    room : IsShortExpression free (t ∷ ts) rest → HasRoom free 1 ts (length rest)
     room (inl le) = inl (omega (arith, le))
     room (inr le) = inr (omega (arith, le))
 

@@ -3,7 +3,7 @@ use Rattle.std.proofs.Common.{◌≡◌, ◌≤◌, ℕ, List, [], ◌∷◌, le
 use Rattle.algol_tree.specs.Ended.{EndsOnce}
 use Rattle.algol_tree.specs.Operators.{operand, operator}
 use Rattle.algol_tree.specs.Due.{one, part, more_of}
-use Rattle.algol_tree.specs.Found.{Finds, Extends, Fails}
+use Rattle.algol_tree.specs.Found.{ReaderFinds, Extends, Fails}
 use Rattle.algol_tree.specs.Plain.{PExpr, two}
 use Rattle.algol_tree.specs.declared.token.Token.{Token}
 use Rattle.algol_tree.specs.declared.level.Level.{Level}
@@ -23,7 +23,7 @@ operands_begin l d first tokens ended = record { run = record { run = λ due vs.
 
 module _ (l : Level) (d : ℕ) (first left : PExpr) (tokens rest : List Token) (t : Token) (ts : List Token) where
   pub operands_go_on : (op : Op) (right new : PExpr) (after : List Token) → ReadsOn l d first tokens left rest → rest ≡ t ∷ ts → operator l t.kind ≡ Some op →
-      Finds (part (operand l) d) ts (one right) after → new ≡ two op left right → ReadsOn l d first tokens new after
+      ReaderFinds (part (operand l) d) ts (one right) after → new ≡ two op left right → ReadsOn l d first tokens new after
   operands_go_on op right new after g at is f e = record {
     run = making (via (turning g.run (more_on l d rest t ts op [] at is)) f) (λ vs. ap (λ (x : PExpr). one x ∷ vs) (sym e));
     ended = f.behind.ended;

@@ -15,7 +15,7 @@ use Rattle.algol_tree.specs.Tokens.{is_word}
 use Rattle.algol_tree.specs.Operators.{Part, expr, level, not_part, rel, primary, operand, operator}
 use Rattle.algol_tree.specs.Due.{Value, Due, make, part, more_of, relation, plain, nests, takes, skips, refuses, followed, either, optional}
 use Rattle.algol_tree.specs.DueExpr.{is_sign, signs, signed, turn_primary, turn_term, turn_sum, turn_rel, turn_not, turn_and, turn_or, turn_imp, turn_eqv, on_with, of_one}
-use Rattle.algol_tree.specs.Reading.{turn, outside, to, cut_off, reading, read}
+use Rattle.algol_tree.specs.Reading.{reading_turn, outside, to, cut_off, reading, read}
 use Rattle.algol_expr.proofs.Reading.{Takes, taken, refused_, followed_takes, either_takes, read-followed, read-at, Leads}
 use Rattle.algol_expr.proofs.Turns.{word_from, refused_none, skips_step, skips_end, read_nothing}
 use Rattle.algol_expr.proofs.Ends.{operator_end}
@@ -79,7 +79,7 @@ sign_refuses d spot (kinds.Symbol symbols.Minus) e = refl
 sign_refuses d spot k e = cc
 
 -- so where a part is read, the test for that token is false
-pub tested : (free : ℕ) (b : Bool) (t : Token) (ts rest : List Token) (s : Due) (v : Value) → (b ≡ true → turn s t.spot t.kind ≡ refuses) →
+pub tested : (free : ℕ) (b : Bool) (t : Token) (ts rest : List Token) (s : Due) (v : Value) → (b ≡ true → reading_turn s t.spot t.kind ≡ refuses) →
     Leads free s (t ∷ ts) v rest → b ≡ false
 tested free true t ts rest s v r e = absurd (refused_none free t ts rest s [] [] (v ∷ []) (r refl) (e [] [] ∙ read_nothing free rest (v ∷ [])))
 tested free false t ts rest s v r e = refl

@@ -10,11 +10,11 @@ use Rattle.algol_tree.specs.declared.refusal.Refusal.TheVariants.{At, NoMemory}
 use Rattle.algol_tree.specs.Plain.{PExpr}
 use Rattle.algol_tree.specs.Ends.{Ends}
 use Rattle.algol_tree.specs.Operators.{expr}
-use Rattle.algol_tree.specs.Expressions.{IsWhole}
+use Rattle.algol_tree.specs.Expressions.{IsWholeExpression}
 use Rattle.algol_tree.specs.Refused.{RefusedExpression, IsLongest}
 use Rattle.algol_tree.specs.Due.{Value, one, part, whole}
 use Rattle.algol_tree.specs.Reading.{Reading, to, refused, outside, read}
-use Rattle.algol_tree.specs.Found.{Finds, Fails, Refuses}
+use Rattle.algol_tree.specs.Found.{ReaderFinds, Fails, ReaderRefuses}
 use Rattle.algol_expr.specs.Long.{IsLong}
 use Rattle.algol_expr.proofs.Turns.{read_nothing}
 use Rattle.algol_expr.proofs.Steps.{strict, step_code, IsCode, unexpected, too_deep}
@@ -23,23 +23,23 @@ use Rattle.algol_expr.proofs.Viable.{part_sound, RefusedAt, refused_at, over_at,
 use Rattle.algol_expr.proofs.Exact.{all_due, IsLater, unexpected_exact, deep_exact, long_exact, longest_exact}
 use Rattle.algol_expr.proofs.Lift.{whole_found, whole_refused, whole_long}
 
-module _ (d : ℕ) (tokens : List Token) (e : PExpr) (rest : List Token) (f : Finds (part expr d) tokens (one e) rest) where
+module _ (d : ℕ) (tokens : List Token) (e : PExpr) (rest : List Token) (f : ReaderFinds (part expr d) tokens (one e) rest) where
   found_to : (vs : List Value) → read 0 tokens (all_due d) vs ≡ to rest (one e ∷ vs)
   found_to vs = f.run [] vs ∙ read_nothing 0 rest (one e ∷ vs)
 
-  pub finds_reads : length tokens ≤ length rest + MOST_EXPRESSION_TOKENS → IsWhole 0 d tokens e rest
+  pub finds_reads : length tokens ≤ length rest + MOST_EXPRESSION_TOKENS → IsWholeExpression 0 d tokens e rest
   finds_reads short = record { reads = part_sound 0 expr d tokens rest e (found_to []); short = inl short }
 
-  pub finds_only : (g : PExpr) (other : List Token) → IsWhole 0 d tokens g other → Ends expr other → (g ≡ e) × (other ≡ rest)
+  pub finds_only : (g : PExpr) (other : List Token) → IsWholeExpression 0 d tokens g other → Ends expr other → (g ≡ e) × (other ≡ rest)
   finds_only g other x end =
       let same : to other (one g ∷ []) ≡ to rest (one e ∷ []) = sym (part_read 0 expr d tokens g other x.reads end [] [] ∙ read_nothing 0 other (one g ∷ [])) ∙ found_to [] in
       (cc, cc)
 
-  pub finds_whole : length tokens ≤ length rest + MOST_EXPRESSION_TOKENS → Finds (whole d) tokens (one e) rest
+  pub finds_whole : length tokens ≤ length rest + MOST_EXPRESSION_TOKENS → ReaderFinds (whole d) tokens (one e) rest
   finds_whole short = record { run = λ due vs. whole_found 0 d tokens vs rest (one e ∷ vs) (found_to vs) (inl short) due; behind = f.behind }
 
 -- it ends before the first token that no expression has there
-pub finds_longest : (d : ℕ) (tokens : List Token) (e : PExpr) (rest : List Token) → Finds (part expr d) tokens (one e) rest → IsLongest d tokens rest
+pub finds_longest : (d : ℕ) (tokens : List Token) (e : PExpr) (rest : List Token) → ReaderFinds (part expr d) tokens (one e) rest → IsLongest d tokens rest
 finds_longest d tokens e [] f = absurd f.behind.ended
 finds_longest d tokens e (t ∷ rest) f =
     let o = over_at tokens (all_due d) [] t rest (one e ∷ []) (tt, tt) (found_to d tokens e (t ∷ rest) f []) in
@@ -55,7 +55,7 @@ module _ (d : ℕ) (tokens : List Token) (left : ℕ) (e : Refusal) (l : IsLong 
   long_refused r x is = subst (RefusedExpression d tokens) (sym l.refusal)
       (subst (λ ts. RefusedExpression d ts (At l.token.spot codes.TooDeep)) (sym l.is) (long_exact d l.front l.token l.rest l.place (later r x [] is)))
 
-  pub long_refuses : ((vs : List Value) → (r : Reading) × IsLater r (length (l.token ∷ l.rest)) × (read 0 tokens (all_due d) vs ≡ r)) → Refuses (whole d ∷ []) [] tokens e
+  pub long_refuses : ((vs : List Value) → (r : Reading) × IsLater r (length (l.token ∷ l.rest)) × (read 0 tokens (all_due d) vs ≡ r)) → ReaderRefuses (whole d ∷ []) [] tokens e
   long_refuses x = record {
     left = length (l.token ∷ l.rest);
     fails = record {
@@ -68,8 +68,8 @@ module _ (d : ℕ) (tokens : List Token) (left : ℕ) (e : Refusal) (l : IsLong 
 
 module _ (d : ℕ) (tokens : List Token) (left : ℕ) (e : Refusal) where
   -- where an expression was found
-  pub found_long : (x : PExpr) (rest : List Token) → Finds (part expr d) tokens (one x) rest → left ≡ length rest → IsLong tokens left e →
-      RefusedExpression d tokens e × Refuses (whole d ∷ []) [] tokens e
+  pub found_long : (x : PExpr) (rest : List Token) → ReaderFinds (part expr d) tokens (one x) rest → left ≡ length rest → IsLong tokens left e →
+      RefusedExpression d tokens e × ReaderRefuses (whole d ∷ []) [] tokens e
   found_long x rest f at l =
       let before : length rest < length (l.token ∷ l.rest) = omega (arith, l.before, at) in (
         long_refused d tokens left e l (to rest (one x ∷ [])) before (found_to d tokens x rest f []),
@@ -78,7 +78,7 @@ module _ (d : ℕ) (tokens : List Token) (left : ℕ) (e : Refusal) where
 
   -- where one was refused after it
   pub fails_long : (spot : Spot) (code : Code) (was : Refusal) → was ≡ At spot code → Fails (part expr d ∷ []) [] tokens left was → IsLong tokens left e →
-      RefusedExpression d tokens e × Refuses (whole d ∷ []) [] tokens e
+      RefusedExpression d tokens e × ReaderRefuses (whole d ∷ []) [] tokens e
   fails_long spot code was is f l = (
     long_refused d tokens left e l (refused left spot code) l.before (f.run spot code is [] []),
     long_refuses d tokens left e l (λ vs. (refused left spot code, l.before, f.run spot code is [] vs)),
@@ -99,14 +99,14 @@ fails_refused d tokens left (At spot code) f short =
     refused_by d tokens left spot code (step_code strict r.ds r.t.spot r.t.kind r.us spot code i r.stops_so).1 short r
 
 pub fails_whole : (d : ℕ) (tokens : List Token) (left : ℕ) (e : Refusal) → Fails (part expr d ∷ []) [] tokens left e →
-    length tokens ≤ left + MOST_EXPRESSION_TOKENS → Refuses (whole d ∷ []) [] tokens e
+    length tokens ≤ left + MOST_EXPRESSION_TOKENS → ReaderRefuses (whole d ∷ []) [] tokens e
 fails_whole d tokens left e f short = record {
   left = left;
   fails = record { run = λ spot code q due vs. whole_refused d tokens vs left spot code (f.run spot code q [] vs) short due };
 }
 
 -- want of memory
-pub memory_refused : (d : ℕ) (tokens : List Token) (e : Refusal) → e ≡ NoMemory → RefusedExpression d tokens e × Refuses (whole d ∷ []) [] tokens e
+pub memory_refused : (d : ℕ) (tokens : List Token) (e : Refusal) → e ≡ NoMemory → RefusedExpression d tokens e × ReaderRefuses (whole d ∷ []) [] tokens e
 memory_refused d tokens e is = (
   subst (RefusedExpression d tokens) (sym is) tt,
   record { left = 0; fails = record { run = λ spot code q due vs. let no : NoMemory ≡ At spot code = sym is ∙ q in cc } },

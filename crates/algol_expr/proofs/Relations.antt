@@ -3,7 +3,7 @@ use Rattle.std.proofs.Common.{◌≡◌, ℕ, List, [], ◌∷◌, length, Some,
 use Rattle.algol_tree.specs.Ended.{EndsOnce}
 use Rattle.algol_tree.specs.Operators.{level, relop}
 use Rattle.algol_tree.specs.Due.{Value, Due, one, part, relation}
-use Rattle.algol_tree.specs.Found.{Finds, Extends, Fails}
+use Rattle.algol_tree.specs.Found.{ReaderFinds, Extends, Fails}
 use Rattle.algol_tree.specs.Plain.{PExpr, two}
 use Rattle.algol_tree.specs.declared.token.Token.{Token}
 use Rattle.algol_tree.specs.declared.level.Level.TheVariants as levels
@@ -17,7 +17,7 @@ after_value : {from ds : List Due} {tokens rest : List Token} (v : Value) → Re
 after_value v r = record { run = λ due vs. r.run due (v ∷ vs) }
 
 module _ (d : ℕ) (left : PExpr) (tokens : List Token) (t : Token) (ts : List Token) (is : tokens ≡ t ∷ ts) where
-  pub relation_found : (op : Op) (right new : PExpr) (rest : List Token) → relop t.kind ≡ Some op → Finds (part (level levels.Sum) d) ts (one right) rest → new ≡ two op left right →
+  pub relation_found : (op : Op) (right new : PExpr) (rest : List Token) → relop t.kind ≡ Some op → ReaderFinds (part (level levels.Sum) d) ts (one right) rest → new ≡ two op left right →
       Extends (relation d) tokens (one left) (one new) rest
   relation_found op right new rest e f is_new = record {
     run = λ due vs. (making {xs = one new ∷ []} (via (after_value (one left) (relation_on d tokens t ts op is e)) f) (λ vs. ap (λ (x : PExpr). one x ∷ vs) (sym is_new))).run due vs;

@@ -17,10 +17,10 @@ use Rattle.algol_tree.specs.Plain.{PExpr, PExprs, none, more}
 use Rattle.algol_tree.specs.Tokens.{IsWord, IsSymbol, IsName, IsSpelled, is_word, is_symbol, is_spelled}
 use Rattle.algol_tree.specs.Operators.{Part, expr, level, not_part, rel, primary, operand, operator, relop}
 use Rattle.b67_deeds.specs.declared.EventTest.{EventTest}
-use Rattle.algol_tree.specs.Expressions.{Opens, IsEvent, IsEvents, IsPart, IsMore, IsExprs, test_of}
-use Rattle.algol_tree.specs.Due.{Value, one, many, event_named, event_names, Make, put, Due, make, word, symbol, spelled, part, more_of, relation, behind_name, exprs_more, opening, event, events_more, behind_event, plain, nests, label, begun, Turn, takes, makes, skips, refuses, followed, either, optional}
-use Rattle.algol_tree.specs.DueExpr.{is_sign, behind, all_of, sign_of, signed, negated, joined, chosen, listed, element, applied, turn_primary, turn_term, turn_sum, turn_rel, turn_not, turn_and, turn_or, turn_imp, turn_eqv, turn_expr, turn_part, on_with, related, exprs_in, turn_event, waited, event_added, of_one}
-use Rattle.algol_tree.specs.Reading.{turn}
+use Rattle.algol_tree.specs.Expressions.{TokenOpens, IsEvent, IsEvents, IsExprPart, IsMore, IsExprs, test_of}
+use Rattle.algol_tree.specs.Due.{Value, one, many, event_named, event_names, Make, value_put, Due, make, word, symbol, spelled, part, more_of, relation, behind_name, exprs_more, opening, event, events_more, behind_event, plain, nests, label, begun, Turn, takes, makes, skips, refuses, followed, either, optional}
+use Rattle.algol_tree.specs.DueExpr.{is_sign, behind, all_of, token_sign_of, signed, negated, op_joined, expr_chosen, list_made, element, applied, turn_primary, turn_term, turn_sum, turn_rel, turn_not, turn_and, turn_or, turn_imp, turn_eqv, turn_expr, turn_part, on_with, related, exprs_in, turn_event, waited, event_added, of_one}
+use Rattle.algol_tree.specs.Reading.{reading_turn}
 use Rattle.algol_tree.specs.declared.level.Level.{Level}
 use Rattle.algol_tree.specs.declared.level.Level.TheVariants as levels
 use Rattle.algol_tree.specs.Expressions as grammar
@@ -39,7 +39,7 @@ pub data IsMaking (m : Make) (vs : List Value) (from : List Token) : List Value 
 
 -- an expression of the part p, and no other value
 pub data Makes (free : ℕ) (p : Part) (d : ℕ) (from : List Token) (vs : List Value) : List Value → List Token → Type 0 where
-  it : (e : PExpr) (rest : List Token) → IsPart free p d from e rest → Makes free p d from vs (one e ∷ vs) rest
+  it : (e : PExpr) (rest : List Token) → IsExprPart free p d from e rest → Makes free p d from vs (one e ∷ vs) rest
 
 pub data MakesEvent (from : List Token) (vs : List Value) : List Value → List Token → Type 0 where
   event_is : (e : EventName) (rest : List Token) → IsEvent from e rest → MakesEvent from vs (event_named e ∷ vs) rest
@@ -49,7 +49,7 @@ pub data MakesEvents (from : List Token) (acc : List EventName) (vs : List Value
 
 -- a symbol that opens a level
 pub data IsOpening (free : ℕ) (s : Symbol) (d : ℕ) (vs : List Value) : List Token → List Value → List Token → Type 0 where
-  opened : (t : Token) (rest : List Token) → IsSymbol s t → Opens free d (t ∷ rest) → IsOpening free s d vs (t ∷ rest) vs rest
+  opened : (t : Token) (rest : List Token) → IsSymbol s t → TokenOpens free d (t ∷ rest) → IsOpening free s d vs (t ∷ rest) vs rest
 
 pub data MakesMore (free : ℕ) (l : Level) (d : ℕ) (left : PExpr) (from : List Token) (vs : List Value) : List Value → List Token → Type 0 where
   it_on : (e : PExpr) (rest : List Token) → IsMore free l d left from e rest → MakesMore free l d left from vs (one e ∷ vs) rest
@@ -65,11 +65,11 @@ IsDue free (word w) vs from ws rest = IsOne (IsWord w) vs from ws rest
 IsDue free (symbol s) vs from ws rest = IsOne (IsSymbol s) vs from ws rest
 IsDue free (part p d) vs from ws rest = Makes free p d from vs ws rest
 IsDue free (more_of l d) vs from ws rest = (left : PExpr) (below : List Value) → vs ≡ one left ∷ below → MakesMore free l d left from below ws rest
-IsDue free (relation d) vs from ws rest = (a : PExpr) (below : List Value) (before : List Token) → vs ≡ one a ∷ below → IsPart free (level levels.Sum) d before a from →
+IsDue free (relation d) vs from ws rest = (a : PExpr) (below : List Value) (before : List Token) → vs ≡ one a ∷ below → IsExprPart free (level levels.Sum) d before a from →
     Makes free rel d before below ws rest
 IsDue free (behind_name n d) vs from ws rest = (t : Token) → IsName n t → Makes free primary d (t ∷ from) vs ws rest
 IsDue free (exprs_more d) vs from ws rest = (acc : PExprs) (e : PExpr) (below : List Value) (before : List Token) → vs ≡ many (behind acc e) ∷ below →
-    IsPart free expr d before e from → MakesList free d before acc below ws rest
+    IsExprPart free expr d before e from → MakesList free d before acc below ws rest
 IsDue free (spelled name) vs from ws rest = IsOne (IsSpelled name) vs from ws rest
 IsDue free (opening s d) vs from ws rest = IsOpening free s d vs from ws rest
 IsDue free event vs from ws rest = MakesEvent from vs ws rest
@@ -100,7 +100,7 @@ in_two free (s ∷ a) b vs from ws rest (cons _ _ _ us _ _ mid _ x y) =
 -- the tokens after t are those that its turn makes due
 abbrev pub Taken : ℕ → Turn → Token → List Token → List Value → List Value → List Token → Type 0
 Taken free (takes plain ds) t ts vs ws rest = IsAll free ds vs ts ws rest
-Taken free (takes (nests d) ds) t ts vs ws rest = Opens free d (t ∷ ts) × IsAll free ds vs ts ws rest
+Taken free (takes (nests d) ds) t ts vs ws rest = TokenOpens free d (t ∷ ts) × IsAll free ds vs ts ws rest
 Taken free x t ts vs ws rest = ⊥
 
 pub record Split (free : ℕ) (x : Turn) (more : List Due) (t : Token) (ts : List Token) (vs ws : List Value) (rest : List Token) : Type 0 where
@@ -137,7 +137,7 @@ back_list free d vs ws from rest s m (cons _ _ _ _ _ _ _ _ makes_it (cons _ _ _ 
     list_is free (d + 1) s m from vs us ws after rest (f none e vs from refl x) y
 
 -- the tokens of event { "," event } and the parenthesis that closes them
-waits_are : (free d : ℕ) (t u : Token) (from mid rest : List Token) (vs us ws : List Value) → IsWord reserved.Wait t → IsSymbol symbols.OpenRound u → Opens free d (u ∷ from) →
+waits_are : (free d : ℕ) (t u : Token) (from mid rest : List Token) (vs us ws : List Value) → IsWord reserved.Wait t → IsSymbol symbols.OpenRound u → TokenOpens free d (u ∷ from) →
     MakesEvents from [] vs us mid → IsAll free (symbol symbols.CloseRound ∷ make (waited t.spot) ∷ []) us mid ws rest → Makes free primary d (t ∷ u ∷ from) vs ws rest
 waits_are free d t u from _ _ vs _ _ k s o (events_are es _ x) (cons _ _ _ _ _ _ _ _ (single v rest c) (cons _ _ _ _ _ _ _ _ makes_it (nil _ _))) =
     it (trees.tested test.WaitAny es t.spot) rest (grammar.waited t u v d es from rest k s o x c)
@@ -168,7 +168,7 @@ back_primary free d t ts vs _ _ (kinds.Symbol symbols.OpenRound) k
 back_primary free d t ts vs ws rest k e x = absurd x
 
 -- { operator operand } after an operand
-chained : (free : ℕ) (l : Level) (d : ℕ) (first : PExpr) (from mid : List Token) (vs ws : List Value) (rest : List Token) → IsPart free (operand l) d from first mid →
+chained : (free : ℕ) (l : Level) (d : ℕ) (first : PExpr) (from mid : List Token) (vs ws : List Value) (rest : List Token) → IsExprPart free (operand l) d from first mid →
     MakesMore free l d first mid vs ws rest → Makes free (level l) d from vs ws rest
 chained free l d first from mid vs _ _ x (it_on e rest y) = it e rest (grammar.chain l d first e from mid rest x y)
 
@@ -190,7 +190,7 @@ module _ (free d : ℕ) (t : Token) (ts : List Token) (vs : List Value) where
 
   -- a sign and a sum's first term
   signed_sum : (k : TokenKind) (first : PExpr) (mid : List Token) (ws : List Value) (rest : List Token) → t.kind ≡ k → is_sign k ≡ true →
-      IsPart free (level levels.Term) d ts first mid → MakesMore free levels.Sum d (sign_of k first t.spot) mid vs ws rest →
+      IsExprPart free (level levels.Term) d ts first mid → MakesMore free levels.Sum d (token_sign_of k first t.spot) mid vs ws rest →
       Makes free (level levels.Sum) d (t ∷ ts) vs ws rest
   signed_sum (kinds.Symbol symbols.Plus) first mid _ _ k e x (it_on f rest y) = it f rest (grammar.positive t d first f ts mid rest k x y)
   signed_sum (kinds.Symbol symbols.Minus) first mid _ _ k e x (it_on f rest y) = it f rest (grammar.negative t d first f ts mid rest k x y)
@@ -199,7 +199,7 @@ module _ (free d : ℕ) (t : Token) (ts : List Token) (vs : List Value) where
   sum_with : (ws : List Value) (rest : List Token) → is_sign t.kind ≡ true →
       IsAll free (part (level levels.Term) d ∷ make (signed t.kind t.spot) ∷ more_of levels.Sum d ∷ []) vs ts ws rest → Makes free (level levels.Sum) d (t ∷ ts) vs ws rest
   sum_with ws rest e (cons _ _ _ _ _ _ _ _ (it first mid x) (cons _ _ _ _ _ _ _ _ makes_it (cons _ _ _ _ _ _ _ _ f (nil _ _)))) =
-      signed_sum t.kind first mid ws rest refl e x (f (sign_of t.kind first t.spot) vs refl)
+      signed_sum t.kind first mid ws rest refl e x (f (token_sign_of t.kind first t.spot) vs refl)
 
   sum_by : (b : Bool) (ws : List Value) (rest : List Token) → is_sign t.kind ≡ b →
       Taken free (either b (takes plain (part (level levels.Term) d ∷ make (signed t.kind t.spot) ∷ more_of levels.Sum d ∷ [])) (followed (turn_term d t.spot t.kind) (more_of levels.Sum d ∷ []))) t ts vs ws rest →
@@ -219,7 +219,7 @@ module _ (free d : ℕ) (t : Token) (ts : List Token) (vs : List Value) where
       let s = split free (turn_sum d t.spot t.kind) (relation d ∷ []) t ts vs ws rest (sum_takes d t.spot t.kind) a in
       rel_with s.us ws s.mid rest (back_sum s.us s.mid s.first) s.second
 
-  not_with : (ws : List Value) (rest : List Token) → IsWord reserved.Not t → Opens free d (t ∷ ts) → IsAll free (part not_part (d + 1) ∷ make (negated t.spot) ∷ []) vs ts ws rest →
+  not_with : (ws : List Value) (rest : List Token) → IsWord reserved.Not t → TokenOpens free d (t ∷ ts) → IsAll free (part not_part (d + 1) ∷ make (negated t.spot) ∷ []) vs ts ws rest →
       Makes free not_part d (t ∷ ts) vs ws rest
   not_with _ _ w o (cons _ _ _ _ _ _ _ _ (it e mid x) (cons _ _ _ _ _ _ _ _ makes_it (nil _ _))) = it (trees.not e t.spot) mid (grammar.negation t d e ts mid w o x)
 
@@ -246,15 +246,15 @@ module _ (free d : ℕ) (t : Token) (ts : List Token) (vs : List Value) where
   back_eqv : (ws : List Value) (rest : List Token) → Taken free (turn_eqv d t.spot t.kind) t ts vs ws rest → Makes free (level levels.Eqv) d (t ∷ ts) vs ws rest
   back_eqv ws rest = back_chain free levels.Eqv d (turn_imp d t.spot t.kind) t ts vs ws rest (imp_takes d t.spot t.kind) back_imp
 
-  if_with : (ws : List Value) (rest : List Token) → IsWord reserved.If t → Opens free d (t ∷ ts) →
-      IsAll free (part expr (d + 1) ∷ word reserved.Then ∷ part (level levels.Eqv) (d + 1) ∷ word reserved.Else ∷ part expr (d + 1) ∷ make (chosen t.spot) ∷ []) vs ts ws rest →
+  if_with : (ws : List Value) (rest : List Token) → IsWord reserved.If t → TokenOpens free d (t ∷ ts) →
+      IsAll free (part expr (d + 1) ∷ word reserved.Then ∷ part (level levels.Eqv) (d + 1) ∷ word reserved.Else ∷ part expr (d + 1) ∷ make (expr_chosen t.spot) ∷ []) vs ts ws rest →
       Makes free expr d (t ∷ ts) vs ws rest
   if_with _ _ w o (cons _ _ _ _ _ _ _ _ (it c mid x) (cons _ _ _ _ _ _ _ _ (single u yes_ wu) (cons _ _ _ _ _ _ _ _ (it a mid2 y)
       (cons _ _ _ _ _ _ _ _ (single v otherwise wv) (cons _ _ _ _ _ _ _ _ (it b end z) (cons _ _ _ _ _ _ _ _ makes_it (nil _ _))))))) =
       it (trees.if c a b t.spot) end (grammar.conditional t u v d c a b ts yes_ otherwise end w o x wu y wv z)
 
   expr_by : (b : Bool) (ws : List Value) (rest : List Token) → is_word reserved.If t.kind ≡ b →
-      Taken free (either b (takes (nests d) (part expr (d + 1) ∷ word reserved.Then ∷ part (level levels.Eqv) (d + 1) ∷ word reserved.Else ∷ part expr (d + 1) ∷ make (chosen t.spot) ∷ [])) (turn_eqv d t.spot t.kind)) t ts vs ws rest →
+      Taken free (either b (takes (nests d) (part expr (d + 1) ∷ word reserved.Then ∷ part (level levels.Eqv) (d + 1) ∷ word reserved.Else ∷ part expr (d + 1) ∷ make (expr_chosen t.spot) ∷ [])) (turn_eqv d t.spot t.kind)) t ts vs ws rest →
       Makes free expr d (t ∷ ts) vs ws rest
   expr_by true ws rest e a = if_with ws rest (word_from t.kind reserved.If e) a.0 a.1
   expr_by false ws rest e a = plainly ws rest (back_eqv ws rest a)
@@ -307,13 +307,13 @@ leave_relation free d None vs _ from _ left_out = λ a below before e x. subst (
 
 pub leave_name : (free : ℕ) (n : Named) (d : ℕ) (a b : Bool) (vs ws : List Value) (from rest : List Token) →
     Leaves (either a (takes (nests d) (exprs_in d symbols.CloseSquare (element n))) (either b (takes (nests d) (exprs_in d symbols.CloseRound (applied n)))
-    (makes (put (one (trees.variable (trees.subscripted n none))))))) vs from ws rest → IsDue free (behind_name n d) vs from ws rest
+    (makes (value_put (one (trees.variable (trees.subscripted n none))))))) vs from ws rest → IsDue free (behind_name n d) vs from ws rest
 leave_name free n d true b vs ws from rest x = absurd x
 leave_name free n d false true vs ws from rest x = absurd x
 leave_name free n d false false vs _ from _ makes_it = λ t k. it (trees.variable (trees.subscripted n none)) from (grammar.simple t n d from k)
 
 pub leave_exprs : (free d : ℕ) (b : Bool) (vs ws : List Value) (from rest : List Token) →
-    Leaves (either b (takes plain (part expr d ∷ make listed ∷ exprs_more d ∷ [])) skips) vs from ws rest → IsDue free (exprs_more d) vs from ws rest
+    Leaves (either b (takes plain (part expr d ∷ make list_made ∷ exprs_more d ∷ [])) skips) vs from ws rest → IsDue free (exprs_more d) vs from ws rest
 leave_exprs free d true vs ws from rest x = absurd x
 leave_exprs free d false vs _ from _ left_out = λ acc e below before is x.
     subst (λ v. MakesList free d before acc below v from) (ap (λ es. many es ∷ below) (sym (behind-all_of acc e)) ∙ sym is)
@@ -326,8 +326,8 @@ leave_events free false vs _ from _ left_out = λ acc e below before is x.
     subst (λ v. MakesEvents before acc below v from) (sym is) (events_are (e ∷ []) from (grammar.last e before from x))
 
 pub leave_behind_event : (free : ℕ) (n : Named) (b : Bool) (vs ws : List Value) (from rest : List Token) →
-    Leaves (either b (takes plain (spelled (codes "EXCEPTIONEVENT") ∷ make (put (event_named (record { name = n; task = true }))) ∷ []))
-    (makes (put (event_named (record { name = n; task = false }))))) vs from ws rest → IsDue free (behind_event n) vs from ws rest
+    Leaves (either b (takes plain (spelled (codes "EXCEPTIONEVENT") ∷ make (value_put (event_named (record { name = n; task = true }))) ∷ []))
+    (makes (value_put (event_named (record { name = n; task = false }))))) vs from ws rest → IsDue free (behind_event n) vs from ws rest
 leave_behind_event free n true vs ws from rest x = absurd x
 leave_behind_event free n false vs _ from _ makes_it = λ t k. event_is (record { name = n; task = false }) from (grammar.declared t n from k)
 
@@ -339,7 +339,7 @@ leave_opening : (d : ℕ) (b : Bool) (vs ws : List Value) (from rest : List Toke
 leave_opening d true vs ws from rest l = l
 leave_opening d false vs ws from rest l = l
 
-pub leave : (free : ℕ) (s : Due) (spot : Spot) (k : TokenKind) (vs ws : List Value) (from rest : List Token) → IsInner s → Leaves (turn s spot k) vs from ws rest →
+pub leave : (free : ℕ) (s : Due) (spot : Spot) (k : TokenKind) (vs ws : List Value) (from rest : List Token) → IsInner s → Leaves (reading_turn s spot k) vs from ws rest →
     IsDue free s vs from ws rest
 leave free (make m) spot k vs ws from rest i l = l
 leave free (word w) spot k vs ws from rest i l = absurd (leave_if (is_word w k) vs ws from rest l)
@@ -384,14 +384,14 @@ back_event free t ts vs ws rest (kinds.Name name) k (cons _ _ _ _ _ _ _ _ f (nil
 back_event free t ts vs ws rest k e x = absurd x
 
 back_behind_event : (free : ℕ) (n : Named) (b : Bool) (t : Token) (ts : List Token) (vs ws : List Value) (rest : List Token) → is_symbol symbols.Period t.kind ≡ b →
-    Taken free (either b (takes plain (spelled (codes "EXCEPTIONEVENT") ∷ make (put (event_named (record { name = n; task = true }))) ∷ []))
-    (makes (put (event_named (record { name = n; task = false }))))) t ts vs ws rest → IsDue free (behind_event n) vs (t ∷ ts) ws rest
+    Taken free (either b (takes plain (spelled (codes "EXCEPTIONEVENT") ∷ make (value_put (event_named (record { name = n; task = true }))) ∷ []))
+    (makes (value_put (event_named (record { name = n; task = false }))))) t ts vs ws rest → IsDue free (behind_event n) vs (t ∷ ts) ws rest
 back_behind_event free n true t ts vs _ _ e (cons _ _ _ _ _ _ _ _ (single v rest q) (cons _ _ _ _ _ _ _ _ makes_it (nil _ _))) =
     λ u k. event_is (record { name = n; task = true }) rest (grammar.of_task u t v n rest k (symbol_from t.kind symbols.Period e) q)
 back_behind_event free n false t ts vs ws rest e x = absurd x
 
 more_chained : (free : ℕ) (l : Level) (d : ℕ) (op : Op) (left right : PExpr) (t : Token) (ts mid : List Token) (below ws : List Value) (rest : List Token) →
-    operator l t.kind ≡ Some op → IsPart free (operand l) d ts right mid → MakesMore free l d (trees.two op left right) mid below ws rest →
+    operator l t.kind ≡ Some op → IsExprPart free (operand l) d ts right mid → MakesMore free l d (trees.two op left right) mid below ws rest →
     MakesMore free l d left (t ∷ ts) below ws rest
 more_chained free l d op left right t ts mid below _ _ e x (it_on f rest y) = it_on f rest (grammar.on t l op d left right f ts mid rest e x y)
 
@@ -400,21 +400,21 @@ back_more : (free : ℕ) (l : Level) (d : ℕ) (o : Option Op) (t : Token) (ts :
 back_more free l d None t ts vs ws rest e x = absurd x
 back_more free l d (Some op) t ts vs ws rest e (cons _ _ _ _ _ _ _ _ (it right mid x) (cons _ _ _ _ _ _ _ _ makes_it (cons _ _ _ _ _ _ _ _ f (nil _ _)))) =
     λ left below is. more_chained free l d op left right t ts mid below ws rest e x
-    (f (trees.two op left right) below (ap (λ us. joined op (one right ∷ us)) is))
+    (f (trees.two op left right) below (ap (λ us. op_joined op (one right ∷ us)) is))
 
 back_relation : (free d : ℕ) (o : Option Op) (t : Token) (ts : List Token) (vs ws : List Value) (rest : List Token) → relop t.kind ≡ o →
     Taken free (optional o (related d) skips) t ts vs ws rest → IsDue free (relation d) vs (t ∷ ts) ws rest
 back_relation free d None t ts vs ws rest e x = absurd x
 back_relation free d (Some op) t ts vs _ _ e (cons _ _ _ _ _ _ _ _ (it right mid x) (cons _ _ _ _ _ _ _ _ makes_it (nil _ _))) =
-    λ a below before is y. subst (λ us. Makes free rel d before below (joined op (one right ∷ us)) mid) (sym is)
+    λ a below before is y. subst (λ us. Makes free rel d before below (op_joined op (one right ∷ us)) mid) (sym is)
     (it (trees.two op a right) mid (grammar.relation t op d a right before ts mid y e x))
 
-name_square : (free : ℕ) (n : Named) (d : ℕ) (u : Token) (ts : List Token) (vs ws : List Value) (rest : List Token) → IsSymbol symbols.OpenSquare u → Opens free d (u ∷ ts) →
+name_square : (free : ℕ) (n : Named) (d : ℕ) (u : Token) (ts : List Token) (vs ws : List Value) (rest : List Token) → IsSymbol symbols.OpenSquare u → TokenOpens free d (u ∷ ts) →
     Listed free (d + 1) symbols.CloseSquare (element n) ts vs ws rest → IsDue free (behind_name n d) vs (u ∷ ts) ws rest
 name_square free n d u ts vs ws rest s o l = λ t k. subst (λ w. Makes free primary d (t ∷ u ∷ ts) vs w rest) (sym l.is)
     (it (trees.variable (trees.subscripted n l.es)) rest (grammar.element t u l.closing n d l.es ts rest k s o l.reads l.closes))
 
-name_round : (free : ℕ) (n : Named) (d : ℕ) (u : Token) (ts : List Token) (vs ws : List Value) (rest : List Token) → IsSymbol symbols.OpenRound u → Opens free d (u ∷ ts) →
+name_round : (free : ℕ) (n : Named) (d : ℕ) (u : Token) (ts : List Token) (vs ws : List Value) (rest : List Token) → IsSymbol symbols.OpenRound u → TokenOpens free d (u ∷ ts) →
     Listed free (d + 1) symbols.CloseRound (applied n) ts vs ws rest → IsDue free (behind_name n d) vs (u ∷ ts) ws rest
 name_round free n d u ts vs ws rest s o l = λ t k. subst (λ w. Makes free primary d (t ∷ u ∷ ts) vs w rest) (sym l.is)
     (it (trees.call (trees.called n l.es)) rest (grammar.called_with t u l.closing n d l.es ts rest k s o l.reads l.closes))
@@ -422,7 +422,7 @@ name_round free n d u ts vs ws rest s o l = λ t k. subst (λ w. Makes free prim
 back_name : (free : ℕ) (n : Named) (d : ℕ) (a b : Bool) (t : Token) (ts : List Token) (vs ws : List Value) (rest : List Token) →
     is_symbol symbols.OpenSquare t.kind ≡ a → is_symbol symbols.OpenRound t.kind ≡ b →
     Taken free (either a (takes (nests d) (exprs_in d symbols.CloseSquare (element n))) (either b (takes (nests d) (exprs_in d symbols.CloseRound (applied n)))
-    (makes (put (one (trees.variable (trees.subscripted n none))))))) t ts vs ws rest → IsDue free (behind_name n d) vs (t ∷ ts) ws rest
+    (makes (value_put (one (trees.variable (trees.subscripted n none))))))) t ts vs ws rest → IsDue free (behind_name n d) vs (t ∷ ts) ws rest
 back_name free n d true b t ts vs ws rest e f x = name_square free n d t ts vs ws rest (symbol_from t.kind symbols.OpenSquare e) x.0
     (back_list free d vs ws ts rest symbols.CloseSquare (element n) x.1)
 back_name free n d false true t ts vs ws rest e f x = name_round free n d t ts vs ws rest (symbol_from t.kind symbols.OpenRound f) x.0
@@ -430,16 +430,16 @@ back_name free n d false true t ts vs ws rest e f x = name_round free n d t ts v
 back_name free n d false false t ts vs ws rest e f x = absurd x
 
 exprs_chained : (free d : ℕ) (t : Token) (acc : PExprs) (e : PExpr) (before ts : List Token) (below ws : List Value) (rest : List Token) →
-    IsPart free expr d before e (t ∷ ts) → IsSymbol symbols.Comma t → MakesList free d ts (behind acc e) below ws rest → MakesList free d before acc below ws rest
+    IsExprPart free expr d before e (t ∷ ts) → IsSymbol symbols.Comma t → MakesList free d ts (behind acc e) below ws rest → MakesList free d before acc below ws rest
 exprs_chained free d t acc e before ts below _ _ x c (they es rest y) =
     subst (λ fs. MakesList free d before acc below (many fs ∷ below) rest) (sym (all_of-behind acc e es)) (they (more e es) rest (grammar.comma t d e es before ts rest x c y))
 
 back_exprs : (free d : ℕ) (b : Bool) (t : Token) (ts : List Token) (vs ws : List Value) (rest : List Token) → is_symbol symbols.Comma t.kind ≡ b →
-    Taken free (either b (takes plain (part expr d ∷ make listed ∷ exprs_more d ∷ [])) skips) t ts vs ws rest → IsDue free (exprs_more d) vs (t ∷ ts) ws rest
+    Taken free (either b (takes plain (part expr d ∷ make list_made ∷ exprs_more d ∷ [])) skips) t ts vs ws rest → IsDue free (exprs_more d) vs (t ∷ ts) ws rest
 back_exprs free d false t ts vs ws rest e x = absurd x
 back_exprs free d true t ts vs ws rest e (cons _ _ _ _ _ _ _ _ (it f mid x) (cons _ _ _ _ _ _ _ _ makes_it (cons _ _ _ _ _ _ _ _ g (nil _ _)))) =
     λ acc last below before is y. exprs_chained free d t acc last before ts below ws rest y (symbol_from t.kind symbols.Comma e)
-    (g (behind acc last) f below ts (ap (λ us. listed (one f ∷ us)) is) x)
+    (g (behind acc last) f below ts (ap (λ us. list_made (one f ∷ us)) is) x)
 
 events_chained : (t : Token) (acc : List EventName) (e : EventName) (before ts : List Token) (below ws : List Value) (rest : List Token) →
     IsEvent before e (t ∷ ts) → IsSymbol symbols.Comma t → MakesEvents ts (acc ++ e ∷ []) below ws rest → MakesEvents before acc below ws rest
@@ -466,7 +466,7 @@ back_part free not_part d t ts vs ws rest x = back_not free d t ts vs ws rest x
 back_part free rel d t ts vs ws rest x = back_rel free d t ts vs ws rest x
 back_part free primary d t ts vs ws rest x = back_primary free d t ts vs ws rest t.kind refl x
 
-pub back : (free : ℕ) (s : Due) (t : Token) (ts : List Token) (vs ws : List Value) (rest : List Token) → IsInner s → Taken free (turn s t.spot t.kind) t ts vs ws rest →
+pub back : (free : ℕ) (s : Due) (t : Token) (ts : List Token) (vs ws : List Value) (rest : List Token) → IsInner s → Taken free (reading_turn s t.spot t.kind) t ts vs ws rest →
     IsDue free s vs (t ∷ ts) ws rest
 back free (make m) t ts vs ws rest i x = absurd x
 back free (word w) t ts vs ws rest i x = back_word free w (is_word w t.kind) t ts vs ws rest refl x

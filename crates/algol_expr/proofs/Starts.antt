@@ -23,15 +23,15 @@ use Rattle.algol_tree.specs.declared.level.Level.{Level}
 use Rattle.algol_tree.specs.declared.level.Level.TheVariants as levels
 use Rattle.algol_tree.specs.Tokens.{is_word, is_symbol, name_in}
 use Rattle.algol_tree.specs.Operators.{expr, level, not_part, rel, primary, operand, operator, relop}
-use Rattle.algol_tree.specs.Due.{Value, one, many, event_named, put, Due, make, word, symbol, spelled, part, more_of, relation, behind_name, opening, event, behind_event, plain, nests, Turn, takes, makes, skips, refuses, followed, either, optional}
-use Rattle.algol_tree.specs.DueExpr.{is_sign, signs, signed, negated, grouped, joined, chosen, element, applied, literal, turn_primary, turn_term, turn_rel, turn_eqv, on_with, related, list_in, exprs_in, of_one, of_several, turn_event}
+use Rattle.algol_tree.specs.Due.{Value, one, many, event_named, value_put, Due, make, word, symbol, spelled, part, more_of, relation, behind_name, opening, event, behind_event, plain, nests, Turn, takes, makes, skips, refuses, followed, either, optional}
+use Rattle.algol_tree.specs.DueExpr.{is_sign, signs, signed, negated, grouped, op_joined, expr_chosen, element, applied, literal, turn_primary, turn_term, turn_rel, turn_eqv, on_with, related, list_in, exprs_in, of_one, of_several, turn_event}
 use Rattle.algol_tree.specs.Found.{Fails}
 use Rattle.algol_expr.proofs.Parts.{test_turn, expr_at, not_at, rel_at, level_at}
 use Rattle.algol_expr.proofs.Chain.{Reaches, takes_first, opens_first, too_deep, skips_first, puts_first, making, from_tokens, fails_from}
 
 -- what IF makes due, where i levels are open after it
 abbrev after_if : ℕ → Token → List Due
-after_if i t = part expr i ∷ word reserved.Then ∷ part (level levels.Eqv) i ∷ word reserved.Else ∷ part expr i ∷ make (chosen t.spot) ∷ []
+after_if i t = part expr i ∷ word reserved.Then ∷ part (level levels.Eqv) i ∷ word reserved.Else ∷ part expr i ∷ make (expr_chosen t.spot) ∷ []
 
 pub if_starts : (d i : ℕ) (t : Token) (ts : List Token) → is_word reserved.If t.kind ≡ true → d < MOST_NESTING → i ≡ d + 1 →
     Reaches (part expr d ∷ []) [] (t ∷ ts) (after_if i t) [] ts
@@ -67,7 +67,7 @@ pub rel_starts : (d : ℕ) (tokens : List Token) → Reaches (part rel d ∷ [])
 rel_starts d tokens = record { run = λ due vs. rel_at 0 d tokens due vs }
 
 pub relation_on : (d : ℕ) (tokens : List Token) (t : Token) (ts : List Token) (op : Op) → tokens ≡ t ∷ ts → relop t.kind ≡ Some op →
-    Reaches (relation d ∷ []) [] tokens (part (level levels.Sum) d ∷ make (joined op) ∷ []) [] ts
+    Reaches (relation d ∷ []) [] tokens (part (level levels.Sum) d ∷ make (op_joined op) ∷ []) [] ts
 relation_on d tokens t ts op is e = subst (λ x. Reaches (relation d ∷ []) [] x (related d op) [] ts) (sym is)
     (takes_first t ts (relation d) (related d op) (ap (λ o. optional o (related d) skips) e))
 
@@ -96,7 +96,7 @@ sign_starts l d tokens t ts is e = cc
 
 -- with the values that stand before
 pub more_on : (l : Level) (d : ℕ) (tokens : List Token) (t : Token) (ts : List Token) (op : Op) (us : List Value) → tokens ≡ t ∷ ts → operator l t.kind ≡ Some op →
-    Reaches (more_of l d ∷ []) us tokens (part (operand l) d ∷ make (joined op) ∷ more_of l d ∷ []) us ts
+    Reaches (more_of l d ∷ []) us tokens (part (operand l) d ∷ make (op_joined op) ∷ more_of l d ∷ []) us ts
 more_on l d tokens t ts op us is e = subst (λ x. Reaches (more_of l d ∷ []) us x (on_with l d op) us ts) (sym is)
     (record { run = λ due vs. (takes_first t ts (more_of l d) (on_with l d op) (ap (λ o. optional o (on_with l d) skips) e)).run due (us ++ vs) })
 
@@ -107,16 +107,16 @@ more_over l d tokens t ts us is e = subst (λ x. Reaches (more_of l d ∷ []) us
 
 -- a token that is a primary
 
-literal_turn : (d : ℕ) (spot : Spot) (k : TokenKind) (e : trees.PExpr) → literal spot k ≡ Some e → turn_primary d spot k ≡ takes plain (make (put (one e)) ∷ [])
-literal_turn d spot (kinds.Number value) e p = let same : trees.number value spot ≡ e = cc in ap (λ e. takes plain (make (put (one e)) ∷ [])) same
-literal_turn d spot (kinds.Word reserved.True) e p = let same : trees.truth true spot ≡ e = cc in ap (λ e. takes plain (make (put (one e)) ∷ [])) same
-literal_turn d spot (kinds.Word reserved.False) e p = let same : trees.truth false spot ≡ e = cc in ap (λ e. takes plain (make (put (one e)) ∷ [])) same
+literal_turn : (d : ℕ) (spot : Spot) (k : TokenKind) (e : trees.PExpr) → literal spot k ≡ Some e → turn_primary d spot k ≡ takes plain (make (value_put (one e)) ∷ [])
+literal_turn d spot (kinds.Number value) e p = let same : trees.number value spot ≡ e = cc in ap (λ e. takes plain (make (value_put (one e)) ∷ [])) same
+literal_turn d spot (kinds.Word reserved.True) e p = let same : trees.truth true spot ≡ e = cc in ap (λ e. takes plain (make (value_put (one e)) ∷ [])) same
+literal_turn d spot (kinds.Word reserved.False) e p = let same : trees.truth false spot ≡ e = cc in ap (λ e. takes plain (make (value_put (one e)) ∷ [])) same
 literal_turn d spot k e p = cc
 
 pub literal_is : (d : ℕ) (tokens : List Token) (t : Token) (ts : List Token) (e : trees.PExpr) → tokens ≡ t ∷ ts → literal t.spot t.kind ≡ Some e →
     Reaches (part primary d ∷ []) [] tokens [] (one e ∷ []) ts
 literal_is d tokens t ts e is p = subst (λ x. Reaches (part primary d ∷ []) [] x [] (one e ∷ []) ts) (sym is)
-    (making (takes_first t ts (part primary d) (make (put (one e)) ∷ []) (literal_turn d t.spot t.kind e p)) (λ vs. refl))
+    (making (takes_first t ts (part primary d) (make (value_put (one e)) ∷ []) (literal_turn d t.spot t.kind e p)) (λ vs. refl))
 
 pub not_end_literal : (spot : Spot) (k : TokenKind) (e : trees.PExpr) → literal spot k ≡ Some e → k ≡ kinds.End → ⊥
 not_end_literal spot k e p q = let no : None ≡ Some e = sym (ap (literal spot) q) ∙ p in cc
@@ -180,11 +180,11 @@ event_fails tokens t ts left e is a l r = fails_at tokens t ts event left e is (
 -- after an event's name
 
 event_turn : Named → Bool → Turn
-event_turn n b = either b (takes plain (spelled (codes_of "EXCEPTIONEVENT") ∷ make (put (event_named (record { name = n; task = true }))) ∷ []))
-    (makes (put (event_named (record { name = n; task = false }))))
+event_turn n b = either b (takes plain (spelled (codes_of "EXCEPTIONEVENT") ∷ make (value_put (event_named (record { name = n; task = true }))) ∷ []))
+    (makes (value_put (event_named (record { name = n; task = false }))))
 
 pub period_starts : (n : Named) (tokens : List Token) (t : Token) (ts : List Token) → tokens ≡ t ∷ ts → is_symbol symbols.Period t.kind ≡ true →
-    Reaches (behind_event n ∷ []) [] tokens (spelled (codes_of "EXCEPTIONEVENT") ∷ make (put (event_named (record { name = n; task = true }))) ∷ []) [] ts
+    Reaches (behind_event n ∷ []) [] tokens (spelled (codes_of "EXCEPTIONEVENT") ∷ make (value_put (event_named (record { name = n; task = true }))) ∷ []) [] ts
 unfolding event_turn
 period_starts n tokens t ts is e = from_tokens is (takes_first t ts (behind_event n) _ (ap (event_turn n) e))
 
@@ -192,7 +192,7 @@ pub event_alone : (n : Named) (tokens : List Token) (t : Token) (ts : List Token
     Reaches (behind_event n ∷ []) [] tokens [] (event_named (record { name = n; task = false }) ∷ []) tokens
 unfolding event_turn
 event_alone n tokens t ts is e = subst (λ x. Reaches (behind_event n ∷ []) [] x [] (event_named (record { name = n; task = false }) ∷ []) x) (sym is)
-    (making (puts_first t ts (behind_event n) (put (event_named (record { name = n; task = false }))) (ap (event_turn n) e)) (λ vs. refl))
+    (making (puts_first t ts (behind_event n) (value_put (event_named (record { name = n; task = false }))) (ap (event_turn n) e)) (λ vs. refl))
 
 abbrev after_open : ℕ → Token → List Due
 after_open i t = part expr i ∷ symbol symbols.CloseRound ∷ make (grouped t.spot) ∷ []
@@ -210,7 +210,7 @@ group_too_deep d t ts left e k o l r = too_deep d t ts (part primary d) (after_o
 
 abbrev pub behind_turn : Bool → Bool → Named → ℕ → Turn
 behind_turn square round n d = either square (takes (nests d) (exprs_in d symbols.CloseSquare (element n)))
-    (either round (takes (nests d) (exprs_in d symbols.CloseRound (applied n))) (makes (put (one (trees.variable (trees.subscripted n trees.none))))))
+    (either round (takes (nests d) (exprs_in d symbols.CloseRound (applied n))) (makes (value_put (one (trees.variable (trees.subscripted n trees.none))))))
 
 pub square_starts : (n : Named) (d i : ℕ) (tokens : List Token) (t : Token) (ts : List Token) → tokens ≡ t ∷ ts → is_symbol symbols.OpenSquare t.kind ≡ true →
     d < MOST_NESTING → i ≡ d + 1 → Reaches (behind_name n d ∷ []) [] tokens (list_in i symbols.CloseSquare ++ make (element n) ∷ []) (many trees.none ∷ []) ts
@@ -240,4 +240,4 @@ round_too_deep n d tokens t ts left e at f s o l r = fails_from at (too_deep d t
 pub name_alone : (n : Named) (d : ℕ) (tokens : List Token) (t : Token) (ts : List Token) → tokens ≡ t ∷ ts → is_symbol symbols.OpenSquare t.kind ≡ false →
     is_symbol symbols.OpenRound t.kind ≡ false → Reaches (behind_name n d ∷ []) [] tokens [] (one (trees.variable (trees.subscripted n trees.none)) ∷ []) tokens
 name_alone n d tokens t ts at f e = subst (λ x. Reaches (behind_name n d ∷ []) [] x [] (one (trees.variable (trees.subscripted n trees.none)) ∷ []) x) (sym at)
-    (making (puts_first t ts (behind_name n d) (put (one (trees.variable (trees.subscripted n trees.none)))) (ap₂ (λ a b. behind_turn a b n d) f e)) (λ vs. refl))
+    (making (puts_first t ts (behind_name n d) (value_put (one (trees.variable (trees.subscripted n trees.none)))) (ap₂ (λ a b. behind_turn a b n d) f e)) (λ vs. refl))

@@ -7,9 +7,9 @@ use Rattle.algol_tree.specs.declared.token.Token.{Token}
 use Rattle.algol_tree.specs.declared.token.TokenKind.{TokenKind}
 use Rattle.algol_tree.specs.declared.refusal.Code.{Code}
 use Rattle.algol_tree.specs.declared.refusal.Code.TheVariants as codes
-use Rattle.algol_tree.specs.Expressions.{Opens}
+use Rattle.algol_tree.specs.Expressions.{TokenOpens}
 use Rattle.algol_tree.specs.Due.{Value, Due, plain, nests, Turn, takes, makes, skips, closes, refuses}
-use Rattle.algol_tree.specs.Reading.{turn, Count, outside, Judged, Step, goes, over, stops, unless, stepped, step, judged}
+use Rattle.algol_tree.specs.Reading.{reading_turn, Count, outside, Judged, ReadingStep, goes, over, stops, unless, stepped, step, judged}
 use Rattle.algol_expr.proofs.Inner.{Inners, inners_append, Stays, inner_stays}
 
 -- all limits are kept
@@ -22,15 +22,15 @@ judged_strict free t ts le =
     let before : nat_lt free (length (t ∷ ts) + 1) ≡ true = grind (arith, nat_tests) in
     rw (here, before) refl
 
-pub to_opens : (free d : ℕ) (ts : List Token) → (nat_le MOST_NESTING d && (judged free ts).here) ≡ false → Opens free d ts
+pub to_opens : (free d : ℕ) (ts : List Token) → (nat_le MOST_NESTING d && (judged free ts).here) ≡ false → TokenOpens free d ts
 to_opens free d ts e = by_test (nat_le MOST_NESTING d) (nat_lt free (length ts)) refl refl e
   where
-    by_test : (a b : Bool) → nat_le MOST_NESTING d ≡ a → nat_lt free (length ts) ≡ b → (a && b) ≡ false → Opens free d ts
+    by_test : (a b : Bool) → nat_le MOST_NESTING d ≡ a → nat_lt free (length ts) ≡ b → (a && b) ≡ false → TokenOpens free d ts
     by_test true true p q e = cc
     by_test true false p q e = inr (grind (arith, nat_tests))
     by_test false b p q e = inl (grind (arith, nat_tests))
 
-pub unless_goes : (b : Bool) (spot : Spot) (x : Step) (c : Count) (ds : List Due) (us : List Value) → unless b spot x ≡ goes c ds us → (b ≡ false) × (x ≡ goes c ds us)
+pub unless_goes : (b : Bool) (spot : Spot) (x : ReadingStep) (c : Count) (ds : List Due) (us : List Value) → unless b spot x ≡ goes c ds us → (b ≡ false) × (x ≡ goes c ds us)
 unless_goes true spot x c ds us e = cc
 unless_goes false spot x c ds us e = (refl, e)
 
@@ -45,7 +45,7 @@ goes_is a c ds es us vs e = (cc, cc, cc)
 pub inner_goes : (j : Judged) (due : List Due) (spot : Spot) (k : TokenKind) (vs : List Value) (c : Count) (ds : List Due) (us : List Value) → Inners due →
     step j due spot k outside vs ≡ goes c ds us → (outside ≡ c) × Inners ds
 inner_goes j [] spot k vs c ds us i e = cc
-inner_goes j (s ∷ due) spot k vs c ds us i e = by_turn (turn s spot k) (inner_stays s spot k i.0) e (λ vs e. inner_goes j due spot k vs c ds us i.1 e)
+inner_goes j (s ∷ due) spot k vs c ds us i e = by_turn (reading_turn s spot k) (inner_stays s spot k i.0) e (λ vs e. inner_goes j due spot k vs c ds us i.1 e)
   where
     by_turn : (x : Turn) → Stays x → stepped j outside spot x due vs (step j due spot k) ≡ goes c ds us →
         ((vs : List Value) → step j due spot k outside vs ≡ goes c ds us → (outside ≡ c) × Inners ds) → (outside ≡ c) × Inners ds
@@ -62,7 +62,7 @@ inner_goes j (s ∷ due) spot k vs c ds us i e = by_turn (turn s spot k) (inner_
 pub inner_over : (j : Judged) (due : List Due) (spot : Spot) (k : TokenKind) (vs : List Value) (c : Count) (us : List Value) → Inners due →
     step j due spot k outside vs ≡ over c us → outside ≡ c
 inner_over j [] spot k vs c us i e = cc
-inner_over j (s ∷ due) spot k vs c us i e = by_turn (turn s spot k) (inner_stays s spot k i.0) e (λ vs e. inner_over j due spot k vs c us i.1 e)
+inner_over j (s ∷ due) spot k vs c us i e = by_turn (reading_turn s spot k) (inner_stays s spot k i.0) e (λ vs e. inner_over j due spot k vs c us i.1 e)
   where
     by_turn : (x : Turn) → Stays x → stepped j outside spot x due vs (step j due spot k) ≡ over c us →
         ((vs : List Value) → step j due spot k outside vs ≡ over c us → outside ≡ c) → outside ≡ c
@@ -76,14 +76,14 @@ inner_over j (s ∷ due) spot k vs c us i e = by_turn (turn s spot k) (inner_sta
 
 -- where all limits are kept, any are
 
-unless_any : (a b : Bool) (spot : Spot) (x : Step) (c : Count) (ds : List Due) (us : List Value) → unless (a && true) spot x ≡ goes c ds us → unless (a && b) spot x ≡ goes c ds us
+unless_any : (a b : Bool) (spot : Spot) (x : ReadingStep) (c : Count) (ds : List Due) (us : List Value) → unless (a && true) spot x ≡ goes c ds us → unless (a && b) spot x ≡ goes c ds us
 unless_any true b spot x c ds us e = cc
 unless_any false b spot x c ds us e = e
 
 pub step_any : (j : Judged) (due : List Due) (spot : Spot) (k : TokenKind) (vs : List Value) (c : Count) (ds : List Due) (us : List Value) → Inners due →
     step strict due spot k outside vs ≡ goes c ds us → step j due spot k outside vs ≡ goes c ds us
 step_any j [] spot k vs c ds us i e = cc
-step_any j (s ∷ due) spot k vs c ds us i e = by_turn (turn s spot k) (inner_stays s spot k i.0) e (λ vs e. step_any j due spot k vs c ds us i.1 e)
+step_any j (s ∷ due) spot k vs c ds us i e = by_turn (reading_turn s spot k) (inner_stays s spot k i.0) e (λ vs e. step_any j due spot k vs c ds us i.1 e)
   where
     by_turn : (x : Turn) → Stays x → stepped strict outside spot x due vs (step strict due spot k) ≡ goes c ds us →
         ((vs : List Value) → step strict due spot k outside vs ≡ goes c ds us → step j due spot k outside vs ≡ goes c ds us) →
@@ -105,7 +105,7 @@ unless_stop false b here spot c ds us e = cc
 pub stop_any : (j : Judged) (due : List Due) (here : Spot) (k : TokenKind) (vs : List Value) (spot : Spot) → Inners due →
     step strict due here k outside vs ≡ stops spot codes.Unexpected → step j due here k outside vs ≡ stops spot codes.Unexpected
 stop_any j [] here k vs spot i e = cc
-stop_any j (s ∷ due) here k vs spot i e = by_turn (turn s here k) (inner_stays s here k i.0) e (λ vs e. stop_any j due here k vs spot i.1 e)
+stop_any j (s ∷ due) here k vs spot i e = by_turn (reading_turn s here k) (inner_stays s here k i.0) e (λ vs e. stop_any j due here k vs spot i.1 e)
   where
     by_turn : (x : Turn) → Stays x → stepped strict outside here x due vs (step strict due here k) ≡ stops spot codes.Unexpected →
         ((vs : List Value) → step strict due here k outside vs ≡ stops spot codes.Unexpected → step j due here k outside vs ≡ stops spot codes.Unexpected) →
@@ -126,7 +126,7 @@ unless_no_over false b here c n ds us vs e = cc
 pub over_any : (j : Judged) (due : List Due) (here : Spot) (k : TokenKind) (vs : List Value) (c : Count) (ws : List Value) → Inners due →
     step strict due here k outside vs ≡ over c ws → step j due here k outside vs ≡ over c ws
 over_any j [] here k vs c ws i e = e
-over_any j (s ∷ due) here k vs c ws i e = by_turn (turn s here k) (inner_stays s here k i.0) e (λ vs e. over_any j due here k vs c ws i.1 e)
+over_any j (s ∷ due) here k vs c ws i e = by_turn (reading_turn s here k) (inner_stays s here k i.0) e (λ vs e. over_any j due here k vs c ws i.1 e)
   where
     by_turn : (x : Turn) → Stays x → stepped strict outside here x due vs (step strict due here k) ≡ over c ws →
         ((vs : List Value) → step strict due here k outside vs ≡ over c ws → step j due here k outside vs ≡ over c ws) →
@@ -145,7 +145,7 @@ pub record WouldGo (due : List Due) (spot : Spot) (k : TokenKind) (vs : List Val
   pub us : List Value
   pub so : (j : Judged) → j.here ≡ false → step j due spot k outside vs ≡ goes outside ds us
 
-unless_would : (a b : Bool) (here spot : Spot) (x : Step) → b ≡ false → unless (a && true) here x ≡ stops spot codes.TooDeep → unless (a && b) here x ≡ x
+unless_would : (a b : Bool) (here spot : Spot) (x : ReadingStep) → b ≡ false → unless (a && true) here x ≡ stops spot codes.TooDeep → unless (a && b) here x ≡ x
 unless_would true true here spot x f e = cc
 unless_would true false here spot x f e = refl
 unless_would false b here spot x f e = refl
@@ -153,9 +153,9 @@ unless_would false b here spot x f e = refl
 pub would_go : (due : List Due) (here : Spot) (k : TokenKind) (vs : List Value) (spot : Spot) → Inners due →
     step strict due here k outside vs ≡ stops spot codes.TooDeep → WouldGo due here k vs
 would_go [] here k vs spot i e = cc
-would_go (s ∷ due) here k vs spot i e = by_turn (turn s here k) refl (inner_stays s here k i.0) e (λ vs e. would_go due here k vs spot i.1 e)
+would_go (s ∷ due) here k vs spot i e = by_turn (reading_turn s here k) refl (inner_stays s here k i.0) e (λ vs e. would_go due here k vs spot i.1 e)
   where
-    by_turn : (x : Turn) → turn s here k ≡ x → Stays x → stepped strict outside here x due vs (step strict due here k) ≡ stops spot codes.TooDeep →
+    by_turn : (x : Turn) → reading_turn s here k ≡ x → Stays x → stepped strict outside here x due vs (step strict due here k) ≡ stops spot codes.TooDeep →
         ((vs : List Value) → step strict due here k outside vs ≡ stops spot codes.TooDeep → WouldGo due here k vs) → WouldGo (s ∷ due) here k vs
     by_turn (takes plain es) is st e again = cc
     by_turn (takes (nests d) es) is st e again = record {
@@ -185,7 +185,7 @@ unless_code false here spot c ds us code e = cc
 pub step_code : (j : Judged) (due : List Due) (here : Spot) (k : TokenKind) (vs : List Value) (spot : Spot) (code : Code) → Inners due →
     step j due here k outside vs ≡ stops spot code → (here ≡ spot) × IsCode code
 step_code j [] here k vs spot code i e = cc
-step_code j (s ∷ due) here k vs spot code i e = by_turn (turn s here k) (inner_stays s here k i.0) e (λ vs e. step_code j due here k vs spot code i.1 e)
+step_code j (s ∷ due) here k vs spot code i e = by_turn (reading_turn s here k) (inner_stays s here k i.0) e (λ vs e. step_code j due here k vs spot code i.1 e)
   where
     by_turn : (x : Turn) → Stays x → stepped j outside here x due vs (step j due here k) ≡ stops spot code →
         ((vs : List Value) → step j due here k outside vs ≡ stops spot code → (here ≡ spot) × IsCode code) → (here ≡ spot) × IsCode code

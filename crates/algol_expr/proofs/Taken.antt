@@ -6,8 +6,8 @@ use Rattle.algol_tree.specs.Ended.{EndsOnce}
 use Rattle.algol_tree.specs.declared.TheConstants.{MOST_NESTING}
 use Rattle.algol_tree.specs.Tokens.{IsSpelled, is_word, is_symbol, is_spelled}
 use Rattle.algol_tree.specs.Due.{Due, word, symbol, spelled, opening, plain, nests, takes, refuses, either}
-use Rattle.algol_tree.specs.Reading.{turn, read}
-use Rattle.algol_tree.specs.Found.{IsRest, Passes, Fails}
+use Rattle.algol_tree.specs.Reading.{reading_turn, read}
+use Rattle.algol_tree.specs.Found.{IsRest, TokenPasses, Fails}
 use Rattle.algol_tree.specs.declared.token.Reserved.{Reserved}
 use Rattle.algol_tree.specs.declared.token.Symbol.{Symbol}
 use Rattle.algol_tree.specs.declared.refusal.Code.TheVariants as codes
@@ -19,7 +19,7 @@ pub one_shorter : (tokens : List Token) (t : Token) (ts : List Token) → tokens
 one_shorter tokens t [] e ended other = absurd (other (subst EndsOnce e ended))
 one_shorter tokens t (u ∷ ts) e ended other = record { ended = (subst EndsOnce e ended).1; shorter = omega (arith, ap length e) }
 
-pub fails_at : (tokens : List Token) (t : Token) (ts : List Token) (s : Due) (left : ℕ) (e : Refusal) → tokens ≡ t ∷ ts → turn s t.spot t.kind ≡ refuses →
+pub fails_at : (tokens : List Token) (t : Token) (ts : List Token) (s : Due) (left : ℕ) (e : Refusal) → tokens ≡ t ∷ ts → reading_turn s t.spot t.kind ≡ refuses →
     left ≡ length (t ∷ ts) → e ≡ At t.spot codes.Unexpected → Fails (s ∷ []) [] tokens left e
 fails_at tokens t ts s left e is p l r = record {
   run = λ spot code q due vs.
@@ -28,7 +28,7 @@ fails_at tokens t ts s left e is p l r = record {
 }
 
 pub word_passes : (tokens : List Token) (t : Token) (ts : List Token) (w : Reserved) → tokens ≡ t ∷ ts → EndsOnce tokens → is_word w t.kind ≡ true →
-    Passes (word w) tokens ts
+    TokenPasses (word w) tokens ts
 word_passes tokens t ts w e ended p = record {
   run = λ due vs. ap (λ x. read 0 x (word w ∷ due) vs) e ∙ takes_step 0 t ts (word w) [] due vs (ap (λ b. either b (takes plain []) refuses) p);
   behind = one_shorter tokens t ts e ended (λ q. let no : kinds.Word w ≡ kinds.End = sym (word_from t.kind w p) ∙ q in cc);
@@ -39,7 +39,7 @@ pub word_fails : (tokens : List Token) (t : Token) (ts : List Token) (w : Reserv
 word_fails tokens t ts w left e is p l r = fails_at tokens t ts (word w) left e is (ap (λ b. either b (takes plain []) refuses) p) l r
 
 pub symbol_passes : (tokens : List Token) (t : Token) (ts : List Token) (s : Symbol) → tokens ≡ t ∷ ts → EndsOnce tokens → is_symbol s t.kind ≡ true →
-    Passes (symbol s) tokens ts
+    TokenPasses (symbol s) tokens ts
 symbol_passes tokens t ts s e ended p = record {
   run = λ due vs. ap (λ x. read 0 x (symbol s ∷ due) vs) e ∙ takes_step 0 t ts (symbol s) [] due vs (ap (λ b. either b (takes plain []) refuses) p);
   behind = one_shorter tokens t ts e ended (λ q. let no : kinds.Symbol s ≡ kinds.End = sym (symbol_from t.kind s p) ∙ q in cc);
@@ -50,7 +50,7 @@ pub symbol_fails : (tokens : List Token) (t : Token) (ts : List Token) (s : Symb
 symbol_fails tokens t ts s left e is p l r = fails_at tokens t ts (symbol s) left e is (ap (λ b. either b (takes plain []) refuses) p) l r
 
 pub spelled_passes : (tokens : List Token) (t : Token) (ts : List Token) (n : List ℕ) → tokens ≡ t ∷ ts → EndsOnce tokens → IsSpelled n t →
-    Passes (spelled n) tokens ts
+    TokenPasses (spelled n) tokens ts
 spelled_passes tokens t ts n e ended p = record {
   run = λ due vs. ap (λ x. read 0 x (spelled n ∷ due) vs) e ∙ takes_step 0 t ts (spelled n) [] due vs (ap (λ b. either b (takes plain []) refuses) (spelled_is t n p));
   behind = one_shorter tokens t ts e ended (λ q. let no : kinds.Name n ≡ kinds.End = sym p ∙ q in cc);
@@ -67,7 +67,7 @@ spelled_fails tokens t ts n left e is p l r = fails_at tokens t ts (spelled n) l
 -- a symbol that opens a level
 
 pub opening_passes : (tokens : List Token) (t : Token) (ts : List Token) (s : Symbol) (d : ℕ) → tokens ≡ t ∷ ts → EndsOnce tokens → is_symbol s t.kind ≡ true →
-    d < MOST_NESTING → Passes (opening s d) tokens ts
+    d < MOST_NESTING → TokenPasses (opening s d) tokens ts
 opening_passes tokens t ts s d e ended p o = record {
   run = λ due vs. ap (λ x. read 0 x (opening s d ∷ due) vs) e ∙ opens_step 0 d t ts (opening s d) [] due vs (ap (λ b. either b (takes (nests d) []) refuses) p) (inl o);
   behind = one_shorter tokens t ts e ended (λ q. let no : kinds.Symbol s ≡ kinds.End = sym (symbol_from t.kind s p) ∙ q in cc);

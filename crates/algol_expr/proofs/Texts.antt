@@ -9,7 +9,7 @@ use Rattle.algol_tree.specs.Plain as trees
 use Rattle.algol_tree.specs.Plain.{PExpr, none}
 use Rattle.algol_tree.specs.Expressions as grammar
 use Rattle.algol_tree.specs.Operators.{Part, expr, level, not_part, rel, primary, operand}
-use Rattle.algol_tree.specs.Expressions.{IsPart}
+use Rattle.algol_tree.specs.Expressions.{IsExprPart}
 use Rattle.algol_tree.specs.Due.{Value, one, event_named, Due, make, word, symbol, spelled, part, more_of, relation, behind_name, exprs_more, opening, event, events_more, behind_event}
 use Rattle.algol_tree.specs.Reading.{nowhere}
 use Rattle.algol_expr.proofs.Inner.{IsInner, Inners}
@@ -23,7 +23,7 @@ one_tree = trees.number (pos 1) nowhere
 
 -- the text 1 is a part of each kind
 Ones : ℕ → ℕ → Part → Type 0
-Ones free d p = (rest : List Token) → IsPart free p d (one_token (kinds.Number (pos 1)) ∷ rest) one_tree rest
+Ones free d p = (rest : List Token) → IsExprPart free p d (one_token (kinds.Number (pos 1)) ∷ rest) one_tree rest
 
 one_chain : (free d : ℕ) (l : Level) → Ones free d (operand l) → Ones free d (level l)
 unfolding Ones

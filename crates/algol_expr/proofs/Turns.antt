@@ -13,36 +13,36 @@ use Rattle.algol_tree.specs.declared.token.Reserved.{Reserved}
 use Rattle.algol_tree.specs.declared.token.Symbol.{Symbol}
 use Rattle.algol_tree.specs.declared.refusal.Code.TheVariants as codes
 use Rattle.algol_tree.specs.Tokens.{IsWord, IsSymbol, IsSpelled, is_word, is_symbol, is_spelled, same_name}
-use Rattle.algol_tree.specs.Expressions.{Opens}
+use Rattle.algol_tree.specs.Expressions.{TokenOpens}
 use Rattle.algol_tree.specs.Due.{Value, Make, Due, make, word, symbol, spelled, plain, nests, label, takes, makes, skips, refuses, either}
-use Rattle.algol_tree.specs.Reading.{turn, outside, stepped, step, to, refused, read_on, judged, nowhere, reading, read}
+use Rattle.algol_tree.specs.Reading.{reading_turn, outside, stepped, step, to, refused, read_on, judged, nowhere, reading, read}
 
 pub read_nothing : (free : ℕ) (ts : List Token) (vs : List Value) → read free ts [] vs ≡ to ts vs
 unfolding reading
 read_nothing free [] vs = refl
 read_nothing free (t ∷ ts) vs = refl
 
-pub takes_step : (free : ℕ) (t : Token) (ts : List Token) (s : Due) (ds due : List Due) (vs : List Value) → turn s t.spot t.kind ≡ takes plain ds →
+pub takes_step : (free : ℕ) (t : Token) (ts : List Token) (s : Due) (ds due : List Due) (vs : List Value) → reading_turn s t.spot t.kind ≡ takes plain ds →
     read free (t ∷ ts) (s ∷ due) vs ≡ read free ts (ds ++ due) vs
 unfolding reading
 takes_step free t ts s ds due vs e = rw e refl
 
 -- what is optional is left out
-pub skips_step : (free : ℕ) (t : Token) (ts : List Token) (s : Due) (due : List Due) (vs : List Value) → turn s t.spot t.kind ≡ skips →
+pub skips_step : (free : ℕ) (t : Token) (ts : List Token) (s : Due) (due : List Due) (vs : List Value) → reading_turn s t.spot t.kind ≡ skips →
     read free (t ∷ ts) (s ∷ due) vs ≡ read free (t ∷ ts) due vs
 unfolding reading
 skips_step free t ts s due vs e = rw e refl
 
-pub skips_end : (free : ℕ) (s : Due) (due : List Due) (vs : List Value) → turn s nowhere kinds.End ≡ skips → read free [] (s ∷ due) vs ≡ read free [] due vs
+pub skips_end : (free : ℕ) (s : Due) (due : List Due) (vs : List Value) → reading_turn s nowhere kinds.End ≡ skips → read free [] (s ∷ due) vs ≡ read free [] due vs
 unfolding reading
 skips_end free s due vs e = rw e refl
 
-pub makes_step : (free : ℕ) (t : Token) (ts : List Token) (s : Due) (due : List Due) (vs : List Value) (m : Make) → turn s t.spot t.kind ≡ makes m →
+pub makes_step : (free : ℕ) (t : Token) (ts : List Token) (s : Due) (due : List Due) (vs : List Value) (m : Make) → reading_turn s t.spot t.kind ≡ makes m →
     read free (t ∷ ts) (s ∷ due) vs ≡ read free (t ∷ ts) due (m vs)
 unfolding reading
 makes_step free t ts s due vs m e = rw e refl
 
-pub makes_end : (free : ℕ) (s : Due) (due : List Due) (vs : List Value) (m : Make) → turn s nowhere kinds.End ≡ makes m →
+pub makes_end : (free : ℕ) (s : Due) (due : List Due) (vs : List Value) (m : Make) → reading_turn s nowhere kinds.End ≡ makes m →
     read free [] (s ∷ due) vs ≡ read free [] due (m vs)
 unfolding reading
 makes_end free s due vs m e = rw e refl
@@ -52,23 +52,23 @@ unfolding reading
 make_step free [] m due vs = refl
 make_step free (t ∷ ts) m due vs = refl
 
-pub not_deep : (free d : ℕ) (ts : List Token) → Opens free d ts → (nat_le MOST_NESTING d && (judged free ts).here) ≡ false
+pub not_deep : (free d : ℕ) (ts : List Token) → TokenOpens free d ts → (nat_le MOST_NESTING d && (judged free ts).here) ≡ false
 not_deep free d ts (inl less) = grind (arith, nat_tests)
 not_deep free d ts (inr less) = grind (arith, nat_tests)
 
-pub opens_step : (free d : ℕ) (t : Token) (ts : List Token) (s : Due) (ds due : List Due) (vs : List Value) → turn s t.spot t.kind ≡ takes (nests d) ds →
-    Opens free d (t ∷ ts) → read free (t ∷ ts) (s ∷ due) vs ≡ read free ts (ds ++ due) vs
+pub opens_step : (free d : ℕ) (t : Token) (ts : List Token) (s : Due) (ds due : List Due) (vs : List Value) → reading_turn s t.spot t.kind ≡ takes (nests d) ds →
+    TokenOpens free d (t ∷ ts) → read free (t ∷ ts) (s ∷ due) vs ≡ read free ts (ds ++ due) vs
 unfolding reading
 opens_step free d t ts s ds due vs e o = rw (e, not_deep free d (t ∷ ts) o) refl
 
 -- a label opens a level at its name, of which nothing is known before what follows
 pub label_step : (free d : ℕ) (n t : Token) (ts : List Token) (s : Due) (spot : Spot) (ds due : List Due) (vs : List Value) →
-    turn s t.spot t.kind ≡ takes (label d spot) ds → Opens free d (n ∷ t ∷ ts) → read free (t ∷ ts) (s ∷ due) vs ≡ read free ts (ds ++ due) vs
+    reading_turn s t.spot t.kind ≡ takes (label d spot) ds → TokenOpens free d (n ∷ t ∷ ts) → read free (t ∷ ts) (s ∷ due) vs ≡ read free ts (ds ++ due) vs
 unfolding reading
 label_step free d n t ts s spot ds due vs e o =
     let fine : (nat_le MOST_NESTING d && (judged free (t ∷ ts)).before) ≡ false = by_limit o in rw (e, fine) refl
   where
-    by_limit : Opens free d (n ∷ t ∷ ts) → (nat_le MOST_NESTING d && (judged free (t ∷ ts)).before) ≡ false
+    by_limit : TokenOpens free d (n ∷ t ∷ ts) → (nat_le MOST_NESTING d && (judged free (t ∷ ts)).before) ≡ false
     by_limit (inl less) = grind (arith, nat_tests)
     by_limit (inr less) = grind (arith, nat_tests)
 
@@ -120,19 +120,19 @@ spelled_from (kinds.Name m) n e = ap kinds.Name (same_from m n e)
 spelled_from k n e = cc
 
 -- what is read is not refused
-pub refused_none : (free : ℕ) (t : Token) (ts rest : List Token) (s : Due) (due : List Due) (vs ws : List Value) → turn s t.spot t.kind ≡ refuses →
+pub refused_none : (free : ℕ) (t : Token) (ts rest : List Token) (s : Due) (due : List Due) (vs ws : List Value) → reading_turn s t.spot t.kind ≡ refuses →
     read free (t ∷ ts) (s ∷ due) vs ≡ to rest ws → ⊥
 unfolding reading
 refused_none free t ts rest s due vs ws e r =
     let no : refused (length (t ∷ ts)) t.spot codes.Unexpected ≡ to rest ws =
     sym (ap (λ x. read_on (stepped (judged free (t ∷ ts)) outside t.spot x due vs (step (judged free (t ∷ ts)) due t.spot t.kind)) t ts (reading free ts)) e) ∙ r in cc
 
-pub fails_step : (free : ℕ) (t : Token) (ts : List Token) (s : Due) (due : List Due) (vs : List Value) → turn s t.spot t.kind ≡ refuses →
+pub fails_step : (free : ℕ) (t : Token) (ts : List Token) (s : Due) (due : List Due) (vs : List Value) → reading_turn s t.spot t.kind ≡ refuses →
     read free (t ∷ ts) (s ∷ due) vs ≡ refused (length (t ∷ ts)) t.spot codes.Unexpected
 unfolding reading
 fails_step free t ts s due vs e = rw e refl
 
-pub deep_step : (d : ℕ) (t : Token) (ts : List Token) (s : Due) (ds due : List Due) (vs : List Value) → turn s t.spot t.kind ≡ takes (nests d) ds → MOST_NESTING ≤ d →
+pub deep_step : (d : ℕ) (t : Token) (ts : List Token) (s : Due) (ds due : List Due) (vs : List Value) → reading_turn s t.spot t.kind ≡ takes (nests d) ds → MOST_NESTING ≤ d →
     read 0 (t ∷ ts) (s ∷ due) vs ≡ refused (length (t ∷ ts)) t.spot codes.TooDeep
 unfolding reading
 deep_step d t ts s ds due vs e o =
@@ -140,7 +140,7 @@ deep_step d t ts s ds due vs e o =
     rw (e, over) refl
 
 pub deep_label_step : (d : ℕ) (t : Token) (ts : List Token) (s : Due) (spot : Spot) (ds due : List Due) (vs : List Value) →
-    turn s t.spot t.kind ≡ takes (label d spot) ds → MOST_NESTING ≤ d → read 0 (t ∷ ts) (s ∷ due) vs ≡ refused (length (t ∷ ts)) spot codes.TooDeep
+    reading_turn s t.spot t.kind ≡ takes (label d spot) ds → MOST_NESTING ≤ d → read 0 (t ∷ ts) (s ∷ due) vs ≡ refused (length (t ∷ ts)) spot codes.TooDeep
 unfolding reading
 deep_label_step d t ts s spot ds due vs e o =
     let over : (nat_le MOST_NESTING d && (judged 0 (t ∷ ts)).before) ≡ true = grind (arith, nat_tests) in

@@ -8,9 +8,9 @@ use Rattle.algol_tree.specs.declared.token.TokenKind.TheVariants as kinds
 use Rattle.algol_tree.specs.declared.refusal.Code.{Code}
 use Rattle.algol_tree.specs.Plain.{PExpr}
 use Rattle.algol_tree.specs.Operators.{Part}
-use Rattle.algol_tree.specs.Expressions.{IsPart}
+use Rattle.algol_tree.specs.Expressions.{IsExprPart}
 use Rattle.algol_tree.specs.Due.{Value, one, Due, part, plain, nests, Turn, takes, makes, skips, closes, refuses}
-use Rattle.algol_tree.specs.Reading.{turn, Count, outside, Judged, Step, goes, over, stops, stepped, step, to, refused, read_on, read_end, judged, unjudged, nowhere, reading, read}
+use Rattle.algol_tree.specs.Reading.{reading_turn, Count, outside, Judged, ReadingStep, goes, over, stops, stepped, step, to, refused, read_on, read_end, judged, unjudged, nowhere, reading, read}
 use Rattle.algol_expr.proofs.Inner.{IsInner, Inners, Stays, inner_stays}
 use Rattle.algol_expr.proofs.Steps.{strict, judged_strict, to_opens, unless_goes, unless_over, goes_is, inner_goes, inner_over, step_any}
 use Rattle.algol_expr.proofs.Sound.{IsDue, IsAll, nil, cons, Makes, it, makes_it, left_out, Taken, Leaves, leave, back, in_two}
@@ -26,7 +26,7 @@ taken_back free s due es ds t ts vs us ws rest f e x =
     cons s due vs r.us ws (t ∷ ts) r.mid rest (f r.us r.mid r.first) r.second
 
 turn_back : (free : ℕ) (s : Due) (due ds : List Due) (t : Token) (ts : List Token) (vs us ws : List Value) (rest : List Token) (x : Turn) → IsInner s →
-    turn s t.spot t.kind ≡ x → Stays x →
+    reading_turn s t.spot t.kind ≡ x → Stays x →
     stepped (judged free (t ∷ ts)) outside t.spot x due vs (step (judged free (t ∷ ts)) due t.spot t.kind) ≡ goes outside ds us → IsAll free ds us ts ws rest →
     ((vs : List Value) → step (judged free (t ∷ ts)) due t.spot t.kind outside vs ≡ goes outside ds us → IsAll free due vs (t ∷ ts) ws rest) →
     IsAll free (s ∷ due) vs (t ∷ ts) ws rest
@@ -49,12 +49,12 @@ turn_back free s due ds t ts vs us ws rest refuses i is st e x again = cc
 pub step_back : (free : ℕ) (due ds : List Due) (t : Token) (ts : List Token) (vs us ws : List Value) (rest : List Token) → Inners due →
     step (judged free (t ∷ ts)) due t.spot t.kind outside vs ≡ goes outside ds us → IsAll free ds us ts ws rest → IsAll free due vs (t ∷ ts) ws rest
 step_back free [] ds t ts vs us ws rest i e x = cc
-step_back free (s ∷ due) ds t ts vs us ws rest i e x = turn_back free s due ds t ts vs us ws rest (turn s t.spot t.kind) i.0 refl (inner_stays s t.spot t.kind i.0) e x
+step_back free (s ∷ due) ds t ts vs us ws rest i e x = turn_back free s due ds t ts vs us ws rest (reading_turn s t.spot t.kind) i.0 refl (inner_stays s t.spot t.kind i.0) e x
     (λ vs e. step_back free due ds t ts vs us ws rest i.1 e x)
 
 -- where the next token belongs to nothing that is due, all may be left out
 over_turn : (free : ℕ) (j : Judged) (s : Due) (due : List Due) (spot : Spot) (k : TokenKind) (vs ws : List Value) (from : List Token) (x : Turn) → IsInner s →
-    turn s spot k ≡ x → Stays x → stepped j outside spot x due vs (step j due spot k) ≡ over outside ws →
+    reading_turn s spot k ≡ x → Stays x → stepped j outside spot x due vs (step j due spot k) ≡ over outside ws →
     ((vs : List Value) → step j due spot k outside vs ≡ over outside ws → IsAll free due vs from ws from) → IsAll free (s ∷ due) vs from ws from
 over_turn free j s due spot k vs ws from (takes plain es) i is st e again = cc
 over_turn free j s due spot k vs ws from (takes (nests d) es) i is st e again = absurd (unless_over (nat_le MOST_NESTING d && j.here) spot outside outside (es ++ due) vs ws e)
@@ -71,7 +71,7 @@ over_turn free j s due spot k vs ws from refuses i is st e again = cc
 over_back : (free : ℕ) (j : Judged) (due : List Due) (spot : Spot) (k : TokenKind) (vs ws : List Value) (from : List Token) → Inners due →
     step j due spot k outside vs ≡ over outside ws → IsAll free due vs from ws from
 over_back free j [] spot k vs ws from i e = let same : vs ≡ ws = cc in subst (λ w. IsAll free [] vs from w from) same (nil vs from)
-over_back free j (s ∷ due) spot k vs ws from i e = over_turn free j s due spot k vs ws from (turn s spot k) i.0 refl (inner_stays s spot k i.0) e
+over_back free j (s ∷ due) spot k vs ws from i e = over_turn free j s due spot k vs ws from (reading_turn s spot k) i.0 refl (inner_stays s spot k i.0) e
     (λ vs e. over_back free j due spot k vs ws from i.1 e)
 
 over_steady : (j : Judged) (due : List Due) (spot : Spot) (k : TokenKind) (vs : List Value) (c : Count) (us : List Value) → Inners due →
@@ -87,7 +87,7 @@ pub sound : (free : ℕ) (ts : List Token) (due : List Due) (vs ws : List Value)
 unfolding reading
 sound free [] due vs ws rest i e = at_end (step unjudged due nowhere kinds.End outside vs) refl e
   where
-    at_end : (x : Step) → step unjudged due nowhere kinds.End outside vs ≡ x → read_end x ≡ to rest ws → IsAll free due vs [] ws rest
+    at_end : (x : ReadingStep) → step unjudged due nowhere kinds.End outside vs ≡ x → read_end x ≡ to rest ws → IsAll free due vs [] ws rest
     at_end (goes c ds us) is e = cc
     at_end (over c us) is e = let p : (us ≡ ws) × ([] ≡ rest) = (cc, cc) in
         subst (λ r. IsAll free due vs [] ws r) p.1 (subst (λ w. IsAll free due vs [] w []) p.0
@@ -95,7 +95,7 @@ sound free [] due vs ws rest i e = at_end (step unjudged due nowhere kinds.End o
     at_end (stops spot code) is e = cc
 sound free (t ∷ ts) due vs ws rest i e = at_token (step (judged free (t ∷ ts)) due t.spot t.kind outside vs) refl e (λ ds us i x. sound free ts ds us ws rest i x)
   where
-    at_token : (x : Step) → step (judged free (t ∷ ts)) due t.spot t.kind outside vs ≡ x → read_on x t ts (reading free ts) ≡ to rest ws →
+    at_token : (x : ReadingStep) → step (judged free (t ∷ ts)) due t.spot t.kind outside vs ≡ x → read_on x t ts (reading free ts) ≡ to rest ws →
         ((ds : List Due) (us : List Value) → Inners ds → read free ts ds us ≡ to rest ws → IsAll free ds us ts ws rest) → IsAll free due vs (t ∷ ts) ws rest
     at_token (goes c ds us) is e more =
         let g = inner_goes (judged free (t ∷ ts)) due t.spot t.kind vs c ds us i is in
@@ -107,16 +107,16 @@ sound free (t ∷ ts) due vs ws rest i e = at_token (step (judged free (t ∷ ts
     at_token (stops spot code) is e more = cc
 
 -- what is read as a part of an expression is one
-pub part_sound : (free : ℕ) (p : Part) (d : ℕ) (ts rest : List Token) (e : PExpr) → read free ts (part p d ∷ []) [] ≡ to rest (one e ∷ []) → IsPart free p d ts e rest
+pub part_sound : (free : ℕ) (p : Part) (d : ℕ) (ts rest : List Token) (e : PExpr) → read free ts (part p d ∷ []) [] ≡ to rest (one e ∷ []) → IsExprPart free p d ts e rest
 part_sound free p d ts rest e r = only e rest (sound free ts (part p d ∷ []) [] (one e ∷ []) rest (tt, tt) r)
   where
-    made_only : (ws : List Value) (rest : List Token) (e : PExpr) → ws ≡ one e ∷ [] → Makes free p d ts [] ws rest → IsPart free p d ts e rest
-    made_only _ _ e q (it f rest x) = let same : f ≡ e = cc in subst (λ e. IsPart free p d ts e rest) same x
+    made_only : (ws : List Value) (rest : List Token) (e : PExpr) → ws ≡ one e ∷ [] → Makes free p d ts [] ws rest → IsExprPart free p d ts e rest
+    made_only _ _ e q (it f rest x) = let same : f ≡ e = cc in subst (λ e. IsExprPart free p d ts e rest) same x
 
-    all_only : (ws : List Value) (rest : List Token) (e : PExpr) → ws ≡ one e ∷ [] → IsAll free (part p d ∷ []) [] ts ws rest → IsPart free p d ts e rest
+    all_only : (ws : List Value) (rest : List Token) (e : PExpr) → ws ≡ one e ∷ [] → IsAll free (part p d ∷ []) [] ts ws rest → IsExprPart free p d ts e rest
     all_only _ _ e q (cons _ _ _ _ _ _ _ _ x (nil ws rest)) = made_only ws rest e q x
 
-    only : (e : PExpr) (rest : List Token) → IsAll free (part p d ∷ []) [] ts (one e ∷ []) rest → IsPart free p d ts e rest
+    only : (e : PExpr) (rest : List Token) → IsAll free (part p d ∷ []) [] ts (one e ∷ []) rest → IsExprPart free p d ts e rest
     only e rest x = all_only (one e ∷ []) rest e refl x
 
 -- tokens that are gone over, the limit of levels being kept by all of them
@@ -146,7 +146,7 @@ pub refused_at : (ts : List Token) (due : List Due) (vs : List Value) (left : �
 unfolding reading
 refused_at [] due vs left spot code i e = at_end (step unjudged due nowhere kinds.End outside vs) e
   where
-    at_end : (x : Step) → read_end x ≡ refused left spot code → RefusedAt due vs [] left spot code
+    at_end : (x : ReadingStep) → read_end x ≡ refused left spot code → RefusedAt due vs [] left spot code
     at_end (goes c ds us) e = cc
     at_end (over c us) e = cc
     at_end (stops place c) e = cc
@@ -154,7 +154,7 @@ refused_at (t ∷ ts) due vs left spot code i e = at_token (step strict due t.sp
     (subst (λ j. read_on (step j due t.spot t.kind outside vs) t ts (reading 0 ts) ≡ refused left spot code) (judged_strict 0 t ts (omega arith)) e)
     (λ ds us i. refused_at ts ds us left spot code i)
   where
-    at_token : (x : Step) → step strict due t.spot t.kind outside vs ≡ x → read_on x t ts (reading 0 ts) ≡ refused left spot code →
+    at_token : (x : ReadingStep) → step strict due t.spot t.kind outside vs ≡ x → read_on x t ts (reading 0 ts) ≡ refused left spot code →
         ((ds : List Due) (us : List Value) → Inners ds → read 0 ts ds us ≡ refused left spot code → RefusedAt ds us ts left spot code) → RefusedAt due vs (t ∷ ts) left spot code
     at_token (goes c ds us) is e more =
         let g = inner_goes strict due t.spot t.kind vs c ds us i is in
@@ -218,7 +218,7 @@ pub over_at : (ts : List Token) (due : List Due) (vs : List Value) (t : Token) (
 unfolding reading
 over_at [] due vs t rest ws i e = at_end (step unjudged due nowhere kinds.End outside vs) e
   where
-    at_end : (x : Step) → read_end x ≡ to (t ∷ rest) ws → OverAt due vs [] t rest ws
+    at_end : (x : ReadingStep) → read_end x ≡ to (t ∷ rest) ws → OverAt due vs [] t rest ws
     at_end (goes c ds us) e = cc
     at_end (over c us) e = cc
     at_end (stops spot code) e = cc
@@ -238,7 +238,7 @@ over_at (u ∷ ts) due vs t rest ws i e = at_token (step strict due u.spot u.kin
           over_so = subst (λ x. step strict due x.spot x.kind outside vs ≡ over outside ws) same (s ∙ ap (over outside) q);
         }
 
-    at_token : (x : Step) → step strict due u.spot u.kind outside vs ≡ x → read_on x u ts (reading 0 ts) ≡ to (t ∷ rest) ws →
+    at_token : (x : ReadingStep) → step strict due u.spot u.kind outside vs ≡ x → read_on x u ts (reading 0 ts) ≡ to (t ∷ rest) ws →
         ((ds : List Due) (us : List Value) → Inners ds → read 0 ts ds us ≡ to (t ∷ rest) ws → OverAt ds us ts t rest ws) → OverAt due vs (u ∷ ts) t rest ws
     at_token (goes c ds us) is e more =
         let g = inner_goes strict due u.spot u.kind vs c ds us i is in

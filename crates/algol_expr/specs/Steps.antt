@@ -38,8 +38,8 @@ IsStart Not (t ∷ ts) = is_word reserved.Not t.kind ≡ true
 IsStart Sign (t ∷ ts) = is_sign t.kind ≡ true
 IsStart s ts = ⊤
 
-abbrev pub order : List Step
-order = Operators levels.Term ∷ Operators levels.Sum ∷ Relation ∷ Operators levels.And ∷ Operators levels.Or ∷ Operators levels.Imp ∷ Operators levels.Eqv ∷ []
+abbrev pub steps_in_order : List Step
+steps_in_order = Operators levels.Term ∷ Operators levels.Sum ∷ Relation ∷ Operators levels.And ∷ Operators levels.Or ∷ Operators levels.Imp ∷ Operators levels.Eqv ∷ []
 
 abbrev pub first_place : Start → ℕ
 first_place Primary = 0
@@ -56,12 +56,12 @@ end_place (Operators levels.Imp) = 6
 end_place (Operators levels.Eqv) = 7
 
 abbrev pub steps : Start → Step → List Step
-steps start last = drop (first_place start) (take (end_place last) order)
+steps start last = drop (first_place start) (take (end_place last) steps_in_order)
 
 -- the part of an expression that the steps up to this one make, and what is due of this step
-abbrev pub part_of : Step → Part
-part_of (Operators l) = level l
-part_of Relation = not_part
+abbrev pub part_of_step : Step → Part
+part_of_step (Operators l) = level l
+part_of_step Relation = not_part
 
 abbrev pub due_of : ℕ → Step → Due
 due_of d (Operators l) = more_of l d
@@ -78,6 +78,6 @@ leaves Sign d = more_of levels.Sum d ∷ []
 leaves s d = []
 
 -- The beginning is read from these tokens up to `rest`, and makes this value.
-pub record Begins (start : Start) (d : ℕ) (tokens : List Token) (v : Value) (rest : List Token) : Type 0 where
+pub record ExprBegins (start : Start) (d : ℕ) (tokens : List Token) (v : Value) (rest : List Token) : Type 0 where
   pub run : (due : List Due) (vs : List Value) → read 0 tokens (part (begins_with start) d ∷ due) vs ≡ read 0 rest (leaves start d ++ due) (v ∷ vs)
   pub behind : IsRest tokens rest

@@ -9,7 +9,7 @@ ghost use Rattle.algol_tree.specs.Operators.{primary};
 ghost use Rattle.algol_tree.specs.Expressions.{test_of};
 ghost use Rattle.algol_tree.specs.Due as due;
 ghost use Rattle.algol_tree.specs.Due.{part, one, event_named, event_names};
-ghost use Rattle.algol_tree.specs.Found.{Finds, Completes, Fails, Lists};
+ghost use Rattle.algol_tree.specs.Found.{ReaderFinds, Completes, Fails, Lists};
 ghost use Rattle.algol_expr.specs.Events.{events_in};
 
 use crate::make::{asked, boxed, named, waited};
@@ -44,7 +44,7 @@ pub(crate) fn read_asked<'a>(
 ) -> Result<(Box<Expr>, &'a [Token]), Stop>
     requires ended { EndsOnce (first.now ∷ rest.now) }
     requires word { test_of first.now.kind ≡ Some test }
-    ensures found { IfOk result (λ r. Finds (part primary depth) (first.now ∷ rest.now) (one (plain r.0.value)) r.1.now) }
+    ensures found { IfOk result (λ r. ReaderFinds (part primary depth) (first.now ∷ rest.now) (one (plain r.0.value)) r.1.now) }
     ensures refused { IfErr result (λ e. Fails (part primary depth ∷ []) [] (first.now ∷ rest.now) e.left e.refusal) }
 {
     let rest = expect_opening(rest, Symbol::OpenRound, depth)?;
@@ -63,7 +63,7 @@ pub(crate) fn read_waited<'a>(
 ) -> Result<(Box<Expr>, &'a [Token]), Stop>
     requires ended { EndsOnce (first.now ∷ rest.now) }
     requires word { is_word reserved.Wait first.now.kind ≡ true }
-    ensures found { IfOk result (λ r. Finds (part primary depth) (first.now ∷ rest.now) (one (plain r.0.value)) r.1.now) }
+    ensures found { IfOk result (λ r. ReaderFinds (part primary depth) (first.now ∷ rest.now) (one (plain r.0.value)) r.1.now) }
     ensures refused { IfErr result (λ e. Fails (part primary depth ∷ []) [] (first.now ∷ rest.now) e.left e.refusal) }
 {
     let rest = expect_opening(rest, Symbol::OpenRound, depth)?;
@@ -95,7 +95,7 @@ fn read_events(alloc: Global, tokens: &[Token]) -> Result<(List<EventName>, &[To
 /// event = name [ "." EXCEPTIONEVENT ]. Its refusal is `Unexpected`, at the first token that it does not go through.
 pub fn read_event(alloc: Global, tokens: &[Token]) -> Result<(EventName, &[Token]), Stop>
     requires ended { EndsOnce tokens.now }
-    ensures found { IfOk result (λ r. Finds due.event tokens.now (event_named r.0) r.1.now) }
+    ensures found { IfOk result (λ r. ReaderFinds due.event tokens.now (event_named r.0) r.1.now) }
     ensures refused { IfErr result (λ e. Fails (due.event ∷ []) [] tokens.now e.left e.refusal) }
 {
     let (first, behind) = first_of(tokens);

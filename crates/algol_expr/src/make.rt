@@ -7,7 +7,7 @@ ghost use Rattle.b67_deeds.specs.Deeds.{tests, is_of_several};
 ghost use Rattle.algol_tree.specs.declared.refusal.Refusal.TheVariants.{NoMemory};
 ghost use Rattle.algol_tree.specs.Plain as plain_trees;
 ghost use Rattle.algol_tree.specs.Image.{expr as plain, exprs as plain_list};
-ghost use Rattle.algol_tree.specs.DueExpr.{sign_of, literal};
+ghost use Rattle.algol_tree.specs.DueExpr.{token_sign_of, literal};
 
 use crate::stop::Stop;
 use algol_tree::{
@@ -76,7 +76,7 @@ pub(crate) fn grouped(alloc: Global, inner: Box<Expr>, spot: Spot) -> Result<Box
 
 /// A term with the sign before it, `+` or `-`.
 fn with_sign(sign: &Token, term: Box<Expr>) -> Expr
-    ensures { plain result ≡ sign_of sign.now.kind (plain term.value) sign.now.spot }
+    ensures { plain result ≡ token_sign_of sign.now.kind (plain term.value) sign.now.spot }
 {
     match sign.kind {
         TokenKind::Symbol(Symbol::Minus) => Expr::Neg(term, sign.spot),
@@ -86,7 +86,7 @@ fn with_sign(sign: &Token, term: Box<Expr>) -> Expr
 
 #[inline(never)]
 pub(crate) fn signed(alloc: Global, sign: &Token, term: Box<Expr>) -> Result<Box<Expr>, Stop>
-    ensures built { IfOk result (λ e. plain e.value ≡ sign_of sign.now.kind (plain term.value) sign.now.spot) }
+    ensures built { IfOk result (λ e. plain e.value ≡ token_sign_of sign.now.kind (plain term.value) sign.now.spot) }
     ensures memory { IfErr result (λ e. e.refusal ≡ NoMemory) }
 {
     let whole = Box::new(alloc, with_sign(sign, term))?;

@@ -14,11 +14,11 @@ ghost use Rattle.algol_tree.specs.declared.token.TokenKind.TheVariants as kinds;
 ghost use Rattle.algol_tree.specs.declared.token.Symbol.TheVariants as symbols;
 ghost use Rattle.algol_tree.specs.Tokens.{is_word, is_symbol};
 ghost use Rattle.algol_tree.specs.Due.{part, more_of, behind_name, one, many, make, word};
-ghost use Rattle.algol_tree.specs.DueExpr.{list_in, chosen, is_sign};
+ghost use Rattle.algol_tree.specs.DueExpr.{list_in, expr_chosen, is_sign};
 ghost use Rattle.algol_tree.specs.Due as dues;
-ghost use Rattle.algol_tree.specs.Found.{Finds, Extends, Completes, Fails, Lists};
+ghost use Rattle.algol_tree.specs.Found.{ReaderFinds, Extends, Completes, Fails, Lists};
 ghost use Rattle.algol_tree.specs.Plain.{none};
-ghost use Rattle.algol_expr.specs.Steps.{IsStart, Begins, begins_with, part_of, due_of};
+ghost use Rattle.algol_expr.specs.Steps.{IsStart, ExprBegins, begins_with, part_of_step, due_of};
 ghost use Rattle.algol_expr.specs.declared.step.Start.TheVariants as starts;
 
 use crate::event::{read_asked, read_waited, test_in};
@@ -43,7 +43,7 @@ pub(crate) fn read_expression(
     depth: u32,
 ) -> Result<(Box<Expr>, &[Token]), Stop>
     requires ended { EndsOnce tokens.now }
-    ensures found { IfOk result (λ r. Finds (part expr depth) tokens.now (one (plain r.0.value)) r.1.now) }
+    ensures found { IfOk result (λ r. ReaderFinds (part expr depth) tokens.now (one (plain r.0.value)) r.1.now) }
     ensures refused { IfErr result (λ e. Fails (part expr depth ∷ []) [] tokens.now e.left e.refusal) }
 {
     let (first, rest) = first_of(tokens);
@@ -65,7 +65,7 @@ fn read_choice<'a>(
 ) -> Result<(Box<Expr>, &'a [Token]), Stop>
     requires ended { EndsOnce (first.now ∷ rest.now) }
     requires word { is_word reserved.If first.now.kind ≡ true }
-    ensures found { IfOk result (λ r. Finds (part expr depth) (first.now ∷ rest.now) (one (plain r.0.value)) r.1.now) }
+    ensures found { IfOk result (λ r. ReaderFinds (part expr depth) (first.now ∷ rest.now) (one (plain r.0.value)) r.1.now) }
     ensures refused { IfErr result (λ e. Fails (part expr depth ∷ []) [] (first.now ∷ rest.now) e.left e.refusal) }
 {
     let inner = opened(first, rest, depth)?;
@@ -85,8 +85,8 @@ fn read_arms(
     depth: u32,
 ) -> Result<(Box<Expr>, &[Token]), Stop>
     requires ended { EndsOnce tokens.now }
-    ensures found { IfOk result (λ r. Lists (part (grammar.level levels.Eqv) depth ∷ word reserved.Else ∷ part expr depth ∷ make (chosen spot) ∷ []) tokens.now (one (plain condition.value)) (one (plain r.0.value)) r.1.now) }
-    ensures refused { IfErr result (λ e. Fails (part (grammar.level levels.Eqv) depth ∷ word reserved.Else ∷ part expr depth ∷ make (chosen spot) ∷ []) (one (plain condition.value) ∷ []) tokens.now e.left e.refusal) }
+    ensures found { IfOk result (λ r. Lists (part (grammar.level levels.Eqv) depth ∷ word reserved.Else ∷ part expr depth ∷ make (expr_chosen spot) ∷ []) tokens.now (one (plain condition.value)) (one (plain r.0.value)) r.1.now) }
+    ensures refused { IfErr result (λ e. Fails (part (grammar.level levels.Eqv) depth ∷ word reserved.Else ∷ part expr depth ∷ make (expr_chosen spot) ∷ []) (one (plain condition.value) ∷ []) tokens.now e.left e.refusal) }
 {
     let (yes, rest) = read_up_to(alloc, tokens, Step::Operators(Level::Eqv), depth)?;
     let rest = expect_word(rest, Reserved::Else)?;
@@ -103,8 +103,8 @@ fn read_up_to(
     depth: u32,
 ) -> Result<(Box<Expr>, &[Token]), Stop>
     requires ended { EndsOnce tokens.now }
-    ensures found { IfOk result (λ r. Finds (part (part_of last) depth) tokens.now (one (plain r.0.value)) r.1.now) }
-    ensures refused { IfErr result (λ e. Fails (part (part_of last) depth ∷ []) [] tokens.now e.left e.refusal) }
+    ensures found { IfOk result (λ r. ReaderFinds (part (part_of_step last) depth) tokens.now (one (plain r.0.value)) r.1.now) }
+    ensures refused { IfErr result (λ e. Fails (part (part_of_step last) depth ∷ []) [] tokens.now e.left e.refusal) }
 {
     let (first, _behind) = first_of(tokens);
     let start = start_of(last, first);
@@ -127,7 +127,7 @@ fn read_beginning(
 ) -> Result<(Box<Expr>, &[Token]), Stop>
     requires ended { EndsOnce tokens.now }
     requires start { IsStart start tokens.now }
-    ensures found { IfOk result (λ r. Begins start depth tokens.now (one (plain r.0.value)) r.1.now) }
+    ensures found { IfOk result (λ r. ExprBegins start depth tokens.now (one (plain r.0.value)) r.1.now) }
     ensures refused { IfErr result (λ e. Fails (part (begins_with start) depth ∷ []) [] tokens.now e.left e.refusal) }
 {
     let (first, behind) = first_of(tokens);
@@ -149,7 +149,7 @@ fn read_not<'a>(
 ) -> Result<(Box<Expr>, &'a [Token]), Stop>
     requires ended { EndsOnce (first.now ∷ behind.now) }
     requires word { is_word reserved.Not first.now.kind ≡ true }
-    ensures found { IfOk result (λ r. Finds (part not_part depth) (first.now ∷ behind.now) (one (plain r.0.value)) r.1.now) }
+    ensures found { IfOk result (λ r. ReaderFinds (part not_part depth) (first.now ∷ behind.now) (one (plain r.0.value)) r.1.now) }
     ensures refused { IfErr result (λ e. Fails (part not_part depth ∷ []) [] (first.now ∷ behind.now) e.left e.refusal) }
 {
     let inner = opened(first, behind, depth)?;
@@ -168,7 +168,7 @@ fn read_signed<'a>(
 ) -> Result<(Box<Expr>, &'a [Token]), Stop>
     requires ended { EndsOnce (sign.now ∷ behind.now) }
     requires sign { is_sign sign.now.kind ≡ true }
-    ensures found { IfOk result (λ r. Begins starts.Sign depth (sign.now ∷ behind.now) (one (plain r.0.value)) r.1.now) }
+    ensures found { IfOk result (λ r. ExprBegins starts.Sign depth (sign.now ∷ behind.now) (one (plain r.0.value)) r.1.now) }
     ensures refused { IfErr result (λ e. Fails (part (grammar.level levels.Sum) depth ∷ []) [] (sign.now ∷ behind.now) e.left e.refusal) }
 {
     let (operand, rest) = read_up_to(alloc, behind, Step::Operators(Level::Term), depth)?;
@@ -203,7 +203,7 @@ fn read_operand(
     depth: u32,
 ) -> Result<(Box<Expr>, &[Token]), Stop>
     requires ended { EndsOnce tokens.now }
-    ensures found { IfOk result (λ r. Finds (part (operand level) depth) tokens.now (one (plain r.0.value)) r.1.now) }
+    ensures found { IfOk result (λ r. ReaderFinds (part (operand level) depth) tokens.now (one (plain r.0.value)) r.1.now) }
     ensures refused { IfErr result (λ e. Fails (part (operand level) depth ∷ []) [] tokens.now e.left e.refusal) }
 {
     match level {
@@ -270,7 +270,7 @@ fn read_relation(
 #[cycle(expressions)]
 fn read_primary(alloc: Global, tokens: &[Token], depth: u32) -> Result<(Box<Expr>, &[Token]), Stop>
     requires ended { EndsOnce tokens.now }
-    ensures found { IfOk result (λ r. Finds (part primary depth) tokens.now (one (plain r.0.value)) r.1.now) }
+    ensures found { IfOk result (λ r. ReaderFinds (part primary depth) tokens.now (one (plain r.0.value)) r.1.now) }
     ensures refused { IfErr result (λ e. Fails (part primary depth ∷ []) [] tokens.now e.left e.refusal) }
 {
     let (first, behind) = first_of(tokens);
@@ -304,7 +304,7 @@ fn read_group<'a>(
 ) -> Result<(Box<Expr>, &'a [Token]), Stop>
     requires ended { EndsOnce (first.now ∷ rest.now) }
     requires symbol { is_symbol symbols.OpenRound first.now.kind ≡ true }
-    ensures found { IfOk result (λ r. Finds (part primary depth) (first.now ∷ rest.now) (one (plain r.0.value)) r.1.now) }
+    ensures found { IfOk result (λ r. ReaderFinds (part primary depth) (first.now ∷ rest.now) (one (plain r.0.value)) r.1.now) }
     ensures refused { IfErr result (λ e. Fails (part primary depth ∷ []) [] (first.now ∷ rest.now) e.left e.refusal) }
 {
     let inner = opened(first, rest, depth)?;

@@ -6,7 +6,7 @@ ghost use Rattle.algol_tree.specs.declared.refusal.Code.TheVariants as codes;
 ghost use Rattle.algol_tree.specs.declared.refusal.Refusal.TheVariants as refusals;
 ghost use Rattle.algol_tree.specs.Due as due;
 ghost use Rattle.algol_tree.specs.Tokens.{IsSpelled, name_in, is_word, is_symbol};
-ghost use Rattle.algol_tree.specs.Found.{Passes, Fails};
+ghost use Rattle.algol_tree.specs.Found.{TokenPasses, Fails};
 
 use crate::stop::Stop;
 use algol_tree::{Code, Line, MOST_NESTING, Refusal, Reserved, Symbol, Token, TokenKind};
@@ -82,7 +82,7 @@ pub fn opened(first: &Token, behind: &[Token], depth: u32) -> Result<u32, Stop>
 #[tactic(auto, using(crate::proofs::Taken::word_passes, crate::proofs::Taken::word_fails))]
 pub fn expect_word(tokens: &[Token], word: Reserved) -> Result<&[Token], Stop>
     requires ended { EndsOnce tokens.now }
-    ensures passes { IfOk result (λ rest. Passes (due.word word) tokens.now rest.now) }
+    ensures passes { IfOk result (λ rest. TokenPasses (due.word word) tokens.now rest.now) }
     ensures fails { IfErr result (λ e. Fails (due.word word ∷ []) [] tokens.now e.left e.refusal) }
 {
     let (first, rest) = first_of(tokens);
@@ -97,7 +97,7 @@ pub fn expect_word(tokens: &[Token], word: Reserved) -> Result<&[Token], Stop>
 #[tactic(auto, using(crate::proofs::Taken::symbol_passes, crate::proofs::Taken::symbol_fails))]
 pub fn expect_symbol(tokens: &[Token], symbol: Symbol) -> Result<&[Token], Stop>
     requires ended { EndsOnce tokens.now }
-    ensures passes { IfOk result (λ rest. Passes (due.symbol symbol) tokens.now rest.now) }
+    ensures passes { IfOk result (λ rest. TokenPasses (due.symbol symbol) tokens.now rest.now) }
     ensures fails { IfErr result (λ e. Fails (due.symbol symbol ∷ []) [] tokens.now e.left e.refusal) }
 {
     let (first, rest) = first_of(tokens);
@@ -121,7 +121,7 @@ pub(crate) fn is_spelled(token: &Token, name: &[u8]) -> bool
 /// What follows the name that has to stand there as it is. Another token is refused as `Unexpected`.
 pub fn expect_spelled<'a>(tokens: &'a [Token], name: &[u8]) -> Result<&'a [Token], Stop>
     requires ended { EndsOnce tokens.now }
-    ensures passes { IfOk result (λ rest. Passes (due.spelled name.now) tokens.now rest.now) }
+    ensures passes { IfOk result (λ rest. TokenPasses (due.spelled name.now) tokens.now rest.now) }
     ensures fails { IfErr result (λ e. Fails (due.spelled name.now ∷ []) [] tokens.now e.left e.refusal) }
 {
     let (first, rest) = first_of(tokens);
@@ -135,7 +135,7 @@ pub fn expect_spelled<'a>(tokens: &'a [Token], name: &[u8]) -> Result<&'a [Token
 /// What follows the symbol that is due and opens a level.
 pub(crate) fn expect_opening(tokens: &[Token], symbol: Symbol, depth: u32) -> Result<&[Token], Stop>
     requires ended { EndsOnce tokens.now }
-    ensures passes { IfOk result (λ rest. Passes (due.opening symbol depth) tokens.now rest.now) }
+    ensures passes { IfOk result (λ rest. TokenPasses (due.opening symbol depth) tokens.now rest.now) }
     ensures fails { IfErr result (λ e. Fails (due.opening symbol depth ∷ []) [] tokens.now e.left e.refusal) }
 {
     let (first, rest) = first_of(tokens);

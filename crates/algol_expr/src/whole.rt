@@ -6,10 +6,10 @@ ghost use Rattle.algol_tree.specs.Ends.{Ends};
 ghost use Rattle.algol_tree.specs.Plain.{PExpr};
 ghost use Rattle.algol_tree.specs.Image.{expr as plain};
 ghost use Rattle.algol_tree.specs.Operators.{expr};
-ghost use Rattle.algol_tree.specs.Expressions.{IsWhole};
+ghost use Rattle.algol_tree.specs.Expressions.{IsWholeExpression};
 ghost use Rattle.algol_tree.specs.Refused.{RefusedExpression, IsLongest};
 ghost use Rattle.algol_tree.specs.Due.{part, whole, one};
-ghost use Rattle.algol_tree.specs.Found.{Finds, Fails, Refuses};
+ghost use Rattle.algol_tree.specs.Found.{ReaderFinds, Fails, ReaderRefuses};
 ghost use Rattle.algol_tree.specs.declared.token.Token as token;
 ghost use Rattle.algol_expr.specs.Long.{IsLong};
 
@@ -38,7 +38,7 @@ fn overlong(tokens: &[Token], left: usize) -> Option<Refusal>
 #[inline(never)]
 fn read_out(alloc: Global, tokens: &[Token], depth: u32) -> Result<(Expr, &[Token]), Stop>
     requires ended { EndsOnce tokens.now }
-    ensures found { IfOk result (λ r. Finds (part expr depth) tokens.now (one (plain r.0)) r.1.now) }
+    ensures found { IfOk result (λ r. ReaderFinds (part expr depth) tokens.now (one (plain r.0)) r.1.now) }
     ensures refused { IfErr result (λ e. Fails (part expr depth ∷ []) [] tokens.now e.left e.refusal) }
 {
     let (expr, rest) = read_expression(alloc, tokens, depth)?;
@@ -55,13 +55,13 @@ fn read_out(alloc: Global, tokens: &[Token], depth: u32) -> Result<(Expr, &[Toke
 /// expressions stand in.
 pub fn read_whole(alloc: Global, tokens: &[Token], depth: u32) -> Result<(Expr, &[Token]), Refusal>
     requires ended { EndsOnce tokens.now }
-    ensures reads { IfOk result (λ r. IsWhole 0 depth tokens.now (plain r.0) r.1.now) }
+    ensures reads { IfOk result (λ r. IsWholeExpression 0 depth tokens.now (plain r.0) r.1.now) }
     ensures only { IfOk result (λ r. (e : PExpr) (rest : List token.Token) →
-        IsWhole 0 depth tokens.now e rest → Ends expr rest → (e ≡ plain r.0) × (rest ≡ r.1.now)) }
+        IsWholeExpression 0 depth tokens.now e rest → Ends expr rest → (e ≡ plain r.0) × (rest ≡ r.1.now)) }
     ensures longest { IfOk result (λ r. IsLongest depth tokens.now r.1.now) }
     ensures refused { IfErr result (λ e. RefusedExpression depth tokens.now e) }
-    ensures found { IfOk result (λ r. Finds (whole depth) tokens.now (one (plain r.0)) r.1.now) }
-    ensures fails { IfErr result (λ e. Refuses (whole depth ∷ []) [] tokens.now e) }
+    ensures found { IfOk result (λ r. ReaderFinds (whole depth) tokens.now (one (plain r.0)) r.1.now) }
+    ensures fails { IfErr result (λ e. ReaderRefuses (whole depth ∷ []) [] tokens.now e) }
 {
     match read_out(alloc, tokens, depth) {
         Ok((expr, rest)) => match overlong(tokens, rest.len()) {
@@ -87,9 +87,9 @@ pub fn read_expr(
 ) -> Result<(Expr, usize), Refusal>
     requires ended { EndsOnce tokens.now }
     requires within { at < length tokens.now }
-    ensures reads { IfOk result (λ r. IsWhole 0 depth (drop at tokens.now) (plain r.0) (drop r.1 tokens.now)) }
+    ensures reads { IfOk result (λ r. IsWholeExpression 0 depth (drop at tokens.now) (plain r.0) (drop r.1 tokens.now)) }
     ensures only { IfOk result (λ r. (e : PExpr) (rest : List token.Token) →
-        IsWhole 0 depth (drop at tokens.now) e rest → Ends expr rest → (e ≡ plain r.0) × (rest ≡ drop r.1 tokens.now)) }
+        IsWholeExpression 0 depth (drop at tokens.now) e rest → Ends expr rest → (e ≡ plain r.0) × (rest ≡ drop r.1 tokens.now)) }
     ensures longest { IfOk result (λ r. IsLongest depth (drop at tokens.now) (drop r.1 tokens.now)) }
     ensures behind { IfOk result (λ r. (at < r.1) × (r.1 < length tokens.now)) }
     ensures refused { IfErr result (λ e. RefusedExpression depth (drop at tokens.now) e) }

@@ -9,7 +9,7 @@ use Rattle.algol_tree.specs.declared.token.Spot.{Spot}
 use Rattle.algol_tree.specs.Blocks.{same_spot}
 use Rattle.algol_frames.specs.declared.by_line.Placed.{Placed}
 use Rattle.algol_frames.specs.declared.scopes.Declared.{Declared}
-use Rattle.algol_frames.specs.ByLine.{placed_among, names_in, placed_in}
+use Rattle.algol_frames.specs.ByLine.{placed_among, names_in_line, placed_in}
 
 none_more : (x : Option Declared) → option_or x None ≡ x
 none_more None = refl
@@ -28,7 +28,7 @@ name_put (o ∷ ps) p q = decide (same_spot o.spot q) (name_put ps p q)
     decide false h = h
 
 -- a line without names that comes after the others
-line_put : (lines : List (Vec Placed Global)) (line : Vec Placed Global) (n : ℕ) → line.items ≡ [] → names_in (slice_get (lines ++ line ∷ []) n) ≡ names_in (slice_get lines n)
+line_put : (lines : List (Vec Placed Global)) (line : Vec Placed Global) (n : ℕ) → line.items ≡ [] → names_in_line (slice_get (lines ++ line ∷ []) n) ≡ names_in_line (slice_get lines n)
 line_put [] line zero e = e
 line_put [] line (suc n) e = refl
 line_put (l ∷ ls) line zero e = refl
@@ -51,14 +51,14 @@ apart a b n = rw (different a.line b.line n) (never (a.column == b.column))
 -- the lines with another one in place of one, which has this one name more
 changed : (lines : List (Vec Placed Global)) (n k : ℕ) (old new : Vec Placed Global) (spot q : Spot) (d : Declared) → slice_get lines n ≡ Some old →
     (n ≢ k → same_spot spot q ≡ false) → placed_among new.items q ≡ option_or (placed_among old.items q) (if same_spot spot q then Some d else None) →
-    placed_among (names_in (slice_get (slice_set lines n new) k)) q ≡
-    option_or (placed_among (names_in (slice_get lines k)) q) (if same_spot spot q then Some d else None)
+    placed_among (names_in_line (slice_get (slice_set lines n new) k)) q ≡
+    option_or (placed_among (names_in_line (slice_get lines k)) q) (if same_spot spot q then Some d else None)
 changed [] n k old new spot q d there other more = cc
 changed (l ∷ ls) zero zero old new spot q d there other more =
     let same : l ≡ old = cc in
     more ∙ ap (λ (v : Vec Placed Global). option_or (placed_among v.items q) (if same_spot spot q then Some d else None)) (sym same)
 changed (l ∷ ls) zero (suc k) old new spot q d there other more =
-    rw (other (λ e. absurd (omega (arith, e)))) (sym (none_more (placed_among (names_in (slice_get ls k)) q)))
+    rw (other (λ e. absurd (omega (arith, e)))) (sym (none_more (placed_among (names_in_line (slice_get ls k)) q)))
 changed (l ∷ ls) (suc n) zero old new spot q d there other more =
     rw (other (λ e. absurd (omega (arith, e)))) (sym (none_more (placed_among l.items q)))
 changed (l ∷ ls) (suc n) (suc k) old new spot q d there other more =

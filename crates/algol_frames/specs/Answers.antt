@@ -15,8 +15,8 @@ declaration_of s spot = placed_in s.declared.lines.items spot
 abbrev pub actual_of : Scopes → Spot → Option Couple
 actual_of s spot = get ghosts.cmp s.actuals spot
 
-abbrev pub result_of : Scopes → Spot → Option Couple
-result_of s spot = get ghosts.cmp s.results spot
+abbrev pub result_couple_of : Scopes → Spot → Option Couple
+result_couple_of s spot = get ghosts.cmp s.results spot
 
 abbrev pub level_in : Scopes → ℕ → Option ℕ
 level_in s block = slice_get s.levels.items block
@@ -24,5 +24,5 @@ level_in s block = slice_get s.levels.items block
 abbrev pub parameters_of : Scopes → Spot → Option (List Sort)
 parameters_of s spot = get ghosts.cmp s.parameters spot
 
-abbrev pub number_of : Scopes → Spot → Option ℕ
-number_of s spot = get ghosts.cmp s.numbers spot
+abbrev pub block_number_of : Scopes → Spot → Option ℕ
+block_number_of s spot = get ghosts.cmp s.numbers spot

@@ -12,10 +12,10 @@ abbrev pub placed_among : List Placed → Spot → Option Declared
 placed_among [] spot = None
 placed_among (p ∷ ps) spot = if same_spot p.spot spot then Some p.declared else placed_among ps spot
 
-abbrev pub names_in : Option (Vec Placed Global) → List Placed
-names_in None = []
-names_in (Some line) = line.items
+abbrev pub names_in_line : Option (Vec Placed Global) → List Placed
+names_in_line None = []
+names_in_line (Some line) = line.items
 
 -- that of the first name of the line that stands there
 abbrev pub placed_in : List (Vec Placed Global) → Spot → Option Declared
-placed_in lines spot = placed_among (names_in (slice_get lines spot.line)) spot
+placed_in lines spot = placed_among (names_in_line (slice_get lines spot.line)) spot

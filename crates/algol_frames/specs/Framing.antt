@@ -15,8 +15,8 @@ items_or None = []
 items_or (Some v) = v.items
 
 -- the cells that a table has of this block
-abbrev pub cells_in : BTreeMap ℕ (Vec Cell Global) → ℕ → List Cell
-cells_in table block = items_or (get_by (nat_cmp block) table)
+abbrev pub framed_cells_in : BTreeMap ℕ (Vec Cell Global) → ℕ → List Cell
+framed_cells_in table block = items_or (get_by (nat_cmp block) table)
 
 abbrev pub those_in : List Cell → ℕ → List Cell
 those_in [] block = []
@@ -34,4 +34,4 @@ places_of cs = map (λ (c : Cell). c.spot) cs
 -- of each block, the blocks having numbers from n on, the first cell beyond the limit
 abbrev pub beyond_from : BTreeMap ℕ (Vec Cell Global) → ℕ → List Block → List Spot
 beyond_from table n [] = []
-beyond_from table n (b ∷ bs) = place_beyond MOST_BLOCK_CELLS (places_of (cells_in table n)) ++ beyond_from table (n + 1) bs
+beyond_from table n (b ∷ bs) = place_beyond MOST_BLOCK_CELLS (places_of (framed_cells_in table n)) ++ beyond_from table (n + 1) bs

@@ -16,8 +16,8 @@ use Rattle.algol_frames.specs.declared.found.Block.{Block}
 use Rattle.algol_frames.specs.declared.scopes.Couple.{Couple}
 use Rattle.algol_frames.specs.declared.scopes.Declared.{Declared}
 use Rattle.algol_frames.specs.declared.scopes.Scopes.{Scopes}
-use Rattle.algol_frames.specs.Framing.{cells_in}
-use Rattle.algol_frames.specs.Answers.{declaration_of, actual_of, number_of, parameters_of, result_of}
+use Rattle.algol_frames.specs.Framing.{framed_cells_in}
+use Rattle.algol_frames.specs.Answers.{declaration_of, actual_of, block_number_of, parameters_of, result_couple_of}
 
 -- ---- the cells of a block in the order in which they lie
 
@@ -56,21 +56,21 @@ couple_by (Some b) cs spot = couple_from b.level FIRST_INDEX (laid_out cs) spot
 
 -- the couple of the cell of the block with this number that stands there
 abbrev pub laid_in : List Block → BTreeMap ℕ (Vec Cell Global) → ℕ → Spot → Option Couple
-laid_in blocks table block spot = couple_by (slice_get blocks block) (cells_in table block) spot
+laid_in blocks table block spot = couple_by (slice_get blocks block) (framed_cells_in table block) spot
 
 -- ---- frames as tables
 
-abbrev pub under : {X : Type 0} → Option (BTreeMap Spot X) → Spot → Option X
-under None spot = None
-under (Some table) spot = get ghosts.cmp table spot
+abbrev pub laid_under : {X : Type 0} → Option (BTreeMap Spot X) → Spot → Option X
+laid_under None spot = None
+laid_under (Some table) spot = get ghosts.cmp table spot
 
 -- the couple that the frame of the block with this number has there
 abbrev pub framed_in : List (BTreeMap Spot Couple) → ℕ → Spot → Option Couple
-framed_in frames block spot = under (slice_get frames block) spot
+framed_in frames block spot = laid_under (slice_get frames block) spot
 
 -- the second table has also this under the place, unless the first has something there
-abbrev pub Adds : {X : Type 0} → BTreeMap Spot X → BTreeMap Spot X → Spot → Option X → Type 0
-Adds old new spot found = (q : Spot) → get ghosts.cmp new q ≡ option_or (get ghosts.cmp old q) (if same_spot spot q then found else None)
+abbrev pub PlaceAdds : {X : Type 0} → BTreeMap Spot X → BTreeMap Spot X → Spot → Option X → Type 0
+PlaceAdds old new spot found = (q : Spot) → get ghosts.cmp new q ≡ option_or (get ghosts.cmp old q) (if same_spot spot q then found else None)
 
 -- ---- what is found in frames, by a couple for each block and place
 
@@ -107,8 +107,8 @@ levels_of blocks = map (λ (b : Block). b.level) blocks
 -- These are the scopes of these blocks, which have these cells, and of these cells and names.
 pub record AreLaid (blocks : List Block) (table : BTreeMap ℕ (Vec Cell Global)) (cells : List Cell) (uses : List Use) (s : Scopes) : Type 0 where
   pub declarations : (spot : Spot) → declaration_of s spot ≡ declared_from (laid_in blocks table) uses spot
-  pub results : (spot : Spot) → result_of s spot ≡ result_from (laid_in blocks table) 0 blocks spot
+  pub results : (spot : Spot) → result_couple_of s spot ≡ result_from (laid_in blocks table) 0 blocks spot
   pub actuals : (spot : Spot) → actual_of s spot ≡ actual_from (laid_in blocks table) cells spot
   pub levels : s.levels.items ≡ levels_of blocks
   pub parameters : (spot : Spot) → parameters_of s spot ≡ parameters_from uses spot
-  pub numbers : (spot : Spot) → number_of s spot ≡ number_from 0 blocks spot
+  pub numbers : (spot : Spot) → block_number_of s spot ≡ number_from 0 blocks spot

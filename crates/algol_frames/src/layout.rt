@@ -7,8 +7,8 @@ ghost use Rattle.algol_tree.specs.declared.TheConstants.{MOST_BLOCK_CELLS};
 ghost use Rattle.algol_tree.specs.declared.token.Spot as token;
 ghost use Rattle.algol_tree.specs.contracts.token.SpotOrd.TheImpl.{ghosts};
 ghost use Rattle.algol_frames.specs.ByLine.{placed_in};
-ghost use Rattle.algol_frames.specs.Framing.{cells_in};
-ghost use Rattle.algol_frames.specs.Laying.{Adds, AreLaid, actual_from, couple_from, declared_from, framed_in, laid_in, laid_out, levels_of, number_from, parameters_from, result_from, those_holding};
+ghost use Rattle.algol_frames.specs.Framing.{framed_cells_in};
+ghost use Rattle.algol_frames.specs.Laying.{PlaceAdds, AreLaid, actual_from, couple_from, declared_from, framed_in, laid_in, laid_out, levels_of, number_from, parameters_from, result_from, those_holding};
 
 use crate::by_line::ByLine;
 use crate::found::{Block, Cell, Content, Use};
@@ -27,7 +27,7 @@ const FIRST_INDEX: u16 = 2;
 
 /// The couple stands under the place, unless one stands there already.
 fn add(frame: &mut Frame, spot: Spot, couple: Couple) -> Result<(), AllocError>
-    ensures { OnOk result (Adds frame.old frame.new spot (Some couple)) }
+    ensures { OnOk result (PlaceAdds frame.old frame.new spot (Some couple)) }
 {
     if !frame.contains_key(&spot) {
         frame.insert(spot, couple)?;
@@ -37,7 +37,7 @@ fn add(frame: &mut Frame, spot: Spot, couple: Couple) -> Result<(), AllocError>
 
 /// The same of a couple that may be missing.
 fn add_found(frame: &mut Frame, spot: Spot, couple: Option<Couple>) -> Result<(), AllocError>
-    ensures { OnOk result (Adds frame.old frame.new spot couple) }
+    ensures { OnOk result (PlaceAdds frame.old frame.new spot couple) }
 {
     match couple {
         None => Ok(()),
@@ -86,7 +86,7 @@ fn lay_out(alloc: Global, cells: &[Cell], level: u8) -> Result<Frame, AllocError
 
 /// The frames of these blocks, which have these cells.
 fn frames_of(alloc: Global, blocks: &[Block], cells: &Cells) -> Result<Vec<Frame>, AllocError>
-    requires { (q : ℕ) → q < length blocks.now → length (cells_in cells.now q) ≤ MOST_BLOCK_CELLS }
+    requires { (q : ℕ) → q < length blocks.now → length (framed_cells_in cells.now q) ≤ MOST_BLOCK_CELLS }
     ensures { IfOk result (λ frames. (q : ℕ) (spot : token.Spot) → framed_in frames.items q spot ≡ laid_in blocks.now cells.now q spot) }
 {
     let mut frames = Vec::new(alloc);
@@ -164,7 +164,7 @@ fn add_list(
     spot: Spot,
     list: List<Sort>,
 ) -> Result<(), AllocError>
-    ensures { OnOk result (Adds table.old table.new spot (Some list)) }
+    ensures { OnOk result (PlaceAdds table.old table.new spot (Some list)) }
 {
     if !table.contains_key(&spot) {
         table.insert(spot, list)?;
@@ -185,7 +185,7 @@ fn add_told(
     spot: Spot,
     list: &Option<List<Sort>>,
 ) -> Result<(), AllocError>
-    ensures { OnOk result (Adds table.old table.new spot list.now) }
+    ensures { OnOk result (PlaceAdds table.old table.new spot list.now) }
 {
     match list {
         None => Ok(()),
@@ -210,7 +210,7 @@ fn add_number(
     spot: Spot,
     number: usize,
 ) -> Result<(), AllocError>
-    ensures { OnOk result (Adds table.old table.new spot (Some number)) }
+    ensures { OnOk result (PlaceAdds table.old table.new spot (Some number)) }
 {
     if !table.contains_key(&spot) {
         table.insert(spot, number)?;
@@ -248,7 +248,7 @@ pub fn scopes_laid(
     cells: &[Cell],
     uses: &[Use],
 ) -> Result<Scopes, AllocError>
-    requires { (q : ℕ) → q < length blocks.now → length (cells_in table.now q) ≤ MOST_BLOCK_CELLS }
+    requires { (q : ℕ) → q < length blocks.now → length (framed_cells_in table.now q) ≤ MOST_BLOCK_CELLS }
     ensures { IfOk result (AreLaid blocks.now table.now cells.now uses.now) }
 {
     let framed = frames_of(alloc, blocks, table)?;

@@ -6,7 +6,7 @@ ghost use Rattle.algol_tree.specs.declared.TheConstants.{MOST_BLOCK_CELLS, MOST_
 ghost use Rattle.algol_tree.specs.declared.refusal.Code.TheVariants as codes;
 ghost use Rattle.algol_tree.specs.Accepted.{broken, noted_all};
 ghost use Rattle.algol_tree.specs.Names.{place_beyond};
-ghost use Rattle.algol_frames.specs.Framing.{beyond_from, cells_in, deep_place, places_of, procedure_place, those_in};
+ghost use Rattle.algol_frames.specs.Framing.{beyond_from, framed_cells_in, deep_place, places_of, procedure_place, those_in};
 
 use crate::broken::note_if;
 use crate::found::{Block, Cell};
@@ -71,8 +71,8 @@ pub fn note_procedures(
 
 /// The cells of a block, which are taken out of the table.
 fn taken(alloc: Global, table: &mut Cells, block: usize) -> Vec<Cell>
-    ensures cells { result.items ≡ cells_in table.old block }
-    ensures others { (q : ℕ) → cells_in table.new q ≡ (if block == q then [] else cells_in table.old q) }
+    ensures cells { result.items ≡ framed_cells_in table.old block }
+    ensures others { (q : ℕ) → framed_cells_in table.new q ≡ (if block == q then [] else framed_cells_in table.old q) }
 {
     match table.remove(&block) {
         None => Vec::new(alloc),
@@ -82,7 +82,7 @@ fn taken(alloc: Global, table: &mut Cells, block: usize) -> Vec<Cell>
 
 /// The cells of a block are put into the table.
 fn put(table: &mut Cells, block: usize, cells: Vec<Cell>) -> Result<(), AllocError>
-    ensures { OnOk result ((q : ℕ) → cells_in table.new q ≡ (if block == q then cells.items else cells_in table.old q)) }
+    ensures { OnOk result ((q : ℕ) → framed_cells_in table.new q ≡ (if block == q then cells.items else framed_cells_in table.old q)) }
 {
     table.insert(block, cells)?;
     Ok(())
@@ -90,7 +90,7 @@ fn put(table: &mut Cells, block: usize, cells: Vec<Cell>) -> Result<(), AllocErr
 
 /// The cells of each block, in the order of the text.
 pub fn by_block(alloc: Global, cells: &[Cell]) -> Result<Cells, AllocError>
-    ensures { IfOk result (λ table. (q : ℕ) → cells_in table q ≡ those_in cells.now q) }
+    ensures { IfOk result (λ table. (q : ℕ) → framed_cells_in table q ≡ those_in cells.now q) }
 {
     let mut table: Cells = BTreeMap::new(alloc);
     'cells: for cell in cells {
@@ -103,7 +103,7 @@ pub fn by_block(alloc: Global, cells: &[Cell]) -> Result<Cells, AllocError>
 
 /// The cells of the block with this number.
 pub fn cells_of(table: &Cells, block: usize) -> &[Cell]
-    ensures { result.now ≡ cells_in table.now block }
+    ensures { result.now ≡ framed_cells_in table.now block }
 {
     match table.get(&block) {
         None => &[],

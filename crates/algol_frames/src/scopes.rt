@@ -1,7 +1,7 @@
 //! What the scopes of a tree say of a place in the text.
 
 ghost use Rattle.std.specs.Prelude.{◌≡◌, option_copied};
-ghost use Rattle.algol_frames.specs.Answers.{declaration_of, actual_of, result_of, level_in, number_of, parameters_of};
+ghost use Rattle.algol_frames.specs.Answers.{declaration_of, actual_of, result_couple_of, level_in, block_number_of, parameters_of};
 
 use crate::by_line::ByLine;
 use algol_sorts::Sort;
@@ -55,7 +55,7 @@ impl Scopes {
 
     /// The couple of the result of the typed procedure whose heading with the body has its name there.
     pub fn result(&self, spot: Spot) -> Option<Couple>
-        ensures { result ≡ result_of self.now spot }
+        ensures { result ≡ result_couple_of self.now spot }
     {
         self.results.get(&spot).copied()
     }
@@ -76,7 +76,7 @@ impl Scopes {
 
     /// The number of the block that begins there, a procedure's at its name.
     pub fn number(&self, spot: Spot) -> Option<usize>
-        ensures { result ≡ number_of self.now spot }
+        ensures { result ≡ block_number_of self.now spot }
     {
         self.numbers.get(&spot).copied()
     }

@@ -42,7 +42,7 @@ module _ (bytes : List ℕ) (tokens : List Token) (lexes : Lexes bytes tokens) w
     tree_refuses : (spot : Spot) (code : Code) → tree_refusal tree ≡ Some (record { spot = spot; code = code }) → First bytes spot code
     tree_refuses spot code h = in_tree (record { spot = spot; code = code }) tokens tree lexes reads h
 
-    pub scope_refuses : (refusal : Refusal) → names.IsRefused tree refusal → RefusesFirst bytes refusal
+    pub scope_refuses : (refusal : Refusal) → names.TreeIsRefused tree refusal → RefusesFirst bytes refusal
     unfolding tree_refusal
     scope_refuses (At spot code) h = tree_refuses spot code (ap (λ f. refusal_after f (first_fault (check_faults tree))) h)
     scope_refuses NoMemory h = tt

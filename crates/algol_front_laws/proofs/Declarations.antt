@@ -19,8 +19,8 @@ use Rattle.algol_tree.specs.Couples.{known_in_heading, known_in_part, known_name
 use Rattle.algol_tree.specs.Names.{if_so, is_no_parameter, places_if, specified, unknown_in_heading, unknown_in_part}
 use Rattle.algol_tree.specs.Accepted.{scope_faults, sites_of}
 use Rattle.algol_tree.specs.Ascending.{IsInOrder}
-use Rattle.algol_front_laws.specs.Couples.{cells_in}
-use Rattle.algol_front_laws.specs.Declarations.{EachHasOne, HasOne, NameAt, names_at, names_from, names_in_part, names_of}
+use Rattle.algol_front_laws.specs.Couples.{cells_in_tree}
+use Rattle.algol_front_laws.specs.Declarations.{EachHasOne, HasOne, NameAt, names_at, names_from, names_in_part, names_of_program}
 use Rattle.algol_told.proofs.Lists.{all-append, all-both, all-left, all-right, all-weaker, none-left, none-right, of-contained, of-each}
 use Rattle.algol_told.proofs.Known.{Finds, finds, name-itself}
 use Rattle.algol_told.proofs.Walk.{Behind, HoldsAt}
@@ -75,7 +75,7 @@ module _ (p : PProgram) where
         held = declared-there p n.spot d (k d f.found);
         couple =
             λ takes.
-            let its = of-contained (HasCell (blocks_of_program p) (cells_in p)) a.known d r.cells f.known takes in
+            let its = of-contained (HasCell (blocks_of_program p) (cells_in_tree p)) a.known d r.cells f.known takes in
             coupled (blocks_of_program p) (sites_of p) (record { block = d.block; spot = d.spot; content = its.0 }) its.1;
       } in
       record { one = one; there = k d f.found }
@@ -239,7 +239,7 @@ module _ (p : PProgram) where
   of-part (site.statement s listed) a r b u k = in-use a r (names_in (site.statement s listed)) u k
   of-part (site.declaration d later) a r b u k = of-decl d later a b u k
 
-  pub each-is-one : scope_faults p ≡ [] → IsInOrder p → AllByRecursion (λ (n : NameAt). IsOne n.around n.name) (names_of p)
+  pub each-is-one : scope_faults p ≡ [] → IsInOrder p → AllByRecursion (λ (n : NameAt). IsOne n.around n.name) (names_of_program p)
   each-is-one h o =
       let blocks = blocks_of_program p in
       of-each (λ (n : NameAt). IsOne n.around n.name) (names_at blocks) (sites_of p)
@@ -248,4 +248,4 @@ module _ (p : PProgram) where
 
   pub each-has-one : scope_faults p ≡ [] → IsInOrder p → EachHasOne p
   each-has-one h o =
-      all-weaker (λ (n : NameAt). IsOne n.around n.name) (λ (n : NameAt). HasOne p n.around n.name) (λ n w. w.one) (names_of p) (each-is-one h o)
+      all-weaker (λ (n : NameAt). IsOne n.around n.name) (λ (n : NameAt). HasOne p n.around n.name) (λ n w. w.one) (names_of_program p) (each-is-one h o)

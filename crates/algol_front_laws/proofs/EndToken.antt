@@ -6,13 +6,13 @@ use Rattle.algol_tree.specs.declared.level.Level.{Level}
 use Rattle.algol_tree.specs.declared.level.Level.TheVariants as levels
 use Rattle.algol_tree.specs.Operators.{Part, expr, level, not_part, rel, primary}
 use Rattle.algol_tree.specs.Due.{Value, Due, make, word, symbol, spelled, part, more_of, relation, behind_name, exprs_more, opening, event, events_more, behind_event, whole, whole_ends, named, names_more, printer_part, files_more, literal, number_negated, lows_more, values_part, spec, spec_typed, specs_more, behind_procedure, wholes_more, actuals_part, items_part, pairs_more, segments_more, task_part, to_part, angle, phrase, phrases_more, statement, behind_start, else_part, stmts_more, declarations, typed, procedure_body, program, Turn, takes, makes, skips, closes, refuses}
-use Rattle.algol_tree.specs.Reading.{turn, Count, outside, Judged, Step, goes, stepped, step}
+use Rattle.algol_tree.specs.Reading.{reading_turn, Count, outside, Judged, ReadingStep, goes, stepped, step}
 
 abbrev TakesNone : Turn → Type 0
 TakesNone (takes l ds) = ⊥
 TakesNone x = Unit {0}
 
-part_takes_none : (p : Part) (d : ℕ) (spot : Spot) → TakesNone (turn (part p d) spot kinds.End)
+part_takes_none : (p : Part) (d : ℕ) (spot : Spot) → TakesNone (reading_turn (part p d) spot kinds.End)
 part_takes_none expr d spot = tt
 part_takes_none (level levels.Eqv) d spot = tt
 part_takes_none (level levels.Imp) d spot = tt
@@ -24,7 +24,7 @@ part_takes_none not_part d spot = tt
 part_takes_none rel d spot = tt
 part_takes_none primary d spot = tt
 
-more_takes_none : (l : Level) (d : ℕ) (spot : Spot) → TakesNone (turn (more_of l d) spot kinds.End)
+more_takes_none : (l : Level) (d : ℕ) (spot : Spot) → TakesNone (reading_turn (more_of l d) spot kinds.End)
 more_takes_none levels.Eqv d spot = tt
 more_takes_none levels.Imp d spot = tt
 more_takes_none levels.Or d spot = tt
@@ -32,7 +32,7 @@ more_takes_none levels.And d spot = tt
 more_takes_none levels.Sum d spot = tt
 more_takes_none levels.Term d spot = tt
 
-takes_none : (s : Due) (spot : Spot) → TakesNone (turn s spot kinds.End)
+takes_none : (s : Due) (spot : Spot) → TakesNone (reading_turn s spot kinds.End)
 takes_none (make m) spot = tt
 takes_none (word w) spot = tt
 takes_none (symbol s) spot = tt
@@ -80,13 +80,13 @@ takes_none (procedure_body d) spot = tt
 takes_none program spot = tt
 
 -- so no step goes over it
-abbrev pub Halts : Step → Type 0
+abbrev pub Halts : ReadingStep → Type 0
 Halts (goes c ds vs) = ⊥
 Halts x = Unit {0}
 
 pub end_halts : (j : Judged) (due : List Due) (spot : Spot) (c : Count) (vs : List Value) → Halts (step j due spot kinds.End c vs)
 end_halts j [] spot c vs = tt
-end_halts j (s ∷ due) spot c vs = by_turn (turn s spot kinds.End) (takes_none s spot) (λ c vs. end_halts j due spot c vs)
+end_halts j (s ∷ due) spot c vs = by_turn (reading_turn s spot kinds.End) (takes_none s spot) (λ c vs. end_halts j due spot c vs)
   where
     by_turn : (x : Turn) → TakesNone x → ((c : Count) (vs : List Value) → Halts (step j due spot kinds.End c vs)) →
         Halts (stepped j c spot x due vs (step j due spot kinds.End))

@@ -16,7 +16,7 @@ use Rattle.algol_tree.specs.Cells.{Cell, Content, Couple, cells_at, cells_for, c
 use Rattle.algol_tree.specs.Couples.{actual_at, actual_cells, couple_of_cells, result_at}
 use Rattle.algol_tree.specs.Accepted.{sites_of}
 use Rattle.algol_tree.specs.Ascending.{IsInOrder}
-use Rattle.algol_front_laws.specs.Couples.{HasCouple, cells_in, couple_of}
+use Rattle.algol_front_laws.specs.Couples.{HasCouple, cells_in_tree, couple_of_cell}
 use Rattle.algol_told.proofs.Lists.{IsIn, all-append, all-both, all-in, all-weaker, each-of, false-not-true, of-each, of-in}
 use Rattle.algol_told.proofs.Known.{spot-is}
 use Rattle.algol_told.proofs.Spots.{AreApart, some-apart, spot-itself}
@@ -169,52 +169,52 @@ module _ (blocks : List Block) (ss : List Site) where
 -- ---- the whole tree
 
 module _ (p : PProgram) (order : IsInOrder p)
-    (outside : AllByRecursion (λ (x : Site). IsOutside (blocks_of_program p) (cells_in p) x.part x.around) (sites_of p))
+    (outside : AllByRecursion (λ (x : Site). IsOutside (blocks_of_program p) (cells_in_tree p) x.part x.around) (sites_of p))
   where
-    others-apart : AreApart (Picked is_other (cells_in p))
+    others-apart : AreApart (Picked is_other (cells_in_tree p))
     others-apart =
-        some-apart (Picked is_other (cells_in p)) (flat_map cell_spots (sites_of p)) (others-of (blocks_of_program p) (sites_of p))
+        some-apart (Picked is_other (cells_in_tree p)) (flat_map cell_spots (sites_of p)) (others-of (blocks_of_program p) (sites_of p))
         (cells-apart p (blocks_of_program p) order)
 
-    results-apart : AreApart (Picked is_result (cells_in p))
+    results-apart : AreApart (Picked is_result (cells_in_tree p))
     results-apart =
-        some-apart (Picked is_result (cells_in p)) (flat_map spots_at (sites_of p)) (results-of (blocks_of_program p) (sites_of p))
+        some-apart (Picked is_result (cells_in_tree p)) (flat_map spots_at (sites_of p)) (results-of (blocks_of_program p) (sites_of p))
         (names-apart p (blocks_of_program p) order)
 
-    if-results : AllByRecursion (IfResult (blocks_of_program p) (cells_in p)) (cells_in p)
-    if-results = results-are (blocks_of_program p) (cells_in p) (sites_of p) outside (all-in (cells_in p))
+    if-results : AllByRecursion (IfResult (blocks_of_program p) (cells_in_tree p)) (cells_in_tree p)
+    if-results = results-are (blocks_of_program p) (cells_in_tree p) (sites_of p) outside (all-in (cells_in_tree p))
 
-    actual-there : (c : Cell) → IsIn (cells_in p) c → c.content ≡ cells.actual → actual_at p c.spot ≡ couple_of p c.block c.spot
+    actual-there : (c : Cell) → IsIn (cells_in_tree p) c → c.content ≡ cells.actual → actual_at p c.spot ≡ couple_of_cell p c.block c.spot
     unfolding actual_at
     actual-there c i e =
         let is : (content_number c.content == content_number cells.actual) ≡ true = ap (λ (k : Content). content_number k == content_number cells.actual) e in
         first-actual (blocks_of_program p) (sites_of p) (actual_cells (blocks_of_program p) (sites_of p)) c
-        (in-filter (λ (d : Cell). content_number d.content == content_number cells.actual) (cells_in p) c is i)
-        (all-weaker (λ (d : Cell). IsIn (cells_in p) d × ((content_number d.content == content_number cells.actual) ≡ true)) (λ (d : Cell). d.spot ≡ c.spot → d ≡ c)
-        (λ d k s. alone is_other (cells_in p) d c others-apart k.0 i (other-actual d.content k.1) (other-actual c.content is) s)
+        (in-filter (λ (d : Cell). content_number d.content == content_number cells.actual) (cells_in_tree p) c is i)
+        (all-weaker (λ (d : Cell). IsIn (cells_in_tree p) d × ((content_number d.content == content_number cells.actual) ≡ true)) (λ (d : Cell). d.spot ≡ c.spot → d ≡ c)
+        (λ d k s. alone is_other (cells_in_tree p) d c others-apart k.0 i (other-actual d.content k.1) (other-actual c.content is) s)
         (actual_cells (blocks_of_program p) (sites_of p))
-        (kept (IsIn (cells_in p)) (λ (d : Cell). content_number d.content == content_number cells.actual) (cells_in p) (all-in (cells_in p))))
+        (kept (IsIn (cells_in_tree p)) (λ (d : Cell). content_number d.content == content_number cells.actual) (cells_in_tree p) (all-in (cells_in_tree p))))
 
-    result-there : (c : Cell) → IsIn (cells_in p) c → c.content ≡ cells.result → result_at p c.spot ≡ couple_of p c.block c.spot
+    result-there : (c : Cell) → IsIn (cells_in_tree p) c → c.content ≡ cells.result → result_at p c.spot ≡ couple_of_cell p c.block c.spot
     unfolding result_at
     result-there c i e =
-        let its = of-in (IfResult (blocks_of_program p) (cells_in p)) (cells_in p) c if-results i e in ap (λ (n : ℕ). couple_of p n c.spot) (sym its.block)
+        let its = of-in (IfResult (blocks_of_program p) (cells_in_tree p)) (cells_in_tree p) c if-results i e in ap (λ (n : ℕ). couple_of_cell p n c.spot) (sym its.block)
 
-    has-couple : (c : Cell) → IsIn (cells_in p) c → HasCouple p c
+    has-couple : (c : Cell) → IsIn (cells_in_tree p) c → HasCouple p c
     has-couple c i =
         let q = coupled (blocks_of_program p) (sites_of p) c i in
         record {
           couple = q.0;
           is = q.1;
           only =
-              all-weaker (IsIn (cells_in p)) (λ (other : Cell). other.block ≡ c.block → couple_of p other.block other.spot ≡ Some q.0 → other ≡ c)
+              all-weaker (IsIn (cells_in_tree p)) (λ (other : Cell). other.block ≡ c.block → couple_of_cell p other.block other.spot ≡ Some q.0 → other ≡ c)
               (λ other j b e.
-              lone (blocks_of_program p) (cells_in p) others-apart results-apart if-results other c j i b
-              (couple-tells (blocks_of_program p) (sites_of p) c.block other.spot c.spot q.0 (ap (λ (n : ℕ). couple_of p n other.spot) (sym b) ∙ e) q.1))
-              (cells_in p) (all-in (cells_in p));
+              lone (blocks_of_program p) (cells_in_tree p) others-apart results-apart if-results other c j i b
+              (couple-tells (blocks_of_program p) (sites_of p) c.block other.spot c.spot q.0 (ap (λ (n : ℕ). couple_of_cell p n other.spot) (sym b) ∙ e) q.1))
+              (cells_in_tree p) (all-in (cells_in_tree p));
           actual = λ e. actual-there c i e ∙ q.1;
           result = λ e. result-there c i e ∙ q.1;
         }
 
-    pub each-has-couple : AllByRecursion (HasCouple p) (cells_in p)
-    each-has-couple = all-weaker (IsIn (cells_in p)) (HasCouple p) (λ c i. has-couple c i) (cells_in p) (all-in (cells_in p))
+    pub each-has-couple : AllByRecursion (HasCouple p) (cells_in_tree p)
+    each-has-couple = all-weaker (IsIn (cells_in_tree p)) (HasCouple p) (λ c i. has-couple c i) (cells_in_tree p) (all-in (cells_in_tree p))

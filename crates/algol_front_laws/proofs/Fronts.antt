@@ -16,7 +16,7 @@ use Rattle.algol_tree.specs.declared.token.TokenKind.{TokenKind}
 use Rattle.algol_tree.specs.declared.token.TokenKind.TheVariants as kinds
 use Rattle.algol_tree.specs.Spelling.{is_blank, is_letter, is_name, Spells}
 use Rattle.algol_tree.specs.Spelling as spellings
-use Rattle.algol_tree.specs.Lexes.{Mode, Program, Comment, EndRemark, Front, Piece, Wrong, capitals, IsSpelled, token_of, front_of, remark_front, is_quote, is_printable, string_or, string_front, Stands, blank, percent, spelled, closed, unclosed, none, closing, commented, remarked, semicolon, period, passed}
+use Rattle.algol_tree.specs.Lexes.{Mode, Program, Comment, EndRemark, Front, Piece, Wrong, capitals, IsSpelled, token_of, front_of, remark_front, is_quote, is_printable, string_or, string_front, TokenStands, blank, percent, spelled, closed, unclosed, none, closing, commented, remarked, semicolon, period, passed}
 use Rattle.algol_front_laws.proofs.Spelled.{name_spelled, spelled_some, letter_name, Token, NoToken, longest_token}
 
 -- ---- what stands there fits
@@ -68,7 +68,7 @@ string_fits inside n (Some k) within = tt
 token_some : (bytes : List ℕ) (k : TokenKind) → IsSpelled bytes k → 0 < length bytes
 token_some bytes k s = omega (arith, spelled_some s, length-map bytes to_ascii_uppercase)
 
-pub stands_fit : {m : Mode} {text : List ℕ} {f : Front} → Stands m text f → FitsIn f (length text)
+pub stands_fit : {m : Mode} {text : List ℕ} {f : Front} → TokenStands m text f → FitsIn f (length text)
 stands_fit (blank b after h) = (omega arith, omega arith, tt)
 stands_fit (percent after) = (omega arith, omega arith, tt)
 stands_fit (spelled bytes after k s l) =
@@ -89,9 +89,9 @@ stands_fit (passed b after h i j) = (omega arith, omega arith, tt)
 
 pub record Fronted (m : Mode) (text : List ℕ) : Type 0 where
   pub front : Front
-  pub stands : Stands m text front
+  pub stands : TokenStands m text front
 
-fronted : {m : Mode} {text : List ℕ} (f : Front) → Stands m text f → Fronted m text
+fronted : {m : Mode} {text : List ℕ} (f : Front) → TokenStands m text f → Fronted m text
 fronted f s = record { front = f; stands = s }
 
 -- a byte is this one or another

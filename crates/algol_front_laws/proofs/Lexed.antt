@@ -12,7 +12,7 @@ use Rattle.algol_tree.specs.declared.token.TokenKind.{TokenKind}
 use Rattle.algol_tree.specs.declared.token.TokenKind.TheVariants as kinds
 use Rattle.algol_tree.specs.Ended.{EndsOnce}
 use Rattle.algol_tree.specs.Records.{Record, is_line_feed, records_from, records_of, columns, spot_in}
-use Rattle.algol_tree.specs.Lexes.{Mode, Program, Front, Piece, Wrong, Stands, token_at, end_of, Gives, stays, piece, IsRead, AreRead, all, next, Lexes, Fails, wrong, long, IsRefused}
+use Rattle.algol_tree.specs.Lexes.{Mode, Program, Front, Piece, Wrong, TokenStands, token_at, end_of_text, Gives, stays, piece, IsRead, AreRead, all, next, Lexes, Fails, wrong, long, TextIsRefused}
 use Rattle.algol_front_laws.proofs.Fronts.{IsNoEnd, FitsIn, stands_fit, something_stands}
 
 -- ---- a record
@@ -20,14 +20,14 @@ use Rattle.algol_front_laws.proofs.Fronts.{IsNoEnd, FitsIn, stands_fit, somethin
 -- A record is read from a place to its end, or to something that cannot be read.
 data Onwards (r : Record) (m : Mode) (at : ℕ) : Type 0 where
   to_end : (n : Mode) (tokens : List Token) → Gives r m at tokens n (length (columns r)) → Onwards r m at
-  to_wrong : (n : Mode) (to skipped : ℕ) (tokens : List Token) (code : Code) → Gives r m at tokens n to → Stands n (drop to (columns r)) (Wrong skipped code) →
+  to_wrong : (n : Mode) (to skipped : ℕ) (tokens : List Token) (code : Code) → Gives r m at tokens n to → TokenStands n (drop to (columns r)) (Wrong skipped code) →
       Onwards r m at
 
 module _ (r : Record) where
   at_end : (m : Mode) (at : ℕ) → at ≡ length (columns r) → Onwards r m at
   at_end m at e = to_end m [] (subst (λ (n : ℕ). Gives r m at [] m n) e (stays m at))
 
-  behind_piece : (m n : Mode) (at size : ℕ) (kind : Option TokenKind) → Stands m (drop at (columns r)) (Piece size kind n) → Onwards r n (at + size) → Onwards r m at
+  behind_piece : (m n : Mode) (at size : ℕ) (kind : Option TokenKind) → TokenStands m (drop at (columns r)) (Piece size kind n) → Onwards r n (at + size) → Onwards r m at
   behind_piece m n at size kind s (to_end o tokens g) =
       to_end o (token_at r at size kind ++ tokens) (piece m n o at size (length (columns r)) kind tokens s g)
   behind_piece m n at size kind s (to_wrong o to skipped tokens code g w) =
@@ -37,14 +37,14 @@ module _ (r : Record) where
   onwards zero m at within near = at_end m at (omega (arith, within, near))
   onwards (suc left) m at within near = by_rest (drop at (columns r)) refl (λ n to within near. onwards left n to within near)
     where
-      by_front : (rest : List ℕ) → drop at (columns r) ≡ rest → (f : Front) → Stands m rest f → FitsIn f (length rest) →
+      by_front : (rest : List ℕ) → drop at (columns r) ≡ rest → (f : Front) → TokenStands m rest f → FitsIn f (length rest) →
           ((n : Mode) (to : ℕ) → to ≤ length (columns r) → length (columns r) ≤ to + left → Onwards r n to) → Onwards r m at
       by_front rest e (Piece size kind n) s fit more =
           let size_is : length rest ≡ length (columns r) - at = ap length (sym e) ∙ length-drop at (columns r) in
-          behind_piece m n at size kind (subst (λ (l : List ℕ). Stands m l (Piece size kind n)) (sym e) s)
+          behind_piece m n at size kind (subst (λ (l : List ℕ). TokenStands m l (Piece size kind n)) (sym e) s)
           (more n (at + size) (omega (arith, fit.1, size_is, within)) (omega (arith, fit.0, near)))
       by_front rest e (Wrong skipped code) s fit more =
-          to_wrong m at skipped [] code (stays m at) (subst (λ (l : List ℕ). Stands m l (Wrong skipped code)) (sym e) s)
+          to_wrong m at skipped [] code (stays m at) (subst (λ (l : List ℕ). TokenStands m l (Wrong skipped code)) (sym e) s)
 
       by_rest : (rest : List ℕ) → drop at (columns r) ≡ rest → ((n : Mode) (to : ℕ) → to ≤ length (columns r) → length (columns r) ≤ to + left → Onwards r n to) →
           Onwards r m at
@@ -95,14 +95,14 @@ all_readable (r ∷ rs) m = by_record (readable r m) (λ n. all_readable rs n)
 -- A text has tokens, or a first spot at which it cannot be read.
 pub data Lexed (bytes : List ℕ) : Type 0 where
   lexed : (tokens : List Token) → Lexes bytes tokens → Lexed bytes
-  unread : (spot : Spot) (code : Code) → IsRefused bytes spot code → Lexed bytes
+  unread : (spot : Spot) (code : Code) → TextIsRefused bytes spot code → Lexed bytes
 
 pub lexed_or_refused : (bytes : List ℕ) → Lexed bytes
 lexed_or_refused bytes = by_records (all_readable (records_of bytes) Program)
   where
     by_records : AllReadable (records_of bytes) Program → Lexed bytes
     by_records (are_read n tokens h) =
-        lexed (tokens ++ end_of (records_of bytes)) (record { found = tokens; mode = n; read = h; ended = refl })
+        lexed (tokens ++ end_of_text (records_of bytes)) (record { found = tokens; mode = n; read = h; ended = refl })
     by_records (fail n tokens r left spot code h f) = unread spot code (record { found = tokens; mode = n; at = r; left = left; read = h; fails = f })
 
 -- ---- the tokens of a text end once
@@ -134,7 +134,7 @@ passes_read (next r rs left m n o tokens more g h) = passes_append tokens more (
 
 -- the end of a text is one token
 EndsIn : List Record → Type 0
-EndsIn rs = (t : Token) × (end_of rs ≡ t ∷ []) × (t.kind ≡ kinds.End)
+EndsIn rs = (t : Token) × (end_of_text rs ≡ t ∷ []) × (t.kind ≡ kinds.End)
 
 last_ends : (r : Record) (rs : List Record) → EndsIn (r ∷ rs)
 unfolding EndsIn

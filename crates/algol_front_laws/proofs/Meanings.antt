@@ -15,8 +15,8 @@ use Rattle.algol_sorts.specs.Sorts.{sort_of}
 use Rattle.algol_frames.specs.declared.scopes.Declared as found
 use Rattle.algol_frames.specs.declared.scopes.Scopes.{Scopes}
 use Rattle.algol_scope.specs.Resolved.{AreOf, Meaning, couple, declaration_of, located, meaning, meaning_at, meant}
-use Rattle.algol_front_laws.specs.Declarations.{NameAt, names_of}
-use Rattle.algol_front_laws.specs.Meanings.{IsTold}
+use Rattle.algol_front_laws.specs.Declarations.{NameAt, names_of_program}
+use Rattle.algol_front_laws.specs.Meanings.{MeaningIsTold}
 use Rattle.algol_told.proofs.Lists.{all-weaker}
 use Rattle.algol_told.proofs.Places.{names_known}
 use Rattle.algol_front_laws.proofs.Declarations.{IsOne, each-is-one}
@@ -36,7 +36,7 @@ module _ (p : PProgram) (scopes : Scopes) (are : AreOf p scopes) where
         level = level_at w.one.declared.depth;
         couple = couple_in (blocks_of_program p) (sites_of p) w.one.declared.block w.one.declared.spot;
       }) →
-      meaning o ≡ Some (record { block = w.one.declared.block; sort = sort_of w.one.declared }) → IsTold scopes a n
+      meaning o ≡ Some (record { block = w.one.declared.block; sort = sort_of w.one.declared }) → MeaningIsTold scopes a n
   told-so a n w None e l m =
       absurd
       (let clash : None ≡ Some (record { block = w.one.declared.block; sort = sort_of w.one.declared }) = m in cc)
@@ -56,13 +56,13 @@ module _ (p : PProgram) (scopes : Scopes) (are : AreOf p scopes) where
         sort = ap (λ (z : Meaning). z.sort) means;
       }
 
-  each-told : (a : Surroundings) (n : Named) → IsOne p a n → IsTold scopes a n
+  each-told : (a : Surroundings) (n : Named) → IsOne p a n → MeaningIsTold scopes a n
   each-told a n w =
       told-so a n w (declaration_of scopes n.spot) refl (are.declarations n.spot ∙ w.one.held)
       (are.meanings n.spot ∙ meaning-there p n.spot w.one.declared w.there)
 
 pub names_are_told : (bytes : List ℕ) (tree : PProgram) (scopes : Scopes) → Source bytes tree → AreOf tree scopes →
-    AllByRecursion (λ (n : NameAt). IsTold scopes n.around n.name) (names_of tree)
+    AllByRecursion (λ (n : NameAt). MeaningIsTold scopes n.around n.name) (names_of_program tree)
 names_are_told bytes tree scopes s are =
-    all-weaker (λ (n : NameAt). IsOne tree n.around n.name) (λ (n : NameAt). IsTold scopes n.around n.name) (λ n w. each-told tree scopes are n.around n.name w)
-    (names_of tree) (each-is-one tree s.accepted.scoped (source-in-order bytes tree s))
+    all-weaker (λ (n : NameAt). IsOne tree n.around n.name) (λ (n : NameAt). MeaningIsTold scopes n.around n.name) (λ n w. each-told tree scopes are n.around n.name w)
+    (names_of_program tree) (each-is-one tree s.accepted.scoped (source-in-order bytes tree s))

@@ -12,7 +12,7 @@ use Rattle.algol_tree.specs.Accepted.{Accepted, scope_faults, check_faults, firs
 use Rattle.algol_tree.specs.First.{in_text, in_grammar, in_tree}
 use Rattle.algol_rules.proofs.Order.{first-none}
 use Rattle.algol_front.proofs.Sources.{one_source, source_not_refused, one_first}
-use Rattle.algol_front_laws.specs.OneAnswer.{Answer, accepted, refused, IsAnswered, HasOneAnswer}
+use Rattle.algol_front_laws.specs.OneAnswer.{FrontAnswer, accepted, refused, IsAnswered, HasOneAnswer}
 use Rattle.algol_front_laws.proofs.Lexed.{Lexed, lexed, unread, lexed_or_refused, tokens_end_once}
 use Rattle.algol_front_laws.proofs.Parsed.{Parsed, parsed, unparsed, parsed_or_refused}
 
@@ -29,7 +29,7 @@ not_refused tree e = by_first (first_fault (scope_faults tree)) (first_fault (ch
 -- ---- an answer
 
 pub record Answered (bytes : List ℕ) : Type 0 where
-  pub answer : Answer
+  pub answer : FrontAnswer
   pub is : IsAnswered bytes answer
 
 module _ (bytes : List ℕ) (small : length bytes ≤ MOST_SOURCE_BYTES) where
@@ -51,7 +51,7 @@ module _ (bytes : List ℕ) (small : length bytes ≤ MOST_SOURCE_BYTES) where
 
 -- ---- and no other
 
-no_other : (bytes : List ℕ) (answer other : Answer) → IsAnswered bytes answer → IsAnswered bytes other → other ≡ answer
+no_other : (bytes : List ℕ) (answer other : FrontAnswer) → IsAnswered bytes answer → IsAnswered bytes other → other ≡ answer
 no_other bytes (accepted tree) (accepted other) a b = ap accepted (one_source bytes other tree b a)
 no_other bytes (accepted tree) (refused spot code) a b = absurd (source_not_refused bytes tree spot code a b)
 no_other bytes (refused spot code) (accepted tree) a b = absurd (source_not_refused bytes tree spot code b a)

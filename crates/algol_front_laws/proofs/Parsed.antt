@@ -12,7 +12,7 @@ use Rattle.algol_tree.specs.Ended.{EndsOnce}
 use Rattle.algol_tree.specs.Programs.{IsProgram, Reads}
 use Rattle.algol_tree.specs.Refused.{RefusedProgram}
 use Rattle.algol_tree.specs.Due.{Value, Due, program}
-use Rattle.algol_tree.specs.Reading.{Count, outside, Step, goes, over, stops, step, Reading, to, refused, read_on, judged, reading, read}
+use Rattle.algol_tree.specs.Reading.{Count, outside, ReadingStep, goes, over, stops, step, Reading, to, refused, read_on, judged, reading, read}
 use Rattle.algol_grammar.proofs.Exact.{exact}
 use Rattle.algol_grammar.proofs.Sound.{program_sound}
 use Rattle.algol_front_laws.proofs.EndToken.{Halts, end_halts}
@@ -39,14 +39,14 @@ answers free (t ∷ []) c due vs ends =
     at_end (step (judged free (t ∷ [])) due t.spot t.kind c vs)
     (subst (λ (k : TokenKind). Halts (step (judged free (t ∷ [])) due t.spot k c vs)) (sym ends) (end_halts (judged free (t ∷ [])) due t.spot c vs))
   where
-    at_end : (x : Step) → Halts x → IsAnswer (read_on x t [] (reading free []))
+    at_end : (x : ReadingStep) → Halts x → IsAnswer (read_on x t [] (reading free []))
     at_end (goes n ds us) h = absurd h
     at_end (over n us) h = ends_at t [] us ends
     at_end (stops spot code) h = is_refused _ spot code
 answers free (t ∷ u ∷ ts) c due vs ends =
     at_token (step (judged free (t ∷ u ∷ ts)) due t.spot t.kind c vs) (λ n ds us. answers free (u ∷ ts) n ds us ends.1)
   where
-    at_token : (x : Step) → ((n : Count) (ds : List Due) (us : List Value) → IsAnswer (reading free (u ∷ ts) n ds us)) → IsAnswer (read_on x t (u ∷ ts) (reading free (u ∷ ts)))
+    at_token : (x : ReadingStep) → ((n : Count) (ds : List Due) (us : List Value) → IsAnswer (reading free (u ∷ ts) n ds us)) → IsAnswer (read_on x t (u ∷ ts) (reading free (u ∷ ts)))
     at_token (goes n ds us) more = more n ds us
     at_token (over n us) more = ends_at t (u ∷ ts) us ends
     at_token (stops spot code) more = is_refused _ spot code

@@ -18,7 +18,7 @@ use Rattle.algol_tree.specs.declared.refusal.Refusal.TheVariants.{At, NoMemory}
 use Rattle.algol_tree.specs.Plain.{PProgram}
 use Rattle.algol_tree.specs.Records.{Record}
 use Rattle.algol_tree.specs.Lexes as lexes
-use Rattle.algol_tree.specs.Lexes.{Front, Piece, Wrong, Mode, Stands, Fails, IsRefused, Lexes, front_of, remark_front, word_front, remark_word, string_or}
+use Rattle.algol_tree.specs.Lexes.{Front, Piece, Wrong, Mode, TokenStands, Fails, TextIsRefused, Lexes, front_of, remark_front, word_front, remark_word, string_or}
 use Rattle.algol_tree.specs.Programs.{Reads}
 use Rattle.algol_tree.specs.Refused.{RefusedProgram}
 use Rattle.algol_tree.specs.Blocks.{blocks_of_program}
@@ -80,7 +80,7 @@ string-fits : (inside : List ℕ) (bad : Option ℕ) → FitsText (string_or ins
 string-fits inside None = tt
 string-fits inside (Some k) = refl
 
-stands-fits : {m : Mode} {bytes : List ℕ} {f : Front} → Stands m bytes f → FitsText f
+stands-fits : {m : Mode} {bytes : List ℕ} {f : Front} → TokenStands m bytes f → FitsText f
 stands-fits (lexes.blank b after h) = tt
 stands-fits (lexes.percent after) = tt
 stands-fits (lexes.spelled bytes after k s l) = front-fits k (length bytes)

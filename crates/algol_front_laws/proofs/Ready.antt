@@ -15,7 +15,7 @@ use Rattle.algol_tree.specs.Couples.{Known, known_at, known_there}
 use Rattle.algol_tree.specs.Names.{declared_twice, unknown_names}
 use Rattle.algol_tree.specs.Accepted.{scope_faults, sites_of}
 use Rattle.algol_tree.specs.Ascending.{IsInOrder}
-use Rattle.algol_front_laws.specs.Couples.{cells_in}
+use Rattle.algol_front_laws.specs.Couples.{cells_in_tree}
 use Rattle.algol_told.proofs.Lists.{IsIn, all-both, all-in, all-weaker, each-of, none-of, of-contained}
 use Rattle.algol_told.proofs.Walk.{HoldsAt, all-hold}
 use Rattle.algol_front_laws.proofs.Tidy as tidies
@@ -76,30 +76,30 @@ module _ (blocks : List Block) (all : List Cell) (stand : List Known) where
 -- ---- the whole tree
 
 abbrev pub ReadyIn : PProgram → Surroundings → Type 0
-ReadyIn p a = IsReady (blocks_of_program p) (cells_in p) (names_known p) a
+ReadyIn p a = IsReady (blocks_of_program p) (cells_in_tree p) (names_known p) a
 
 abbrev pub PassesIn : PProgram → Site → Type 0
-PassesIn p x = Passes (blocks_of_program p) (cells_in p) (names_known p) x
+PassesIn p x = Passes (blocks_of_program p) (cells_in_tree p) (names_known p) x
 
 pub all-pass : (p : PProgram) → scope_faults p ≡ [] → IsInOrder p → AllByRecursion (PassesIn p) (sites_of p)
 all-pass p h o =
     let blocks = blocks_of_program p in
     let n = named p h in
     all-both (λ (x : Site). (declared_twice blocks x ≡ []) × (unknown_names x ≡ []))
-    (λ (x : Site). AllByRecursion (IsIn (cells_in p)) (cells_at blocks x) × AllByRecursion (IsThere (names_known p)) (known_at blocks x)) (PassesIn p)
+    (λ (x : Site). AllByRecursion (IsIn (cells_in_tree p)) (cells_at blocks x) × AllByRecursion (IsThere (names_known p)) (known_at blocks x)) (PassesIn p)
     (λ x r i. record { once = r.0; known = r.1; its_cells = i.0; its_names = i.1 }) (sites_of p)
     (all-both (λ (x : Site). declared_twice blocks x ≡ []) (λ (x : Site). unknown_names x ≡ []) (λ (x : Site). (declared_twice blocks x ≡ []) × (unknown_names x ≡ []))
     (λ x d u. (d, u)) (sites_of p) (none-of (declared_twice blocks) (sites_of p) n.once) (none-of unknown_names (sites_of p) n.known))
-    (all-both (λ (x : Site). AllByRecursion (IsIn (cells_in p)) (cells_at blocks x)) (λ (x : Site). AllByRecursion (IsThere (names_known p)) (known_at blocks x))
-    (λ (x : Site). AllByRecursion (IsIn (cells_in p)) (cells_at blocks x) × AllByRecursion (IsThere (names_known p)) (known_at blocks x)) (λ x c k. (c, k))
-    (sites_of p) (each-of (IsIn (cells_in p)) (cells_at blocks) (sites_of p) (all-in (cells_in p)))
+    (all-both (λ (x : Site). AllByRecursion (IsIn (cells_in_tree p)) (cells_at blocks x)) (λ (x : Site). AllByRecursion (IsThere (names_known p)) (known_at blocks x))
+    (λ (x : Site). AllByRecursion (IsIn (cells_in_tree p)) (cells_at blocks x) × AllByRecursion (IsThere (names_known p)) (known_at blocks x)) (λ x c k. (c, k))
+    (sites_of p) (each-of (IsIn (cells_in_tree p)) (cells_at blocks) (sites_of p) (all-in (cells_in_tree p)))
     (each-of (IsThere (names_known p)) (known_at blocks) (sites_of p) (each-there p o)))
 
 pub all-ready : (p : PProgram) → scope_faults p ≡ [] → IsInOrder p → AllByRecursion (HoldsAt (blocks_of_program p) (ReadyIn p)) (sites_of p)
 all-ready p h o =
     let blocks = blocks_of_program p in
-    all-hold blocks (ReadyIn p) (PassesIn p) (begins blocks (cells_in p) (names_known p)) (knows blocks (cells_in p) (names_known p))
-    (enters blocks (cells_in p) (names_known p)) p (record { tidy = record { within = tt; tidied = tt }; cells = tt; held = tt }) (all-pass p h o)
+    all-hold blocks (ReadyIn p) (PassesIn p) (begins blocks (cells_in_tree p) (names_known p)) (knows blocks (cells_in_tree p) (names_known p))
+    (enters blocks (cells_in_tree p) (names_known p)) p (record { tidy = record { within = tt; tidied = tt }; cells = tt; held = tt }) (all-pass p h o)
 
 -- two that are known at a place, and stand at one, are one
 pub one-there : (p : PProgram) (a : Surroundings) → ReadyIn p a → (d e : Declared) → Contains a.known d → Contains a.known e → d.spot ≡ e.spot → d ≡ e

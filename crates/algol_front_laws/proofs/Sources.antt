@@ -18,7 +18,7 @@ use Rattle.algol_tree.specs.First.{Source}
 use Rattle.algol_lexer.proofs.LexOrder.{tokens_ascend}
 use Rattle.algol_grammar.proofs.InOrder.{in_order}
 use Rattle.algol_scope.proofs.Placed as placed
-use Rattle.algol_front_laws.specs.Couples.{HasCouple, cells_in}
+use Rattle.algol_front_laws.specs.Couples.{HasCouple, cells_in_tree}
 use Rattle.algol_front_laws.specs.Declarations.{EachHasOne, EachOnce}
 use Rattle.algol_front_laws.specs.Uses.{IsLookedUp}
 use Rattle.algol_front_laws.proofs.Frames.{IsOutside, each-has-couple}
@@ -98,10 +98,10 @@ none_twice bytes tree s = each-site-once tree s.accepted.scoped (source-in-order
 pub names_have_one : (bytes : List ℕ) (tree : PProgram) → Source bytes tree → EachHasOne tree
 names_have_one bytes tree s = each-has-one tree s.accepted.scoped (source-in-order bytes tree s)
 
-pub cells_have_one : (bytes : List ℕ) (tree : PProgram) → Source bytes tree → AllByRecursion (HasCouple tree) (cells_in tree)
+pub cells_have_one : (bytes : List ℕ) (tree : PProgram) → Source bytes tree → AllByRecursion (HasCouple tree) (cells_in_tree tree)
 cells_have_one bytes tree s =
     let order = source-in-order bytes tree s in
-    each-has-couple tree order (all-outside (blocks_of_program tree) (cells_in tree) (sites_of tree) (placed.placed tree order))
+    each-has-couple tree order (all-outside (blocks_of_program tree) (cells_in_tree tree) (sites_of tree) (placed.placed tree order))
 
 pub uses_are_looked_up : (bytes : List ℕ) (tree : PProgram) → Source bytes tree →
     AllByRecursion (λ (x : Site). AllByRecursion (λ (n : Named). IsLookedUp tree x.part x.around n) (names_in x.part)) (sites_of tree)

@@ -15,7 +15,7 @@ use Rattle.algol_tree.specs.Blocks.{Block, block_numbered, number_at}
 use Rattle.algol_tree.specs.Surroundings.{Surroundings, announced, body_of, declare_procedure, declared_as, heading_or, inside_procedure, knowing}
 use Rattle.algol_tree.specs.Sites as site
 use Rattle.algol_tree.specs.Sites.{Site, sites_in_decls}
-use Rattle.algol_tree.specs.Names.{declared_twice, is_announced_by, is_one_of, names_here, repeated, result_names, result_names_of, specified, twice_here, twice_in_decl, twice_in_heading}
+use Rattle.algol_tree.specs.Names.{declared_twice, is_announced_by, name_is_one_of, names_here, repeated, result_names, result_names_of, specified, twice_here, twice_in_decl, twice_in_heading}
 use Rattle.algol_told.proofs.Lists.{none-left, none-right, all-weaker, all-both}
 use Rattle.algol_told.proofs.Known as known
 use Rattle.algol_told.proofs.Known.{IsSeen, Tidied, Within, alone-fresh, among-behind, fresh-alone, name-is, put, put-names, put-within, number-told}
@@ -30,20 +30,20 @@ abbrev own : ℕ → List Declared → List (List ℕ)
 own block ds = map (λ (d : Declared). d.name) (filter (λ (d : Declared). d.block == block) ds)
 
 abbrev IsOwn : ℕ → List Declared → Declared → Type 0
-IsOwn block ds e = e.block ≡ block → is_one_of (own block ds) e.name ≡ true
+IsOwn block ds e = e.block ≡ block → name_is_one_of (own block ds) e.name ≡ true
 
 own-more : (block : ℕ) (d : Declared) (ds : List Declared) (e : Declared) → IsOwn block ds e → IsOwn block (d ∷ ds) e
 own-more block d ds e h same = decide (d.block == block)
   where
     decide : (b : Bool) →
-        is_one_of (map (λ (d : Declared). d.name) (if b then d ∷ filter (λ (d : Declared). d.block == block) ds else filter (λ (d : Declared). d.block == block) ds)) e.name ≡ true
+        name_is_one_of (map (λ (d : Declared). d.name) (if b then d ∷ filter (λ (d : Declared). d.block == block) ds else filter (λ (d : Declared). d.block == block) ds)) e.name ≡ true
     decide true = among-behind (d.name ∷ []) (own block ds) e.name (h same)
     decide false = h same
 
 own-first : (block : ℕ) (d : Declared) (ds : List Declared) → IsOwn block (d ∷ ds) d
 own-first block d ds same =
     ap
-    (λ (b : Bool). is_one_of (map (λ (d : Declared). d.name) (if b then d ∷ filter (λ (d : Declared). d.block == block) ds else filter (λ (d : Declared). d.block == block) ds)) d.name)
+    (λ (b : Bool). name_is_one_of (map (λ (d : Declared). d.name) (if b then d ∷ filter (λ (d : Declared). d.block == block) ds else filter (λ (d : Declared). d.block == block) ds)) d.name)
     (number-told d.block block same)
     ∙ known.among-first d.name (own block ds) d.name refl
 
@@ -102,7 +102,7 @@ module _ (blocks : List Block) where
   announces h later a t k =
       let g = announced h later in
       let seen = result_names_of (block_numbered blocks a.block) ++ names_here a in
-      let fresh : is_one_of seen g.name.name ≡ false = ap (is_one_of seen) (announced-named h later) ∙ alone-fresh seen h.name k in
+      let fresh : name_is_one_of seen g.name.name ≡ false = ap (name_is_one_of seen) (announced-named h later) ∙ alone-fresh seen h.name k in
       declares a (sort.procedure (number_at blocks g.name.spot)) (class.procedure g) (g.name ∷ []) t (fresh-alone seen g.name fresh)
 
   -- the body is known where its FORWARD is

@@ -48,8 +48,8 @@ module _ (blocks : List Block) where
   names_at x = names_in_part x.part x.around
 
 -- all names that are used or declared, and those of the headings of procedures
-abbrev pub names_of : PProgram → List NameAt
-names_of tree = flat_map (names_at (blocks_of_program tree)) (sites_of tree)
+abbrev pub names_of_program : PProgram → List NameAt
+names_of_program tree = flat_map (names_at (blocks_of_program tree)) (sites_of tree)
 
 -- ---- what they mean
 
@@ -76,7 +76,7 @@ pub record HasOne (tree : PProgram) (a : Surroundings) (n : Named) : Type 0 wher
       (its : Couple) × (couple_in (blocks_of_program tree) (sites_of tree) declared.block declared.spot ≡ Some its)
 
 abbrev pub EachHasOne : PProgram → Type 0
-EachHasOne tree = AllByRecursion (λ (n : NameAt). HasOne tree n.around n.name) (names_of tree)
+EachHasOne tree = AllByRecursion (λ (n : NameAt). HasOne tree n.around n.name) (names_of_program tree)
 
 abbrev pub EachNameHasOne : Type 0
 EachNameHasOne = (bytes : List ℕ) (tree : PProgram) → Source bytes tree → EachHasOne tree

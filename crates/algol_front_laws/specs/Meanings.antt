@@ -11,11 +11,11 @@ use Rattle.algol_sorts.specs.Sorts.{sort_of}
 use Rattle.algol_frames.specs.declared.scopes.Declared as found
 use Rattle.algol_frames.specs.declared.scopes.Scopes.{Scopes}
 use Rattle.algol_scope.specs.Resolved.{AreOf, declaration_of}
-use Rattle.algol_front_laws.specs.Declarations.{Means, NameAt, names_of}
+use Rattle.algol_front_laws.specs.Declarations.{Means, NameAt, names_of_program}
 
 -- The scopes have an answer under the place of the name, which is the declaration that the name means: where it stands, the number and the
 -- level of its block, and what it is declared as.
-pub record IsTold (scopes : Scopes) (a : Surroundings) (n : Named) : Type 0 where
+pub record MeaningIsTold (scopes : Scopes) (a : Surroundings) (n : Named) : Type 0 where
   pub declared : Declared
   pub means : Means a n declared
   pub told : found.Declared
@@ -27,4 +27,4 @@ pub record IsTold (scopes : Scopes) (a : Surroundings) (n : Named) : Type 0 wher
 
 abbrev pub EachNameIsTold : Type 0
 EachNameIsTold = (bytes : List ℕ) (tree : PProgram) (scopes : Scopes) → Source bytes tree → AreOf tree scopes →
-    AllByRecursion (λ (n : NameAt). IsTold scopes n.around n.name) (names_of tree)
+    AllByRecursion (λ (n : NameAt). MeaningIsTold scopes n.around n.name) (names_of_program tree)

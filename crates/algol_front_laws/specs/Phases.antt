@@ -7,7 +7,7 @@ use Rattle.algol_tree.specs.declared.refusal.Code.TheVariants as codes
 use Rattle.algol_tree.specs.declared.refusal.Refusal.{Refusal}
 use Rattle.algol_tree.specs.declared.refusal.Refusal.TheVariants.{At, NoMemory}
 use Rattle.algol_tree.specs.Plain.{PProgram}
-use Rattle.algol_tree.specs.Lexes.{Lexes, IsRefused}
+use Rattle.algol_tree.specs.Lexes.{Lexes, TextIsRefused}
 use Rattle.algol_tree.specs.Programs.{Reads}
 use Rattle.algol_tree.specs.Refused.{RefusedProgram}
 use Rattle.algol_tree.specs.Accepted.{scope_faults, check_faults, first_fault}
@@ -46,7 +46,7 @@ phase_of codes.BadLabel = checks
 
 -- the text is refused, and the bytes are no tokens
 pub record InText (bytes : List ℕ) (spot : Spot) (code : Code) : Type 0 where
-  pub refused : IsRefused bytes spot code
+  pub refused : TextIsRefused bytes spot code
   pub none : (tokens : List Token) → Lexes bytes tokens → ⊥
 
 -- The bytes are tokens, which the grammar refuses, and which read as no program.

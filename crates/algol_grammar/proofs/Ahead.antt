@@ -4,7 +4,7 @@ use Rattle.std.proofs.lemmas.Bool.Decides.{nat_tests}
 use Rattle.algol_tree.specs.declared.token.Token.{Token}
 use Rattle.algol_tree.specs.Refused.{Programs}
 use Rattle.algol_tree.specs.Due.{Value, whole_program, Due, program}
-use Rattle.algol_tree.specs.Reading.{Count, outside, Step, goes, over, stops, step, to, read_on, judged, unjudged, reading}
+use Rattle.algol_tree.specs.Reading.{Count, outside, ReadingStep, goes, over, stops, step, to, read_on, judged, unjudged, reading}
 use Rattle.algol_expr.proofs.Steps.{strict, judged_strict, goes_is}
 use Rattle.algol_grammar.proofs.Sound.{program_sound}
 use Rattle.algol_grammar.proofs.Outset.{program_reads}
@@ -22,7 +22,7 @@ gone_over : (free : ℕ) (t : Token) (ts : List Token) (c : Count) (due : List D
 unfolding reading
 gone_over free t ts c due vs ws e = by_step (step (judged free (t ∷ ts)) due t.spot t.kind c vs) refl e
   where
-    by_step : (x : Step) → step (judged free (t ∷ ts)) due t.spot t.kind c vs ≡ x → read_on x t ts (reading free ts) ≡ to [] ws → Went free t ts c due vs ws
+    by_step : (x : ReadingStep) → step (judged free (t ∷ ts)) due t.spot t.kind c vs ≡ x → read_on x t ts (reading free ts) ≡ to [] ws → Went free t ts c due vs ws
     by_step (goes n ds us) is e = record { n = n; ds = ds; us = us; goes_so = is; on = e }
     by_step (over n us) is e = cc
     by_step (stops place code) is e = cc

@@ -11,7 +11,7 @@ use Rattle.b67_deeds.specs.declared.EventAct.{EventAct}
 use Rattle.algol_tree.specs.declared.tree.Spec.{Spec}
 use Rattle.algol_tree.specs.Plain.{PStmt, empty}
 use Rattle.algol_tree.specs.Tokens.{IsWord, is_word}
-use Rattle.algol_tree.specs.Expressions.{Opens}
+use Rattle.algol_tree.specs.Expressions.{TokenOpens}
 use Rattle.algol_tree.specs.Headings as headings
 use Rattle.algol_tree.specs.Headings.{type_of, IsSpec, IsSpecs, IsTyped}
 use Rattle.algol_tree.specs.Statements as grammar
@@ -24,7 +24,7 @@ use Rattle.algol_grammar.proofs.Headings.{no_spec}
 -- a limit that a statement's first token has to keep where d levels are open
 pub data IsOwn (free d : ℕ) (from : List Token) : Limit → Type 0 where
   nothing_opened : IsOwn free d from plain
-  level_opened : Opens free d from → IsOwn free d from (nests d)
+  level_opened : TokenOpens free d from → IsOwn free d from (nests d)
 
 -- the token begins a statement that is not empty
 pub record Begins (free d : ℕ) (t : Token) (ts : List Token) : Type 0 where

@@ -13,9 +13,9 @@ use Rattle.algol_tree.specs.declared.tree.Heading.{Heading}
 use Rattle.algol_tree.specs.Plain as trees
 use Rattle.algol_tree.specs.Plain.{PStmt, empty, PStmts, no_stmts, stmts, PDecls, no_decls, decls, PBody}
 use Rattle.algol_tree.specs.Tokens.{IsWord, IsSymbol, IsName, is_word, is_symbol}
-use Rattle.algol_tree.specs.Ends.{ends, Ends}
+use Rattle.algol_tree.specs.Ends.{part_ends, Ends}
 use Rattle.algol_tree.specs.Operators.{expr}
-use Rattle.algol_tree.specs.Expressions.{Opens}
+use Rattle.algol_tree.specs.Expressions.{TokenOpens}
 use Rattle.algol_tree.specs.Headings as headings
 use Rattle.algol_tree.specs.Headings.{type_of, IsTyped, elements_of, IsHeading}
 use Rattle.algol_tree.specs.Statements as grammar
@@ -23,10 +23,10 @@ use Rattle.algol_tree.specs.Statements.{open_if, decls_and, IsStmt, IsStmts, IsD
 use Rattle.algol_tree.specs.Programs as programs
 use Rattle.algol_tree.specs.Programs.{IsProgram}
 use Rattle.algol_tree.specs.Due as due_data
-use Rattle.algol_tree.specs.Due.{Value, one, many, event_named, names, place, phrases, heading, stmt, list, declared, Make, put, Due, make, word, symbol, event, whole, named, names_more, to_part, angle, statement, behind_start, else_part, stmts_more, declarations, typed, procedure_body, behind_procedure, Turn, takes, makes, skips, refuses, plain, nests, label, followed, either, optional}
+use Rattle.algol_tree.specs.Due.{Value, one, many, event_named, names, place, phrases, heading, stmt, list, declared, Make, value_put, Due, make, word, symbol, event, whole, named, names_more, to_part, angle, statement, behind_start, else_part, stmts_more, declarations, typed, procedure_body, behind_procedure, Turn, takes, makes, skips, refuses, plain, nests, label, followed, either, optional}
 use Rattle.algol_tree.specs.DueStmt as due_stmt
-use Rattle.algol_tree.specs.DueStmt.{stmt_behind, decl_behind, stmt_added, names_declared, announced, with_body, one_armed, turn_statement, turn_behind_start, turn_declaration, turn_typed, turn_procedure_body, turn_start, turn_angle, body_in, stmts_in, procedure_in, segment_in, entered}
-use Rattle.algol_tree.specs.Reading.{turn, read}
+use Rattle.algol_tree.specs.DueStmt.{stmt_behind, decl_behind, stmt_added, names_declared, announced, with_body, one_armed, turn_statement, turn_behind_start, turn_declaration, turn_typed, turn_procedure_body, turn_start, turn_angle, body_in, stmts_in, procedure_in, segment_in, turn_entered}
+use Rattle.algol_tree.specs.Reading.{reading_turn, read}
 use Rattle.algol_expr.proofs.Reading.{Leads}
 use Rattle.algol_expr.proofs.Turns.{takes_step, opens_step, label_step, makes_step, skips_step, skips_end, make_step, word_step, symbol_step, word_is, symbol_is}
 use Rattle.algol_expr.proofs.Complete.{event_read}
@@ -43,10 +43,10 @@ pub data Closes (b : Bool) : List Token → Type 0 where
   else_ : (t : Token) (ts : List Token) → IsWord reserved.Else t → b ≡ false → Closes b (t ∷ ts)
 
 pub closes_expr : (b : Bool) (rest : List Token) → Closes b rest → Ends expr rest
-closes_expr b _ (semi t ts e) = ap (ends expr) e
-closes_expr b _ (ending t ts e) = ap (ends expr) e
-closes_expr b _ (until_ t ts e) = ap (ends expr) e
-closes_expr b _ (else_ t ts e f) = ap (ends expr) e
+closes_expr b _ (semi t ts e) = ap (part_ends expr) e
+closes_expr b _ (ending t ts e) = ap (part_ends expr) e
+closes_expr b _ (until_ t ts e) = ap (part_ends expr) e
+closes_expr b _ (else_ t ts e f) = ap (part_ends expr) e
 
 closes_not : (f : TokenKind → Bool) → f (kinds.Symbol symbols.Semicolon) ≡ false → f (kinds.Word reserved.End) ≡ false → f (kinds.Word reserved.Until) ≡ false →
     f (kinds.Word reserved.Else) ≡ false → (b : Bool) (rest : List Token) → Closes b rest → NotFirst f rest
@@ -77,9 +77,9 @@ name_read free d n b _ (else_ t ts e f) due vs = makes_step free t ts (behind_st
 
 -- an IF without an ELSE is over where none follows
 no_else : (free d : ℕ) (rest : List Token) → Closes true rest → (due : List Due) (vs : List Value) → read free rest (else_part d ∷ due) vs ≡ read free rest due (one_armed vs)
-no_else free d _ (semi t ts e) due vs = makes_step free t ts (else_part d) due vs one_armed (ap (λ k. turn (else_part d) t.spot k) e)
-no_else free d _ (ending t ts e) due vs = makes_step free t ts (else_part d) due vs one_armed (ap (λ k. turn (else_part d) t.spot k) e)
-no_else free d _ (until_ t ts e) due vs = makes_step free t ts (else_part d) due vs one_armed (ap (λ k. turn (else_part d) t.spot k) e)
+no_else free d _ (semi t ts e) due vs = makes_step free t ts (else_part d) due vs one_armed (ap (λ k. reading_turn (else_part d) t.spot k) e)
+no_else free d _ (ending t ts e) due vs = makes_step free t ts (else_part d) due vs one_armed (ap (λ k. reading_turn (else_part d) t.spot k) e)
+no_else free d _ (until_ t ts e) due vs = makes_step free t ts (else_part d) due vs one_armed (ap (λ k. reading_turn (else_part d) t.spot k) e)
 no_else free d _ (else_ t ts e f) due vs = cc
 
 name_starts : (free d : ℕ) (t : Token) (n : Named) (ts : List Token) (due : List Due) (vs : List Value) → IsName n t →
@@ -94,7 +94,7 @@ assigned_read free d n _ _ e u after rest (grammar.nothing _) c x due vs =
     takes_step free u after (behind_start n d) _ due vs (ap (turn_behind_start n d) c) ∙ x _ vs ∙ make_step free rest _ due _
 assigned_read free d n _ _ e u after rest (grammar.subscripts t v es from _ o y s) c x due vs =
     takes_step free t from (behind_start n d) _ due vs (ap (turn_behind_start n d) o)
-    ∙ wholes_read free from es (v ∷ u ∷ after) y (ap (ends expr) s) (ap (is_symbol symbols.Comma) s) _ vs
+    ∙ wholes_read free from es (v ∷ u ∷ after) y (ap (part_ends expr) s) (ap (is_symbol symbols.Comma) s) _ vs
     ∙ symbol_step free v (u ∷ after) symbols.CloseSquare _ _ s
     ∙ symbol_step free u after symbols.Becomes _ _ c
     ∙ x _ _
@@ -105,7 +105,7 @@ called_read : (free d : ℕ) (n : Named) (b : Bool) (from : List Token) (es : tr
 called_read free d n b _ _ rest (grammar.nothing _) end due vs = name_read free d n b rest end due vs
 called_read free d n b _ _ rest (grammar.actuals t u es from _ o x c) end due vs =
     takes_step free t from (behind_start n d) _ due vs (ap (turn_behind_start n d) o)
-    ∙ wholes_read free from es (u ∷ rest) x (ap (ends expr) c) (ap (is_symbol symbols.Comma) c) _ vs
+    ∙ wholes_read free from es (u ∷ rest) x (ap (part_ends expr) c) (ap (is_symbol symbols.Comma) c) _ vs
     ∙ symbol_step free u rest symbols.CloseRound _ _ c
     ∙ make_step free rest _ due _
 
@@ -194,14 +194,14 @@ module _ (free d : ℕ) (due : List Due) where
       ∙ heading_with free kind n u v w x params values ss names_ mid after rest k o q c s z (specs_no_value after ss rest a) a end _ vs
 
 -- a statement that begins a body
-body_turn : (d : ℕ) (spot : Spot) (k : TokenKind) (x : Turn) → turn_start (d + 1) spot k refuses ≡ x → (x ≡ refuses → ⊥) → turn_procedure_body d spot k ≡ entered d x
+body_turn : (d : ℕ) (spot : Spot) (k : TokenKind) (x : Turn) → turn_start (d + 1) spot k refuses ≡ x → (x ≡ refuses → ⊥) → turn_procedure_body d spot k ≡ turn_entered d x
 body_turn d spot (kinds.Word reserved.Forward) x e f = absurd (f (sym e))
 body_turn d spot (kinds.Symbol symbols.Semicolon) x e f = absurd (f (sym e))
-body_turn d spot k x e f = ap (entered d) e
+body_turn d spot k x e f = ap (turn_entered d) e
 
 module _ (free d : ℕ) (due : List Due) (s : PStmt) (u : Token) (rest : List Token) (c : IsSymbol symbols.Semicolon u) (h : Heading) (acc : PDecls) (vs : List Value) where
   -- a body opens a level at its first token, before what that token opens itself
-  body_begins : (t : Token) (ts : List Token) → Begins free (d + 1) t ts → Opens free d (t ∷ ts) → Leads free (statement (d + 1)) (t ∷ ts) (stmt s) (u ∷ rest) →
+  body_begins : (t : Token) (ts : List Token) → Begins free (d + 1) t ts → TokenOpens free d (t ∷ ts) → Leads free (statement (d + 1)) (t ∷ ts) (stmt s) (u ∷ rest) →
       read free (t ∷ ts) (procedure_body d ∷ due) (heading h ∷ declared acc ∷ vs) ≡ read free rest due (declared (decl_behind acc (trees.procedure h s)) ∷ vs)
   body_begins t ts b o x = by_limit b.limit b.own b.ds b.is
     where
@@ -217,25 +217,25 @@ module _ (free d : ℕ) (due : List Due) (s : PStmt) (u : Token) (rest : List To
       by_limit _ nothing_opened ds is =
           opens_step free d t ts (procedure_body d) (ds ++ make with_body ∷ symbol symbols.Semicolon ∷ []) due _
           (body_turn d t.spot t.kind (takes plain ds) (is refuses) (λ e. cc)) o
-          ∙ behind ds (takes_step free t ts (statement (d + 1)) ds _ _ (is (makes (put (stmt empty)))))
+          ∙ behind ds (takes_step free t ts (statement (d + 1)) ds _ _ (is (makes (value_put (stmt empty)))))
       by_limit _ (level_opened p) ds is =
           opens_step free (d + 1) t ts (procedure_body d) (ds ++ make with_body ∷ symbol symbols.Semicolon ∷ []) due _
           (body_turn d t.spot t.kind (takes (nests (d + 1)) ds) (is refuses) (λ e. cc)) p
-          ∙ behind ds (opens_step free (d + 1) t ts (statement (d + 1)) ds _ _ (is (makes (put (stmt empty)))) p)
+          ∙ behind ds (opens_step free (d + 1) t ts (statement (d + 1)) ds _ _ (is (makes (value_put (stmt empty)))) p)
 
-  body_of : (from : List Token) → IsStmt free (d + 1) from s (u ∷ rest) → Opens free d from → Leads free (statement (d + 1)) from (stmt s) (u ∷ rest) →
+  body_of : (from : List Token) → IsStmt free (d + 1) from s (u ∷ rest) → TokenOpens free d from → Leads free (statement (d + 1)) from (stmt s) (u ∷ rest) →
       read free from (procedure_body d ∷ due) (heading h ∷ declared acc ∷ vs) ≡ read free rest due (declared (decl_behind acc (trees.procedure h s)) ∷ vs)
   body_of from y o x = by_first (stmt_begins free (d + 1) from s (u ∷ rest) y) o x
     where
-      by_begin : (from : List Token) → BeginsAt free (d + 1) from → Opens free d from → Leads free (statement (d + 1)) from (stmt s) (u ∷ rest) →
+      by_begin : (from : List Token) → BeginsAt free (d + 1) from → TokenOpens free d from → Leads free (statement (d + 1)) from (stmt s) (u ∷ rest) →
           read free from (procedure_body d ∷ due) (heading h ∷ declared acc ∷ vs) ≡ read free rest due (declared (decl_behind acc (trees.procedure h s)) ∷ vs)
       by_begin _ (begins_at t ts b) o x = body_begins t ts b o x
 
-      by_first : ((s ≡ empty) × (from ≡ u ∷ rest)) ⊎ BeginsAt free (d + 1) from → Opens free d from → Leads free (statement (d + 1)) from (stmt s) (u ∷ rest) →
+      by_first : ((s ≡ empty) × (from ≡ u ∷ rest)) ⊎ BeginsAt free (d + 1) from → TokenOpens free d from → Leads free (statement (d + 1)) from (stmt s) (u ∷ rest) →
           read free from (procedure_body d ∷ due) (heading h ∷ declared acc ∷ vs) ≡ read free rest due (declared (decl_behind acc (trees.procedure h s)) ∷ vs)
       by_first (inl p) o x =
           ap (λ ts. read free ts (procedure_body d ∷ due) (heading h ∷ declared acc ∷ vs)) p.1
-          ∙ opens_step free d u rest (procedure_body d) _ due _ (ap (turn_procedure_body d u.spot) c) (subst (Opens free d) p.1 o)
+          ∙ opens_step free d u rest (procedure_body d) _ due _ (ap (turn_procedure_body d u.spot) c) (subst (TokenOpens free d) p.1 o)
           ∙ make_step free rest _ _ _
           ∙ make_step free rest with_body due _
           ∙ ap (λ s. read free rest due (declared (decl_behind acc (trees.procedure h s)) ∷ vs)) (sym p.0)
@@ -282,21 +282,21 @@ mutual
       opens_step free d t from (statement d) _ due vs (ap (turn_statement d t.spot) w) o ∙ body_read free (d + 1) t.spot from b u rest x e due vs
   stmt_read free _ _ _ rest (grammar.one_armed t u c d s from mid _ w o x h y) end = λ due vs.
       opens_step free d t from (statement d) _ due vs (ap (turn_statement d t.spot) w) o
-      ∙ whole_read free from c (u ∷ mid) x (ap (ends expr) h) _ vs
+      ∙ whole_read free from c (u ∷ mid) x (ap (part_ends expr) h) _ vs
       ∙ word_step free u mid reserved.Then _ _ h
       ∙ stmt_read free (d + 1) mid s rest y (weaker (open_if s) rest end) _ _
       ∙ no_else free (d + 1) rest end due _
   stmt_read free _ _ _ rest (grammar.two_armed t u v c d a b from mid after _ w o x h y f e z) end = λ due vs.
       opens_step free d t from (statement d) _ due vs (ap (turn_statement d t.spot) w) o
-      ∙ whole_read free from c (u ∷ mid) x (ap (ends expr) h) _ vs
+      ∙ whole_read free from c (u ∷ mid) x (ap (part_ends expr) h) _ vs
       ∙ word_step free u mid reserved.Then _ _ h
       ∙ stmt_read free (d + 1) mid a (v ∷ after) y (else_ v after e f) _ _
-      ∙ takes_step free v after (else_part (d + 1)) _ due _ (ap (λ k. turn (else_part (d + 1)) v.spot k) e)
+      ∙ takes_step free v after (else_part (d + 1)) _ due _ (ap (λ k. reading_turn (else_part (d + 1)) v.spot k) e)
       ∙ stmt_read free (d + 1) after b rest z end _ _
       ∙ make_step free rest _ due _
   stmt_read free _ _ _ rest (grammar.looping t u c d s from mid _ w o x h y) end = λ due vs.
       opens_step free d t from (statement d) _ due vs (ap (turn_statement d t.spot) w) o
-      ∙ whole_read free from c (u ∷ mid) x (ap (ends expr) h) _ vs
+      ∙ whole_read free from c (u ∷ mid) x (ap (part_ends expr) h) _ vs
       ∙ word_step free u mid reserved.Do _ _ h
       ∙ stmt_read free (d + 1) mid s rest y end _ _
       ∙ make_step free rest _ due _
@@ -310,23 +310,23 @@ mutual
       opens_step free d t (u ∷ v ∷ from) (statement d) _ due vs (ap (turn_statement d t.spot) f) o
       ∙ named_read free u n (v ∷ from) k _ vs
       ∙ symbol_step free v from symbols.Becomes _ _ e
-      ∙ whole_read free from a (w ∷ step) g (ap (ends expr) h) _ _
+      ∙ whole_read free from a (w ∷ step) g (ap (part_ends expr) h) _ _
       ∙ word_step free w step reserved.Step _ _ h
-      ∙ whole_read free step b (x ∷ limit) i (ap (ends expr) j) _ _
+      ∙ whole_read free step b (x ∷ limit) i (ap (part_ends expr) j) _ _
       ∙ word_step free x limit reserved.Until _ _ j
-      ∙ whole_read free limit c (y ∷ mid) l (ap (ends expr) m) _ _
+      ∙ whole_read free limit c (y ∷ mid) l (ap (part_ends expr) m) _ _
       ∙ word_step free y mid reserved.Do _ _ m
       ∙ stmt_read free (d + 1) mid s rest r end _ _
       ∙ make_step free rest _ due _
   stmt_read free _ _ _ rest (grammar.so_often t u c d s from mid _ w o x h y) end = λ due vs.
       opens_step free d t from (statement d) _ due vs (ap (turn_statement d t.spot) w) o
-      ∙ whole_read free from c (u ∷ mid) x (ap (ends expr) h) _ vs
+      ∙ whole_read free from c (u ∷ mid) x (ap (part_ends expr) h) _ vs
       ∙ word_step free u mid reserved.Do _ _ h
       ∙ stmt_read free (d + 1) mid s rest y end _ _
       ∙ make_step free rest _ due _
   stmt_read free _ _ _ rest (grammar.choosing t u v w c d ss from mid _ k o x h i y j) end = λ due vs.
       opens_step free d t from (statement d) _ due vs (ap (turn_statement d t.spot) k) o
-      ∙ whole_read free from c (u ∷ v ∷ mid) x (ap (ends expr) h) _ vs
+      ∙ whole_read free from c (u ∷ v ∷ mid) x (ap (part_ends expr) h) _ vs
       ∙ word_step free u (v ∷ mid) reserved.Of _ _ h
       ∙ word_step free v mid reserved.Begin _ _ i
       ∙ make_step free mid _ _ _
@@ -339,7 +339,7 @@ mutual
       ∙ task_read free mid task rest y (closes_not (is_symbol symbols.OpenSquare) refl refl refl refl false rest end) _ _
       ∙ make_step free rest _ due _
   stmt_read free _ _ _ rest (grammar.acting t u v act e d from _ a o x c) end = λ due vs.
-      takes_step free t (u ∷ from) (statement d) _ due vs (act_turn d t.spot t.kind act (makes (put (stmt empty))) a)
+      takes_step free t (u ∷ from) (statement d) _ due vs (act_turn d t.spot t.kind act (makes (value_put (stmt empty))) a)
       ∙ symbol_step free u from symbols.OpenRound _ vs o
       ∙ event_read free from e v rest x c _ vs
       ∙ make_step free rest _ due _
@@ -446,7 +446,7 @@ mutual
 -- what the grammar has as a program is read as it
 pub program_read : (free : ℕ) (from : List Token) (p : trees.PProgram) (rest : List Token) → IsProgram free from p rest → Leads free due_data.program from (due_data.whole_program p) rest
 program_read free _ _ rest (programs.whole t u v _ from _ w (grammar.declared _ _ ds ss _ mid _ x y) e q) due vs =
-    opens_step free 0 t from due_data.program _ due vs (ap (λ k. turn due_data.program t.spot k) w) (inl (omega arith))
+    opens_step free 0 t from due_data.program _ due vs (ap (λ k. reading_turn due_data.program t.spot k) w) (inl (omega arith))
     ∙ make_step free from _ _ vs
     ∙ decls_read free 1 from ds mid x (stmts_first free 1 mid ss u (v ∷ rest) y e) no_decls _ vs
     ∙ make_step free mid _ _ _

@@ -11,7 +11,7 @@ use Rattle.algol_tree.specs.declared.tree.Named.{Named}
 use Rattle.algol_tree.specs.Refused.{Programs, IsTooDeep}
 use Rattle.algol_tree.specs.Due.{Value, whole_program, Due, whole_ends, program, behind_start, Limit, plain, nests, label, begun, Turn, takes, makes, skips, closes, refuses}
 use Rattle.algol_tree.specs.DueStmt.{turn_behind_start}
-use Rattle.algol_tree.specs.Reading.{turn, Count, outside, inside, full, counted, Judged, broken, broken_at, goes, stops, unless, stepped, step, to, refused, read_on, judged, unjudged, reading}
+use Rattle.algol_tree.specs.Reading.{reading_turn, Count, outside, inside, full, limit_counted, Judged, limit_broken, broken_at, goes, stops, unless, stepped, step, to, refused, read_on, judged, unjudged, reading}
 use Rattle.algol_expr.proofs.Inner.{IsInner, Inners}
 use Rattle.algol_expr.proofs.Steps.{strict, judged_strict}
 use Rattle.algol_grammar.proofs.Labels.{all_fresh, both, is_fresh, Behind, fresh, a_name, is_own, Calm, takes_on, makes_on, skips_on, closes_on, refuses_on, turn_calm, AtName, is_label, is_none, is_alone, name_turn, step_behind}
@@ -49,7 +49,7 @@ own_place (nests d) here e = refl
 own_place (label d spot) here e = cc
 own_place (begun l) here e = own_place l here e
 
-own_lifted : (l : Limit) → is_own l ≡ true → broken l lifted ≡ false
+own_lifted : (l : Limit) → is_own l ≡ true → limit_broken l lifted ≡ false
 own_lifted plain e = refl
 own_lifted (nests d) e = never (nat_le MOST_NESTING d)
 own_lifted (label d spot) e = cc
@@ -81,18 +81,18 @@ fresh_own : (due : List Due) (here : Spot) (k : TokenKind) (c : Count) (vs : Lis
     step strict due here k c vs ≡ stops spot codes.TooDeep → Own due here k c vs spot
 fresh_own [] here k c vs spot f e = cc
 fresh_own (s ∷ due) here k c vs spot f e = let p = both (is_fresh s) (all_fresh due) f in
-    by_turn (turn s here k) refl (turn_calm s here k p.0) e (λ c vs e. fresh_own due here k c vs spot p.1 e)
+    by_turn (reading_turn s here k) refl (turn_calm s here k p.0) e (λ c vs e. fresh_own due here k c vs spot p.1 e)
   where
-    by_turn : (x : Turn) → turn s here k ≡ x → Calm here x → stepped strict c here x due vs (step strict due here k) ≡ stops spot codes.TooDeep →
+    by_turn : (x : Turn) → reading_turn s here k ≡ x → Calm here x → stepped strict c here x due vs (step strict due here k) ≡ stops spot codes.TooDeep →
         ((c : Count) (vs : List Value) → step strict due here k c vs ≡ stops spot codes.TooDeep → Own due here k c vs spot) → Own (s ∷ due) here k c vs spot
     by_turn _ is (takes_on l es o b) e again = record {
-      place = unless_place (full c && true) (broken l strict) here (broken_at l here) spot (counted l c) (es ++ due) vs (own_place l here o) e;
-      n = counted l c;
+      place = unless_place (full c && true) (limit_broken l strict) here (broken_at l here) spot (limit_counted l c) (es ++ due) vs (own_place l here o) e;
+      n = limit_counted l c;
       ds = es ++ due;
       us = vs;
       so = ap (λ x. stepped lifted c here x due vs (step lifted due here k)) is
-          ∙ ap (λ a. unless a here (unless (broken l lifted) (broken_at l here) (goes (counted l c) (es ++ due) vs))) (never (full c))
-          ∙ ap (λ a. unless a (broken_at l here) (goes (counted l c) (es ++ due) vs)) (own_lifted l o);
+          ∙ ap (λ a. unless a here (unless (limit_broken l lifted) (broken_at l here) (goes (limit_counted l c) (es ++ due) vs))) (never (full c))
+          ∙ ap (λ a. unless a (broken_at l here) (goes (limit_counted l c) (es ++ due) vs)) (own_lifted l o);
     }
     by_turn _ is (makes_on m) e again = let r = again c (m vs) e in
         record { place = r.place; n = r.n; ds = r.ds; us = r.us; so = ap (λ x. stepped lifted c here x due vs (step lifted due here k)) is ∙ r.so }
@@ -258,13 +258,13 @@ unless_code false false here at spot n ds us code e = cc
 pub step_code : (j : Judged) (due : List Due) (here : Spot) (k : TokenKind) (c : Count) (vs : List Value) (spot : Spot) (code : Code) →
     step j due here k c vs ≡ stops spot code → (code ≡ codes.Unexpected) ⊎ (code ≡ codes.TooDeep)
 step_code j [] here k c vs spot code e = cc
-step_code j (s ∷ due) here k c vs spot code e = by_turn (turn s here k) e (λ c vs e. step_code j due here k c vs spot code e)
+step_code j (s ∷ due) here k c vs spot code e = by_turn (reading_turn s here k) e (λ c vs e. step_code j due here k c vs spot code e)
   where
     by_turn : (x : Turn) → stepped j c here x due vs (step j due here k) ≡ stops spot code →
         ((c : Count) (vs : List Value) → step j due here k c vs ≡ stops spot code → (code ≡ codes.Unexpected) ⊎ (code ≡ codes.TooDeep)) →
         (code ≡ codes.Unexpected) ⊎ (code ≡ codes.TooDeep)
     by_turn (takes l es) e again =
-        inr (sym (unless_code (full c && j.here) (broken l j) here (broken_at l here) spot (counted l c) (es ++ due) vs code e))
+        inr (sym (unless_code (full c && j.here) (limit_broken l j) here (broken_at l here) spot (limit_counted l c) (es ++ due) vs code e))
     by_turn (makes m) e again = again c (m vs) e
     by_turn skips e again = again c vs e
     by_turn closes e again = again outside vs e

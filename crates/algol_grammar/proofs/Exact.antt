@@ -9,7 +9,7 @@ use Rattle.algol_tree.specs.Plain.{PProgram}
 use Rattle.algol_tree.specs.Programs.{IsProgram}
 use Rattle.algol_tree.specs.Refused.{Programs, IsUnexpected, IsBehind}
 use Rattle.algol_tree.specs.Due.{Value, whole_program, program}
-use Rattle.algol_tree.specs.Reading.{Count, Step, goes, over, stops, step, to, refused, read_on, read_end, judged, unjudged, nowhere, reading, read}
+use Rattle.algol_tree.specs.Reading.{Count, ReadingStep, goes, over, stops, step, to, refused, read_on, read_end, judged, unjudged, nowhere, reading, read}
 use Rattle.algol_expr.proofs.Steps.{strict, judged_strict}
 use Rattle.algol_grammar.specs.ReadExactly.{IsExact}
 use Rattle.algol_grammar.proofs.Places.{Place, count, stack, Placed}
@@ -40,7 +40,7 @@ module _ (front : List Token) (t : Token) (q : Place) (us : List Value) (f : Fed
         at_end (step unjudged (stack q) nowhere kinds.End (count q) us) refl
         (ap (λ ts. read free ts (program ∷ []) []) (append-nil front) ∙ program_reads free front x) (fed_any free start q [] us front [] f)
       where
-        at_end : (y : Step) → step unjudged (stack q) nowhere kinds.End (count q) us ≡ y → read free (front ++ []) (program ∷ []) [] ≡ to [] (whole_program x.0 ∷ []) →
+        at_end : (y : ReadingStep) → step unjudged (stack q) nowhere kinds.End (count q) us ≡ y → read free (front ++ []) (program ∷ []) [] ≡ to [] (whole_program x.0 ∷ []) →
             read free (front ++ []) (program ∷ []) [] ≡ read_end (step unjudged (stack q) nowhere kinds.End (count q) us) → ⊥
         at_end (goes c ds vs) is a b = let no : to [] (whole_program x.0 ∷ []) ≡ read_end (goes c ds vs) = sym a ∙ b ∙ ap read_end is in cc
         at_end (over c vs) is a b = cut_short (stack q) t.spot t.kind (count q) us spot stop c vs is
@@ -82,7 +82,7 @@ over_at : (ts : List Token) (p : Place) (vs : List Value) (t : Token) (rest : Li
 unfolding reading
 over_at [] p vs t rest ws i e = at_end (step unjudged (stack p) nowhere kinds.End (count p) vs) e
   where
-    at_end : (x : Step) → read_end x ≡ to (t ∷ rest) ws → OverAt p vs [] t rest ws
+    at_end : (x : ReadingStep) → read_end x ≡ to (t ∷ rest) ws → OverAt p vs [] t rest ws
     at_end (goes c ds us) e = cc
     at_end (over c us) e = cc
     at_end (stops place c) e = cc
@@ -104,7 +104,7 @@ over_at (u ∷ ts) p vs t rest ws i e = at_token (step strict (stack p) u.spot u
           over_so = subst (λ x. step strict (stack p) x.spot x.kind (count p) vs ≡ over c ws) same (s ∙ ap (over c) b);
         }
 
-    at_token : (x : Step) → step strict (stack p) u.spot u.kind (count p) vs ≡ x → read_on x u ts (reading 0 ts) ≡ to (t ∷ rest) ws →
+    at_token : (x : ReadingStep) → step strict (stack p) u.spot u.kind (count p) vs ≡ x → read_on x u ts (reading 0 ts) ≡ to (t ∷ rest) ws →
         ((q : Place) (us : List Value) → Placed q → reading 0 ts (count q) (stack q) us ≡ to (t ∷ rest) ws → OverAt q us ts t rest ws) → OverAt p vs (u ∷ ts) t rest ws
     at_token (goes c ds us) is e more =
         let n = place_next strict p u vs c ds us i is in

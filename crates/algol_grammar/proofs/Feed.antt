@@ -7,7 +7,7 @@ use Rattle.algol_tree.specs.declared.token.TokenKind.TheVariants as kinds
 use Rattle.algol_tree.specs.declared.refusal.Code.{Code}
 use Rattle.algol_tree.specs.declared.refusal.Code.TheVariants as codes
 use Rattle.algol_tree.specs.Due.{Value, Due, Limit, plain, nests, label, begun, Turn, takes, makes, skips, closes, refuses}
-use Rattle.algol_tree.specs.Reading.{turn, Count, outside, full, counted, Judged, broken, broken_at, Step, goes, over, stops, unless, stepped, step, refused, read_on, read_end, judged, unjudged, nowhere, reading}
+use Rattle.algol_tree.specs.Reading.{reading_turn, Count, outside, full, limit_counted, Judged, limit_broken, broken_at, ReadingStep, goes, over, stops, unless, stepped, step, refused, read_on, read_end, judged, unjudged, nowhere, reading}
 use Rattle.algol_expr.proofs.Steps.{strict, judged_strict, unless_goes}
 use Rattle.algol_grammar.proofs.Places.{Place, count, stack, Placed, Fits, IsFrom, Next}
 use Rattle.algol_grammar.proofs.Sound.{place_next}
@@ -18,7 +18,7 @@ looser : (a b : Bool) → (a && true) ≡ false → (a && b) ≡ false
 looser true b e = cc
 looser false b e = refl
 
-broken_any : (l : Limit) (j : Judged) → broken l strict ≡ false → broken l j ≡ false
+broken_any : (l : Limit) (j : Judged) → limit_broken l strict ≡ false → limit_broken l j ≡ false
 broken_any plain j e = refl
 broken_any (nests d) j e = looser _ j.here e
 broken_any (label d spot) j e = looser _ j.before e
@@ -27,14 +27,14 @@ broken_any (begun l) j e = broken_any l j e
 pub step_any : (j : Judged) (due : List Due) (spot : Spot) (k : TokenKind) (c : Count) (vs : List Value) (n : Count) (ds : List Due) (us : List Value) →
     step strict due spot k c vs ≡ goes n ds us → step j due spot k c vs ≡ goes n ds us
 step_any j [] spot k c vs n ds us e = cc
-step_any j (s ∷ due) spot k c vs n ds us e = by_turn (turn s spot k) e (λ c vs e. step_any j due spot k c vs n ds us e)
+step_any j (s ∷ due) spot k c vs n ds us e = by_turn (reading_turn s spot k) e (λ c vs e. step_any j due spot k c vs n ds us e)
   where
     by_turn : (x : Turn) → stepped strict c spot x due vs (step strict due spot k) ≡ goes n ds us →
         ((c : Count) (vs : List Value) → step strict due spot k c vs ≡ goes n ds us → step j due spot k c vs ≡ goes n ds us) →
         stepped j c spot x due vs (step j due spot k) ≡ goes n ds us
     by_turn (takes l es) e again =
-        let p = unless_goes (full c && true) spot (unless (broken l strict) (broken_at l spot) (goes (counted l c) (es ++ due) vs)) n ds us e in
-        let q = unless_goes (broken l strict) (broken_at l spot) (goes (counted l c) (es ++ due) vs) n ds us p.1 in
+        let p = unless_goes (full c && true) spot (unless (limit_broken l strict) (broken_at l spot) (goes (limit_counted l c) (es ++ due) vs)) n ds us e in
+        let q = unless_goes (limit_broken l strict) (broken_at l spot) (goes (limit_counted l c) (es ++ due) vs) n ds us p.1 in
         rw (looser (full c) j.here p.0, broken_any l j q.0) q.1
     by_turn (makes m) e again = again c (m vs) e
     by_turn skips e again = again c vs e
@@ -49,12 +49,12 @@ unless_not false false here at spot n ds us e = cc
 pub stop_any : (j : Judged) (due : List Due) (here : Spot) (k : TokenKind) (c : Count) (vs : List Value) (spot : Spot) →
     step strict due here k c vs ≡ stops spot codes.Unexpected → step j due here k c vs ≡ stops spot codes.Unexpected
 stop_any j [] here k c vs spot e = cc
-stop_any j (s ∷ due) here k c vs spot e = by_turn (turn s here k) e (λ c vs e. stop_any j due here k c vs spot e)
+stop_any j (s ∷ due) here k c vs spot e = by_turn (reading_turn s here k) e (λ c vs e. stop_any j due here k c vs spot e)
   where
     by_turn : (x : Turn) → stepped strict c here x due vs (step strict due here k) ≡ stops spot codes.Unexpected →
         ((c : Count) (vs : List Value) → step strict due here k c vs ≡ stops spot codes.Unexpected → step j due here k c vs ≡ stops spot codes.Unexpected) →
         stepped j c here x due vs (step j due here k) ≡ stops spot codes.Unexpected
-    by_turn (takes l es) e again = absurd (unless_not (full c && true) (broken l strict) here (broken_at l here) spot (counted l c) (es ++ due) vs e)
+    by_turn (takes l es) e again = absurd (unless_not (full c && true) (limit_broken l strict) here (broken_at l here) spot (limit_counted l c) (es ++ due) vs e)
     by_turn (makes m) e again = again c (m vs) e
     by_turn skips e again = again c vs e
     by_turn closes e again = again outside vs e
@@ -64,11 +64,11 @@ stop_any j (s ∷ due) here k c vs spot e = by_turn (turn s here k) e (λ c vs e
 pub stops_here : (j : Judged) (due : List Due) (here : Spot) (k : TokenKind) (c : Count) (vs : List Value) (spot : Spot) →
     step j due here k c vs ≡ stops spot codes.Unexpected → spot ≡ here
 stops_here j [] here k c vs spot e = cc
-stops_here j (s ∷ due) here k c vs spot e = by_turn (turn s here k) e (λ c vs e. stops_here j due here k c vs spot e)
+stops_here j (s ∷ due) here k c vs spot e = by_turn (reading_turn s here k) e (λ c vs e. stops_here j due here k c vs spot e)
   where
     by_turn : (x : Turn) → stepped j c here x due vs (step j due here k) ≡ stops spot codes.Unexpected →
         ((c : Count) (vs : List Value) → step j due here k c vs ≡ stops spot codes.Unexpected → spot ≡ here) → spot ≡ here
-    by_turn (takes l es) e again = absurd (unless_not (full c && j.here) (broken l j) here (broken_at l here) spot (counted l c) (es ++ due) vs e)
+    by_turn (takes l es) e again = absurd (unless_not (full c && j.here) (limit_broken l j) here (broken_at l here) spot (limit_counted l c) (es ++ due) vs e)
     by_turn (makes m) e again = again c (m vs) e
     by_turn skips e again = again c vs e
     by_turn closes e again = again outside vs e
@@ -121,7 +121,7 @@ pub refused_at : (ts : List Token) (p : Place) (vs : List Value) (left : ℕ) (s
 unfolding reading
 refused_at [] p vs left spot code i e = at_end (step unjudged (stack p) nowhere kinds.End (count p) vs) e
   where
-    at_end : (x : Step) → read_end x ≡ refused left spot code → RefusedAt p vs [] left spot code
+    at_end : (x : ReadingStep) → read_end x ≡ refused left spot code → RefusedAt p vs [] left spot code
     at_end (goes c ds us) e = cc
     at_end (over c us) e = cc
     at_end (stops place c) e = cc
@@ -129,7 +129,7 @@ refused_at (t ∷ ts) p vs left spot code i e = at_token (step strict (stack p) 
     (subst (λ j. read_on (step j (stack p) t.spot t.kind (count p) vs) t ts (reading 0 ts) ≡ refused left spot code) (judged_strict 0 t ts (omega arith)) e)
     (λ q us i e. refused_at ts q us left spot code i e)
   where
-    at_token : (x : Step) → step strict (stack p) t.spot t.kind (count p) vs ≡ x → read_on x t ts (reading 0 ts) ≡ refused left spot code →
+    at_token : (x : ReadingStep) → step strict (stack p) t.spot t.kind (count p) vs ≡ x → read_on x t ts (reading 0 ts) ≡ refused left spot code →
         ((q : Place) (us : List Value) → Placed q → reading 0 ts (count q) (stack q) us ≡ refused left spot code → RefusedAt q us ts left spot code) →
         RefusedAt p vs (t ∷ ts) left spot code
     at_token (goes c ds us) is e more =

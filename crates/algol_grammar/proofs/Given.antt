@@ -1,7 +1,7 @@
 -- How what is due and is read, is put together.
 use Rattle.std.proofs.Common.{◌≡◌, ℕ, Bool, true, false, List, ◌∷◌, sym, subst}
 use Rattle.algol_tree.specs.declared.token.Token.{Token}
-use Rattle.algol_tree.specs.Due.{Value, put, Due, Turn, takes, makes, skips, closes, refuses, plain, nests, label, begun, followed, either}
+use Rattle.algol_tree.specs.Due.{Value, value_put, Due, Turn, takes, makes, skips, closes, refuses, plain, nests, label, begun, followed, either}
 use Rattle.algol_expr.proofs.Sound.{Leaves, left_out, makes_it}
 use Rattle.algol_grammar.proofs.Meant.{Gives, gives, IsAll, in_two, Taken}
 
@@ -53,6 +53,6 @@ leave_skip true ds vs ws from rest R r l = absurd l
 leave_skip false ds vs _ from _ R r left_out = r
 
 pub leave_put : (b : Bool) (ds : List Due) (v : Value) (vs ws : List Value) (from rest : List Token) (R : List Value → List Token → Type 0) → R (v ∷ vs) from →
-    Leaves (either b (takes plain ds) (makes (put v))) vs from ws rest → R ws rest
+    Leaves (either b (takes plain ds) (makes (value_put v))) vs from ws rest → R ws rest
 leave_put true ds v vs ws from rest R r l = absurd l
 leave_put false ds v vs _ from _ R r makes_it = r

@@ -15,9 +15,9 @@ use Rattle.algol_tree.specs.declared.tree.Spec.TheVariants as specs
 use Rattle.algol_tree.specs.Tokens.{IsWord, IsSymbol, IsName, is_word, is_symbol}
 use Rattle.algol_tree.specs.Headings as grammar
 use Rattle.algol_tree.specs.Headings.{type_of, IsNames, IsFile, IsFiles, IsLiteral, IsLows, IsSpec, IsSpecs, IsValues, IsTyped, elements_of}
-use Rattle.algol_tree.specs.Due.{Value, name_is, names, low, lows, specified, put, Due, make, symbol, named, names_more, printer_part, files_more, literal, number_negated, lows_more, heading, spec, specs_more, spec_typed, values_part, behind_procedure, Turn, takes, makes, skips, closes, refuses, plain, followed, either, optional}
-use Rattle.algol_tree.specs.DueDecl.{name_added, low_added, names_in, files_in, rows_specified, turn_spec, turn_spec_typed, turn_specs_more, spec_simple, spec_events, turn_behind_procedure, turn_named, turn_negated, turn_literal}
-use Rattle.algol_tree.specs.Reading.{turn, read}
+use Rattle.algol_tree.specs.Due.{Value, name_is, names, low, lows, specified, value_put, Due, make, symbol, named, names_more, printer_part, files_more, literal, number_negated, lows_more, heading, spec, specs_more, spec_typed, values_part, behind_procedure, Turn, takes, makes, skips, closes, refuses, plain, followed, either, optional}
+use Rattle.algol_tree.specs.DueDecl.{name_added, low_added, names_in_list, files_in, rows_specified, turn_spec, turn_spec_typed, turn_specs_more, spec_simple, spec_events, turn_behind_procedure, turn_named, turn_negated, turn_literal}
+use Rattle.algol_tree.specs.Reading.{reading_turn, read}
 use Rattle.algol_expr.proofs.Turns.{takes_step, make_step, skips_step, skips_end, symbol_step, spelled_step, symbol_is, word_is}
 use Rattle.algol_grammar.proofs.Optional.{NotFirst, left_out, put_out, gone_on}
 
@@ -47,7 +47,7 @@ names_on free _ _ rest (grammar.comma t u n ns from _ k c x) end acc due vs =
     ∙ ap (λ ns. read free rest due (names ns ∷ vs)) (append_assoc acc (n ∷ []) ns)
 
 pub names_read : (free : ℕ) (from : List Token) (ns : List Named) (rest : List Token) → IsNames from ns rest → NotFirst (is_symbol symbols.Comma) rest →
-    (due : List Due) (vs : List Value) → read free from (names_in ++ due) vs ≡ read free rest due (names ns ∷ vs)
+    (due : List Due) (vs : List Value) → read free from (names_in_list ++ due) vs ≡ read free rest due (names ns ∷ vs)
 names_read free from ns rest x end due vs = make_step free from _ _ vs ∙ names_on free from ns rest x end [] due vs
 
 file_read : (free : ℕ) (from : List Token) (n : Named) (rest : List Token) → IsFile from n rest → NotFirst (is_symbol symbols.OpenRound) rest →
@@ -108,7 +108,7 @@ lows_read free from _ rest (grammar.two u l m _ after _ x c y) end due vs =
 
 -- names ";" made into one so
 pub semi_names : (free : ℕ) (from : List Token) (ns : List Named) (u : Token) (rest : List Token) → IsNames from ns (u ∷ rest) → IsSymbol symbols.Semicolon u →
-    (due : List Due) (vs : List Value) → read free from (names_in ++ symbol symbols.Semicolon ∷ due) vs ≡ read free rest due (names ns ∷ vs)
+    (due : List Due) (vs : List Value) → read free from (names_in_list ++ symbol symbols.Semicolon ∷ due) vs ≡ read free rest due (names ns ∷ vs)
 semi_names free from ns u rest x s due vs =
     names_read free from ns (u ∷ rest) x (ap (is_symbol symbols.Comma) s) _ vs ∙ symbol_step free u rest symbols.Semicolon due _ s
 
@@ -136,27 +136,27 @@ no_spec k = true
 
 -- names of which the first token decides
 pub names_by_first : (free : ℕ) (s : Due) (ds : List Due) →
-    ((spot : Spot) (name : List ℕ) → turn s spot (kinds.Name name) ≡ takes plain (make (put (names (record { name = name; spot = spot } ∷ []))) ∷ names_more ∷ ds)) →
+    ((spot : Spot) (name : List ℕ) → reading_turn s spot (kinds.Name name) ≡ takes plain (make (value_put (names (record { name = name; spot = spot } ∷ []))) ∷ names_more ∷ ds)) →
     (from : List Token) (ns : List Named) (rest : List Token) → IsNames from ns rest → NotFirst (is_symbol symbols.Comma) rest → (due : List Due) (vs : List Value) →
     read free from (s ∷ due) vs ≡ read free rest (ds ++ due) (names ns ∷ vs)
 names_by_first free s ds is _ _ rest (grammar.last t n _ k) end due vs =
-    takes_step free t rest s _ due vs (ap (turn s t.spot) k.name ∙ is t.spot n.name)
+    takes_step free t rest s _ due vs (ap (reading_turn s t.spot) k.name ∙ is t.spot n.name)
     ∙ make_step free rest _ _ vs
     ∙ left_out free names_more (is_symbol symbols.Comma) _ (λ spot k. refl) refl rest end _ _
     ∙ ap (λ spot. read free rest (ds ++ due) (names (record { name = n.name; spot = spot } ∷ []) ∷ vs)) k.place
 names_by_first free s ds is _ _ rest (grammar.comma t u n ns from _ k c x) end due vs =
-    takes_step free t (u ∷ from) s _ due vs (ap (turn s t.spot) k.name ∙ is t.spot n.name)
+    takes_step free t (u ∷ from) s _ due vs (ap (reading_turn s t.spot) k.name ∙ is t.spot n.name)
     ∙ make_step free (u ∷ from) _ _ vs
     ∙ gone_on free names_more (is_symbol symbols.Comma) _ skips (λ spot k. refl) u from (symbol_is u symbols.Comma c) _ _
     ∙ names_on free from ns rest x end _ _ vs
     ∙ ap (λ spot. read free rest (ds ++ due) (names (record { name = n.name; spot = spot } ∷ ns) ∷ vs)) k.place
 
 -- a specification is read, also where it may be left out
-module _ (free : ℕ) (s : Due) (more : List Due) (otherwise : Turn) (is : (spot : Spot) (k : TokenKind) → turn s spot k ≡ followed (turn_spec k otherwise) more) where
+module _ (free : ℕ) (s : Due) (more : List Due) (otherwise : Turn) (is : (spot : Spot) (k : TokenKind) → reading_turn s spot k ≡ followed (turn_spec k otherwise) more) where
   by_type : (t : Token) (kind : Kind) (from : List Token) → type_of t.kind ≡ Some kind → (due : List Due) (vs : List Value) →
       read free (t ∷ from) (s ∷ due) vs ≡ read free from (spec_typed kind ∷ (more ++ due)) vs
   by_type t kind from k due vs = takes_step free t from s _ due vs (is t.spot t.kind
-      ∙ ap (λ o. followed (optional o (λ kind. spec_typed kind ∷ []) (either (is_word reserved.Event t.kind) (takes plain (names_in ++ symbol symbols.Semicolon ∷ make spec_events ∷ []))
+      ∙ ap (λ o. followed (optional o (λ kind. spec_typed kind ∷ []) (either (is_word reserved.Event t.kind) (takes plain (names_in_list ++ symbol symbols.Semicolon ∷ make spec_events ∷ []))
       (either (is_word reserved.Array t.kind) (takes plain (rows_specified types.Number)) otherwise))) more) k)
 
   rows_by : (from : List Token) (kind : Option Kind) (t u v w : Token) (names_ mid rest : List Token) (ns : List Named) (ls : List ℤ) → IsTyped from kind (t ∷ names_) →

@@ -13,11 +13,11 @@ use Rattle.algol_tree.specs.Tokens.{is_word, is_symbol, is_spelled}
 use Rattle.algol_tree.specs.Operators.{operator, relop, expr}
 use Rattle.algol_tree.specs.Headings.{type_of}
 use Rattle.algol_tree.specs.Statements.{phrase_of}
-use Rattle.algol_tree.specs.Due.{Value, stmt, put, Due, make, word, symbol, spelled, part, more_of, relation, behind_name, exprs_more, opening, event, events_more, behind_event, whole, whole_ends, named, names_more, printer_part, files_more, literal, number_negated, lows_more, values_part, spec, spec_typed, specs_more, behind_procedure, wholes_more, actuals_part, items_part, pairs_more, segments_more, task_part, to_part, angle, phrase, phrases_more, statement, behind_start, else_part, stmts_more, declarations, typed, procedure_body, program, Limit, plain, Turn, takes, makes, skips, closes, refuses, followed, begins, either, optional}
+use Rattle.algol_tree.specs.Due.{Value, stmt, value_put, Due, make, word, symbol, spelled, part, more_of, relation, behind_name, exprs_more, opening, event, events_more, behind_event, whole, whole_ends, named, names_more, printer_part, files_more, literal, number_negated, lows_more, values_part, spec, spec_typed, specs_more, behind_procedure, wholes_more, actuals_part, items_part, pairs_more, segments_more, task_part, to_part, angle, phrase, phrases_more, statement, behind_start, else_part, stmts_more, declarations, typed, procedure_body, program, Limit, plain, Turn, takes, makes, skips, closes, refuses, followed, begins, either, optional}
 use Rattle.algol_tree.specs.DueExpr.{turn_expr, turn_event, on_with}
 use Rattle.algol_tree.specs.DueDecl.{turn_named, turn_literal, turn_negated, turn_spec_typed}
-use Rattle.algol_tree.specs.DueStmt.{turn_start, turn_behind_start, turn_typed, turn_declaration, entered, turn_procedure_body}
-use Rattle.algol_tree.specs.Reading.{turn, Count, outside, full, counted, broken, broken_at, goes, over, stops, unless, stepped, step, unjudged, nowhere}
+use Rattle.algol_tree.specs.DueStmt.{turn_start, turn_behind_start, turn_typed, turn_declaration, turn_entered, turn_procedure_body}
+use Rattle.algol_tree.specs.Reading.{reading_turn, Count, outside, full, limit_counted, limit_broken, broken_at, goes, over, stops, unless, stepped, step, unjudged, nowhere}
 use Rattle.algol_expr.proofs.Reading.{Takes, taken, refused_, followed_takes}
 use Rattle.algol_expr.proofs.Ends.{operator_end}
 use Rattle.algol_expr.proofs.Steps.{strict}
@@ -119,10 +119,10 @@ declaration_idle d (kinds.Word reserved.Array) = tt
 declaration_idle d (kinds.Word reserved.Procedure) = tt
 declaration_idle d k = optional_idle (type_of k) (λ kind. typed kind d ∷ []) skips skips refl
 
-entered_idle : (d : ℕ) (x : Turn) → StartsAt (d + 1) x → IsIdle (entered d x) refuses
+entered_idle : (d : ℕ) (x : Turn) → StartsAt (d + 1) x → IsIdle (turn_entered d x) refuses
 entered_idle d (takes l ds) s = by_limit l
   where
-    by_limit : (l : Limit) → IsIdle (entered d (takes l ds)) refuses
+    by_limit : (l : Limit) → IsIdle (turn_entered d (takes l ds)) refuses
     by_limit plain = tt
     by_limit l = tt
 entered_idle d (makes m) s = absurd s
@@ -135,7 +135,7 @@ body_idle d spot (kinds.Word reserved.Forward) = tt
 body_idle d spot (kinds.Symbol symbols.Semicolon) = tt
 body_idle d spot k = entered_idle d (turn_start (d + 1) spot k refuses) (starts_at (d + 1) spot k)
 
-idle : (s : Due) (spot : Spot) (k : TokenKind) → IsIdle (turn s spot k) (turn s nowhere kinds.End)
+idle : (s : Due) (spot : Spot) (k : TokenKind) → IsIdle (reading_turn s spot k) (reading_turn s nowhere kinds.End)
 idle (make m) spot k = refl
 idle (word w) spot k = either_idle (is_word w k) _ _ refuses refuses refused_
 idle (symbol s) spot k = either_idle (is_symbol s k) _ _ refuses refuses refused_
@@ -176,7 +176,7 @@ idle to_part spot k = either_idle (is_word reserved.To k) _ _ skips skips refl
 idle angle spot k = either_idle (is_symbol symbols.Less k) _ _ refuses refuses refused_
 idle phrase spot k = optional_idle (phrase_of k) _ refuses refuses refused_
 idle phrases_more spot k = either_idle (is_symbol symbols.Comma k) _ _ skips skips refl
-idle (statement d) spot k = start_idle d spot k (makes (put (stmt trees.empty))) (makes (put (stmt trees.empty))) refl
+idle (statement d) spot k = start_idle d spot k (makes (value_put (stmt trees.empty))) (makes (value_put (stmt trees.empty))) refl
 idle (behind_start n d) spot k = behind_idle n d k
 idle (else_part d) spot k = either_idle (is_word reserved.Else k) _ _ _ _ refl
 idle (stmts_more d) spot k = either_idle (is_symbol symbols.Semicolon k) _ _ skips skips refl
@@ -199,16 +199,16 @@ takes_not false false here at spot n ds us e = cc
 pub cut_short : (due : List Due) (here : Spot) (k : TokenKind) (c : Count) (vs : List Value) (spot : Spot) → step strict due here k c vs ≡ stops spot codes.Unexpected →
     (n : Count) (ws : List Value) → step unjudged due nowhere kinds.End c vs ≡ over n ws → ⊥
 cut_short [] here k c vs spot e n ws o = cc
-cut_short (s ∷ due) here k c vs spot e n ws o = by_turn (turn s here k) (turn s nowhere kinds.End) (idle s here k) e o (λ c vs e o. cut_short due here k c vs spot e n ws o)
+cut_short (s ∷ due) here k c vs spot e n ws o = by_turn (reading_turn s here k) (reading_turn s nowhere kinds.End) (idle s here k) e o (λ c vs e o. cut_short due here k c vs spot e n ws o)
   where
     over_takes : (y : Turn) → Takes y → stepped unjudged c nowhere y due vs (step unjudged due nowhere kinds.End) ≡ over n ws → ⊥
-    over_takes _ (taken l ds) o = never_over (full c && false) (broken l unjudged) nowhere (broken_at l nowhere) (counted l c) n (ds ++ due) vs ws o
+    over_takes _ (taken l ds) o = never_over (full c && false) (limit_broken l unjudged) nowhere (broken_at l nowhere) (limit_counted l c) n (ds ++ due) vs ws o
     over_takes _ refused_ o = cc
 
     by_turn : (x y : Turn) → IsIdle x y → stepped strict c here x due vs (step strict due here k) ≡ stops spot codes.Unexpected →
         stepped unjudged c nowhere y due vs (step unjudged due nowhere kinds.End) ≡ over n ws →
         ((c : Count) (vs : List Value) → step strict due here k c vs ≡ stops spot codes.Unexpected → step unjudged due nowhere kinds.End c vs ≡ over n ws → ⊥) → ⊥
-    by_turn (takes l ds) y i e o again = takes_not (full c && true) (broken l strict) here (broken_at l here) spot (counted l c) (ds ++ due) vs e
+    by_turn (takes l ds) y i e o again = takes_not (full c && true) (limit_broken l strict) here (broken_at l here) spot (limit_counted l c) (ds ++ due) vs e
     by_turn (makes m) y i e o again =
         again c (m vs) e (subst (λ y. stepped unjudged c nowhere y due vs (step unjudged due nowhere kinds.End) ≡ over n ws) i o)
     by_turn skips y i e o again = again c vs e (subst (λ y. stepped unjudged c nowhere y due vs (step unjudged due nowhere kinds.End) ≡ over n ws) i o)
@@ -219,12 +219,12 @@ cut_short (s ∷ due) here k c vs spot e n ws o = by_turn (turn s here k) (turn 
 pub over_idle : (due : List Due) (here : Spot) (k : TokenKind) (c : Count) (vs : List Value) (n : Count) (ws : List Value) → step strict due here k c vs ≡ over n ws →
     step unjudged due nowhere kinds.End c vs ≡ over n ws
 over_idle [] here k c vs n ws e = e
-over_idle (s ∷ due) here k c vs n ws e = by_turn (turn s here k) (turn s nowhere kinds.End) (idle s here k) e (λ c vs e. over_idle due here k c vs n ws e)
+over_idle (s ∷ due) here k c vs n ws e = by_turn (reading_turn s here k) (reading_turn s nowhere kinds.End) (idle s here k) e (λ c vs e. over_idle due here k c vs n ws e)
   where
     by_turn : (x y : Turn) → IsIdle x y → stepped strict c here x due vs (step strict due here k) ≡ over n ws →
         ((c : Count) (vs : List Value) → step strict due here k c vs ≡ over n ws → step unjudged due nowhere kinds.End c vs ≡ over n ws) →
         stepped unjudged c nowhere y due vs (step unjudged due nowhere kinds.End) ≡ over n ws
-    by_turn (takes l ds) y i e again = absurd (never_over (full c && true) (broken l strict) here (broken_at l here) (counted l c) n (ds ++ due) vs ws e)
+    by_turn (takes l ds) y i e again = absurd (never_over (full c && true) (limit_broken l strict) here (broken_at l here) (limit_counted l c) n (ds ++ due) vs ws e)
     by_turn (makes m) y i e again = subst (λ y. stepped unjudged c nowhere y due vs (step unjudged due nowhere kinds.End) ≡ over n ws) (sym i) (again c (m vs) e)
     by_turn skips y i e again = subst (λ y. stepped unjudged c nowhere y due vs (step unjudged due nowhere kinds.End) ≡ over n ws) (sym i) (again c vs e)
     by_turn closes y i e again = subst (λ y. stepped unjudged c nowhere y due vs (step unjudged due nowhere kinds.End) ≡ over n ws) (sym i) (again outside vs e)

@@ -4,11 +4,11 @@ use Rattle.algol_tree.specs.declared.TheConstants.{MOST_NESTING}
 use Rattle.algol_tree.specs.declared.token.Spot.{Spot}
 use Rattle.algol_tree.specs.declared.token.TokenKind.{TokenKind}
 use Rattle.algol_tree.specs.Due.{Value, Due, plain, nests, Turn, takes, makes, skips, closes, refuses}
-use Rattle.algol_tree.specs.Reading.{turn, outside, inside, full, Judged, Step, goes, over, stops, unless, stepped, step}
+use Rattle.algol_tree.specs.Reading.{reading_turn, outside, inside, full, Judged, ReadingStep, goes, over, stops, unless, stepped, step}
 use Rattle.algol_expr.proofs.Inner.{Inners, Stays, inner_stays}
 
 -- one token more is counted, where there is room for it
-abbrev pub counting : Judged → ℕ → Spot → Step → Step
+abbrev pub counting : Judged → ℕ → Spot → ReadingStep → ReadingStep
 counting j c here (goes n ds us) = unless (full (inside c) && j.here) here (goes (inside (c + 1)) ds us)
 counting j c here (over n us) = over (inside c) us
 counting j c here (stops spot code) = stops spot code
@@ -23,7 +23,7 @@ unless_counting false false j c here ds us e = rw e refl
 pub step_inside : (j : Judged) (c : ℕ) (due : List Due) (here : Spot) (k : TokenKind) (vs : List Value) → Inners due →
     step j due here k (inside c) vs ≡ counting j c here (step j due here k outside vs)
 step_inside j c [] here k vs i = refl
-step_inside j c (s ∷ due) here k vs i = by_turn (turn s here k) (inner_stays s here k i.0) (λ vs. step_inside j c due here k vs i.1)
+step_inside j c (s ∷ due) here k vs i = by_turn (reading_turn s here k) (inner_stays s here k i.0) (λ vs. step_inside j c due here k vs i.1)
   where
     by_turn : (x : Turn) → Stays x → ((vs : List Value) → step j due here k (inside c) vs ≡ counting j c here (step j due here k outside vs)) →
         stepped j (inside c) here x due vs (step j due here k) ≡ counting j c here (stepped j outside here x due vs (step j due here k))

@@ -12,10 +12,10 @@ use Rattle.algol_tree.specs.Plain as trees
 use Rattle.algol_tree.specs.Tokens.{is_word, is_symbol}
 use Rattle.algol_tree.specs.Headings.{type_of}
 use Rattle.algol_tree.specs.Statements.{phrase_of}
-use Rattle.algol_tree.specs.Due.{stmt, put, Due, make, word, symbol, spelled, part, more_of, relation, behind_name, exprs_more, opening, event, events_more, behind_event, whole, whole_ends, named, names_more, printer_part, files_more, literal, number_negated, lows_more, values_part, spec, spec_typed, specs_more, behind_procedure, wholes_more, actuals_part, items_part, pairs_more, segments_more, task_part, to_part, angle, phrase, phrases_more, statement, behind_start, else_part, stmts_more, declarations, typed, procedure_body, program, plain, nests, label, begun, Turn, takes, makes, skips, closes, refuses, followed, either, optional}
+use Rattle.algol_tree.specs.Due.{stmt, value_put, Due, make, word, symbol, spelled, part, more_of, relation, behind_name, exprs_more, opening, event, events_more, behind_event, whole, whole_ends, named, names_more, printer_part, files_more, literal, number_negated, lows_more, values_part, spec, spec_typed, specs_more, behind_procedure, wholes_more, actuals_part, items_part, pairs_more, segments_more, task_part, to_part, angle, phrase, phrases_more, statement, behind_start, else_part, stmts_more, declarations, typed, procedure_body, program, plain, nests, label, begun, Turn, takes, makes, skips, closes, refuses, followed, either, optional}
 use Rattle.algol_tree.specs.DueDecl.{turn_named, turn_literal, turn_negated, turn_spec, turn_spec_typed}
-use Rattle.algol_tree.specs.DueStmt.{with_body, turn_start, turn_behind_start, turn_typed, turn_declaration, entered, turn_procedure_body}
-use Rattle.algol_tree.specs.Reading.{turn}
+use Rattle.algol_tree.specs.DueStmt.{with_body, turn_start, turn_behind_start, turn_typed, turn_declaration, turn_entered, turn_procedure_body}
+use Rattle.algol_tree.specs.Reading.{reading_turn}
 use Rattle.algol_expr.proofs.Inner.{IsInner, Inners, Stays, inner_stays}
 use Rattle.algol_grammar.proofs.SoundDue.{is_outer, all_outer, outer_append}
 use Rattle.algol_grammar.proofs.SoundDeclarations.{StartsAt, starts_at}
@@ -132,7 +132,7 @@ declaration_keeps d (kinds.Word reserved.Array) = refl
 declaration_keeps d (kinds.Word reserved.Procedure) = refl
 declaration_keeps d k = kind_keeps (type_of k) (λ kind. typed kind d ∷ []) skips (λ kind. refl) tt
 
-entered_keeps : (d : ℕ) (x : Turn) → Keeps x → StartsAt (d + 1) x → Keeps (entered d x)
+entered_keeps : (d : ℕ) (x : Turn) → Keeps x → StartsAt (d + 1) x → Keeps (turn_entered d x)
 entered_keeps d (takes plain ds) p s = outer_append ds (make with_body ∷ symbol symbols.Semicolon ∷ []) p refl
 entered_keeps d (takes (nests m) ds) p s = outer_append ds (make with_body ∷ symbol symbols.Semicolon ∷ []) p refl
 entered_keeps d (takes (label m spot) ds) p s = absurd s
@@ -147,7 +147,7 @@ body_keeps d spot (kinds.Word reserved.Forward) = refl
 body_keeps d spot (kinds.Symbol symbols.Semicolon) = refl
 body_keeps d spot k = entered_keeps d (turn_start (d + 1) spot k refuses) (start_keeps (d + 1) spot k refuses tt) (starts_at (d + 1) spot k)
 
-pub keeps : (s : Due) (spot : Spot) (k : TokenKind) → is_outer s ≡ true → ((d : ℕ) → s ≡ whole d → ⊥) → Keeps (turn s spot k)
+pub keeps : (s : Due) (spot : Spot) (k : TokenKind) → is_outer s ≡ true → ((d : ℕ) → s ≡ whole d → ⊥) → Keeps (reading_turn s spot k)
 keeps (make m) spot k i n = tt
 keeps (word w) spot k i n = stays_keeps _ (inner_stays (word w) spot k tt)
 keeps (symbol s) spot k i n = stays_keeps _ (inner_stays (symbol s) spot k tt)
@@ -185,7 +185,7 @@ keeps to_part spot k i n = either_keeps (is_word reserved.To k) _ _ refl tt
 keeps angle spot k i n = either_keeps (is_symbol symbols.Less k) _ _ refl tt
 keeps phrase spot k i n = phrase_keeps (phrase_of k) _ (λ p. refl)
 keeps phrases_more spot k i n = either_keeps (is_symbol symbols.Comma k) _ _ refl tt
-keeps (statement d) spot k i n = start_keeps d spot k (makes (put (stmt trees.empty))) tt
+keeps (statement d) spot k i n = start_keeps d spot k (makes (value_put (stmt trees.empty))) tt
 keeps (behind_start name d) spot k i n = behind_keeps name d k
 keeps (else_part d) spot k i n = either_keeps (is_word reserved.Else k) _ _ refl tt
 keeps (stmts_more d) spot k i n = either_keeps (is_symbol symbols.Semicolon k) _ _ refl tt

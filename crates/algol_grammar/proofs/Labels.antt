@@ -12,11 +12,11 @@ use Rattle.algol_tree.specs.Tokens.{is_word, is_symbol}
 use Rattle.algol_tree.specs.Headings.{type_of}
 use Rattle.algol_tree.specs.Statements.{phrase_of}
 use Rattle.algol_tree.specs.Operators.{expr}
-use Rattle.algol_tree.specs.Due.{Value, stmt, put, Make, Due, make, word, symbol, spelled, part, more_of, relation, behind_name, exprs_more, opening, event, events_more, behind_event, whole, whole_ends, named, names_more, printer_part, files_more, literal, number_negated, lows_more, values_part, spec, spec_typed, specs_more, behind_procedure, wholes_more, actuals_part, items_part, pairs_more, segments_more, task_part, to_part, angle, phrase, phrases_more, statement, behind_start, else_part, stmts_more, declarations, typed, procedure_body, program, Limit, plain, nests, label, begun, Turn, takes, makes, skips, closes, refuses, followed, begins, either, optional}
+use Rattle.algol_tree.specs.Due.{Value, stmt, value_put, Make, Due, make, word, symbol, spelled, part, more_of, relation, behind_name, exprs_more, opening, event, events_more, behind_event, whole, whole_ends, named, names_more, printer_part, files_more, literal, number_negated, lows_more, values_part, spec, spec_typed, specs_more, behind_procedure, wholes_more, actuals_part, items_part, pairs_more, segments_more, task_part, to_part, angle, phrase, phrases_more, statement, behind_start, else_part, stmts_more, declarations, typed, procedure_body, program, Limit, plain, nests, label, begun, Turn, takes, makes, skips, closes, refuses, followed, begins, either, optional}
 use Rattle.algol_tree.specs.DueExpr.{turn_expr}
 use Rattle.algol_tree.specs.DueDecl.{turn_named, turn_literal, turn_negated, turn_spec, turn_spec_typed}
-use Rattle.algol_tree.specs.DueStmt.{with_body, turn_start, turn_behind_start, turn_typed, turn_declaration, entered, turn_procedure_body}
-use Rattle.algol_tree.specs.Reading.{turn, Count, outside, full, counted, Judged, broken, broken_at, goes, unless, stepped, step}
+use Rattle.algol_tree.specs.DueStmt.{with_body, turn_start, turn_behind_start, turn_typed, turn_declaration, turn_entered, turn_procedure_body}
+use Rattle.algol_tree.specs.Reading.{reading_turn, Count, outside, full, limit_counted, Judged, limit_broken, broken_at, goes, unless, stepped, step}
 use Rattle.algol_expr.proofs.Inner.{IsInner, Inners, Stays, inner_stays}
 use Rattle.algol_expr.proofs.Steps.{unless_goes, goes_is}
 
@@ -89,8 +89,8 @@ stays_calm (takes (label d spot) ds) i = absurd i
 stays_calm (takes (begun l) ds) i = absurd i
 stays_calm x i = refl
 
-inner_calm : (s : Due) (spot : Spot) (k : TokenKind) → IsInner s → Calm spot (turn s spot k)
-inner_calm s spot k i = calm spot (turn s spot k) (stays_calm (turn s spot k) (inner_stays s spot k i))
+inner_calm : (s : Due) (spot : Spot) (k : TokenKind) → IsInner s → Calm spot (reading_turn s spot k)
+inner_calm s spot k i = calm spot (reading_turn s spot k) (stays_calm (reading_turn s spot k) (inner_stays s spot k i))
 
 either_calm : (b : Bool) (x y : Turn) → is_calm x ≡ true → is_calm y ≡ true → is_calm (either b x y) ≡ true
 either_calm true x y p q = p
@@ -166,7 +166,7 @@ start_calm d spot (kinds.Word reserved.Process) otherwise q = calm spot _ refl
 start_calm d spot (kinds.Word reserved.Write) otherwise q = calm spot _ refl
 start_calm d spot k otherwise q = q
 
-entered_calm : (d : ℕ) (spot : Spot) (x : Turn) → Calm spot x → Calm spot (entered d x)
+entered_calm : (d : ℕ) (spot : Spot) (x : Turn) → Calm spot x → Calm spot (turn_entered d x)
 entered_calm d spot _ (takes_on plain ds o b) = takes_on (nests d) _ refl (behind_append spot ds (make with_body ∷ symbol symbols.Semicolon ∷ []) b refl)
 entered_calm d spot _ (takes_on (nests n) ds o b) = takes_on (nests n) _ o (behind_append spot ds (make with_body ∷ symbol symbols.Semicolon ∷ []) b refl)
 entered_calm d spot _ (takes_on (label n at) ds o b) = cc
@@ -181,7 +181,7 @@ body_calm d spot (kinds.Word reserved.Forward) = calm spot _ refl
 body_calm d spot (kinds.Symbol symbols.Semicolon) = calm spot _ refl
 body_calm d spot k = entered_calm d spot (turn_start (d + 1) spot k refuses) (start_calm (d + 1) spot k refuses refuses_on)
 
-pub turn_calm : (s : Due) (spot : Spot) (k : TokenKind) → is_fresh s ≡ true → Calm spot (turn s spot k)
+pub turn_calm : (s : Due) (spot : Spot) (k : TokenKind) → is_fresh s ≡ true → Calm spot (reading_turn s spot k)
 turn_calm (make m) spot k f = makes_on m
 turn_calm (word w) spot k f = inner_calm (word w) spot k tt
 turn_calm (symbol s) spot k f = inner_calm (symbol s) spot k tt
@@ -221,7 +221,7 @@ turn_calm to_part spot k f = calm spot _ (either_calm (is_word reserved.To k) _ 
 turn_calm angle spot k f = calm spot _ (either_calm (is_symbol symbols.Less k) _ _ refl refl)
 turn_calm phrase spot k f = calm spot _ (optional_calm (phrase_of k) _ refuses (λ p. refl) refl)
 turn_calm phrases_more spot k f = calm spot _ (either_calm (is_symbol symbols.Comma k) _ _ refl refl)
-turn_calm (statement d) spot k f = start_calm d spot k (makes (put (stmt trees.empty))) (makes_on _)
+turn_calm (statement d) spot k f = start_calm d spot k (makes (value_put (stmt trees.empty))) (makes_on _)
 turn_calm (behind_start n d) spot k f = cc
 turn_calm (else_part d) spot k f = calm spot _ (either_calm (is_word reserved.Else k) _ _ refl refl)
 turn_calm (stmts_more d) spot k f = calm spot _ (either_calm (is_symbol symbols.Semicolon k) _ _ refl refl)
@@ -246,17 +246,17 @@ name_turn n d k = is_alone _
 -- where a token is gone over
 
 taken_behind : (j : Judged) (c n : Count) (spot : Spot) (l : Limit) (es due ds : List Due) (vs us : List Value) → Behind spot es → all_fresh due ≡ true →
-    unless (full c && j.here) spot (unless (broken l j) (broken_at l spot) (goes (counted l c) (es ++ due) vs)) ≡ goes n ds us → Behind spot ds
+    unless (full c && j.here) spot (unless (limit_broken l j) (broken_at l spot) (goes (limit_counted l c) (es ++ due) vs)) ≡ goes n ds us → Behind spot ds
 taken_behind j c n spot l es due ds vs us b f e =
-    let p = unless_goes (full c && j.here) spot (unless (broken l j) (broken_at l spot) (goes (counted l c) (es ++ due) vs)) n ds us e in
-    let q = unless_goes (broken l j) (broken_at l spot) (goes (counted l c) (es ++ due) vs) n ds us p.1 in
-    subst (Behind spot) (goes_is (counted l c) n (es ++ due) ds vs us q.1).1 (behind_append spot es due b f)
+    let p = unless_goes (full c && j.here) spot (unless (limit_broken l j) (broken_at l spot) (goes (limit_counted l c) (es ++ due) vs)) n ds us e in
+    let q = unless_goes (limit_broken l j) (broken_at l spot) (goes (limit_counted l c) (es ++ due) vs) n ds us p.1 in
+    subst (Behind spot) (goes_is (limit_counted l c) n (es ++ due) ds vs us q.1).1 (behind_append spot es due b f)
 
 fresh_goes : (j : Judged) (due : List Due) (spot : Spot) (k : TokenKind) (c : Count) (vs : List Value) (n : Count) (ds : List Due) (us : List Value) → all_fresh due ≡ true →
     step j due spot k c vs ≡ goes n ds us → Behind spot ds
 fresh_goes j [] spot k c vs n ds us f e = cc
 fresh_goes j (s ∷ due) spot k c vs n ds us f e = let p = both (is_fresh s) (all_fresh due) f in
-    by_turn (turn s spot k) (turn_calm s spot k p.0) p.1 e (λ c vs e. fresh_goes j due spot k c vs n ds us p.1 e)
+    by_turn (reading_turn s spot k) (turn_calm s spot k p.0) p.1 e (λ c vs e. fresh_goes j due spot k c vs n ds us p.1 e)
   where
     by_turn : (x : Turn) → Calm spot x → all_fresh due ≡ true → stepped j c spot x due vs (step j due spot k) ≡ goes n ds us →
         ((c : Count) (vs : List Value) → step j due spot k c vs ≡ goes n ds us → Behind spot ds) → Behind spot ds

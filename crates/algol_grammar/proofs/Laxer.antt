@@ -7,7 +7,7 @@ use Rattle.algol_tree.specs.declared.token.Token.{Token}
 use Rattle.algol_tree.specs.declared.token.TokenKind.{TokenKind}
 use Rattle.algol_tree.specs.Refused.{Programs}
 use Rattle.algol_tree.specs.Due.{Value, whole_program, Due, program, Limit, plain, nests, label, begun, Turn, takes, makes, skips, closes, refuses}
-use Rattle.algol_tree.specs.Reading.{turn, Count, outside, full, counted, Judged, broken, broken_at, Step, goes, over, stops, unless, stepped, step, to, read_on, judged, reading}
+use Rattle.algol_tree.specs.Reading.{reading_turn, Count, outside, full, limit_counted, Judged, limit_broken, broken_at, ReadingStep, goes, over, stops, unless, stepped, step, to, read_on, judged, reading}
 use Rattle.algol_expr.proofs.Steps.{unless_goes}
 use Rattle.algol_grammar.proofs.Sound.{program_sound}
 use Rattle.algol_grammar.proofs.Outset.{program_reads}
@@ -19,7 +19,7 @@ falls false b c h e = refl
 
 -- a token for which no more limits count
 module _ (j k : Judged) (here : k.here ≡ true → j.here ≡ true) (before : k.before ≡ true → j.before ≡ true) where
-  broken_lax : (l : Limit) → broken l j ≡ false → broken l k ≡ false
+  broken_lax : (l : Limit) → limit_broken l j ≡ false → limit_broken l k ≡ false
   broken_lax plain e = refl
   broken_lax (nests d) e = falls (nat_le MOST_NESTING d) j.here k.here here e
   broken_lax (label d spot) e = falls (nat_le MOST_NESTING d) j.before k.before before e
@@ -28,14 +28,14 @@ module _ (j k : Judged) (here : k.here ≡ true → j.here ≡ true) (before : k
   pub goes_lax : (due : List Due) (spot : Spot) (kind : TokenKind) (c : Count) (vs : List Value) (n : Count) (ds : List Due) (us : List Value) →
       step j due spot kind c vs ≡ goes n ds us → step k due spot kind c vs ≡ goes n ds us
   goes_lax [] spot kind c vs n ds us e = cc
-  goes_lax (s ∷ due) spot kind c vs n ds us e = by_turn (turn s spot kind) e (λ c vs e. goes_lax due spot kind c vs n ds us e)
+  goes_lax (s ∷ due) spot kind c vs n ds us e = by_turn (reading_turn s spot kind) e (λ c vs e. goes_lax due spot kind c vs n ds us e)
     where
       by_turn : (x : Turn) → stepped j c spot x due vs (step j due spot kind) ≡ goes n ds us →
           ((c : Count) (vs : List Value) → step j due spot kind c vs ≡ goes n ds us → step k due spot kind c vs ≡ goes n ds us) →
           stepped k c spot x due vs (step k due spot kind) ≡ goes n ds us
       by_turn (takes l es) e again =
-          let p = unless_goes (full c && j.here) spot (unless (broken l j) (broken_at l spot) (goes (counted l c) (es ++ due) vs)) n ds us e in
-          let q = unless_goes (broken l j) (broken_at l spot) (goes (counted l c) (es ++ due) vs) n ds us p.1 in
+          let p = unless_goes (full c && j.here) spot (unless (limit_broken l j) (broken_at l spot) (goes (limit_counted l c) (es ++ due) vs)) n ds us e in
+          let q = unless_goes (limit_broken l j) (broken_at l spot) (goes (limit_counted l c) (es ++ due) vs) n ds us p.1 in
           rw (falls (full c) j.here k.here here p.0, broken_lax l q.0) q.1
       by_turn (makes m) e again = again c (m vs) e
       by_turn skips e again = again c vs e
@@ -51,12 +51,12 @@ unless_twice false false here at n c ds us ws e = cc
 over_any : (j k : Judged) (due : List Due) (spot : Spot) (kind : TokenKind) (c : Count) (vs : List Value) (n : Count) (us : List Value) →
     step j due spot kind c vs ≡ over n us → step k due spot kind c vs ≡ over n us
 over_any j k [] spot kind c vs n us e = e
-over_any j k (s ∷ due) spot kind c vs n us e = by_turn (turn s spot kind) e (λ c vs e. over_any j k due spot kind c vs n us e)
+over_any j k (s ∷ due) spot kind c vs n us e = by_turn (reading_turn s spot kind) e (λ c vs e. over_any j k due spot kind c vs n us e)
   where
     by_turn : (x : Turn) → stepped j c spot x due vs (step j due spot kind) ≡ over n us →
         ((c : Count) (vs : List Value) → step j due spot kind c vs ≡ over n us → step k due spot kind c vs ≡ over n us) →
         stepped k c spot x due vs (step k due spot kind) ≡ over n us
-    by_turn (takes l es) e again = absurd (unless_twice (full c && j.here) (broken l j) spot (broken_at l spot) (counted l c) n (es ++ due) vs us e)
+    by_turn (takes l es) e again = absurd (unless_twice (full c && j.here) (limit_broken l j) spot (broken_at l spot) (limit_counted l c) n (es ++ due) vs us e)
     by_turn (makes m) e again = again c (m vs) e
     by_turn skips e again = again c vs e
     by_turn closes e again = again outside vs e
@@ -75,7 +75,7 @@ reading_lax free more [] c due vs rest ws le e = e
 reading_lax free more (t ∷ ts) c due vs rest ws le e = at_token (step (judged free (t ∷ ts)) due t.spot t.kind c vs) refl e
     (λ n ds us e. reading_lax free more ts n ds us rest ws le e)
   where
-    at_token : (x : Step) → step (judged free (t ∷ ts)) due t.spot t.kind c vs ≡ x → read_on x t ts (reading free ts) ≡ to rest ws →
+    at_token : (x : ReadingStep) → step (judged free (t ∷ ts)) due t.spot t.kind c vs ≡ x → read_on x t ts (reading free ts) ≡ to rest ws →
         ((n : Count) (ds : List Due) (us : List Value) → reading free ts n ds us ≡ to rest ws → reading more ts n ds us ≡ to rest ws) →
         reading more (t ∷ ts) c due vs ≡ to rest ws
     at_token (goes n ds us) is e again =

@@ -8,13 +8,13 @@ use Rattle.algol_tree.specs.declared.tree.PhraseText.{PhraseText}
 use Rattle.algol_tree.specs.Plain as trees
 use Rattle.algol_tree.specs.Plain.{PExpr, PExprs, none, more, PPair, PDecl, PDecls, no_decls, decls}
 use Rattle.algol_tree.specs.Tokens.{IsSymbol, is_symbol}
-use Rattle.algol_tree.specs.Ends.{ends, Ends}
+use Rattle.algol_tree.specs.Ends.{part_ends, Ends}
 use Rattle.algol_tree.specs.Operators.{expr}
-use Rattle.algol_tree.specs.Expressions.{IsWhole}
+use Rattle.algol_tree.specs.Expressions.{IsWholeExpression}
 use Rattle.algol_tree.specs.Statements as grammar
 use Rattle.algol_tree.specs.Statements.{phrase_of, IsWholes, IsActuals, IsItems, IsTaskPart, IsPhrases, IsPair, IsPairs, IsSegments, decls_and}
 use Rattle.algol_tree.specs.Due.{Value, one, many, pairs, phrases, declared, task, Due, make, symbol, whole, wholes_more, actuals_part, items_part, pairs_more, segments_more, task_part, phrase, phrases_more, skips, refuses, optional}
-use Rattle.algol_tree.specs.DueExpr.{listed, behind, all_of}
+use Rattle.algol_tree.specs.DueExpr.{list_made, behind, all_of}
 use Rattle.algol_tree.specs.DueStmt.{decl_behind, wholes_in, pair_in, pair_added, segment_in, rows_declared, phrase_added, with_task}
 use Rattle.algol_tree.specs.Reading.{read}
 use Rattle.algol_expr.proofs.Reading.{Leads}
@@ -24,20 +24,20 @@ use Rattle.algol_expr.proofs.Lift.{whole_found}
 use Rattle.algol_grammar.proofs.Optional.{NotFirst, left_out, put_out, gone_on}
 use Rattle.algol_grammar.proofs.Headings.{named_read, names_read, literal_read}
 
-pub whole_read : (free : ℕ) (from : List Token) (e : PExpr) (rest : List Token) → IsWhole free 0 from e rest → Ends expr rest → Leads free (whole 0) from (one e) rest
+pub whole_read : (free : ℕ) (from : List Token) (e : PExpr) (rest : List Token) → IsWholeExpression free 0 from e rest → Ends expr rest → Leads free (whole 0) from (one e) rest
 whole_read free from e rest x end = λ due vs.
     whole_found free 0 from vs rest (one e ∷ vs) (part_read free expr 0 from e rest x.reads end [] vs ∙ read_nothing free rest (one e ∷ vs)) x.short due
 
 wholes_on : (free : ℕ) (from : List Token) (es : PExprs) (rest : List Token) → IsWholes free from es rest → Ends expr rest → NotFirst (is_symbol symbols.Comma) rest →
-    (acc : PExprs) (due : List Due) (vs : List Value) → read free from (whole 0 ∷ make listed ∷ wholes_more ∷ due) (many acc ∷ vs) ≡ read free rest due (many (all_of acc es) ∷ vs)
+    (acc : PExprs) (due : List Due) (vs : List Value) → read free from (whole 0 ∷ make list_made ∷ wholes_more ∷ due) (many acc ∷ vs) ≡ read free rest due (many (all_of acc es) ∷ vs)
 wholes_on free _ _ rest (grammar.one e from _ x) end comma acc due vs =
     whole_read free from e rest x end _ _
-    ∙ make_step free rest listed _ _
+    ∙ make_step free rest list_made _ _
     ∙ left_out free wholes_more (is_symbol symbols.Comma) _ (λ spot k. refl) refl rest comma due _
     ∙ ap (λ es. read free rest due (many es ∷ vs)) (behind-all_of acc e)
 wholes_on free _ _ rest (grammar.comma t e es from after _ x c y) end comma acc due vs =
-    whole_read free from e (t ∷ after) x (ap (ends expr) c) _ _
-    ∙ make_step free (t ∷ after) listed _ _
+    whole_read free from e (t ∷ after) x (ap (part_ends expr) c) _ _
+    ∙ make_step free (t ∷ after) list_made _ _
     ∙ gone_on free wholes_more (is_symbol symbols.Comma) _ skips (λ spot k. refl) t after (symbol_is t symbols.Comma c) due _
     ∙ wholes_on free after es rest y end comma (behind acc e) due vs
     ∙ ap (λ es. read free rest due (many es ∷ vs)) (all_of-behind acc e es)
@@ -51,7 +51,7 @@ pub actuals_read : (free : ℕ) (from : List Token) (es : PExprs) (rest : List T
 actuals_read free _ _ rest (grammar.nothing _) end due vs = put_out free actuals_part (is_symbol symbols.OpenRound) _ (many none) (λ spot k. refl) refl rest end due vs
 actuals_read free _ _ rest (grammar.actuals t u es from _ o x c) end due vs =
     gone_on free actuals_part (is_symbol symbols.OpenRound) _ _ (λ spot k. refl) t from (symbol_is t symbols.OpenRound o) due vs
-    ∙ wholes_read free from es (u ∷ rest) x (ap (ends expr) c) (ap (is_symbol symbols.Comma) c) _ vs
+    ∙ wholes_read free from es (u ∷ rest) x (ap (part_ends expr) c) (ap (is_symbol symbols.Comma) c) _ vs
     ∙ symbol_step free u rest symbols.CloseRound due _ c
 
 -- items and the parenthesis after them
@@ -62,7 +62,7 @@ items_read free _ _ z rest (grammar.nothing _) c due vs =
     ∙ symbol_step free z rest symbols.CloseRound due _ c
 items_read free _ _ z rest (grammar.items t es from _ k x) c due vs =
     gone_on free items_part (is_symbol symbols.Comma) _ _ (λ spot k. refl) t from (symbol_is t symbols.Comma k) _ vs
-    ∙ wholes_read free from es (z ∷ rest) x (ap (ends expr) c) (ap (is_symbol symbols.Comma) c) _ vs
+    ∙ wholes_read free from es (z ∷ rest) x (ap (part_ends expr) c) (ap (is_symbol symbols.Comma) c) _ vs
     ∙ symbol_step free z rest symbols.CloseRound due _ c
 
 pub task_read : (free : ℕ) (from : List Token) (t : Option Named) (rest : List Token) → IsTaskPart from t rest → NotFirst (is_symbol symbols.OpenSquare) rest →
@@ -101,13 +101,13 @@ pair_read free _ _ rest (grammar.pair t l high from after _ x c y) end acc due v
 pairs_read : (free : ℕ) (from : List Token) (ps : List PPair) (v : Token) (rest : List Token) → IsPairs free from ps (v ∷ rest) → IsSymbol symbols.CloseSquare v →
     (due : List Due) (vs : List Value) → read free from (pair_in ++ pairs_more ∷ symbol symbols.CloseSquare ∷ due) (pairs [] ∷ vs) ≡ read free rest due (pairs ps ∷ vs)
 pairs_read free _ _ v rest (grammar.one p from _ x) c due vs =
-    pair_read free from p (v ∷ rest) x (ap (ends expr) c) [] _ vs
+    pair_read free from p (v ∷ rest) x (ap (part_ends expr) c) [] _ vs
     ∙ left_out free pairs_more (is_symbol symbols.Comma) _ (λ spot k. refl) refl (v ∷ rest) (ap (is_symbol symbols.Comma) c) _ _
     ∙ symbol_step free v rest symbols.CloseSquare due _ c
 pairs_read free _ _ v rest (grammar.two t p q from after _ x k y) c due vs =
-    pair_read free from p (t ∷ after) x (ap (ends expr) k) [] _ vs
+    pair_read free from p (t ∷ after) x (ap (part_ends expr) k) [] _ vs
     ∙ gone_on free pairs_more (is_symbol symbols.Comma) _ skips (λ spot k. refl) t after (symbol_is t symbols.Comma k) _ _
-    ∙ pair_read free after q (v ∷ rest) y (ap (ends expr) c) (p ∷ []) _ vs
+    ∙ pair_read free after q (v ∷ rest) y (ap (part_ends expr) c) (p ∷ []) _ vs
     ∙ symbol_step free v rest symbols.CloseSquare due _ c
 
 pub decls-behind : (acc : PDecls) (d : PDecl) (ds : PDecls) → decls_and (decl_behind acc d) ds ≡ decls_and acc (decls d ds)

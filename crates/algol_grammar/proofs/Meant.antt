@@ -12,7 +12,7 @@ use Rattle.algol_tree.specs.declared.tree.PhraseText.{PhraseText}
 use Rattle.algol_tree.specs.Plain as trees
 use Rattle.algol_tree.specs.Plain.{PExpr, PStmt, PDecl, PDecls, more, stmts, decls}
 use Rattle.algol_tree.specs.Tokens.{IsWord, IsSymbol, IsName, is_word}
-use Rattle.algol_tree.specs.Expressions.{Opens, IsWhole}
+use Rattle.algol_tree.specs.Expressions.{TokenOpens, IsWholeExpression}
 use Rattle.algol_tree.specs.Headings.{type_of, IsTyped, IsNames, IsFile, IsFiles, IsLiteral, IsLows, IsSpec, IsSpecs, IsValues, IsHeading}
 use Rattle.algol_tree.specs.Statements.{IsWholes, IsActuals, IsItems, IsTaskPart, IsTo, phrase_of, IsPhrases, IsPair, IsPairs, IsSegments, open_if, decls_and, IsStmt, IsStmts, IsDecl, IsDecls}
 use Rattle.algol_tree.specs.Programs.{IsProgram}
@@ -62,7 +62,7 @@ pub data IsArms (free d : ℕ) (c : PExpr) (s : PStmt) (below : List Value) : Li
 
 -- The same as of an expression: what goes on with something that stands before is said of each such thing.
 abbrev pub IsDue : ℕ → Due → List Value → List Token → List Value → List Token → Type 0
-IsDue free (whole d) vs from ws rest = Gives (IsWhole free d) one from vs ws rest
+IsDue free (whole d) vs from ws rest = Gives (IsWholeExpression free d) one from vs ws rest
 IsDue free named vs from ws rest = Gives IsOneName name_is from vs ws rest
 IsDue free names_more vs from ws rest = (acc : List Named) (below : List Value) → vs ≡ names acc ∷ below →
     Gives (λ from ns rest. (t : Token) (n : Named) → IsName n t → IsNames (t ∷ from) (n ∷ ns) rest) (λ ns. names (acc ++ ns)) from below ws rest
@@ -83,7 +83,7 @@ IsDue free (behind_procedure kind) vs from ws rest = (n : Named) (below : List V
     Gives (λ from h rest. (before : List Token) (t u : Token) → IsTyped before kind (t ∷ u ∷ from) → IsWord reserved.Procedure t → IsName n u → IsHeading before h rest)
     heading from below ws rest
 IsDue free wholes_more vs from ws rest = (acc : _) (below : List Value) → vs ≡ many acc ∷ below →
-    Gives (λ from es rest. (before : List Token) (e : PExpr) → IsWhole free 0 before e from → IsWholes free before (more e es) rest) (λ es. many (all_of acc es)) from below ws rest
+    Gives (λ from es rest. (before : List Token) (e : PExpr) → IsWholeExpression free 0 before e from → IsWholes free before (more e es) rest) (λ es. many (all_of acc es)) from below ws rest
 IsDue free actuals_part vs from ws rest = Gives (IsActuals free) many from vs ws rest
 IsDue free items_part vs from ws rest = Gives (IsItems free) many from vs ws rest
 IsDue free pairs_more vs from ws rest = (p : _) (below : List Value) → vs ≡ pairs (p ∷ []) ∷ below →
@@ -133,8 +133,8 @@ in_two free (s ∷ a) b vs from ws rest (cons _ _ _ us _ _ mid _ x y) =
 -- the tokens after t are those that its turn makes due
 abbrev pub Taken : ℕ → Turn → Token → List Token → List Value → List Value → List Token → Type 0
 Taken free (takes plain ds) t ts vs ws rest = IsAll free ds vs ts ws rest
-Taken free (takes (nests d) ds) t ts vs ws rest = Opens free d (t ∷ ts) × IsAll free ds vs ts ws rest
-Taken free (takes (label d spot) ds) t ts vs ws rest = ((u : Token) → Opens free d (u ∷ t ∷ ts)) × IsAll free ds vs ts ws rest
+Taken free (takes (nests d) ds) t ts vs ws rest = TokenOpens free d (t ∷ ts) × IsAll free ds vs ts ws rest
+Taken free (takes (label d spot) ds) t ts vs ws rest = ((u : Token) → TokenOpens free d (u ∷ t ∷ ts)) × IsAll free ds vs ts ws rest
 Taken free x t ts vs ws rest = ⊥
 
 -- what is left out where the next token is of that kind

@@ -12,7 +12,7 @@ use Rattle.algol_tree.specs.Ascending.{spots_of_expr, spots_of_exprs, IsAhead, A
 use Rattle.algol_tree.specs.Tokens.{IsName}
 use Rattle.algol_tree.specs.Operators.{Part}
 use Rattle.algol_tree.specs.Expressions as grammar
-use Rattle.algol_tree.specs.Expressions.{IsEvent, IsEvents, IsPart, IsMore, IsExprs, IsWhole}
+use Rattle.algol_tree.specs.Expressions.{IsEvent, IsEvents, IsExprPart, IsMore, IsExprs, IsWholeExpression}
 
 -- Of the tokens from `from` up to `rest` these places are picked, in their order.
 pub data Picks : List Token → List Spot → List Token → Type 0 where
@@ -67,7 +67,7 @@ events_picks (grammar.last e from rest x) = and_then (event_picks x) (over rest)
 events_picks (grammar.comma t e es from after rest x i y) = and_then (event_picks x) (passed t (events_picks y))
 
 mutual
-  pub part_picks : {free : ℕ} {p : Part} {d : ℕ} {from : List Token} {e : PExpr} {rest : List Token} → IsPart free p d from e rest → Picks from (spots_of_expr e) rest
+  pub part_picks : {free : ℕ} {p : Part} {d : ℕ} {from : List Token} {e : PExpr} {rest : List Token} → IsExprPart free p d from e rest → Picks from (spots_of_expr e) rest
   part_picks (grammar.conditional t u v d c a b from mid otherwise rest i o x j y k z) =
       picked t (and_then (and_then (part_picks x) (passed u (part_picks y))) (passed v (part_picks z)))
   part_picks (grammar.unconditional d e from rest x) = part_picks x
@@ -97,5 +97,5 @@ mutual
   exprs_picks (grammar.one d e from rest x) = and_then (part_picks x) (over rest)
   exprs_picks (grammar.comma t d e es from after rest x i y) = and_then (part_picks x) (passed t (exprs_picks y))
 
-pub whole_picks : {free d : ℕ} {from : List Token} {e : PExpr} {rest : List Token} → IsWhole free d from e rest → Picks from (spots_of_expr e) rest
+pub whole_picks : {free d : ℕ} {from : List Token} {e : PExpr} {rest : List Token} → IsWholeExpression free d from e rest → Picks from (spots_of_expr e) rest
 whole_picks x = part_picks x.reads

@@ -4,10 +4,10 @@ use Rattle.std.proofs.lemmas.Bool.Decides.{nat_tests}
 use Rattle.algol_tree.specs.declared.TheConstants.{MOST_NESTING, MOST_EXPRESSION_TOKENS}
 use Rattle.algol_tree.specs.declared.token.Token.{Token}
 use Rattle.algol_tree.specs.Operators.{expr}
-use Rattle.algol_tree.specs.Expressions.{Opens}
+use Rattle.algol_tree.specs.Expressions.{TokenOpens}
 use Rattle.algol_tree.specs.Due.{Value, one, Due, part, whole, whole_ends, plain, nests, label, begun, Turn, takes, makes, skips, closes, refuses, followed, begins}
 use Rattle.algol_tree.specs.DueExpr.{turn_expr}
-use Rattle.algol_tree.specs.Reading.{turn, Count, outside, inside, Judged, goes, stepped, step, judged}
+use Rattle.algol_tree.specs.Reading.{reading_turn, Count, outside, inside, Judged, goes, stepped, step, judged}
 use Rattle.algol_expr.proofs.Reading.{Takes, taken, refused_}
 use Rattle.algol_expr.proofs.Inner.{Inners, Stays, inner_stays}
 use Rattle.algol_expr.proofs.Steps.{to_opens, unless_goes, goes_is}
@@ -62,10 +62,10 @@ pub record Next (j : Judged) (p : Place) (t : Token) (vs : List Value) (c : Coun
   pub back : (free : ℕ) (ts : List Token) → judged free (t ∷ ts) ≡ j → Fits free p (t ∷ ts) → (ws : List Value) (rest : List Token) → IsFrom free q us ts ws rest →
       IsFrom free p vs (t ∷ ts) ws rest
 
-to_opens_before : (free d : ℕ) (t : Token) (ts : List Token) → (nat_le MOST_NESTING d && (judged free (t ∷ ts)).before) ≡ false → (u : Token) → Opens free d (u ∷ t ∷ ts)
+to_opens_before : (free d : ℕ) (t : Token) (ts : List Token) → (nat_le MOST_NESTING d && (judged free (t ∷ ts)).before) ≡ false → (u : Token) → TokenOpens free d (u ∷ t ∷ ts)
 to_opens_before free d t ts e u = by_test (nat_le MOST_NESTING d) (nat_lt free (length (t ∷ ts) + 1)) refl refl e
   where
-    by_test : (a b : Bool) → nat_le MOST_NESTING d ≡ a → nat_lt free (length (t ∷ ts) + 1) ≡ b → (a && b) ≡ false → Opens free d (u ∷ t ∷ ts)
+    by_test : (a b : Bool) → nat_le MOST_NESTING d ≡ a → nat_lt free (length (t ∷ ts) + 1) ≡ b → (a && b) ≡ false → TokenOpens free d (u ∷ t ∷ ts)
     by_test true true p q e = cc
     by_test true false p q e = inr (grind (arith, nat_tests))
     by_test false b p q e = inl (grind (arith, nat_tests))
@@ -89,7 +89,7 @@ taken_back free s due es t ts vs us ws rest e f x =
     cons s due vs r.us ws (t ∷ ts) r.mid rest (f r.us r.mid r.first) r.second
 
 turn_next : (j : Judged) (s : Due) (due : List Due) (t : Token) (vs : List Value) (c : Count) (ds : List Due) (us : List Value) → ((d : ℕ) → s ≡ whole d → ⊥) → all_outer due ≡ true →
-    (x : Turn) → turn s t.spot t.kind ≡ x → Keeps x → stepped j outside t.spot x due vs (step j due t.spot t.kind) ≡ goes c ds us →
+    (x : Turn) → reading_turn s t.spot t.kind ≡ x → Keeps x → stepped j outside t.spot x due vs (step j due t.spot t.kind) ≡ goes c ds us →
     ((vs : List Value) → step j due t.spot t.kind outside vs ≡ goes c ds us → Next j (out due) t vs c ds us) → Next j (out (s ∷ due)) t vs c ds us
 turn_next j s due t vs c ds us n o (takes plain es) is k e again = let p = goes_is outside c (es ++ due) ds vs us e in record {
   q = out (es ++ due);
@@ -198,11 +198,11 @@ out_next j (s ∷ due) t vs c ds us o e = by_first (whole_or s) (λ vs e. out_ne
     of_whole : (d : ℕ) → s ≡ whole d → Next j (out (s ∷ due)) t vs c ds us
     of_whole d q =
         let e2 : stepped j outside t.spot (begins (followed (turn_expr d t.spot t.kind) (whole_ends ∷ []))) due vs (step j due t.spot t.kind) ≡ goes c ds us =
-        ap (λ s. stepped j outside t.spot (turn s t.spot t.kind) due vs (step j due t.spot t.kind)) (sym q) ∙ e in
+        ap (λ s. stepped j outside t.spot (reading_turn s t.spot t.kind) due vs (step j due t.spot t.kind)) (sym q) ∙ e in
         subst (λ s. Next j (out (s ∷ due)) t vs c ds us) (sym q) (whole_next j d due t vs c ds us (outer_first s due o).1 (turn_expr d t.spot t.kind) refl
         (inner.part_takes expr d t.spot t.kind) (inner_stays (part expr d) t.spot t.kind tt) e2)
 
     by_first : ((d : ℕ) × (s ≡ whole d)) ⊎ ((d : ℕ) → s ≡ whole d → ⊥) → ((vs : List Value) → step j due t.spot t.kind outside vs ≡ goes c ds us → Next j (out due) t vs c ds us) →
         Next j (out (s ∷ due)) t vs c ds us
     by_first (inl w) again = of_whole w.0 w.1
-    by_first (inr n) again = turn_next j s due t vs c ds us n (outer_first s due o).1 (turn s t.spot t.kind) refl (keeps s t.spot t.kind (outer_first s due o).0 n) e again
+    by_first (inr n) again = turn_next j s due t vs c ds us n (outer_first s due o).1 (reading_turn s t.spot t.kind) refl (keeps s t.spot t.kind (outer_first s due o).0 n) e again

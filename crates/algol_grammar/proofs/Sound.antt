@@ -11,7 +11,7 @@ use Rattle.algol_tree.specs.Programs.{IsProgram}
 use Rattle.algol_tree.specs.Due.{Value, whole_program, Due, program, whole, whole_ends, plain, nests, label, begun, Turn, takes, makes, skips, closes, refuses, followed, begins}
 use Rattle.algol_tree.specs.DueExpr.{turn_expr}
 use Rattle.algol_tree.specs.Operators.{expr}
-use Rattle.algol_tree.specs.Reading.{turn, Count, outside, inside, full, Judged, Step, goes, over, stops, unless, stepped, step, to, read_on, read_end, judged, unjudged, nowhere, reading, read}
+use Rattle.algol_tree.specs.Reading.{reading_turn, Count, outside, inside, full, Judged, ReadingStep, goes, over, stops, unless, stepped, step, to, read_on, read_end, judged, unjudged, nowhere, reading, read}
 use Rattle.algol_expr.proofs.Reading.{Takes, taken, refused_, joined, step-append}
 use Rattle.algol_expr.proofs.Inner.{Inners}
 use Rattle.algol_expr.proofs.Steps.{unless_over, goes_is, inner_goes}
@@ -67,7 +67,7 @@ fits_next free c t ts e (inl le) = by_test (nat_le MOST_EXPRESSION_TOKENS c) ref
     by_test false p q = inl (grind (arith, nat_tests))
 
 module _ (j : Judged) (c : ℕ) (a b : List Due) (t : Token) (vs : List Value) (n : Count) (ds : List Due) (us : List Value) (i : Inners a) (o : all_outer b ≡ true) where
-  within_by : (x : Step) → step j a t.spot t.kind outside vs ≡ x → joined (counting j c t.spot x) (whole_ends ∷ b) (step j (whole_ends ∷ b) t.spot t.kind) ≡ goes n ds us →
+  within_by : (x : ReadingStep) → step j a t.spot t.kind outside vs ≡ x → joined (counting j c t.spot x) (whole_ends ∷ b) (step j (whole_ends ∷ b) t.spot t.kind) ≡ goes n ds us →
       Next j (within c a b) t vs n ds us
   within_by (goes m es xs) is e = by_room (full (inside c) && j.here) refl e
     where
@@ -126,7 +126,7 @@ place_next j (within n a b) t vs c ds us i e = within_by j n a b t vs c ds us i.
 
 module _ (free : ℕ) (j : Judged) (from : List Token) where
   turn_over : (s : Due) (due : List Due) (vs : List Value) (c : Count) (us : List Value) → ((d : ℕ) → s ≡ whole d → ⊥) →
-      (x : Turn) → turn s (spot_first from) (kind_first from) ≡ x → Keeps x → stepped j outside (spot_first from) x due vs (step j due (spot_first from) (kind_first from)) ≡ over c us →
+      (x : Turn) → reading_turn s (spot_first from) (kind_first from) ≡ x → Keeps x → stepped j outside (spot_first from) x due vs (step j due (spot_first from) (kind_first from)) ≡ over c us →
       ((vs : List Value) → step j due (spot_first from) (kind_first from) outside vs ≡ over c us → IsAll free due vs from us from) → IsAll free (s ∷ due) vs from us from
   turn_over s due vs c us n (takes plain es) is k e again = cc
   turn_over s due vs c us n (takes (nests d) es) is k e again = absurd (unless_over _ (spot_first from) outside c (es ++ due) vs us e)
@@ -139,7 +139,7 @@ module _ (free : ℕ) (j : Judged) (from : List Token) where
   turn_over s due vs c us n closes is k e again = absurd k
   turn_over s due vs c us n refuses is k e again = cc
 
-  whole_over : (due : List Due) (vs : List Value) (c : Count) (us : List Value) (on : Count → List Value → Step) (x : Turn) → Takes x →
+  whole_over : (due : List Due) (vs : List Value) (c : Count) (us : List Value) (on : Count → List Value → ReadingStep) (x : Turn) → Takes x →
       stepped j outside (spot_first from) (begins (followed x (whole_ends ∷ []))) due vs on ≡ over c us → ⊥
   whole_over due vs c us on _ (taken plain es) e = cc
   whole_over due vs c us on _ (taken (nests d) es) e = unless_over _ (spot_first from) _ c _ vs us e
@@ -156,12 +156,12 @@ module _ (free : ℕ) (j : Judged) (from : List Token) where
           ((vs : List Value) → step j due (spot_first from) (kind_first from) outside vs ≡ over c us → IsAll free due vs from us from) → IsAll free (s ∷ due) vs from us from
       by_first (inl w) again = absurd (whole_over due vs c us (step j due (spot_first from) (kind_first from)) (turn_expr w.0 (spot_first from) (kind_first from))
           (inner.part_takes expr w.0 (spot_first from) (kind_first from))
-          (ap (λ s. stepped j outside (spot_first from) (turn s (spot_first from) (kind_first from)) due vs (step j due (spot_first from) (kind_first from))) (sym w.1) ∙ e))
-      by_first (inr n) again = turn_over s due vs c us n (turn s (spot_first from) (kind_first from)) refl (keeps s (spot_first from) (kind_first from) (outer_first s due o).0 n) e again
+          (ap (λ s. stepped j outside (spot_first from) (reading_turn s (spot_first from) (kind_first from)) due vs (step j due (spot_first from) (kind_first from))) (sym w.1) ∙ e))
+      by_first (inr n) again = turn_over s due vs c us n (reading_turn s (spot_first from) (kind_first from)) refl (keeps s (spot_first from) (kind_first from) (outer_first s due o).0 n) e again
 
 module _ (free : ℕ) (from : List Token) (c : ℕ) (a b : List Due) (vs : List Value) (n : Count) (ws : List Value) (i : Inners a) (o : all_outer b ≡ true)
     (k : Fits free (within c a b) from) where
-  within_over : (x : Step) → step (judged_first free from) a (spot_first from) (kind_first from) outside vs ≡ x →
+  within_over : (x : ReadingStep) → step (judged_first free from) a (spot_first from) (kind_first from) outside vs ≡ x →
       joined (counting (judged_first free from) c (spot_first from) x) (whole_ends ∷ b) (step (judged_first free from) (whole_ends ∷ b) (spot_first from) (kind_first from)) ≡ over n ws →
       Within free c a b vs from ws from
   within_over (goes m es xs) is e = by_room (full (inside c) && (judged_first free from).here) e
@@ -194,14 +194,14 @@ pub sound : (free : ℕ) (ts : List Token) (p : Place) (vs ws : List Value) (res
 unfolding reading
 sound free [] p vs ws rest i k e = at_end (step unjudged (stack p) nowhere kinds.End (count p) vs) refl e
   where
-    at_end : (x : Step) → step unjudged (stack p) nowhere kinds.End (count p) vs ≡ x → read_end x ≡ to rest ws → IsFrom free p vs [] ws rest
+    at_end : (x : ReadingStep) → step unjudged (stack p) nowhere kinds.End (count p) vs ≡ x → read_end x ≡ to rest ws → IsFrom free p vs [] ws rest
     at_end (goes c ds us) is e = cc
     at_end (over c us) is e = let q : (us ≡ ws) × ([] ≡ rest) = (cc, cc) in
         subst (λ r. IsFrom free p vs [] ws r) q.1 (subst (λ w. IsFrom free p vs [] w []) q.0 (place_over free p [] vs c us i k is))
     at_end (stops spot code) is e = cc
 sound free (t ∷ ts) p vs ws rest i k e = at_token (step (judged free (t ∷ ts)) (stack p) t.spot t.kind (count p) vs) refl e (λ q us i k e. sound free ts q us ws rest i k e)
   where
-    at_token : (x : Step) → step (judged free (t ∷ ts)) (stack p) t.spot t.kind (count p) vs ≡ x → read_on x t ts (reading free ts) ≡ to rest ws →
+    at_token : (x : ReadingStep) → step (judged free (t ∷ ts)) (stack p) t.spot t.kind (count p) vs ≡ x → read_on x t ts (reading free ts) ≡ to rest ws →
         ((q : Place) (us : List Value) → Placed q → Fits free q ts → reading free ts (count q) (stack q) us ≡ to rest ws → IsFrom free q us ts ws rest) → IsFrom free p vs (t ∷ ts) ws rest
     at_token (goes c ds us) is e more =
         let n = place_next (judged free (t ∷ ts)) p t vs c ds us i is in

@@ -13,16 +13,16 @@ use Rattle.algol_tree.specs.declared.tree.Kind.TheVariants as types
 use Rattle.algol_tree.specs.Plain as trees
 use Rattle.algol_tree.specs.Plain.{PStmt, PStmts, empty, PDecl, PDecls, no_decls, decls}
 use Rattle.algol_tree.specs.Tokens.{IsWord, IsSymbol, IsName, is_word}
-use Rattle.algol_tree.specs.Expressions.{Opens}
+use Rattle.algol_tree.specs.Expressions.{TokenOpens}
 use Rattle.algol_tree.specs.Headings.{type_of, IsTyped, untyped, elements_of, IsNames, IsFiles, IsHeading}
 use Rattle.algol_tree.specs.Headings as headings
 use Rattle.algol_tree.specs.Statements as grammar
 use Rattle.algol_tree.specs.Statements.{act_of, IsSegments, decls_and, IsStmts, IsDecl, IsDecls}
 use Rattle.algol_tree.specs.Programs.{IsProgram}
 use Rattle.algol_tree.specs.Programs as programs
-use Rattle.algol_tree.specs.Due.{Value, name_is, names, heading, stmt, list, declared, whole_program, put, Due, make, symbol, word, named, behind_procedure, statement, stmts_more, declarations, typed, procedure_body, Limit, Turn, takes, makes, skips, closes, refuses, plain, nests, label, begun, followed, either, optional}
+use Rattle.algol_tree.specs.Due.{Value, name_is, names, heading, stmt, list, declared, whole_program, value_put, Due, make, symbol, word, named, behind_procedure, statement, stmts_more, declarations, typed, procedure_body, Limit, Turn, takes, makes, skips, closes, refuses, plain, nests, label, begun, followed, either, optional}
 use Rattle.algol_tree.specs.Due as due_data
-use Rattle.algol_tree.specs.DueStmt.{names_declared, segment_in, announced, with_body, programmed, stmt_added, procedure_in, turn_start, turn_typed, turn_declaration, turn_declarations, entered, turn_procedure_body}
+use Rattle.algol_tree.specs.DueStmt.{names_declared, segment_in, announced, with_body, programmed, stmt_added, procedure_in, turn_start, turn_typed, turn_declaration, turn_declarations, turn_entered, turn_procedure_body}
 use Rattle.algol_expr.proofs.Turns.{word_from}
 use Rattle.algol_expr.proofs.Sound.{single, makes_it}
 use Rattle.algol_grammar.proofs.Complete.{decls_and-none, decls_and-assoc}
@@ -180,18 +180,18 @@ starts_at d spot k = tt
 record Entered (free d : ℕ) (x : Turn) (t : Token) (ts : List Token) (vs ws : List Value) (rest : List Token) : Type 0 where
   us : List Value
   mid : List Token
-  opens : Opens free d (t ∷ ts)
+  opens : TokenOpens free d (t ∷ ts)
   first : Taken free x t ts vs us mid
   second : IsAll free (make with_body ∷ symbol symbols.Semicolon ∷ []) us mid ws rest
 
-entered_by : (free d : ℕ) (x : Turn) (t : Token) (ts : List Token) (vs ws : List Value) (rest : List Token) → StartsAt (d + 1) x → Taken free (entered d x) t ts vs ws rest →
+entered_by : (free d : ℕ) (x : Turn) (t : Token) (ts : List Token) (vs ws : List Value) (rest : List Token) → StartsAt (d + 1) x → Taken free (turn_entered d x) t ts vs ws rest →
     Entered free d x t ts vs ws rest
 entered_by free d (takes plain ds) t ts vs ws rest s a =
     let r = in_two free ds (make with_body ∷ symbol symbols.Semicolon ∷ []) vs ts ws rest a.1 in record { us = r.us; mid = r.mid; opens = a.0; first = r.first; second = r.second }
 entered_by free d (takes (nests m) ds) t ts vs ws rest s a =
     let r = in_two free ds (make with_body ∷ symbol symbols.Semicolon ∷ []) vs ts ws rest a.1 in record { us = r.us; mid = r.mid; opens = below a.0; first = (a.0, r.first); second = r.second }
   where
-    below : Opens free m (t ∷ ts) → Opens free d (t ∷ ts)
+    below : TokenOpens free m (t ∷ ts) → TokenOpens free d (t ∷ ts)
     below (inl lt) = inl (omega (arith, lt, s))
     below (inr le) = inr le
 entered_by free d (takes (label m spot) ds) t ts vs ws rest s a = absurd s
@@ -213,14 +213,14 @@ back_procedure_body free d t ts vs ws rest k e x =
     let r = entered_by free d (turn_start (d + 1) t.spot k refuses) t ts vs ws rest (starts_at (d + 1) t.spot k) x in
     let g = given (back_start free (d + 1) t ts vs r.us r.mid k e refuses (λ no. no) r.first) r.second in by_end r.opens g.a g.mid g.is ws rest g.second
   where
-    by_end : Opens free d (t ∷ ts) → (s : PStmt) (mid : List Token) → IsClosed free (d + 1) (t ∷ ts) s mid → (ws : List Value) (rest : List Token) →
+    by_end : TokenOpens free d (t ∷ ts) → (s : PStmt) (mid : List Token) → IsClosed free (d + 1) (t ∷ ts) s mid → (ws : List Value) (rest : List Token) →
         IsAll free (make with_body ∷ symbol symbols.Semicolon ∷ []) (stmt s ∷ vs) mid ws rest → IsDue free (procedure_body d) vs (t ∷ ts) ws rest
     by_end o s _ y _ _ (cons _ _ _ _ _ _ _ _ makes_it (cons _ _ _ _ _ _ _ _ (single u rest c) (nil _ _))) = λ h acc below is.
         put_given (decls (trees.procedure h s) no_decls) (ap (λ us. with_body (stmt s ∷ us)) is ∙ ap (λ ds. declared ds ∷ below) (behind-decls acc (trees.procedure h s)))
         (λ before x. ended u _ before rest (grammar.with_body h s d before (t ∷ ts) (u ∷ rest) x o y.reads) c)
 
 pub back_program : (free : ℕ) (b : Bool) (t : Token) (ts : List Token) (vs ws : List Value) (rest : List Token) → is_word reserved.Begin t.kind ≡ b →
-    Taken free (either b (takes (nests 0) (make (put (declared no_decls)) ∷ declarations 1 ∷ make (put (list trees.no_stmts)) ∷ statement 1 ∷ make stmt_added ∷ stmts_more 1
+    Taken free (either b (takes (nests 0) (make (value_put (declared no_decls)) ∷ declarations 1 ∷ make (value_put (list trees.no_stmts)) ∷ statement 1 ∷ make stmt_added ∷ stmts_more 1
     ∷ word reserved.End ∷ symbol symbols.Period ∷ make (programmed t.spot) ∷ [])) refuses) t ts vs ws rest → IsDue free due_data.program vs (t ∷ ts) ws rest
 back_program free false t ts vs ws rest e x = absurd x
 back_program free true t ts vs ws rest e (o, x) =

@@ -15,10 +15,10 @@ use Rattle.algol_tree.specs.Tokens.{is_word, is_symbol}
 use Rattle.algol_tree.specs.Headings.{type_of}
 use Rattle.algol_tree.specs.Statements as grammar
 use Rattle.algol_tree.specs.Statements.{phrase_of, act_of}
-use Rattle.algol_tree.specs.Due.{Value, many, names, task, stmt, put, Due, make, word, symbol, spelled, part, more_of, relation, behind_name, exprs_more, opening, event, events_more, behind_event, whole, whole_ends, named, names_more, printer_part, files_more, literal, number_negated, lows_more, values_part, spec, spec_typed, specs_more, behind_procedure, wholes_more, actuals_part, items_part, pairs_more, segments_more, task_part, to_part, angle, phrase, phrases_more, statement, behind_start, else_part, stmts_more, declarations, typed, procedure_body, program, plain, nests, label, begun, Turn, takes, makes, skips, closes, refuses, followed, either, optional}
+use Rattle.algol_tree.specs.Due.{Value, many, names, task, stmt, value_put, Due, make, word, symbol, spelled, part, more_of, relation, behind_name, exprs_more, opening, event, events_more, behind_event, whole, whole_ends, named, names_more, printer_part, files_more, literal, number_negated, lows_more, values_part, spec, spec_typed, specs_more, behind_procedure, wholes_more, actuals_part, items_part, pairs_more, segments_more, task_part, to_part, angle, phrase, phrases_more, statement, behind_start, else_part, stmts_more, declarations, typed, procedure_body, program, plain, nests, label, begun, Turn, takes, makes, skips, closes, refuses, followed, either, optional}
 use Rattle.algol_tree.specs.DueDecl.{turn_named, turn_literal, turn_negated, turn_spec_typed}
-use Rattle.algol_tree.specs.DueStmt.{turn_start, turn_behind_start, turn_typed, turn_declarations, entered, turn_procedure_body, one_armed}
-use Rattle.algol_tree.specs.Reading.{turn}
+use Rattle.algol_tree.specs.DueStmt.{turn_start, turn_behind_start, turn_typed, turn_declarations, turn_entered, turn_procedure_body, one_armed}
+use Rattle.algol_tree.specs.Reading.{reading_turn}
 use Rattle.algol_expr.proofs.Inner.{IsInner, Inners, Stays, inner_stays}
 use Rattle.algol_expr.proofs.Sound as inner
 use Rattle.algol_expr.proofs.Sound.{Leaves, left_out, makes_it}
@@ -81,13 +81,13 @@ taken_inner free skips t ts vs ws rest i a = absurd a
 taken_inner free closes t ts vs ws rest i a = absurd a
 taken_inner free refuses t ts vs ws rest i a = absurd a
 
-back_inner : (free : ℕ) (s : Due) (t : Token) (ts : List Token) (vs ws : List Value) (rest : List Token) → IsInner s → Taken free (turn s t.spot t.kind) t ts vs ws rest →
+back_inner : (free : ℕ) (s : Due) (t : Token) (ts : List Token) (vs ws : List Value) (rest : List Token) → IsInner s → Taken free (reading_turn s t.spot t.kind) t ts vs ws rest →
     inner.IsDue free s vs (t ∷ ts) ws rest
-back_inner free s t ts vs ws rest i x = inner.back free s t ts vs ws rest i (taken_inner free (turn s t.spot t.kind) t ts vs ws rest (inner_stays s t.spot t.kind i) x)
+back_inner free s t ts vs ws rest i x = inner.back free s t ts vs ws rest i (taken_inner free (reading_turn s t.spot t.kind) t ts vs ws rest (inner_stays s t.spot t.kind i) x)
 
 -- what is taken
 pub back : (free : ℕ) (s : Due) (t : Token) (ts : List Token) (vs ws : List Value) (rest : List Token) → ((d : ℕ) → s ≡ whole d → ⊥) →
-    Taken free (turn s t.spot t.kind) t ts vs ws rest → IsDue free s vs (t ∷ ts) ws rest
+    Taken free (reading_turn s t.spot t.kind) t ts vs ws rest → IsDue free s vs (t ∷ ts) ws rest
 back free (make m) t ts vs ws rest n x = absurd x
 back free (word w) t ts vs ws rest n x = back_inner free (word w) t ts vs ws rest tt x
 back free (symbol s) t ts vs ws rest n x = back_inner free (symbol s) t ts vs ws rest tt x
@@ -126,7 +126,7 @@ back free to_part t ts vs ws rest n x = back_to free (is_word reserved.To t.kind
 back free angle t ts vs ws rest n x = back_angle free (is_symbol symbols.Less t.kind) t ts vs ws rest refl x
 back free phrase t ts vs ws rest n x = back_phrase free (phrase_of t.kind) t ts vs ws rest refl x
 back free phrases_more t ts vs ws rest n x = back_phrases_more free (is_symbol symbols.Comma t.kind) t ts vs ws rest refl x
-back free (statement d) t ts vs ws rest n x = back_start free d t ts vs ws rest t.kind refl (makes (put (stmt trees.empty))) (λ no. no) x
+back free (statement d) t ts vs ws rest n x = back_start free d t ts vs ws rest t.kind refl (makes (value_put (stmt trees.empty))) (λ no. no) x
 back free (behind_start name d) t ts vs ws rest n x = back_behind free name d t ts vs ws rest t.kind refl x
 back free (else_part d) t ts vs ws rest n x = back_else free d (is_word reserved.Else t.kind) t ts vs ws rest refl x
 back free (stmts_more d) t ts vs ws rest n x = back_stmts_more free d (is_symbol symbols.Semicolon t.kind) t ts vs ws rest refl x
@@ -189,7 +189,7 @@ start_left d spot (kinds.Word reserved.Process) otherwise vs ws from rest l = ab
 start_left d spot (kinds.Word reserved.Write) otherwise vs ws from rest l = absurd l
 start_left d spot k otherwise vs ws from rest l = l
 
-leave_statement : (free d : ℕ) (vs ws : List Value) (from rest : List Token) → Leaves (makes (put (stmt trees.empty))) vs from ws rest → IsDue free (statement d) vs from ws rest
+leave_statement : (free d : ℕ) (vs ws : List Value) (from rest : List Token) → Leaves (makes (value_put (stmt trees.empty))) vs from ws rest → IsDue free (statement d) vs from ws rest
 leave_statement free d vs _ from _ makes_it = gives trees.empty from (shut (grammar.nothing d from) refl)
 
 leave_behind : (free : ℕ) (n : Named) (d : ℕ) (k : TokenKind) (vs ws : List Value) (from rest : List Token) → Leaves (turn_behind_start n d k) vs from ws rest →
@@ -200,7 +200,7 @@ leave_behind free n d (kinds.Symbol symbols.OpenSquare) vs ws from rest l = absu
 leave_behind free n d (kinds.Symbol symbols.OpenRound) vs ws from rest l = absurd l
 leave_behind free n d k vs ws from rest l = by_making ws rest l
   where
-    by_making : (ws : List Value) (rest : List Token) → inner.IsMaking (put (stmt (trees.call_of (called n none)))) vs from ws rest → IsDue free (behind_start n d) vs from ws rest
+    by_making : (ws : List Value) (rest : List Token) → inner.IsMaking (value_put (stmt (trees.call_of (called n none)))) vs from ws rest → IsDue free (behind_start n d) vs from ws rest
     by_making _ _ makes_it = only_name free n d vs from
 
 not_first : (from : List Token) (k : TokenKind) → IsFirst from k → is_word reserved.Else k ≡ false → NotFirst (is_word reserved.Else) from
@@ -231,7 +231,7 @@ leave_declarations free d vs _ from _ left_out = no_declarations free d vs from
 leave_specs : (free : ℕ) (vs ws : List Value) (from rest : List Token) → inner.IsLeft vs from ws rest → IsDue free specs_more vs from ws rest
 leave_specs free vs _ from _ left_out = no_specs_more free vs from
 
-entered_left : (d : ℕ) (x : Turn) (vs ws : List Value) (from rest : List Token) → StartsAt (d + 1) x → Leaves (entered d x) vs from ws rest → ⊥
+entered_left : (d : ℕ) (x : Turn) (vs ws : List Value) (from rest : List Token) → StartsAt (d + 1) x → Leaves (turn_entered d x) vs from ws rest → ⊥
 entered_left d (takes plain ds) vs ws from rest s l = l
 entered_left d (takes (nests m) ds) vs ws from rest s l = l
 entered_left d (takes (label m spot) ds) vs ws from rest s l = l
@@ -260,7 +260,7 @@ test_left true x vs ws from rest n l = n l
 test_left false x vs ws from rest n l = l
 
 pub leave : (free : ℕ) (s : Due) (spot : Spot) (k : TokenKind) (vs ws : List Value) (from rest : List Token) → ((d : ℕ) → s ≡ whole d → ⊥) → IsFirst from k →
-    Leaves (turn s spot k) vs from ws rest → IsDue free s vs from ws rest
+    Leaves (reading_turn s spot k) vs from ws rest → IsDue free s vs from ws rest
 leave free (make m) spot k vs ws from rest n f l = l
 leave free (word w) spot k vs ws from rest n f l = inner.leave free (word w) spot k vs ws from rest tt l
 leave free (symbol s) spot k vs ws from rest n f l = inner.leave free (symbol s) spot k vs ws from rest tt l
@@ -320,7 +320,7 @@ leave free phrase spot k vs ws from rest n f l = absurd (phrase_left (phrase_of 
 leave free phrases_more spot k vs ws from rest n f l =
     leave_skip (is_symbol symbols.Comma k) _ vs ws from rest (λ ws rest. IsDue free phrases_more vs from ws rest) (no_phrases_more free vs from) l
 leave free (statement d) spot k vs ws from rest n f l =
-    leave_statement free d vs ws from rest (start_left d spot k (makes (put (stmt trees.empty))) vs ws from rest l)
+    leave_statement free d vs ws from rest (start_left d spot k (makes (value_put (stmt trees.empty))) vs ws from rest l)
 leave free (behind_start name d) spot k vs ws from rest n f l = leave_behind free name d k vs ws from rest l
 leave free (else_part d) spot k vs ws from rest n f l = leave_else free d k (is_word reserved.Else k) vs ws from rest f refl _ l
 leave free (stmts_more d) spot k vs ws from rest n f l =

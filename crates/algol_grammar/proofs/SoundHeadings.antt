@@ -16,8 +16,8 @@ use Rattle.algol_tree.specs.declared.tree.Spec.TheVariants as specs
 use Rattle.algol_tree.specs.Tokens.{IsWord, IsSymbol, IsName, is_word, is_symbol}
 use Rattle.algol_tree.specs.Headings as grammar
 use Rattle.algol_tree.specs.Headings.{type_of, IsTyped, elements_of, IsNames, IsFile, IsFiles, IsLiteral, IsLows, IsSpec, IsSpecs, IsValues, IsHeading}
-use Rattle.algol_tree.specs.Due.{Value, name_is, names, low, lows, specified, put, Due, make, symbol, spelled, named, names_more, printer_part, files_more, literal, number_negated, lows_more, values_part, spec, spec_typed, specs_more, behind_procedure, Turn, takes, makes, skips, refuses, plain, either, optional}
-use Rattle.algol_tree.specs.DueDecl.{name_added, low_added, spec_simple, spec_events, spec_arrays, headed, headed_with, names_in, files_in, rows_specified, turn_named, turn_literal, turn_negated, turn_spec, turn_spec_typed, turn_specs_more}
+use Rattle.algol_tree.specs.Due.{Value, name_is, names, low, lows, specified, value_put, Due, make, symbol, spelled, named, names_more, printer_part, files_more, literal, number_negated, lows_more, values_part, spec, spec_typed, specs_more, behind_procedure, Turn, takes, makes, skips, refuses, plain, either, optional}
+use Rattle.algol_tree.specs.DueDecl.{name_added, low_added, spec_simple, spec_events, spec_arrays, headed, headed_with, names_in_list, files_in, rows_specified, turn_named, turn_literal, turn_negated, turn_spec, turn_spec_typed, turn_specs_more}
 use Rattle.algol_expr.proofs.Turns.{word_from, symbol_from}
 use Rattle.algol_expr.proofs.Sound.{single, makes_it}
 use Rattle.algol_grammar.proofs.Meant.{Gives, gives, passed, one_name, IsDue, IsAll, nil, cons, Taken}
@@ -38,7 +38,7 @@ module _ (free : ℕ) (more : List Due) (vs ws : List Value) (rest : List Token)
   names_from t n from k (cons _ _ _ _ _ _ _ _ f y) =
       let r = given (f (n ∷ []) vs refl) y in record { a = n ∷ r.a; mid = r.mid; is = r.is t n k; second = r.second }
 
-  pub names_then : (from : List Token) → IsAll free (names_in ++ more) vs from ws rest → Then IsNames names free more from vs ws rest
+  pub names_then : (from : List Token) → IsAll free (names_in_list ++ more) vs from ws rest → Then IsNames names free more from vs ws rest
   names_then _ (cons _ _ _ _ _ _ _ _ makes_it (cons _ _ _ _ _ _ _ _ (gives n _ (one_name t _ mid k)) (cons _ _ _ _ _ _ _ _ makes_it y))) = names_from t n mid k y
 
 -- names and the symbol after them
@@ -50,7 +50,7 @@ pub record NamesEnd (free : ℕ) (s : Symbol) (more : List Due) (from : List Tok
   pub closes : IsSymbol s u
   pub second : IsAll free more (names ns ∷ vs) mid ws rest
 
-pub names_end : (free : ℕ) (s : Symbol) (more : List Due) (vs ws : List Value) (from rest : List Token) → IsAll free (names_in ++ symbol s ∷ more) vs from ws rest →
+pub names_end : (free : ℕ) (s : Symbol) (more : List Due) (vs ws : List Value) (from rest : List Token) → IsAll free (names_in_list ++ symbol s ∷ more) vs from ws rest →
     NamesEnd free s more from vs ws rest
 names_end free s more vs ws from rest x = let r = names_then free (symbol s ∷ more) vs ws rest from x in by_symbol r.a r.mid r.is r.second
   where
@@ -122,7 +122,7 @@ back_lows_more free true t ts vs _ _ e (cons _ _ _ _ _ _ _ _ (gives m rest y) (c
     (λ before x. grammar.two t l m before ts rest x (symbol_from t.kind symbols.Comma e) y)
 
 pub lows_then : (free : ℕ) (more : List Due) (vs ws : List Value) (from rest : List Token) →
-    IsAll free (make (put (lows [])) ∷ literal ∷ make low_added ∷ lows_more ∷ more) vs from ws rest → Then IsLows lows free more from vs ws rest
+    IsAll free (make (value_put (lows [])) ∷ literal ∷ make low_added ∷ lows_more ∷ more) vs from ws rest → Then IsLows lows free more from vs ws rest
 lows_then free more vs ws from rest (cons _ _ _ _ _ _ _ _ makes_it (cons _ _ _ _ _ _ _ _ (gives l mid y) (cons _ _ _ _ _ _ _ _ makes_it (cons _ _ _ _ _ _ _ _ f z)))) =
     let r = given (f l vs refl) z in record { a = r.a; mid = r.mid; is = r.is from y; second = r.second }
 
@@ -132,7 +132,7 @@ pub no_values : (free : ℕ) (vs : List Value) (from : List Token) → IsDue fre
 no_values free vs from = gives [] from (grammar.nothing from)
 
 pub back_values : (free : ℕ) (b : Bool) (t : Token) (ts : List Token) (vs ws : List Value) (rest : List Token) → is_word reserved.Value t.kind ≡ b →
-    Taken free (either b (takes plain (names_in ++ symbol symbols.Semicolon ∷ [])) (makes (put (names [])))) t ts vs ws rest → IsDue free values_part vs (t ∷ ts) ws rest
+    Taken free (either b (takes plain (names_in_list ++ symbol symbols.Semicolon ∷ [])) (makes (value_put (names [])))) t ts vs ws rest → IsDue free values_part vs (t ∷ ts) ws rest
 back_values free false t ts vs ws rest e x = absurd x
 back_values free true t ts vs ws rest e x = let r = names_end free symbols.Semicolon [] vs ws ts rest x in by_end r.ns r.u r.mid r.reads r.closes ws rest r.second
   where
@@ -159,7 +159,7 @@ pub back_rows : (free : ℕ) (kind : Kind) (from : List Token) (vs ws : List Val
     (λ s. specified (acc ++ s ∷ [])) from below ws rest
 back_rows free kind from vs ws rest x acc below is =
     let more = symbol symbols.CloseSquare ∷ symbol symbols.Semicolon ∷ make (spec_arrays kind) ∷ [] in
-    let r = names_end free symbols.OpenSquare (make (put (lows [])) ∷ literal ∷ make low_added ∷ lows_more ∷ more) vs ws from rest x in
+    let r = names_end free symbols.OpenSquare (make (value_put (lows [])) ∷ literal ∷ make low_added ∷ lows_more ∷ more) vs ws from rest x in
     let l = lows_then free more (names r.ns ∷ vs) ws r.mid rest r.second in by_end r.ns r.u r.mid r.reads r.closes l.a l.mid l.is ws rest l.second
   where
     by_end : (ns : List Named) (u : Token) (mid : List Token) → IsNames from ns (u ∷ mid) → IsSymbol symbols.OpenSquare u → (ls : List ℤ) (after : List Token) → IsLows mid ls after →
@@ -181,7 +181,7 @@ back_spec_typed free kind t ts vs ws rest k e x = absurd x
 -- a specification, or what stands in its place
 module _ (free : ℕ) (t : Token) (ts : List Token) (vs ws : List Value) (rest : List Token) (otherwise : Turn) (never : Taken free otherwise t ts vs ws rest → ⊥) where
   spec_by : (o : Option Kind) (a b : Bool) → type_of t.kind ≡ o → is_word reserved.Event t.kind ≡ a → is_word reserved.Array t.kind ≡ b →
-      Taken free (optional o (λ kind. spec_typed kind ∷ []) (either a (takes plain (names_in ++ symbol symbols.Semicolon ∷ make spec_events ∷ []))
+      Taken free (optional o (λ kind. spec_typed kind ∷ []) (either a (takes plain (names_in_list ++ symbol symbols.Semicolon ∷ make spec_events ∷ []))
       (either b (takes plain (rows_specified types.Number)) otherwise))) t ts vs ws rest → IsDue free spec vs (t ∷ ts) ws rest
   spec_by (Some kind) a b k e w (cons _ _ _ _ _ _ _ _ f (nil _ _)) = λ acc below is. regive _ _ (t ∷ ts) (f acc below is) (λ s. s) (λ s rest p. p t k) (λ s. refl)
   spec_by None true b k e w x =
@@ -240,18 +240,18 @@ headed_by free kind t x from mid params values w after o y c s z vs ws rest (con
 pub back_heading : (free : ℕ) (kind : Option Kind) (a b : Bool) (t : Token) (ts : List Token) (vs ws : List Value) (rest : List Token) →
     is_symbol symbols.Semicolon t.kind ≡ a → is_symbol symbols.OpenRound t.kind ≡ b →
     Taken free (either a (takes plain (make (headed kind) ∷ [])) (either b
-    (takes plain (names_in ++ symbol symbols.CloseRound ∷ symbol symbols.Semicolon ∷ values_part ∷ make (put (specified [])) ∷ spec ∷ specs_more ∷ make (headed_with kind) ∷ []))
+    (takes plain (names_in_list ++ symbol symbols.CloseRound ∷ symbol symbols.Semicolon ∷ values_part ∷ make (value_put (specified [])) ∷ spec ∷ specs_more ∷ make (headed_with kind) ∷ []))
     refuses)) t ts vs ws rest → IsDue free (behind_procedure kind) vs (t ∷ ts) ws rest
 back_heading free kind true b t ts vs _ _ e f (cons _ _ _ _ _ _ _ _ makes_it (nil _ _)) = λ n below is.
     put_given (record { kind = kind; name = n; params = []; values = []; specs = [] }) (ap (headed kind) is)
     (λ before p u x h k. grammar.without p u t kind n before ts x h k (symbol_from t.kind symbols.Semicolon e))
 back_heading free kind false false t ts vs ws rest e f x = absurd x
 back_heading free kind false true t ts vs ws rest e f x =
-    let more = symbol symbols.Semicolon ∷ values_part ∷ make (put (specified [])) ∷ spec ∷ specs_more ∷ make (headed_with kind) ∷ [] in
+    let more = symbol symbols.Semicolon ∷ values_part ∷ make (value_put (specified [])) ∷ spec ∷ specs_more ∷ make (headed_with kind) ∷ [] in
     let r = names_end free symbols.CloseRound more vs ws ts rest x in by_values r.ns r.u r.mid r.reads r.closes ws rest r.second
   where
     by_values : (ns : List Named) (w : Token) (mid : List Token) → IsNames ts ns (w ∷ mid) → IsSymbol symbols.CloseRound w → (ws : List Value) (rest : List Token) →
-        IsAll free (symbol symbols.Semicolon ∷ values_part ∷ make (put (specified [])) ∷ spec ∷ specs_more ∷ make (headed_with kind) ∷ []) (names ns ∷ vs) mid ws rest →
+        IsAll free (symbol symbols.Semicolon ∷ values_part ∷ make (value_put (specified [])) ∷ spec ∷ specs_more ∷ make (headed_with kind) ∷ []) (names ns ∷ vs) mid ws rest →
         IsDue free (behind_procedure kind) vs (t ∷ ts) ws rest
     by_values ns w _ x c ws rest
         (cons _ _ _ _ _ _ _ _ (single u mid s) (cons _ _ _ _ _ _ _ _ (gives values after y) (cons _ _ _ _ _ _ _ _ makes_it z))) =

@@ -14,8 +14,8 @@ use Rattle.algol_tree.specs.Tokens.{IsSymbol, is_word, is_symbol}
 use Rattle.algol_tree.specs.Headings.{IsNames}
 use Rattle.algol_tree.specs.Statements as grammar
 use Rattle.algol_tree.specs.Statements.{phrase_of, IsWholes, IsActuals, IsItems, IsTaskPart, IsTo, IsPhrases, IsPair, IsPairs, IsSegments, decls_and}
-use Rattle.algol_tree.specs.Due.{Value, one, many, names, low, pairs, phrases, declared, task, place, put, Due, make, symbol, whole, named, wholes_more, actuals_part, items_part, pairs_more, segments_more, task_part, to_part, angle, phrase, phrases_more, takes, makes, skips, refuses, plain, either, optional}
-use Rattle.algol_tree.specs.DueExpr.{listed, behind, all_of}
+use Rattle.algol_tree.specs.Due.{Value, one, many, names, low, pairs, phrases, declared, task, place, value_put, Due, make, symbol, whole, named, wholes_more, actuals_part, items_part, pairs_more, segments_more, task_part, to_part, angle, phrase, phrases_more, takes, makes, skips, refuses, plain, either, optional}
+use Rattle.algol_tree.specs.DueExpr.{list_made, behind, all_of}
 use Rattle.algol_tree.specs.DueStmt.{decl_behind, wholes_in, pair_in, pair_added, segment_in, rows_declared, phrase_added, with_task}
 use Rattle.algol_expr.proofs.Turns.{word_from, symbol_from}
 use Rattle.algol_expr.proofs.Complete.{all_of-behind}
@@ -36,10 +36,10 @@ pub no_wholes_more : (free : ℕ) (vs : List Value) (from : List Token) → IsDu
 no_wholes_more free vs from = λ acc below is. put_given none (is ∙ ap (λ es. many es ∷ below) (sym (all_of-none acc))) (λ before e x. grammar.one e before from x)
 
 pub back_wholes_more : (free : ℕ) (b : Bool) (t : Token) (ts : List Token) (vs ws : List Value) (rest : List Token) → is_symbol symbols.Comma t.kind ≡ b →
-    Taken free (either b (takes plain (whole 0 ∷ make listed ∷ wholes_more ∷ [])) skips) t ts vs ws rest → IsDue free wholes_more vs (t ∷ ts) ws rest
+    Taken free (either b (takes plain (whole 0 ∷ make list_made ∷ wholes_more ∷ [])) skips) t ts vs ws rest → IsDue free wholes_more vs (t ∷ ts) ws rest
 back_wholes_more free false t ts vs ws rest e x = absurd x
 back_wholes_more free true t ts vs ws rest e (cons _ _ _ _ _ _ _ _ (gives f mid y) (cons _ _ _ _ _ _ _ _ makes_it (cons _ _ _ _ _ _ _ _ g (nil _ _)))) =
-    λ acc below is. regive _ _ (t ∷ ts) (g (behind acc f) below (ap (λ us. listed (one f ∷ us)) is)) (λ es. more f es)
+    λ acc below is. regive _ _ (t ∷ ts) (g (behind acc f) below (ap (λ us. list_made (one f ∷ us)) is)) (λ es. more f es)
     (λ es rest p. λ before h x. grammar.comma t h (more f es) before ts rest x (symbol_from t.kind symbols.Comma e) (p ts f y))
     (λ es. ap many (all_of-behind acc f es))
 
@@ -68,7 +68,7 @@ pub no_actuals : (free : ℕ) (vs : List Value) (from : List Token) → IsDue fr
 no_actuals free vs from = gives none from (grammar.nothing from)
 
 pub back_actuals : (free : ℕ) (b : Bool) (t : Token) (ts : List Token) (vs ws : List Value) (rest : List Token) → is_symbol symbols.OpenRound t.kind ≡ b →
-    Taken free (either b (takes plain (wholes_in ++ symbol symbols.CloseRound ∷ [])) (makes (put (many none)))) t ts vs ws rest → IsDue free actuals_part vs (t ∷ ts) ws rest
+    Taken free (either b (takes plain (wholes_in ++ symbol symbols.CloseRound ∷ [])) (makes (value_put (many none)))) t ts vs ws rest → IsDue free actuals_part vs (t ∷ ts) ws rest
 back_actuals free false t ts vs ws rest e x = absurd x
 back_actuals free true t ts vs ws rest e x = let r = wholes_end free symbols.CloseRound [] vs ws ts rest x in by_end r.es r.u r.mid r.reads r.closes ws rest r.second
   where
@@ -80,7 +80,7 @@ pub no_items : (free : ℕ) (vs : List Value) (from : List Token) → IsDue free
 no_items free vs from = gives none from (grammar.nothing from)
 
 pub back_items : (free : ℕ) (b : Bool) (t : Token) (ts : List Token) (vs ws : List Value) (rest : List Token) → is_symbol symbols.Comma t.kind ≡ b →
-    Taken free (either b (takes plain wholes_in) (makes (put (many none)))) t ts vs ws rest → IsDue free items_part vs (t ∷ ts) ws rest
+    Taken free (either b (takes plain wholes_in) (makes (value_put (many none)))) t ts vs ws rest → IsDue free items_part vs (t ∷ ts) ws rest
 back_items free false t ts vs ws rest e x = absurd x
 back_items free true t ts vs ws rest e x = let r = wholes_then free [] vs ws ts rest x in by_end r.a r.mid r.is ws rest r.second
   where
@@ -129,7 +129,7 @@ record SegmentThen (free : ℕ) (kind : Kind) (from : List Token) (vs ws : List 
 segment_then : (free : ℕ) (kind : Kind) (vs ws : List Value) (from rest : List Token) → IsAll free (segment_in kind) vs from ws rest → SegmentThen free kind from vs ws rest
 segment_then free kind vs ws from rest x =
     let tail = pairs_more ∷ symbol symbols.CloseSquare ∷ make (rows_declared kind) ∷ segments_more kind ∷ [] in
-    let r = names_end free symbols.OpenSquare (make (put (pairs [])) ∷ pair_in ++ tail) vs ws from rest x in by_pairs r.ns r.u r.mid r.reads r.closes r.second
+    let r = names_end free symbols.OpenSquare (make (value_put (pairs [])) ∷ pair_in ++ tail) vs ws from rest x in by_pairs r.ns r.u r.mid r.reads r.closes r.second
   where
     by_end : (ns : List Named) (u : Token) (mid : List Token) → IsNames from ns (u ∷ mid) → IsSymbol symbols.OpenSquare u → (ps : List PPair) (after : List Token) → IsPairs free mid ps after →
         IsAll free (symbol symbols.CloseSquare ∷ make (rows_declared kind) ∷ segments_more kind ∷ []) (pairs ps ∷ names ns ∷ vs) after ws rest → SegmentThen free kind from vs ws rest
@@ -147,7 +147,7 @@ segment_then free kind vs ws from rest x =
         let r = given (f p (names ns ∷ vs) refl) z in by_end ns u mid x o r.a r.mid (r.is mid y) r.second
 
     by_pairs : (ns : List Named) (u : Token) (mid : List Token) → IsNames from ns (u ∷ mid) → IsSymbol symbols.OpenSquare u →
-        IsAll free (make (put (pairs [])) ∷ pair_in ++ pairs_more ∷ symbol symbols.CloseSquare ∷ make (rows_declared kind) ∷ segments_more kind ∷ []) (names ns ∷ vs) mid ws rest →
+        IsAll free (make (value_put (pairs [])) ∷ pair_in ++ pairs_more ∷ symbol symbols.CloseSquare ∷ make (rows_declared kind) ∷ segments_more kind ∷ []) (names ns ∷ vs) mid ws rest →
         SegmentThen free kind from vs ws rest
     by_pairs ns u mid x o (cons _ _ _ _ _ _ _ _ makes_it y) =
         let r = pair_then free (pairs_more ∷ symbol symbols.CloseSquare ∷ make (rows_declared kind) ∷ segments_more kind ∷ []) (pairs [] ∷ names ns ∷ vs) ws mid rest y in
@@ -189,7 +189,7 @@ pub no_task : (free : ℕ) (vs : List Value) (from : List Token) → IsDue free 
 no_task free vs from = gives None from (grammar.nothing from)
 
 pub back_task : (free : ℕ) (b : Bool) (t : Token) (ts : List Token) (vs ws : List Value) (rest : List Token) → is_symbol symbols.OpenSquare t.kind ≡ b →
-    Taken free (either b (takes plain (named ∷ make with_task ∷ symbol symbols.CloseSquare ∷ [])) (makes (put (task None)))) t ts vs ws rest → IsDue free task_part vs (t ∷ ts) ws rest
+    Taken free (either b (takes plain (named ∷ make with_task ∷ symbol symbols.CloseSquare ∷ [])) (makes (value_put (task None)))) t ts vs ws rest → IsDue free task_part vs (t ∷ ts) ws rest
 back_task free false t ts vs ws rest e x = absurd x
 back_task free true t _ vs _ _ e (cons _ _ _ _ _ _ _ _ (gives n _ (one_name u _ _ k)) (cons _ _ _ _ _ _ _ _ makes_it (cons _ _ _ _ _ _ _ _ (single v rest c) (nil _ _)))) =
     gives (Some n) rest (grammar.task t u v n rest (symbol_from t.kind symbols.OpenSquare e) k c)
@@ -203,7 +203,7 @@ back_to free false t ts vs ws rest e x = absurd x
 back_to free true t ts vs _ _ e (nil _ _) = passed ts (grammar.to t ts (word_from t.kind reserved.To e))
 
 pub back_angle : (free : ℕ) (b : Bool) (t : Token) (ts : List Token) (vs ws : List Value) (rest : List Token) → is_symbol symbols.Less t.kind ≡ b →
-    Taken free (either b (takes plain (make (put (place t.spot)) ∷ [])) refuses) t ts vs ws rest → IsDue free angle vs (t ∷ ts) ws rest
+    Taken free (either b (takes plain (make (value_put (place t.spot)) ∷ [])) refuses) t ts vs ws rest → IsDue free angle vs (t ∷ ts) ws rest
 back_angle free false t ts vs ws rest e x = absurd x
 back_angle free true t ts vs _ _ e (cons _ _ _ _ _ _ _ _ makes_it (nil _ _)) = gives t.spot ts (less t ts (symbol_from t.kind symbols.Less e))
 

@@ -12,11 +12,11 @@ use Rattle.algol_tree.specs.declared.tree.PhraseText.{PhraseText}
 use Rattle.algol_tree.specs.Plain as trees
 use Rattle.algol_tree.specs.Plain.{PExpr, PExprs, none, subscripted, called, PStmt, empty, PStmts, no_stmts, stmts, PDecls, no_decls}
 use Rattle.algol_tree.specs.Tokens.{IsWord, IsSymbol, IsName, is_word, is_symbol}
-use Rattle.algol_tree.specs.Expressions.{Opens, IsWhole}
+use Rattle.algol_tree.specs.Expressions.{TokenOpens, IsWholeExpression}
 use Rattle.algol_tree.specs.Statements as grammar
 use Rattle.algol_tree.specs.Statements.{act_of, open_if, IsWholes, IsPhrases, IsStmt, IsStmts, IsDecls}
-use Rattle.algol_tree.specs.Due.{Value, one, many, name_is, phrases, place, stmt, list, declared, put, Due, make, word, symbol, event, whole, items_part, statement, declarations, behind_start, else_part, stmts_more, Turn, takes, makes, skips, plain, either}
-use Rattle.algol_tree.specs.DueStmt.{stmt_behind, counting, assigned_element, calling, compound, choosing, acting, writing, one_armed, two_armed, stmt_added, written, body_in, stmts_in, turn_start, turn_behind_start}
+use Rattle.algol_tree.specs.Due.{Value, one, many, name_is, phrases, place, stmt, list, declared, value_put, Due, make, word, symbol, event, whole, items_part, statement, declarations, behind_start, else_part, stmts_more, Turn, takes, makes, skips, plain, either}
+use Rattle.algol_tree.specs.DueStmt.{stmt_behind, counting, assigned_element, calling, compound, choosing, acting, writing, one_armed, two_armed, stmt_added, write_due, body_in, stmts_in, turn_start, turn_behind_start}
 use Rattle.algol_expr.proofs.Turns.{word_from, symbol_from, word_is}
 use Rattle.algol_expr.proofs.Sound.{single, makes_it, event_is}
 use Rattle.algol_grammar.proofs.Optional.{NotFirst}
@@ -55,7 +55,7 @@ pub record StmtsEnd (free d : ℕ) (more : List Due) (from : List Token) (vs ws 
   pub second : IsAll free more (list ss ∷ vs) mid ws rest
 
 pub stmts_end : (free d : ℕ) (more : List Due) (vs ws : List Value) (from rest : List Token) →
-    IsAll free (make (put (list no_stmts)) ∷ statement d ∷ make stmt_added ∷ stmts_more d ∷ word reserved.End ∷ more) vs from ws rest → StmtsEnd free d more from vs ws rest
+    IsAll free (make (value_put (list no_stmts)) ∷ statement d ∷ make stmt_added ∷ stmts_more d ∷ word reserved.End ∷ more) vs from ws rest → StmtsEnd free d more from vs ws rest
 stmts_end free d more vs ws from rest (cons _ _ _ _ _ _ _ _ makes_it (cons _ _ _ _ _ _ _ _ (gives s mid y) (cons _ _ _ _ _ _ _ _ makes_it (cons _ _ _ _ _ _ _ _ f z)))) =
     let r = given (f (stmts s no_stmts) vs refl) z in by_word (stmts s r.a) r.mid (r.is from s y.reads) r.second
   where
@@ -75,7 +75,7 @@ pub record BodyEnd (free d : ℕ) (more : List Due) (from : List Token) (vs ws :
   pub second : IsAll free more (list ss ∷ declared ds ∷ vs) after ws rest
 
 pub body_end : (free d : ℕ) (more : List Due) (vs ws : List Value) (from rest : List Token) →
-    IsAll free (make (put (declared no_decls)) ∷ declarations d ∷ make (put (list no_stmts)) ∷ statement d ∷ make stmt_added ∷ stmts_more d ∷ word reserved.End ∷ more) vs from ws rest →
+    IsAll free (make (value_put (declared no_decls)) ∷ declarations d ∷ make (value_put (list no_stmts)) ∷ statement d ∷ make stmt_added ∷ stmts_more d ∷ word reserved.End ∷ more) vs from ws rest →
     BodyEnd free d more from vs ws rest
 body_end free d more vs ws from rest (cons _ _ _ _ _ _ _ _ makes_it (cons _ _ _ _ _ _ _ _ f y)) =
     let r = given (f no_decls vs refl) y in
@@ -108,7 +108,7 @@ module _ (free d : ℕ) (t : Token) (ts : List Token) (vs : List Value) where
   back_act act _ _ _ a (cons _ _ _ _ _ _ _ _ (single u from o) (cons _ _ _ _ _ _ _ _ (event_is e _ x) (cons _ _ _ _ _ _ _ _ (single v rest c) (cons _ _ _ _ _ _ _ _ makes_it (nil _ _))))) =
       gives (trees.event act e) rest (shut (grammar.acting t u v act e d from rest a o x c) refl)
 
-  back_compound : (ws : List Value) (rest : List Token) → IsWord reserved.Begin t → Opens free d (t ∷ ts) → IsAll free (body_in (d + 1) (compound t.spot)) vs ts ws rest →
+  back_compound : (ws : List Value) (rest : List Token) → IsWord reserved.Begin t → TokenOpens free d (t ∷ ts) → IsAll free (body_in (d + 1) (compound t.spot)) vs ts ws rest →
       Gives (IsClosed free d) stmt (t ∷ ts) vs ws rest
   back_compound ws rest w o x =
       let r = body_end free (d + 1) (make (compound t.spot) ∷ []) vs ws ts rest x in by_end r.ds r.ss r.u r.mid r.after r.declares r.reads r.closes ws rest r.second
@@ -118,14 +118,14 @@ module _ (free d : ℕ) (t : Token) (ts : List Token) (vs : List Value) where
       by_end ds ss u mid after x y e _ _ (cons _ _ _ _ _ _ _ _ makes_it (nil _ _)) = gives (trees.block (trees.body t.spot ds ss)) after
           (shut (grammar.compound t u d (trees.body t.spot ds ss) ts after w o (grammar.declared (d + 1) t.spot ds ss ts mid (u ∷ after) x y) e) refl)
 
-  back_if : (u : Token) (c : PExpr) (s : PStmt) (mid after : List Token) → IsWord reserved.If t → Opens free d (t ∷ ts) → IsWhole free 0 ts c (u ∷ mid) → IsWord reserved.Then u →
+  back_if : (u : Token) (c : PExpr) (s : PStmt) (mid after : List Token) → IsWord reserved.If t → TokenOpens free d (t ∷ ts) → IsWholeExpression free 0 ts c (u ∷ mid) → IsWord reserved.Then u →
       IsClosed free (d + 1) mid s after → (ws : List Value) (rest : List Token) → IsArms free (d + 1) c s vs after ws rest → Gives (IsClosed free d) stmt (t ∷ ts) vs ws rest
   back_if u c s mid after w o x h y _ _ (without rest n) =
       gives (trees.if_then c s) rest (record { reads = grammar.one_armed t u c d s ts mid rest w o x h y.reads; closed = λ e. n })
   back_if u c s mid _ w o x h y _ _ (with_else v b from rest e z) = gives (trees.if_else c s b) rest
       (record { reads = grammar.two_armed t u v c d s b ts mid from rest w o x h y.reads (else_is s v from e y.closed) e z.reads; closed = z.closed })
 
-  back_case : (u v : Token) (c : PExpr) (mid : List Token) → IsWord reserved.Case t → Opens free d (t ∷ ts) → IsWhole free 0 ts c (u ∷ v ∷ mid) → IsWord reserved.Of u → IsWord reserved.Begin v →
+  back_case : (u v : Token) (c : PExpr) (mid : List Token) → IsWord reserved.Case t → TokenOpens free d (t ∷ ts) → IsWholeExpression free 0 ts c (u ∷ v ∷ mid) → IsWord reserved.Of u → IsWord reserved.Begin v →
       (ws : List Value) (rest : List Token) → IsAll free (stmts_in (d + 1) choosing) (one c ∷ vs) mid ws rest → Gives (IsClosed free d) stmt (t ∷ ts) vs ws rest
   back_case u v c mid k o x h i ws rest y =
       let r = stmts_end free (d + 1) (make choosing ∷ []) (one c ∷ vs) ws mid rest y in by_end r.ss r.u r.mid r.reads r.closes ws rest r.second
@@ -134,7 +134,7 @@ module _ (free d : ℕ) (t : Token) (ts : List Token) (vs : List Value) where
           IsAll free (make choosing ∷ []) (list ss ∷ one c ∷ vs) after ws rest → Gives (IsClosed free d) stmt (t ∷ ts) vs ws rest
       by_end ss w after y e _ _ (cons _ _ _ _ _ _ _ _ makes_it (nil _ _)) = gives (trees.case c ss) after (shut (grammar.choosing t u v w c d ss ts mid after k o x h i y e) refl)
 
-  back_write : (tokens : List Token) (ws : List Value) (rest : List Token) → IsWord reserved.Write t → IsAll free written vs tokens ws rest →
+  back_write : (tokens : List Token) (ws : List Value) (rest : List Token) → IsWord reserved.Write t → IsAll free write_due vs tokens ws rest →
       Gives (IsClosed free d) stmt (t ∷ tokens) vs ws rest
   back_write _ ws rest k
       (cons _ _ _ _ _ _ _ _ (single u _ a) (cons _ _ _ _ _ _ _ _ (gives n _ (one_name v _ _ b)) (cons _ _ _ _ _ _ _ _ (single w _ c)
@@ -149,15 +149,15 @@ module _ (free d : ℕ) (t : Token) (ts : List Token) (vs : List Value) where
           gives (trees.write n x.spot ps es) rest (shut (grammar.writing t u v w x y z n ps es d from mid rest k a b c e f g h i) refl)
 
   -- FOR
-  back_for : (u v : Token) (n : Named) (a : PExpr) (from mid : List Token) → IsWord reserved.For t → ts ≡ u ∷ v ∷ from → Opens free d (t ∷ ts) → IsName n u → IsSymbol symbols.Becomes v →
-      IsWhole free 0 from a mid → (ws : List Value) (rest : List Token) →
+  back_for : (u v : Token) (n : Named) (a : PExpr) (from mid : List Token) → IsWord reserved.For t → ts ≡ u ∷ v ∷ from → TokenOpens free d (t ∷ ts) → IsName n u → IsSymbol symbols.Becomes v →
+      IsWholeExpression free 0 from a mid → (ws : List Value) (rest : List Token) →
       IsAll free (word reserved.Step ∷ whole 0 ∷ word reserved.Until ∷ whole 0 ∷ word reserved.Do ∷ statement (d + 1) ∷ make counting ∷ [])
       (one a ∷ name_is n ∷ vs) mid ws rest → Gives (IsClosed free d) stmt (t ∷ ts) vs ws rest
   back_for u v n a from _ f same o k e g _ _
       (cons _ _ _ _ _ _ _ _ (single w step h) (cons _ _ _ _ _ _ _ _ (gives b _ i) (cons _ _ _ _ _ _ _ _ (single x limit j) (cons _ _ _ _ _ _ _ _ (gives c _ l)
       (cons _ _ _ _ _ _ _ _ (single y mid m) (cons _ _ _ _ _ _ _ _ (gives s rest r) (cons _ _ _ _ _ _ _ _ makes_it (nil _ _)))))))) =
       subst (λ ts. Gives (IsClosed free d) stmt (t ∷ ts) vs (stmt (trees.for n a b c s) ∷ vs) rest) (sym same) (gives (trees.for n a b c s) rest (record {
-        reads = grammar.counting t u v w x y n a b c d s from step limit mid rest f (subst (λ ts. Opens free d (t ∷ ts)) same o) k e g h i j l m r.reads;
+        reads = grammar.counting t u v w x y n a b c d s from step limit mid rest f (subst (λ ts. TokenOpens free d (t ∷ ts)) same o) k e g h i j l m r.reads;
         closed = r.closed;
       }))
 

@@ -15,7 +15,7 @@ use Rattle.algol_tree.specs.Plain as trees
 use Rattle.algol_tree.specs.Plain.{PExpr, none, empty, no_stmts, stmts, no_decls, decls}
 use Rattle.algol_tree.specs.Operators.{Part, expr, level, not_part, rel, primary, operand}
 use Rattle.algol_tree.specs.Expressions as expressions
-use Rattle.algol_tree.specs.Expressions.{IsPart}
+use Rattle.algol_tree.specs.Expressions.{IsExprPart}
 use Rattle.algol_tree.specs.Headings as headings
 use Rattle.algol_tree.specs.Statements as grammar
 use Rattle.algol_tree.specs.Programs as programs
@@ -52,7 +52,7 @@ one_tree = trees.number (pos 1) nowhere
 
 -- the text 1 is a part of each kind
 abbrev Ones : ℕ → ℕ → Part → Type 0
-Ones free d p = (rest : List Token) → IsPart free p d (a_number ∷ rest) one_tree rest
+Ones free d p = (rest : List Token) → IsExprPart free p d (a_number ∷ rest) one_tree rest
 
 module _ (free d : ℕ) where
   one_chain : (l : Level) → Ones free d (operand l) → Ones free d (level l)

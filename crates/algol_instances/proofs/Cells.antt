@@ -7,7 +7,7 @@ use Rattle.algol_meaning.specs.World.{cells_with}
 use Rattle.algol_cells.specs.SeenCell as seen
 use Rattle.algol_cells.specs.declared.cell.Cell.{Cell}
 use Rattle.b67_list.specs.Numbered.{numbered, set_numbered}
-use Rattle.algol_instances.specs.SeenInstance.{named_cell, named_cells, instance, place_of_number, place_in, further}
+use Rattle.algol_instances.specs.SeenInstance.{named_cell, named_cells, instance, place_of_number, cell_place_in, further}
 use Rattle.algol_instances.specs.Counting.{displaced}
 use Rattle.algol_instances.specs.declared.instance.NamedCell.{NamedCell}
 use Rattle.algol_instances.specs.declared.instance.Instance.{Instance}
@@ -15,13 +15,13 @@ use Rattle.algol_instances.proofs.Numbering.{get_place, set_place, set_same}
 
 -- ---- the place of a name
 
-pub place_here : (c : NamedCell) (cs : List NamedCell) (name : List ℕ) → true ≡ same_name c.name.now name → place_in (c ∷ cs) name ≡ Some 0
+pub place_here : (c : NamedCell) (cs : List NamedCell) (name : List ℕ) → true ≡ same_name c.name.now name → cell_place_in (c ∷ cs) name ≡ Some 0
 place_here c cs name e = rw (← e) refl
 
 pub place_later :
     (c : NamedCell) (cs : List NamedCell) (name : List ℕ) (k : ℕ)
-    → false ≡ same_name c.name.now name → further k (place_in (c ∷ cs) name) ≡ further (k + 1) (place_in cs name)
-place_later c cs name k e = rw (← e) (twice (place_in cs name))
+    → false ≡ same_name c.name.now name → further k (cell_place_in (c ∷ cs) name) ≡ further (k + 1) (cell_place_in cs name)
+place_later c cs name k e = rw (← e) (twice (cell_place_in cs name))
   where
     twice : (o : Option ℕ) → further k (further 1 o) ≡ further (k + 1) o
     twice None = refl
@@ -29,7 +29,7 @@ place_later c cs name k e = rw (← e) (twice (place_in cs name))
 
 -- ---- another content
 
-with_none : (cs : List NamedCell) (name : List ℕ) (cell : plain.Cell) → place_in cs name ≡ None → cells_with (named_cells cs) name cell ≡ named_cells cs
+with_none : (cs : List NamedCell) (name : List ℕ) (cell : plain.Cell) → cell_place_in cs name ≡ None → cells_with (named_cells cs) name cell ≡ named_cells cs
 with_none [] name cell e = refl
 with_none (c ∷ cs) name cell e = by (same_name c.name.now name) e (with_none cs name cell)
   where
@@ -38,20 +38,20 @@ with_none (c ∷ cs) name cell e = by (same_name c.name.now name) e (with_none c
     further_none (Some j) p = cc
 
     by :
-        (b : Bool) → (if b then Some 0 else further 1 (place_in cs name)) ≡ None
-        → (place_in cs name ≡ None → cells_with (named_cells cs) name cell ≡ named_cells cs)
+        (b : Bool) → (if b then Some 0 else further 1 (cell_place_in cs name)) ≡ None
+        → (cell_place_in cs name ≡ None → cells_with (named_cells cs) name cell ≡ named_cells cs)
         → (if b then record (named_cell c) { cell = cell } ∷ named_cells cs else named_cell c ∷ cells_with (named_cells cs) name cell)
         ≡ named_cell c ∷ named_cells cs
     by true p g = cc
-    by false p g = ap (λ (x : _). named_cell c ∷ x) (g (further_none (place_in cs name) p))
+    by false p g = ap (λ (x : _). named_cell c ∷ x) (g (further_none (cell_place_in cs name) p))
 
 pub with_no_cell :
-    (cs : List NamedCell) (name : List ℕ) (cell : plain.Cell) → None ≡ place_in cs name
+    (cs : List NamedCell) (name : List ℕ) (cell : plain.Cell) → None ≡ cell_place_in cs name
     → named_cells cs ≡ cells_with (named_cells cs) name cell
 with_no_cell cs name cell e = sym (with_none cs name cell (sym e))
 
 with_at :
-    (cs : List NamedCell) (name : List ℕ) (k : ℕ) (x : NamedCell) (cell : Cell) → place_in cs name ≡ Some k → x ≡ get_or cs k x
+    (cs : List NamedCell) (name : List ℕ) (k : ℕ) (x : NamedCell) (cell : Cell) → cell_place_in cs name ≡ Some k → x ≡ get_or cs k x
     → map named_cell (slice_set cs k (record x { cell = cell })) ≡ cells_with (named_cells cs) name (seen.cell cell)
 with_at [] name k x cell e is = cc
 with_at (c ∷ cs) name k x cell e is = by (same_name c.name.now name) k e is (with_at cs name)
@@ -61,18 +61,18 @@ with_at (c ∷ cs) name k x cell e is = by (same_name c.name.now name) k e is (w
     further_some (Some i) j p = (i, refl, let q : 1 + i ≡ j = cc in omega arith)
 
     by :
-        (b : Bool) (j : ℕ) → (if b then Some 0 else further 1 (place_in cs name)) ≡ Some j → x ≡ get_or (c ∷ cs) j x
-        → ((i : ℕ) (y : NamedCell) (d : Cell) → place_in cs name ≡ Some i → y ≡ get_or cs i y
+        (b : Bool) (j : ℕ) → (if b then Some 0 else further 1 (cell_place_in cs name)) ≡ Some j → x ≡ get_or (c ∷ cs) j x
+        → ((i : ℕ) (y : NamedCell) (d : Cell) → cell_place_in cs name ≡ Some i → y ≡ get_or cs i y
         → map named_cell (slice_set cs i (record y { cell = d })) ≡ cells_with (named_cells cs) name (seen.cell d))
         → map named_cell (slice_set (c ∷ cs) j (record x { cell = cell }))
         ≡ (if b then record (named_cell c) { cell = seen.cell cell } ∷ named_cells cs else named_cell c ∷ cells_with (named_cells cs) name (seen.cell cell))
     by true zero p q g = let r : x ≡ c = q in ap (λ (y : NamedCell). named_cell (record y { cell = cell }) ∷ named_cells cs) r
     by true (suc j) p q g = cc
-    by false j p q g = later (further_some (place_in cs name) j p) q g
+    by false j p q g = later (further_some (cell_place_in cs name) j p) q g
       where
         later :
-            ((i : ℕ) × (place_in cs name ≡ Some i) × (j ≡ suc i)) → x ≡ get_or (c ∷ cs) j x
-            → ((i : ℕ) (y : NamedCell) (d : Cell) → place_in cs name ≡ Some i → y ≡ get_or cs i y
+            ((i : ℕ) × (cell_place_in cs name ≡ Some i) × (j ≡ suc i)) → x ≡ get_or (c ∷ cs) j x
+            → ((i : ℕ) (y : NamedCell) (d : Cell) → cell_place_in cs name ≡ Some i → y ≡ get_or cs i y
             → map named_cell (slice_set cs i (record y { cell = d })) ≡ cells_with (named_cells cs) name (seen.cell d))
             → map named_cell (slice_set (c ∷ cs) j (record x { cell = cell })) ≡ named_cell c ∷ cells_with (named_cells cs) name (seen.cell cell)
         later (i, found, q) is g =
@@ -81,42 +81,42 @@ with_at (c ∷ cs) name k x cell e is = by (same_name c.name.now name) k e is (w
             ∙ ap (λ (y : _). named_cell c ∷ y) (g i x cell found here)
 
 pub with_cell :
-    (cs : List NamedCell) (name : List ℕ) (k : ℕ) (x : NamedCell) (cell : Cell) → Some k ≡ place_in cs name → x ≡ get_or cs k x
+    (cs : List NamedCell) (name : List ℕ) (k : ℕ) (x : NamedCell) (cell : Cell) → Some k ≡ cell_place_in cs name → x ≡ get_or cs k x
     → map named_cell (slice_set cs k (record x { cell = cell })) ≡ cells_with (named_cells cs) name (seen.cell cell)
 with_cell cs name k x cell e is = with_at cs name k x cell (sym e) is
 
-place_below : (cs : List NamedCell) (name : List ℕ) (k : ℕ) → place_in cs name ≡ Some k → k < length cs
+place_below : (cs : List NamedCell) (name : List ℕ) (k : ℕ) → cell_place_in cs name ≡ Some k → k < length cs
 place_below [] name k e = cc
 place_below (c ∷ cs) name k e = by (same_name c.name.now name) e (place_below cs name)
   where
     by :
-        (b : Bool) → (if b then Some 0 else further 1 (place_in cs name)) ≡ Some k → ((i : ℕ) → place_in cs name ≡ Some i → i < length cs)
+        (b : Bool) → (if b then Some 0 else further 1 (cell_place_in cs name)) ≡ Some k → ((i : ℕ) → cell_place_in cs name ≡ Some i → i < length cs)
         → k < suc (length cs)
     by true p g = let q : 0 ≡ k = cc in omega arith
-    by false p g = under (place_in cs name) p g
+    by false p g = under (cell_place_in cs name) p g
       where
         under : (o : Option ℕ) → further 1 o ≡ Some k → ((i : ℕ) → o ≡ Some i → i < length cs) → k < suc (length cs)
         under None p g = cc
         under (Some i) p g = let q : 1 + i ≡ k = cc in let r : i < length cs = g i refl in omega arith
 
-pub place_within : (cs : List NamedCell) (name : List ℕ) (k : ℕ) → Some k ≡ place_in cs name → k < length cs
+pub place_within : (cs : List NamedCell) (name : List ℕ) (k : ℕ) → Some k ≡ cell_place_in cs name → k < length cs
 place_within cs name k e = place_below cs name k (sym e)
 
 -- ---- what a cell held before it has another content
 
 displaced_at_place :
-    (cs : List NamedCell) (name : List ℕ) (k : ℕ) (x : NamedCell) (cell : plain.Cell) → place_in cs name ≡ Some k → x ≡ get_or cs k x
+    (cs : List NamedCell) (name : List ℕ) (k : ℕ) (x : NamedCell) (cell : plain.Cell) → cell_place_in cs name ≡ Some k → x ≡ get_or cs k x
     → seen.cell x.cell ≡ displaced (named_cells cs) name cell
 displaced_at_place [] name k x cell e is = cc
 displaced_at_place (c ∷ cs) name k x cell e is = by (same_name c.name.now name) k e is (λ i y. displaced_at_place cs name i y cell)
   where
     by :
-        (b : Bool) (j : ℕ) → (if b then Some 0 else further 1 (place_in cs name)) ≡ Some j → x ≡ get_or (c ∷ cs) j x
-        → ((i : ℕ) (y : NamedCell) → place_in cs name ≡ Some i → y ≡ get_or cs i y → seen.cell y.cell ≡ displaced (named_cells cs) name cell)
+        (b : Bool) (j : ℕ) → (if b then Some 0 else further 1 (cell_place_in cs name)) ≡ Some j → x ≡ get_or (c ∷ cs) j x
+        → ((i : ℕ) (y : NamedCell) → cell_place_in cs name ≡ Some i → y ≡ get_or cs i y → seen.cell y.cell ≡ displaced (named_cells cs) name cell)
         → seen.cell x.cell ≡ (if b then seen.cell c.cell else displaced (named_cells cs) name cell)
     by true zero p q g = let r : x ≡ c = q in ap (λ (y : NamedCell). seen.cell y.cell) r
     by true (suc j) p q g = cc
-    by false j p q g = under (place_in cs name) j p q g
+    by false j p q g = under (cell_place_in cs name) j p q g
       where
         under :
             (o : Option ℕ) (j : ℕ) → further 1 o ≡ Some j → x ≡ get_or (c ∷ cs) j x
@@ -129,11 +129,11 @@ displaced_at_place (c ∷ cs) name k x cell e is = by (same_name c.name.now name
             let here : x ≡ get_or cs i x = subst (λ (n : ℕ). x ≡ get_or (c ∷ cs) n x) (sym t) q in g i x refl here
 
 pub displaced_in :
-    (cs : List NamedCell) (name : List ℕ) (k : ℕ) (x : NamedCell) (cell : plain.Cell) → Some k ≡ place_in cs name → x ≡ get_or cs k x
+    (cs : List NamedCell) (name : List ℕ) (k : ℕ) (x : NamedCell) (cell : plain.Cell) → Some k ≡ cell_place_in cs name → x ≡ get_or cs k x
     → seen.cell x.cell ≡ displaced (named_cells cs) name cell
 displaced_in cs name k x cell e is = displaced_at_place cs name k x cell (sym e) is
 
-no_displaced : (cs : List NamedCell) (name : List ℕ) (cell : plain.Cell) → place_in cs name ≡ None → cell ≡ displaced (named_cells cs) name cell
+no_displaced : (cs : List NamedCell) (name : List ℕ) (cell : plain.Cell) → cell_place_in cs name ≡ None → cell ≡ displaced (named_cells cs) name cell
 no_displaced [] name cell e = refl
 no_displaced (c ∷ cs) name cell e = by (same_name c.name.now name) e (no_displaced cs name cell)
   where
@@ -142,13 +142,13 @@ no_displaced (c ∷ cs) name cell e = by (same_name c.name.now name) e (no_displ
     further_none (Some j) p = cc
 
     by :
-        (b : Bool) → (if b then Some 0 else further 1 (place_in cs name)) ≡ None
-        → (place_in cs name ≡ None → cell ≡ displaced (named_cells cs) name cell)
+        (b : Bool) → (if b then Some 0 else further 1 (cell_place_in cs name)) ≡ None
+        → (cell_place_in cs name ≡ None → cell ≡ displaced (named_cells cs) name cell)
         → cell ≡ (if b then seen.cell c.cell else displaced (named_cells cs) name cell)
     by true p g = cc
-    by false p g = g (further_none (place_in cs name) p)
+    by false p g = g (further_none (cell_place_in cs name) p)
 
-pub displaced_none : (cs : List NamedCell) (name : List ℕ) (cell : plain.Cell) → None ≡ place_in cs name → cell ≡ displaced (named_cells cs) name cell
+pub displaced_none : (cs : List NamedCell) (name : List ℕ) (cell : plain.Cell) → None ≡ cell_place_in cs name → cell ≡ displaced (named_cells cs) name cell
 displaced_none cs name cell e = no_displaced cs name cell (sym e)
 
 -- ---- a change of one instance

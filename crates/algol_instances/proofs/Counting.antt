@@ -8,7 +8,7 @@ use Rattle.algol_meaning.specs.Instances.{leave}
 use Rattle.algol_meaning.specs.Arrays.{with_element, size_of_cell, size_of_cells, size_unless, live_elements}
 use Rattle.algol_instances.specs.SeenArray.{capped}
 use Rattle.algol_instances.specs.SeenInstance.{instance, zero_cell, holding}
-use Rattle.algol_instances.specs.Counting.{live_in, is_array, displaced, displaced_at, Adjusts}
+use Rattle.algol_instances.specs.Counting.{live_in, cell_is_array, displaced, displaced_at, Adjusts}
 use Rattle.algol_instances.specs.declared.instance.Instance as code
 use Rattle.algol_instances.proofs.Setting.{set_again}
 
@@ -155,7 +155,7 @@ keeping_counts xs r cell e =
     by false was now old new h j = omega arith
 
 same_size :
-    (cell : Cell) (ks : List ℕ) (v : Value) → is_array cell ≡ true
+    (cell : Cell) (ks : List ℕ) (v : Value) → cell_is_array cell ≡ true
     → size_of_cell (array (with_element (array_in cell) ks v)) ≡ size_of_cell cell
 same_size (array a) ks v e = refl
 same_size (simple u) ks v e = cc
@@ -199,7 +199,7 @@ pub left_counts :
 left_counts xs after r cell lived left g e = e ∙ ap capped (sym (ap live_elements g ∙ setting_left_counts xs r cell left))
 
 pub element_counts :
-    (xs after : List Instance) (r : Reference) (ks : List ℕ) (v : Value) (lived : ℕ) → is_array (cell_at (holding xs) r) ≡ true
+    (xs after : List Instance) (r : Reference) (ks : List ℕ) (v : Value) (lived : ℕ) → cell_is_array (cell_at (holding xs) r) ≡ true
     → after ≡ (set_cell (holding xs) r (array (with_element (array_in (cell_at (holding xs) r)) ks v))).instances
     → lived ≡ capped (live_elements xs) → lived ≡ capped (live_elements after)
 element_counts xs after r ks v lived is g e =

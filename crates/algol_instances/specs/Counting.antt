@@ -10,9 +10,9 @@ use Rattle.algol_instances.specs.SeenArray.{capped}
 abbrev pub live_in : Instance → ℕ
 live_in x = size_unless x.left (size_of_cells x.cells)
 
-abbrev pub is_array : Cell → Bool
-is_array (array a) = true
-is_array _ = false
+abbrev pub cell_is_array : Cell → Bool
+cell_is_array (array a) = true
+cell_is_array _ = false
 
 -- what the first cell of that name holds before it has another content; that content where there is none
 abbrev pub displaced : List NamedCell → List ℕ → Cell → Cell

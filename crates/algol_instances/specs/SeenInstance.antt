@@ -45,6 +45,6 @@ further k None = None
 further k (Some j) = Some (k + j)
 
 -- the place of the first cell of that name
-abbrev pub place_in : List NamedCell → List ℕ → Option ℕ
-place_in [] name = None
-place_in (c ∷ cells) name = if same_name c.name.now name then Some 0 else further 1 (place_in cells name)
+abbrev pub cell_place_in : List NamedCell → List ℕ → Option ℕ
+cell_place_in [] name = None
+cell_place_in (c ∷ cells) name = if same_name c.name.now name then Some 0 else further 1 (cell_place_in cells name)

@@ -7,7 +7,7 @@ ghost use Rattle.algol_meaning.specs.World.{cells_with};
 ghost use Rattle.algol_meaning.specs.Instances as leaving;
 ghost use Rattle.algol_cells.specs.SeenCell as seen;
 ghost use Rattle.algol_cells.specs.SeenCell.{reference};
-ghost use Rattle.algol_instances.specs.SeenInstance.{named_cells, instance, instance_or_none, holding, place_of_number, place_in, zero_cell, cell_or_none};
+ghost use Rattle.algol_instances.specs.SeenInstance.{named_cells, instance, instance_or_none, holding, place_of_number, cell_place_in, zero_cell, cell_or_none};
 ghost use Rattle.algol_instances.specs.Counting.{displaced, displaced_at};
 
 use algol_cells::{Cell, Reference, Value};
@@ -62,7 +62,7 @@ pub fn place(number: usize) -> Option<usize>
 
 /// The place of the first cell of this name.
 fn place_of<'p>(cells: &List<NamedCell<'p>>, name: &Line) -> Option<usize>
-    ensures { result ≡ place_in cells.now name.now }
+    ensures { result ≡ cell_place_in cells.now name.now }
 {
     let mut place = 0;
     'searching: for c in cells.items() {

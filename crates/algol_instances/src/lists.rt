@@ -2,14 +2,14 @@
 
 ghost use Rattle.std.specs.Prelude.{◌≡◌, [], ◌∷◌, slice_get, IfOk};
 ghost use Rattle.algol_cells.specs.SeenStack.{Popped};
-ghost use Rattle.algol_cells.specs.Shown.{shown};
+ghost use Rattle.algol_cells.specs.Shown.{shown_cell};
 
 use algol_tree::List;
 use std::alloc::{AllocError, Global};
 
 /// The item at that place.
 pub fn item<T>(list: &List<T>, place: usize) -> Option<&T>
-    ensures { shown result ≡ slice_get list.now place }
+    ensures { shown_cell result ≡ slice_get list.now place }
 {
     list.items().get(place)
 }

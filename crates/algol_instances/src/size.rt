@@ -48,7 +48,7 @@ pub fn some_empty(bounds: &[Bounds]) -> bool
 
 /// Tests that a cell is an array.
 pub fn is_array(cell: &Cell<'_>) -> bool
-    ensures { result ≡ counting.is_array (seen.cell cell.now) }
+    ensures { result ≡ counting.cell_is_array (seen.cell cell.now) }
 {
     match cell {
         Cell::Array(_) => true,

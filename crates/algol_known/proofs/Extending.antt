@@ -20,7 +20,7 @@ use Rattle.algol_known.specs.declared.around.Procedure.{Procedure}
 use Rattle.algol_known.specs.Naming.{IsBare}
 use Rattle.algol_known.specs.Looking.{class_for, level_within, modes_in, plain_class, procedure_class}
 use Rattle.algol_known.specs.Seeing.{Declares, Introduces, IsClass, IsEntry, Sees, mode_of}
-use Rattle.algol_known.specs.Widening.{Admits, StandsFor, Widens, declaring, parameters_so}
+use Rattle.algol_known.specs.Widening.{Admits, SortStandsFor, Widens, declaring, parameters_so}
 use Rattle.algol_known.proofs.Widening.{level-here, widens-one, widens-then}
 
 split : {A : Type 0} (xs : List A) (i : ℕ) (x : A) → i < length xs → drop i xs ≡ get_or xs i x ∷ drop (i + 1) xs
@@ -40,7 +40,7 @@ same_at (z ∷ zs) (suc i) x y h = same_at zs i x y (omega arith)
 
 -- ---- names of one class, the last first
 
-names-step : (k l m : Around) (sort : Sort) (c : classes.Class) (so : said.Sort) (x : Named) (rest : List Named) (name : List ℕ) (entry : Entry) → StandsFor so sort c →
+names-step : (k l m : Around) (sort : Sort) (c : classes.Class) (so : said.Sort) (x : Named) (rest : List Named) (name : List ℕ) (entry : Entry) → SortStandsFor so sort c →
     name ≡ x.name → entry ≡ record { spot = x.spot; block = l.innermost.block; level = level_within l; class = plain_class so } → Widens k l (declaring sort c rest) →
     Declares l m name entry → m.outer ≡ l.outer → m.procedures ≡ l.procedures → m.innermost.typed ≡ l.innermost.typed →
     ((a : Surroundings) → Sees l seens.BeforeDeclarations a → Sees m seens.BeforeDeclarations a) → Widens k m (declaring sort c (x ∷ rest))
@@ -58,7 +58,7 @@ names-step k l m sort c so x rest name entry stands n e w d o p t before =
     }))
 
 pub names-back : (k l m : Around) (sort : Sort) (c : classes.Class) (so : said.Sort) (ns : List Named) (at : ℕ) (n o : Named) (name : List ℕ) (entry : Entry) → 0 < at →
-    at ≤ length ns → StandsFor so sort c → name ≡ (get_or ns (at - 1) o).name →
+    at ≤ length ns → SortStandsFor so sort c → name ≡ (get_or ns (at - 1) o).name →
     entry ≡ record { spot = (get_or ns (at - 1) n).spot; block = l.innermost.block; level = level_within l; class = plain_class so } →
     Widens k l (declaring sort c (drop at ns)) → Declares l m name entry → m.outer ≡ l.outer → m.procedures ≡ l.procedures →
     m.innermost.typed ≡ l.innermost.typed → ((a : Surroundings) → Sees l seens.BeforeDeclarations a → Sees m seens.BeforeDeclarations a) →

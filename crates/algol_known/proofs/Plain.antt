@@ -32,7 +32,7 @@ use Rattle.algol_known.specs.declared.known.Seen.{Seen}
 use Rattle.algol_known.specs.declared.around.Around.{Around}
 use Rattle.algol_known.specs.declared.around.Procedure.{Procedure}
 use Rattle.algol_known.specs.Looking.{looked_up, open_blocks}
-use Rattle.algol_known.specs.Seeing.{Sees, IsFound, is_simple, mode_given, mode_of, name_parameter}
+use Rattle.algol_known.specs.Seeing.{Sees, NameIsFound, known_is_simple, mode_given, mode_of, name_parameter}
 
 pub variable_is : (v : Variable) → variable v ≡ tree.subscripted v.name (exprs v.subs)
 variable_is v = search (rules, variables.the_lemmas)
@@ -109,17 +109,17 @@ bare : (n : Named) (es : List Expr) (a : Surroundings) (d : Option Declared) →
 bare n [] a d h l = ap (λ z. not (classes.is_simple (class_of_declared z))) l
 bare n (x ∷ xs) a d h l = absurd (not_empty (length xs) h)
 
-simple_found : (ps : List Procedure) (f : Option Entry) (d : Option Declared) (e : Entry) → IsFound ps f d → f ≡ Some e →
-    classes.is_simple (class_of_declared d) ≡ is_simple e.class
+simple_found : (ps : List Procedure) (f : Option Entry) (d : Option Declared) (e : Entry) → NameIsFound ps f d → f ≡ Some e →
+    classes.is_simple (class_of_declared d) ≡ known_is_simple e.class
 simple_found ps None None e i h = cc
-simple_found ps (Some g) (Some d) e i h = sym i.class.simple ∙ (let same : g ≡ e = cc in ap (λ z. is_simple z.class) same)
+simple_found ps (Some g) (Some d) e i h = sym i.class.simple ∙ (let same : g ≡ e = cc in ap (λ z. known_is_simple z.class) same)
 simple_found ps None (Some d) e i h = absurd i
 simple_found ps (Some g) None e i h = absurd i
 
 pub plain_as : (k : Around) (seen : Seen) (e : Expr) (v : Variable) (items : List Expr) (b : Bool) (name : List ℕ) (entry : Entry) (a : Surroundings) →
     e ≡ expression.Variable v → items ≡ v.subs → b ≡ (length items == 0) → b ≡ true → name ≡ v.name.name →
     looked_up (open_blocks k) seen name ≡ Some entry → Sees k seen a →
-    has_cell (expr e) name_parameter a ≡ not (is_simple entry.class)
+    has_cell (expr e) name_parameter a ≡ not (known_is_simple entry.class)
 plain_as k seen e v items b name entry a h i l f n u s =
     ap (λ x. has_cell x name_parameter a) (expr_variable e v h)
     ∙ bare v.name v.subs a (look_up a.known v.name.name) (ap (λ z. length z == 0) (sym i) ∙ sym l ∙ f) refl
@@ -129,13 +129,13 @@ plain_as k seen e v items b name entry a h i l f n u s =
 
 -- ---- parameters by name
 
-pub none-given : (m : Option Sort) (f : Option Formal) → m ≡ None → m ≡ mode_given f → false ≡ cells.is_by_name f
+pub none-given : (m : Option Sort) (f : Option Formal) → m ≡ None → m ≡ mode_given f → false ≡ cells.formal_is_by_name f
 none-given m None h e = refl
 none-given m (Some g) h e = absurd (let clash : None ≡ Some (mode_of g) = sym h ∙ e in cc)
 
-pub some-given : (m : Option Sort) (s : Sort) (f : Option Formal) (b : Bool) → m ≡ Some s → b ≡ sorts.is_by_name s → m ≡ mode_given f → b ≡ cells.is_by_name f
+pub some-given : (m : Option Sort) (s : Sort) (f : Option Formal) (b : Bool) → m ≡ Some s → b ≡ sorts.sort_is_by_name s → m ≡ mode_given f → b ≡ cells.formal_is_by_name f
 some-given m s None b h k e = absurd (let clash : Some s ≡ None = sym h ∙ e in cc)
 some-given m s (Some g) b h k e =
     let both : Some s ≡ Some (mode_of g) = sym h ∙ e in
     let same : s ≡ mode_of g = cc in
-    k ∙ ap sorts.is_by_name same ∙ parameter-by-name g.class g.by_value
+    k ∙ ap sorts.sort_is_by_name same ∙ parameter-by-name g.class g.by_value

@@ -53,8 +53,8 @@ told_by ps (sort.Procedure kind) number = told_of (slice_get ps number)
 told_by ps _ number = None
 
 -- the same where it is a procedure
-abbrev pub parameters_in : List Procedure → Class → Option (List Sort)
-parameters_in ps c = told_by ps c.sort c.procedure
+abbrev pub parameter_sorts_in : List Procedure → Class → Option (List Sort)
+parameter_sorts_in ps c = told_by ps c.sort c.procedure
 
 -- the level of the innermost block, as far as a byte can say it
 abbrev pub level_within : Around → ℕ

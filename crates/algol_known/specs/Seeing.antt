@@ -31,19 +31,19 @@ mode_given (Some f) = Some (mode_of f)
 abbrev pub name_parameter : Option Formal
 name_parameter = Some (record { class = classes.simple types.Number; by_value = false })
 
-abbrev pub is_simple : Class → Bool
-is_simple c = sorts.is_simple c.sort
+abbrev pub known_is_simple : Class → Bool
+known_is_simple c = sorts.sort_is_simple c.sort
 
 -- a procedure is one of those that there are
-abbrev pub IsNumber : List Procedure → Sort → ℕ → Type 0
-IsNumber ps (sort.Procedure kind) number = number < length ps
-IsNumber ps _ number = Unit {0}
+abbrev pub IsProcedureNumber : List Procedure → Sort → ℕ → Type 0
+IsProcedureNumber ps (sort.Procedure kind) number = number < length ps
+IsProcedureNumber ps _ number = Unit {0}
 
 -- The class stands for the definitions' class, as far as names and limits look at it.
 pub record IsClass (ps : List Procedure) (c : Class) (d : classes.Class) : Type 0 where
-  pub simple : is_simple c ≡ classes.is_simple d
+  pub simple : known_is_simple c ≡ classes.is_simple d
   pub modes : modes_in ps c ≡ map mode_of (formals_of_class d)
-  pub within : IsNumber ps c.sort c.procedure
+  pub within : IsProcedureNumber ps c.sort c.procedure
 
 -- The entry stands for the declaration.
 pub record IsEntry (ps : List Procedure) (e : Entry) (d : Declared) : Type 0 where
@@ -54,39 +54,39 @@ pub record IsEntry (ps : List Procedure) (e : Entry) (d : Declared) : Type 0 whe
   pub sort : e.class.sort ≡ sort_of d
 
 -- What is found under a name is what the definitions find.
-abbrev pub IsFound : List Procedure → Option Entry → Option Declared → Type 0
-IsFound ps None None = Unit {0}
-IsFound ps (Some e) (Some d) = IsEntry ps e d
-IsFound ps _ _ = ⊥
+abbrev pub NameIsFound : List Procedure → Option Entry → Option Declared → Type 0
+NameIsFound ps None None = Unit {0}
+NameIsFound ps (Some e) (Some d) = IsEntry ps e d
+NameIsFound ps _ _ = ⊥
 
 -- What is seen of what the walk keeps is what is around that place.
 pub record Sees (k : Around) (seen : Seen) (a : Surroundings) : Type 0 where
   pub block : k.innermost.block ≡ a.block
   pub depth : length k.outer.items ≡ a.depth
-  pub names : (name : List ℕ) → IsFound k.procedures.items (looked_up (open_blocks k) seen name) (look_up a.known name)
+  pub names : (name : List ℕ) → NameIsFound k.procedures.items (looked_up (open_blocks k) seen name) (look_up a.known name)
 
 -- the declarations that the block has before the place, its parameters included
-abbrev pub own : Surroundings → List Declared
-own a = filter (λ (d : Declared). d.block == a.block) a.known
+abbrev pub own_declared : Surroundings → List Declared
+own_declared a = filter (λ (d : Declared). d.block == a.block) a.known
 
 -- The names of the innermost block are those of its own declarations.
-pub record Holds (k : Around) (a : Surroundings) : Type 0 where
+pub record KnownHolds (k : Around) (a : Surroundings) : Type 0 where
   pub here : (name : List ℕ) →
-      IsFound k.procedures.items (seen_under k.innermost.declared k.innermost.parameters seens.All name) (look_up (own a) name)
+      NameIsFound k.procedures.items (seen_under k.innermost.declared k.innermost.parameters seens.All name) (look_up (own_declared a) name)
 
 -- One more declaration is known, as the entry stands for it.
 pub record Declares (old new : Around) (name : List ℕ) (entry : Entry) : Type 0 where
   pub sees : (a : Surroundings) (d : Declared) → Sees old seens.All a → d.name ≡ name → IsEntry old.procedures.items entry d →
       Sees new seens.All (record a { known = d ∷ a.known })
-  pub holds : (a : Surroundings) (d : Declared) → Holds old a → d.name ≡ name → d.block ≡ a.block → IsEntry old.procedures.items entry d →
-      Holds new (record a { known = d ∷ a.known })
+  pub holds : (a : Surroundings) (d : Declared) → KnownHolds old a → d.name ≡ name → d.block ≡ a.block → IsEntry old.procedures.items entry d →
+      KnownHolds new (record a { known = d ∷ a.known })
 
 -- One more parameter is known, in a block that declares nothing yet.
 pub record Introduces (old new : Around) (name : List ℕ) (entry : Entry) : Type 0 where
   pub sees : (sees : Seen) (a : Surroundings) (d : Declared) → IsBare old.innermost.declared → Sees old sees a → d.name ≡ name →
       IsEntry old.procedures.items entry d → Sees new sees (record a { known = d ∷ a.known })
-  pub holds : (a : Surroundings) (d : Declared) → IsBare old.innermost.declared → Holds old a → d.name ≡ name → d.block ≡ a.block →
-      IsEntry old.procedures.items entry d → Holds new (record a { known = d ∷ a.known })
+  pub holds : (a : Surroundings) (d : Declared) → IsBare old.innermost.declared → KnownHolds old a → d.name ≡ name → d.block ≡ a.block →
+      IsEntry old.procedures.items entry d → KnownHolds new (record a { known = d ∷ a.known })
 
 -- These procedures are among those, with the same numbers.
 pub record Extends (old new : List Procedure) : Type 0 where
@@ -94,19 +94,19 @@ pub record Extends (old new : List Procedure) : Type 0 where
   pub same : (i : ℕ) → i < length old → slice_get new i ≡ slice_get old i
 
 -- The same names are known, and of procedures maybe more.
-pub record Keeps (old new : Around) : Type 0 where
+pub record KnownKeeps (old new : Around) : Type 0 where
   pub innermost : new.innermost ≡ old.innermost
   pub outer : new.outer.items ≡ old.outer.items
   pub procedures : Extends old.procedures.items new.procedures.items
 
 -- a block that has just begun inside these surroundings
-abbrev pub begun : ℕ → Surroundings → Surroundings
-begun block a = record { block = block; depth = a.depth + 1; known = a.known }
+abbrev pub block_begun : ℕ → Surroundings → Surroundings
+block_begun block a = record { block = block; depth = a.depth + 1; known = a.known }
 
 -- The block with this number begins.
-pub record Opens (old new : Around) (block : ℕ) : Type 0 where
-  pub sees : (sees : Seen) (a : Surroundings) → Sees old seens.All a → Sees new sees (begun block a)
-  pub holds : (a : Surroundings) → own (begun block a) ≡ [] → Holds new (begun block a)
+pub record KnownOpens (old new : Around) (block : ℕ) : Type 0 where
+  pub sees : (sees : Seen) (a : Surroundings) → Sees old seens.All a → Sees new sees (block_begun block a)
+  pub holds : (a : Surroundings) → own_declared (block_begun block a) ≡ [] → KnownHolds new (block_begun block a)
   pub bare : IsBare new.innermost.declared
   pub outer : new.outer.items ≡ old.outer.items ++ old.innermost ∷ []
   pub procedures : new.procedures ≡ old.procedures

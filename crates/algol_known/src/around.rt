@@ -12,9 +12,9 @@ ghost use Rattle.algol_tree.specs.Surroundings.{Surroundings, outermost};
 ghost use Rattle.algol_known.specs.declared.known.Seen.{Seen};
 ghost use Rattle.algol_known.specs.declared.known.Seen.TheVariants as seens;
 ghost use Rattle.algol_known.specs.declared.known.Names.{Names};
-ghost use Rattle.algol_known.specs.Looking.{looked_up, open_blocks, modes_in, parameters_in, level_within, is_announced, class_for, procedure_class};
-ghost use Rattle.algol_known.specs.Widening.{Admits, StandsFor, Widens, declaring, parameters_so};
-ghost use Rattle.algol_known.specs.Seeing.{Sees, Holds, Declares, Introduces, Extends, Opens, IsClass, mode_of, mode_given, name_parameter};
+ghost use Rattle.algol_known.specs.Looking.{looked_up, open_blocks, modes_in, parameter_sorts_in, level_within, is_announced, class_for, procedure_class};
+ghost use Rattle.algol_known.specs.Widening.{Admits, SortStandsFor, Widens, declaring, parameters_so};
+ghost use Rattle.algol_known.specs.Seeing.{Sees, KnownHolds, Declares, Introduces, Extends, KnownOpens, IsClass, mode_of, mode_given, name_parameter};
 
 use crate::known::{Class, Entry, Names, Seen};
 use algol_sorts::Sort;
@@ -51,7 +51,7 @@ pub struct Around<'p> {
 
 /// Whether there is such a parameter, and it is by name.
 fn is_by_name(mode: Option<Sort>) -> bool
-    ensures { (f : Option Formal) → mode ≡ mode_given f → result ≡ cells.is_by_name f }
+    ensures { (f : Option Formal) → mode ≡ mode_given f → result ≡ cells.formal_is_by_name f }
 {
     match mode {
         None => false,
@@ -74,7 +74,7 @@ impl<'p> Around<'p> {
     /// The outer block.
     pub fn new(alloc: Global) -> Around<'p>
         ensures sees { (seen : Seen) → Sees result seen outermost }
-        ensures holds { Holds result outermost }
+        ensures holds { KnownHolds result outermost }
         ensures typed { result.innermost.typed ≡ None }
         ensures outer { result.outer.items ≡ [] }
         ensures procedures { result.procedures.items ≡ [] }
@@ -93,7 +93,7 @@ impl<'p> Around<'p> {
         block: usize,
         typed: Option<&'p [u8]>,
     ) -> Result<(), AllocError>
-        ensures opens { OnOk result (Opens self.old self.new block) }
+        ensures opens { OnOk result (KnownOpens self.old self.new block) }
         ensures typed { OnOk result (self.new.innermost.typed ≡ typed.entry) }
     {
         let outer = mem::replace(&mut self.innermost, Names::new(alloc, block, typed));
@@ -199,7 +199,7 @@ impl<'p> Around<'p> {
 
     /// The same where it is a procedure.
     pub fn parameters(&self, class: Class) -> Result<Option<List<Sort>>, AllocError>
-        ensures { IfOk result (λ told. told ≡ parameters_in self.now.procedures.items class) }
+        ensures { IfOk result (λ told. told ≡ parameter_sorts_in self.now.procedures.items class) }
     {
         match class.sort {
             Sort::Procedure(_) => match self.procedures.get(class.procedure) {
@@ -269,7 +269,7 @@ impl<'p> Around<'p> {
 impl<'p> Around<'p> {
     /// The innermost block declares these names, of which the first counts where two are the same.
     pub fn declare_all(&mut self, ns: &'p [Named], sort: Sort) -> Result<(), AllocError>
-        ensures { OnOk result ((s : plain.Sort) (c : classes.Class) → StandsFor sort s c → Widens self.old self.new (declaring s c ns.now)) }
+        ensures { OnOk result ((s : plain.Sort) (c : classes.Class) → SortStandsFor sort s c → Widens self.old self.new (declaring s c ns.now)) }
     {
         let class = Class { sort, procedure: 0 };
         'names: for at in (0..ns.len()).rev() {

@@ -4,7 +4,7 @@ ghost use Rattle.std.specs.Prelude.{◌≡◌, ℕ, List, false, is_some, map, N
 ghost use Rattle.std.specs.Str.{bytes_eq};
 ghost use Rattle.algol_tree.specs.Sorts.{is_named_in, formals_of};
 ghost use Rattle.algol_sorts.specs.Specified.{SaysAll};
-ghost use Rattle.algol_known.specs.Naming.{under};
+ghost use Rattle.algol_known.specs.Naming.{sort_named};
 ghost use Rattle.algol_known.specs.Passing.{kept, said};
 ghost use Rattle.algol_known.specs.Seeing.{mode_of};
 
@@ -18,8 +18,8 @@ pub type Said<'p> = BTreeMap<Key<'p>, bool>;
 
 /// The name has this, unless something is said of it before. Answers whether something is.
 pub fn say<'p>(table: &mut Said<'p>, name: &'p [u8], value: bool) -> Result<bool, AllocError>
-    ensures said { OnOk result ((q : List ℕ) → under table.new q ≡ kept (under table.old q) (bytes_eq name.now q) value) }
-    ensures before { IfOk result (λ before. before ≡ is_some (under table.old name.now)) }
+    ensures said { OnOk result ((q : List ℕ) → sort_named table.new q ≡ kept (sort_named table.old q) (bytes_eq name.now q) value) }
+    ensures before { IfOk result (λ before. before ≡ is_some (sort_named table.old name.now)) }
 {
     let key = Key::of(name);
     match table.insert(key, value)? {
@@ -33,7 +33,7 @@ pub fn say<'p>(table: &mut Said<'p>, name: &'p [u8], value: bool) -> Result<bool
 
 /// The same of each name of a list.
 pub fn say_all<'p>(table: &mut Said<'p>, names: &'p [Named], value: bool) -> Result<(), AllocError>
-    ensures { OnOk result ((q : List ℕ) → under table.new q ≡ kept (under table.old q) (is_named_in names.now q) value) }
+    ensures { OnOk result ((q : List ℕ) → sort_named table.new q ≡ kept (sort_named table.old q) (is_named_in names.now q) value) }
 {
     'names: for n in names {
         say(table, n.name.bytes(), value)?;
@@ -43,7 +43,7 @@ pub fn say_all<'p>(table: &mut Said<'p>, names: &'p [Named], value: bool) -> Res
 
 /// A table of these names.
 pub fn named_in<'p>(alloc: Global, names: &'p [Named]) -> Result<Said<'p>, AllocError>
-    ensures { IfOk result (λ table. (q : List ℕ) → said (under table q) false ≡ is_named_in names.now q) }
+    ensures { IfOk result (λ table. (q : List ℕ) → said (sort_named table q) false ≡ is_named_in names.now q) }
 {
     let mut table = BTreeMap::new(alloc);
     say_all(&mut table, names, true)?;
@@ -52,14 +52,14 @@ pub fn named_in<'p>(alloc: Global, names: &'p [Named]) -> Result<Said<'p>, Alloc
 
 /// No names.
 pub fn no_names<'p>(alloc: Global) -> Said<'p>
-    ensures { (q : List ℕ) → under result q ≡ None }
+    ensures { (q : List ℕ) → sort_named result q ≡ None }
 {
     BTreeMap::new(alloc)
 }
 
 /// What is said of the name, `false` where nothing is.
 pub fn is_said<'p>(table: &Said<'p>, name: &'p [u8]) -> bool
-    ensures { result ≡ said (under table.now name.now) false }
+    ensures { result ≡ said (sort_named table.now name.now) false }
 {
     match found(table, name) {
         None => false,

@@ -1,7 +1,7 @@
 //! The names that a block makes known.
 
 ghost use Rattle.std.specs.Prelude.{◌≡◌, OnOk, Some};
-ghost use Rattle.algol_known.specs.Naming.{IsBare, Puts, entry_in, seen_under, has_name};
+ghost use Rattle.algol_known.specs.Naming.{IsBare, NamePuts, entry_in, seen_under, has_name};
 
 use algol_sorts::{Key, Sort, found};
 use algol_tree::Spot;
@@ -59,7 +59,7 @@ impl<'p> Names<'p> {
 
     /// A declaration of the name.
     pub fn declare(&mut self, name: &'p [u8], entry: Entry) -> Result<(), AllocError>
-        ensures puts { OnOk result (Puts self.old.declared self.new.declared name.now entry) }
+        ensures puts { OnOk result (NamePuts self.old.declared self.new.declared name.now entry) }
         ensures parameters { self.new.parameters ≡ self.old.parameters }
         ensures block { self.new.block ≡ self.old.block }
         ensures typed { self.new.typed ≡ self.old.typed }
@@ -70,7 +70,7 @@ impl<'p> Names<'p> {
 
     /// A parameter of the name.
     pub fn declare_parameter(&mut self, name: &'p [u8], entry: Entry) -> Result<(), AllocError>
-        ensures puts { OnOk result (Puts self.old.parameters self.new.parameters name.now entry) }
+        ensures puts { OnOk result (NamePuts self.old.parameters self.new.parameters name.now entry) }
         ensures declared { self.new.declared ≡ self.old.declared }
         ensures block { self.new.block ≡ self.old.block }
         ensures typed { self.new.typed ≡ self.old.typed }

@@ -6,9 +6,9 @@ use Rattle.algol_meaning.specs.Value.{Reference, Cell, event}
 use Rattle.b67_deeds.specs.declared.EventTest.TheVariants as test
 use Rattle.b67_deeds.specs.Events.{EventState, left_by, joined}
 use Rattle.algol_meaning.specs.World.{NamedCell, Instance, no_instance, or_no_instance, instance_at, able, Process, World, ancestor, cell_in, cell_at, cells_with, with_instance, set_cell, add_cells, or_no_process, process_at, set_able, set_all_able}
-use Rattle.algol_meaning.specs.Critical.{is_this, is_one_of, NumberedInstance, newest_first, first_on_path}
+use Rattle.algol_meaning.specs.Critical.{is_this, process_is_one_of, NumberedInstance, newest_first, first_on_path}
 use Rattle.algol_meaning.specs.Instances.{leave}
-use Rattle.algol_meaning.specs.Events.{event_at, set_event, change_event, is_among, joined_all, list_in, forgotten, woken_by, withdrawn, all_withdrawn, released}
+use Rattle.algol_meaning.specs.Events.{event_at, set_event, change_event, reference_is_among, joined_all, list_in, forgotten, woken_by, withdrawn, all_withdrawn, released}
 use Rattle.b67_deeds.specs.Deeds.{tests, Deed, deed}
 use Rattle.algol_laws.specs.Reading.{Outline, outline, Bare, bare}
 
@@ -144,7 +144,7 @@ released_alike u v r d h =
 -- who joins those who wait changes only what cells hold
 pub joined_bare : (u : World) (p : ℕ) (seen rs : List Reference) → bare (joined_all u p seen rs) ≡ bare u
 joined_bare u p seen [] = refl
-joined_bare u p seen (r ∷ rs) = by (is_among seen r) (joined_bare u p (r ∷ seen) rs) (joined_bare next p (r ∷ seen) rs)
+joined_bare u p seen (r ∷ rs) = by (reference_is_among seen r) (joined_bare u p (r ∷ seen) rs) (joined_bare next p (r ∷ seen) rs)
   where
     next : World
     next = change_event u r (deed (tests test.WaitAny) p (event_at u r)).change
@@ -200,7 +200,7 @@ abbrev path_outlined : (ℕ → Option ℕ) → List Outlined → ℕ → List �
 path_outlined critical [] p wanted = 0
 path_outlined critical (x ∷ older) p wanted =
     if ((x.of.process == p) && not x.of.left) || is_this (critical p) x.number
-    then (if is_one_of wanted x.number then x.number else path_outlined critical older x.of.process wanted)
+    then (if process_is_one_of wanted x.number then x.number else path_outlined critical older x.of.process wanted)
     else path_outlined critical older p wanted
 
 abbrev critical_in : World → ℕ → Option ℕ
@@ -217,7 +217,7 @@ path_told w (x ∷ older) p wanted =
     on = ((x.of.process == p) && not x.of.left) || is_this ((process_at w p).critical) x.number
 
     one : Bool
-    one = is_one_of wanted x.number
+    one = process_is_one_of wanted x.number
 
 pub path_alike : (w : World) (xs : List Instance) → map outline xs ≡ map outline w.instances → (p : ℕ) (wanted : List ℕ) →
     first_on_path (record w { instances = xs }) (newest_first 1 xs []) p wanted ≡ first_on_path w (newest_first 1 w.instances []) p wanted

@@ -16,7 +16,7 @@ use Rattle.b67_deeds.specs.Deeds as deeds
 use Rattle.b67_deeds.specs.Deeds.{EventDeed, Deed, Next, deed}
 use Rattle.b67_deeds.proofs.Lists.{waiting_frees_nobody}
 use Rattle.algol_meaning.specs.Rest.{Place, own, there, element_of, Answer, done, value, cell, place, entered}
-use Rattle.algol_meaning.specs.Settle.{block_of, settle, settle_actual_place}
+use Rattle.algol_meaning.specs.Settle.{block_of_sort, settle, settle_actual_place}
 use Rattle.algol_meaning.specs.Statements.{settle_items, items_from}
 use Rattle.b67_num.specs.Whole.{fault_of}
 use Rattle.algol_meaning.specs.World.{State, able, started, waits_for, procures, waits_any, ended, block, procedure, name_read, name_place, add_cells, Part, Process, World, instance_at, cell_at, set_cell, followed, or_no_process, with_process, value_in, array_in, event_in}
@@ -29,8 +29,8 @@ use Rattle.b67_deeds.specs.declared.Letter.{Letter}
 use Rattle.algol_meaning.specs.Lines.{line_of}
 use Rattle.algol_meaning.specs.Asks as asks
 use Rattle.algol_meaning.specs.Asks.{Ask, ask, resume, evaluated_of, located_of}
-use Rattle.algol_meaning.specs.Choice.{Choice, choice, choice_in, choice_of, nth_exists, is_subscripted, answered, goes, goes_releasing, stops, opens, fails, home, here, read_of, resolved_of, indexed_at, element_read_at, stored, given_cells, with_new_instance, new_part, entered_procedure, entered_block, left_with, ended_releasing, left_or_ended, left, gone, gone_to, goes_to, task_of, with_started, next_process, starts, told, did, does_with_first, all_followed, waits_for_any, wakes, wakes_or_waits, does_with, made_arrays}
-use Rattle.algol_laws.specs.Kept.{Kept, Freed, nobody, stays_woken, woken_of, ProcessKept, EachActionKeeps, lists_of, stored_by_release, where_none, cell_of_place, stored_by_end, task_at_end, stored_by_first, stored_by_several, stored_by_deed, stored_by, stored_in, stored_cells, woken_by_end, woken_at_end, woken_by_first, woken_by_deed, woken_by_ask, woken_in, freed_by}
+use Rattle.algol_meaning.specs.Choice.{Choice, choice, choice_in, choice_of, nth_exists, is_subscripted, answered, goes, goes_releasing, stops, opens, fails, home, here, read_of, resolved_of, indexed_at, element_read_at, stored, given_cells, with_new_instance, new_part, entered_procedure, entered_block, left_with, ended_releasing, left_or_ended, left_choice, gone, gone_to, goes_to, task_of, with_started, next_process, starts, told_answer, did, does_with_first, all_followed, waits_for_any, wakes, wakes_or_waits, does_with, made_arrays}
+use Rattle.algol_laws.specs.Kept.{WorldKept, Freed, nobody, stays_woken, woken_of, ProcessKept, EachActionKeeps, lists_of, stored_by_release, where_none, cell_of_place, stored_by_end, task_at_end, stored_by_first, stored_by_several, stored_by_deed, stored_by, stored_in, stored_cells, woken_by_end, woken_at_end, woken_by_first, woken_by_deed, woken_by_ask, woken_in, freed_by}
 use Rattle.algol_laws.proofs.Keeping.{unchanged, kept_then, kept_before, nobody_kept, cell_set, cells_added, instances_left, instance_added, process_added, line_added, fault_kept, actor_set}
 use Rattle.algol_laws.proofs.Releasing.{deed_keeps, joins_keep}
 use Rattle.algol_laws.proofs.Bared.{cell_left, leave_processes}
@@ -38,15 +38,15 @@ use Rattle.algol_laws.proofs.Bared.{cell_left, leave_processes}
 module _ (sc : Scopes) (w : World) (p : ℕ) (q : Process) (part : Part) (outer : List Part) (is : numbered w.processes p ≡ Some q) where
   -- the choice keeps all but that cell
   abbrev pub KeepsTelling : (ℕ → Process → ℕ) → List Reference → Choice → Type 0
-  KeepsTelling woken s c = Kept p (record { processes = c.released; woken = woken }) s w c.world
+  KeepsTelling woken s c = WorldKept p (record { processes = c.released; woken = woken }) s w c.world
 
   -- .. and every woken number
   abbrev pub Keeps : List Reference → Choice → Type 0
   Keeps s c = KeepsTelling stays_woken s c
 
   -- after a change that keeps, the actor's own process is another one
-  module _ (s : List Reference) (those : Freed) (after : World) (f : Kept p those s w after) (acted : Process) (critical : acted.critical ≡ q.critical) (task : acted.task ≡ q.task) where
-    pub acts : Kept p those s w (with_process after p acted)
+  module _ (s : List Reference) (those : Freed) (after : World) (f : WorldKept p those s w after) (acted : Process) (critical : acted.critical ≡ q.critical) (task : acted.task ≡ q.task) where
+    pub acts : WorldKept p those s w (with_process after p acted)
     acts =
         kept_then p those s w after (with_process after p acted) f
         (actor_set p s after acted (λ r e. same r e (f.processes p q is)))
@@ -63,18 +63,18 @@ module _ (sc : Scopes) (w : World) (p : ℕ) (q : Process) (part : Part) (outer 
   either s true c d f g = f
   either s false c d f g = g
 
-  goes_keeps : (s : List Reference) (action : Letter) (after : World) (a : Answer) → Kept p nobody s w after → Keeps s (goes sc w p q part outer action after a)
+  goes_keeps : (s : List Reference) (action : Letter) (after : World) (a : Answer) → WorldKept p nobody s w after → Keeps s (goes sc w p q part outer action after a)
   goes_keeps s action after a f = acts s nobody after f (record q { todo = answered sc w p q part outer a ∷ outer }) refl refl
 
   releasing_keeps : (woken : ℕ → Process → ℕ) (s : List Reference) (action : Letter) (x : Released) (a : Answer) →
-      Kept p (record { processes = x.processes; woken = woken }) s w x.world → KeepsTelling woken s (goes_releasing sc w p q part outer action x a)
+      WorldKept p (record { processes = x.processes; woken = woken }) s w x.world → KeepsTelling woken s (goes_releasing sc w p q part outer action x a)
   releasing_keeps woken s action x a f =
       acts s (record { processes = x.processes; woken = woken }) x.world f (record q { todo = answered sc w p q part outer a ∷ outer }) refl refl
 
-  stops_keeps : (s : List Reference) (action : Letter) (after : World) (state : State) → Kept p nobody s w after → Keeps s (stops sc w p q part outer action after state)
+  stops_keeps : (s : List Reference) (action : Letter) (after : World) (state : State) → WorldKept p nobody s w after → Keeps s (stops sc w p q part outer action after state)
   stops_keeps s action after state f = acts s nobody after f (record q { todo = answered sc w p q part outer done ∷ outer; state = state }) refl refl
 
-  opens_keeps : (s : List Reference) (after : World) (inner : Part) → Kept p nobody s w after → Keeps s (opens sc w p q part outer after inner)
+  opens_keeps : (s : List Reference) (after : World) (inner : Part) → WorldKept p nobody s w after → Keeps s (opens sc w p q part outer after inner)
   opens_keeps s after inner f = acts s nobody after f (record q { todo = inner ∷ answered sc w p q part outer entered ∷ outer }) refl refl
 
   pub fails_keeps : (s : List Reference) (k : FaultKind) → Keeps s (fails sc w p q part outer k)
@@ -118,7 +118,7 @@ module _ (sc : Scopes) (w : World) (p : ℕ) (q : Process) (part : Part) (outer 
       (cell_set p w r (array (with_element (array_in (cell_at w r)) ks v)))
 
   -- ---- entering and leaving
-  new_instance_keeps : (s : List Reference) (j parent process : ℕ) (cells : List Cell) → Kept p nobody s w (with_new_instance sc w p q part outer j parent process cells)
+  new_instance_keeps : (s : List Reference) (j parent process : ℕ) (cells : List Cell) → WorldKept p nobody s w (with_new_instance sc w p q part outer j parent process cells)
   new_instance_keeps s j parent process cells =
       instance_added p s w
       (record { block = j; parent = parent; process = process; cells = fresh_cells (block_numbered sc.blocks j) cells; left = false })
@@ -132,18 +132,18 @@ module _ (sc : Scopes) (w : World) (p : ℕ) (q : Process) (part : Part) (outer 
       opens_keeps s (with_new_instance sc w p q part outer j part.instance p []) (new_part sc w p q part outer j block)
       (new_instance_keeps s j part.instance p [])
 
-  pub left_with_keeps : (s : List Reference) (after : World) (a : Answer) (parts : List Part) → Kept p nobody s w after → Keeps s (left_with sc w p q part outer after a parts)
+  pub left_with_keeps : (s : List Reference) (after : World) (a : Answer) (parts : List Part) → WorldKept p nobody s w after → Keeps s (left_with sc w p q part outer after a parts)
   left_with_keeps s after a [] f = f
   left_with_keeps s after a (next ∷ parts) f = acts s nobody after f (record q { todo = record next { rest = resume sc next.rest a } ∷ parts }) refl refl
 
   -- .. whatever a woken number would be
-  pub left_with_tells : (woken : ℕ → Process → ℕ) (s : List Reference) (after : World) (a : Answer) (parts : List Part) → Kept p nobody s w after →
+  pub left_with_tells : (woken : ℕ → Process → ℕ) (s : List Reference) (after : World) (a : Answer) (parts : List Part) → WorldKept p nobody s w after →
       KeepsTelling woken s (left_with sc w p q part outer after a parts)
   left_with_tells woken s after a [] f = nobody_kept p woken s w after f
   left_with_tells woken s after a (next ∷ parts) f =
       nobody_kept p woken s w (left_with sc w p q part outer after a (next ∷ parts)).world (left_with_keeps s after a (next ∷ parts) f)
 
-  ended_keeps : (woken : ℕ → Process → ℕ) (s : List Reference) (x : Released) → Kept p (record { processes = x.processes; woken = woken }) s w x.world →
+  ended_keeps : (woken : ℕ → Process → ℕ) (s : List Reference) (x : Released) → WorldKept p (record { processes = x.processes; woken = woken }) s w x.world →
       KeepsTelling woken s (ended_releasing sc w p q part outer x)
   ended_keeps woken s x f = acts s (record { processes = x.processes; woken = woken }) x.world f (record q { todo = []; state = ended }) refl refl
 
@@ -159,7 +159,7 @@ module _ (sc : Scopes) (w : World) (p : ℕ) (q : Process) (part : Part) (outer 
     where
       Caused : List Process → EventState → Type 0
       Caused qs e =
-          Kept p (record { processes = (event_at (leave w is) r).waiters; woken = woken_of r e.waiters }) (r ∷ lists_of qs e.waiters) (leave w is)
+          WorldKept p (record { processes = (event_at (leave w is) r).waiters; woken = woken_of r e.waiters }) (r ∷ lists_of qs e.waiters) (leave w is)
           (caused_by_end (leave w is) p (Some r)).world
 
       caused : Caused w.processes (event_at w r)
@@ -174,7 +174,7 @@ module _ (sc : Scopes) (w : World) (p : ℕ) (q : Process) (part : Part) (outer 
   left_or_ended_keeps a (next ∷ parts) =
       left_with_keeps [] (leave w (part.instance ∷ [])) a (next ∷ parts) (instances_left p [] w (part.instance ∷ []))
 
-  left_keeps : (a : Answer) → KeepsTelling (woken_at_end sc w p q part outer outer) (task_at_end sc w p q part outer outer) (left sc w p q part outer a)
+  left_keeps : (a : Answer) → KeepsTelling (woken_at_end sc w p q part outer outer) (task_at_end sc w p q part outer outer) (left_choice sc w p q part outer a)
   left_keeps a = by (is_evaluation part.purpose) (some_depends w.processes part.instance)
     where
       by : (b c : Bool) →
@@ -227,7 +227,7 @@ module _ (sc : Scopes) (w : World) (p : ℕ) (q : Process) (part : Part) (outer 
 
   -- ---- events
   did_keeps : (x : EventDeed) (r : Reference) (d : Deed) (n : Next) → ((n ≡ deeds.goes → ⊥) → d.frees ≡ []) →
-      Kept p (record { processes = d.frees; woken = woken_of r d.withdraws }) (stored_by_release w r d) w (released w r d).world →
+      WorldKept p (record { processes = d.frees; woken = woken_of r d.withdraws }) (stored_by_release w r d) w (released w r d).world →
       KeepsTelling (woken_of r d.withdraws) (stored_by_release w r d) (did sc w p q part outer x r d n)
   did_keeps x r d n nobody_freed kept = by n nobody_freed
     where
@@ -240,11 +240,11 @@ module _ (sc : Scopes) (w : World) (p : ℕ) (q : Process) (part : Part) (outer 
       stopped : d.frees ≡ [] → (state : State) → KeepsTelling woken s (stops sc w p q part outer (deeds.letter_of x) (released w r d).world state)
       stopped e state =
           acts s (record { processes = []; woken = woken }) (released w r d).world
-          (subst (λ fs. Kept p (record { processes = fs; woken = woken }) s w (released w r d).world) e kept)
+          (subst (λ fs. WorldKept p (record { processes = fs; woken = woken }) s w (released w r d).world) e kept)
           (record q { todo = answered sc w p q part outer done ∷ outer; state = state }) refl refl
 
       by : (m : Next) → ((m ≡ deeds.goes → ⊥) → d.frees ≡ []) → KeepsTelling woken s (did sc w p q part outer x r d m)
-      by deeds.goes f = releasing_keeps woken s (deeds.letter_of x) (released w r d) (told sc w p q part outer d.answer) kept
+      by deeds.goes f = releasing_keeps woken s (deeds.letter_of x) (released w r d) (told_answer sc w p q part outer d.answer) kept
       by deeds.waits f = stopped (f (λ e. cc)) (waits_for r)
       by deeds.procures f = stopped (f (λ e. cc)) (procures r)
 
@@ -306,7 +306,7 @@ module _ (sc : Scopes) (w : World) (p : ℕ) (q : Process) (part : Part) (outer 
       (subscript_place ((use_of sc n).sort) (array_in (cell_at w (followed w (here sc w p q part outer n)))) ks (whole_of v))
   choice_keeps (asks.fails f) = fails_keeps [] (fault_of f)
   choice_keeps (asks.enters n gs) =
-      procedure_keeps [] (block_of ((use_of sc n).sort)) (home sc w p q part outer n) (given_cells sc w p q part outer gs)
+      procedure_keeps [] (block_of_sort ((use_of sc n).sort)) (home sc w p q part outer n) (given_cells sc w p q part outer gs)
   choice_keeps (asks.passes n) = goes_keeps [] actions.Pass w (cell (cell_at w (here sc w p q part outer n))) (unchanged p [] w)
   choice_keeps (asks.resolves n) = resolved_keeps [] n (cell_at w (here sc w p q part outer n))
   choice_keeps (asks.reads_result name) =
@@ -321,9 +321,9 @@ module _ (sc : Scopes) (w : World) (p : ℕ) (q : Process) (part : Part) (outer 
   choice_keeps (asks.enters_block b) = block_keeps [] (number_at sc.blocks (spot_of b))
   choice_keeps (asks.starts n gs task) =
       either [] (nat_lt MOST_STARTED (length w.processes)) (fails sc w p q part outer fault.ProcessLimit)
-      (starts sc w p q part outer (block_of ((use_of sc n).sort)) (home sc w p q part outer n) (given_cells sc w p q part outer gs) (task_of sc w p q part outer task))
+      (starts sc w p q part outer (block_of_sort ((use_of sc n).sort)) (home sc w p q part outer n) (given_cells sc w p q part outer gs) (task_of sc w p q part outer task))
       (fails_keeps [] fault.ProcessLimit)
-      (starts_keeps [] (block_of ((use_of sc n).sort)) (home sc w p q part outer n) (given_cells sc w p q part outer gs) (task_of sc w p q part outer task))
+      (starts_keeps [] (block_of_sort ((use_of sc n).sort)) (home sc w p q part outer n) (given_cells sc w p q part outer gs) (task_of sc w p q part outer task))
   choice_keeps (asks.event_deed x ns) = does_keeps x ns
   choice_keeps (asks.writes phrases vs) =
       goes_keeps [] actions.Line (record w { output = w.output ++ line_of phrases vs ∷ [] }) done (line_added p [] w (line_of phrases vs))
@@ -334,12 +334,12 @@ module _ (sc : Scopes) (w : World) (p : ℕ) (q : Process) (part : Part) (outer 
 
 -- ---- the law
 in_keeps : (sc : Scopes) (w : World) (p : ℕ) (q : Process) (parts : List Part) → numbered w.processes p ≡ Some q →
-    Kept p (record { processes = (choice_in sc w p q parts).released; woken = woken_in sc w p q parts }) (stored_in sc w p q parts) w (choice_in sc w p q parts).world
+    WorldKept p (record { processes = (choice_in sc w p q parts).released; woken = woken_in sc w p q parts }) (stored_in sc w p q parts) w (choice_in sc w p q parts).world
 in_keeps sc w p q [] is = unchanged p [] w
 in_keeps sc w p q (part ∷ outer) is = choice_keeps sc w p q part outer is (ask part.rest)
 
 by_process : (sc : Scopes) (w : World) (p : ℕ) (o : Option Process) → numbered w.processes p ≡ o →
-    Kept p
+    WorldKept p
     (record {
       processes = (choice_in sc w p (or_no_process o) (or_no_process o).todo).released;
       woken = woken_in sc w p (or_no_process o) (or_no_process o).todo;

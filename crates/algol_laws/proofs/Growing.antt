@@ -7,7 +7,7 @@ use Rattle.algol_meaning.specs.Value.{Reference}
 use Rattle.algol_meaning.specs.World.{World}
 use Rattle.algol_meaning.specs.Choice.{choice}
 use Rattle.algol_meaning.specs.Run.{may_go, after_entry, run_from}
-use Rattle.algol_laws.specs.Kept.{Freed, Kept, freed_by, Grown, EachRunGrows, stored_cells}
+use Rattle.algol_laws.specs.Kept.{Freed, WorldKept, freed_by, Grown, EachRunGrows, stored_cells}
 use Rattle.algol_laws.proofs.Keeping.{instance_grown, process_grown, lines_after}
 use Rattle.algol_laws.proofs.Choices.{each_keeps}
 
@@ -19,7 +19,7 @@ stays w =
       output = ([], sym (append-nil w.output));
     }
 
-grown_by : (p : ℕ) (rs : Freed) (s : List Reference) (w after : World) → Kept p rs s w after → Grown w after
+grown_by : (p : ℕ) (rs : Freed) (s : List Reference) (w after : World) → WorldKept p rs s w after → Grown w after
 grown_by p rs s w after f =
     record {
       instances = λ i x e. let m = f.instances i x e in (m.0, m.1, m.2.grown);

@@ -13,26 +13,26 @@ use Rattle.algol_tree.specs.Scopes.{Scopes}
 use Rattle.algol_meaning.specs.Rest.{Place, Given, valued, refers, names, Hole, Actuals, Half, val, busy, HalfGiven, given, wants, Aim, HalfPlace, at, aims, Loop, Item, Rest, Answer}
 use Rattle.algol_meaning.specs.Rest as rests
 use Rattle.algol_meaning.specs.Operators.{result_of}
-use Rattle.algol_meaning.specs.Settle.{after_result, right_of, left_of, negated_of, inverted_of, condition_of, named_of, subscripted_of, called_of, valued_of, alone_of, sorts_of, half_of, half_place_of, callee, is_typed, sort_at, other_of, actual_of, first_actual_of, settle, settle_actuals, put, put_actuals, left_alone_of, aimed_of, settle_place, indexed_of, put_place}
+use Rattle.algol_meaning.specs.Settle.{after_result, right_of, left_of, negated_of, inverted_of, condition_of, named_of, subscripted_of, called_of, valued_of, alone_of, sorts_of, half_of, half_place_of, callee, is_typed, sort_at, other_of, actual_of, first_actual_of, settle, settle_actuals, answer_put, put_actuals, left_alone_of, aimed_of, settle_place, indexed_of, put_place}
 use Rattle.algol_meaning.specs.Statements.{items, assigned_of, aimed_at, chosen_of, looped_of, checked_of, repeated_of, counted_of, after_count, counted_body, selected_of, statement_called_of, prepared_of, item_of, bound_of, begun_of, settle_line, settle_bounds, settle_stmt, settle_stmts, settle_body, is_past, again, tested_of, differed_of, difference_in, stepped, run_and, turn_and, settle_items}
-use Rattle.algol_meaning.specs.Asks.{ask_hole, ask_actuals, ask_aim, ask, resume, evaluated_of, located_of, nth_stmt, inside_or_after, called}
-use Rattle.algol_laws.specs.Heads.{is_action}
+use Rattle.algol_meaning.specs.Asks.{ask_hole, ask_actuals, ask_aim, ask, resume, evaluated_of, located_of, nth_stmt, inside_or_after, asks_called}
+use Rattle.algol_laws.specs.Heads.{asks_action}
 
 -- a value, or a head that asks for an action
 abbrev pub acts : Half → Bool
 acts (val v) = true
-acts (busy h) = is_action (ask_hole h)
+acts (busy h) = asks_action (ask_hole h)
 
 abbrev pub acts_given : HalfGiven → Bool
 acts_given (given gs) = true
-acts_given (wants x) = is_action (ask_actuals x)
+acts_given (wants x) = asks_action (ask_actuals x)
 
 abbrev pub acts_place : HalfPlace → Bool
 acts_place (at p) = true
-acts_place (aims a) = is_action (ask_aim a)
+acts_place (aims a) = asks_action (ask_aim a)
 
 abbrev pub acts_rest : Rest → Bool
-acts_rest r = is_action (ask r)
+acts_rest r = asks_action (ask r)
 
 -- an answer that leaves no part inside
 abbrev pub is_answer : Answer → Bool
@@ -153,7 +153,7 @@ module _ (sc : Scopes) where
   half_acts rests.entered e = e
 
   mutual
-    pub put_acts : (h : Hole) (a : Answer) → is_answer a ≡ true → acts (put sc h a) ≡ true
+    pub put_acts : (h : Hole) (a : Answer) → is_answer a ≡ true → acts (answer_put sc h a) ≡ true
     put_acts (rests.read n) a e = half_acts a e
     put_acts (rests.element n ks i) a e = half_acts a e
     put_acts (rests.index n ks i x es) a e = subscripted_acts n (rests.subscripts_of a) (settle sc x) es (settle_acts x)
@@ -161,17 +161,17 @@ module _ (sc : Scopes) where
     put_acts (rests.broken op v w fault) a e = half_acts a e
     put_acts (rests.enter n gs) a e = half_acts a e
     put_acts rests.inside a e = half_acts a e
-    put_acts (rests.subscript n ks h es) a e = subscripted_acts n ks (put sc h a) es (put_acts h a e)
+    put_acts (rests.subscript n ks h es) a e = subscripted_acts n ks (answer_put sc h a) es (put_acts h a e)
     put_acts (rests.argument n x) a e = called_acts n (put_actuals sc x a) (put_actuals_act x a e)
-    put_acts (rests.left op h b) a e = left_acts op (put sc h a) b (settle sc b) (put_acts h a e) (settle_acts b)
-    put_acts (rests.right op v h) a e = right_acts op v (put sc h a) (put_acts h a e)
-    put_acts (rests.negated h) a e = negated_acts (put sc h a) (put_acts h a e)
-    put_acts (rests.inverted h) a e = inverted_acts (put sc h a) (put_acts h a e)
-    put_acts (rests.condition h x y) a e = condition_acts (put sc h a) x y (settle sc x) (settle sc y) (put_acts h a e) (settle_acts x) (settle_acts y)
+    put_acts (rests.left op h b) a e = left_acts op (answer_put sc h a) b (settle sc b) (put_acts h a e) (settle_acts b)
+    put_acts (rests.right op v h) a e = right_acts op v (answer_put sc h a) (put_acts h a e)
+    put_acts (rests.negated h) a e = negated_acts (answer_put sc h a) (put_acts h a e)
+    put_acts (rests.inverted h) a e = inverted_acts (answer_put sc h a) (put_acts h a e)
+    put_acts (rests.condition h x y) a e = condition_acts (answer_put sc h a) x y (settle sc x) (settle sc y) (put_acts h a e) (settle_acts x) (settle_acts y)
 
     pub put_actuals_act : (x : Actuals) (a : Answer) → is_answer a ≡ true → acts_given (put_actuals sc x a) ≡ true
-    put_actuals_act (rests.pass gs n sorts es) a e = actuals_act es sorts (gs ++ rests.passed (rests.cell_of a (simple (number (pos 0)))) ∷ [])
-    put_actuals_act (rests.in_value gs h sorts es) a e = valued_acts gs (put sc h a) sorts es (settle_actuals sc es sorts) (put_acts h a e) (actuals_act es sorts)
+    put_actuals_act (rests.pass gs n sorts es) a e = actuals_act es sorts (gs ++ rests.passed (rests.cell_of_answer a (simple (number (pos 0)))) ∷ [])
+    put_actuals_act (rests.in_value gs h sorts es) a e = valued_acts gs (answer_put sc h a) sorts es (settle_actuals sc es sorts) (put_acts h a e) (actuals_act es sorts)
 
   -- ---- left sides
 
@@ -202,7 +202,7 @@ module _ (sc : Scopes) where
   put_place_acts (rests.resolve n) a e f = half_place_acts a (f refl)
   put_place_acts (rests.place_index n ks i es) a e f = indexed_acts n a es (f refl)
   put_place_acts rests.inside_place a e f = half_place_acts a (f refl)
-  put_place_acts (rests.place_subscript n ks h es) a e f = aimed_acts n ks (put sc h a) es (put_acts h a e)
+  put_place_acts (rests.place_subscript n ks h es) a e f = aimed_acts n ks (answer_put sc h a) es (put_acts h a e)
 
 -- ---- statements
 
@@ -352,7 +352,7 @@ module _ (sc : Scopes) where
   after_acts (rests.place p) k e = items_act k
   after_acts rests.entered k e = e
 
-  called_after : (typed : Bool) (a : Answer) (k : List Item) → is_answer a ≡ true → Ready (called sc typed a k)
+  called_after : (typed : Bool) (a : Answer) (k : List Item) → is_answer a ≡ true → Ready (asks_called sc typed a k)
   called_after typed rests.done k e = items_act k
   called_after typed (rests.value v) k e = items_act k
   called_after typed (rests.cell c) k e = items_act k
@@ -378,23 +378,23 @@ module _ (sc : Scopes) where
   resume_acts (rests.event n k) a e f = items_act k
   resume_acts (rests.within k) a e f = items_act k
   resume_acts (rests.dropping k) a e f = items_act k
-  resume_acts (rests.evaluating h) a e f = evaluated_acts (put sc h a) (put_acts sc h a e)
+  resume_acts (rests.evaluating h) a e f = evaluated_acts (answer_put sc h a) (put_acts sc h a e)
   resume_acts (rests.locating x) a e f = located_acts (put_place sc x a) (put_place_acts sc x a e f)
   resume_acts (rests.aiming x b k) a e f = aimed_at_acts (put_place sc x a) b (settle sc b) k (put_place_acts sc x a e f) (settle_acts sc b)
-  resume_acts (rests.storing p h k) a e f = assigned_acts p (put sc h a) k (put_acts sc h a e)
+  resume_acts (rests.storing p h k) a e f = assigned_acts p (answer_put sc h a) k (put_acts sc h a e)
   resume_acts (rests.choosing h x y k) a e f =
-      chosen_acts (put sc h a) x y k (settle_stmt sc x k (settle_items sc k)) (settle_stmt sc y k (settle_items sc k)) (put_acts sc h a e)
+      chosen_acts (answer_put sc h a) x y k (settle_stmt sc x k (settle_items sc k)) (settle_stmt sc y k (settle_items sc k)) (put_acts sc h a e)
       (stmt_acts x k (settle_items sc k) (items_act k)) (stmt_acts y k (settle_items sc k) (items_act k))
   resume_acts (rests.looping h c b k) a e f =
-      looped_acts (put sc h a) c b k (settle_stmt sc b (turn_and (tree.while c b) k) (rests.turning (run_and (tree.while c b) k))) (settle_items sc k) (put_acts sc h a e)
+      looped_acts (answer_put sc h a) c b k (settle_stmt sc b (turn_and (tree.while c b) k) (rests.turning (run_and (tree.while c b) k))) (settle_items sc k) (put_acts sc h a e)
       (stmt_acts b (turn_and (tree.while c b) k) (rests.turning (run_and (tree.while c b) k)) refl) (items_act k)
-  resume_acts (rests.checking h b c k) a e f = checked_acts (put sc h a) b c k (settle_items sc k) (put_acts sc h a e) (items_act k)
-  resume_acts (rests.counting h b k) a e f = counted_acts (put sc h a) b k (counted_body sc b k) (settle_items sc k) (put_acts sc h a e) (body_counted_acts b k) (items_act k)
-  resume_acts (rests.differing h loop k) a e f = differed_acts (put sc h a) loop k (settle_items sc k) (put_acts sc h a e) (items_act k)
-  resume_acts (rests.stepping d h loop k) a e f = tested_acts d (put sc h a) loop k (settle_items sc k) (put_acts sc h a e) (items_act k)
-  resume_acts (rests.selecting h ss k) a e f = selected_acts (put sc h a) ss k (put_acts sc h a e)
+  resume_acts (rests.checking h b c k) a e f = checked_acts (answer_put sc h a) b c k (settle_items sc k) (put_acts sc h a e) (items_act k)
+  resume_acts (rests.counting h b k) a e f = counted_acts (answer_put sc h a) b k (counted_body sc b k) (settle_items sc k) (put_acts sc h a e) (body_counted_acts b k) (items_act k)
+  resume_acts (rests.differing h loop k) a e f = differed_acts (answer_put sc h a) loop k (settle_items sc k) (put_acts sc h a e) (items_act k)
+  resume_acts (rests.stepping d h loop k) a e f = tested_acts d (answer_put sc h a) loop k (settle_items sc k) (put_acts sc h a e) (items_act k)
+  resume_acts (rests.selecting h ss k) a e f = selected_acts (answer_put sc h a) ss k (put_acts sc h a e)
   resume_acts (rests.calling n x k) a e f = statement_called_acts n (put_actuals sc x a) k (put_actuals_act sc x a e)
   resume_acts (rests.preparing n x task k) a e f = prepared_acts n (put_actuals sc x a) task k (put_actuals_act sc x a e)
-  resume_acts (rests.writing ps vs h es k) a e f = item_acts ps vs (put sc h a) es k (settle_line sc es ps k) (put_acts sc h a e) (line_acts es ps k)
+  resume_acts (rests.writing ps vs h es k) a e f = item_acts ps vs (answer_put sc h a) es k (settle_line sc es ps k) (put_acts sc h a e) (line_acts es ps k)
   resume_acts (rests.bounding kind ns pairs vs h ps k) a e f =
-      bound_acts kind ns pairs vs (put sc h a) ps k (settle_bounds sc ps kind ns pairs k) (put_acts sc h a e) (bounds_act ps kind ns pairs k)
+      bound_acts kind ns pairs vs (answer_put sc h a) ps k (settle_bounds sc ps kind ns pairs k) (put_acts sc h a e) (bounds_act ps kind ns pairs k)

@@ -7,7 +7,7 @@ use Rattle.algol_tree.specs.Sorts.{same_name}
 use Rattle.algol_meaning.specs.Value.{Reference, Cell}
 use Rattle.algol_meaning.specs.World.{NamedCell, Instance, Process, WorldFault, World, instance_at, or_no_instance, cell_in, cells_with, with_instance, set_cell, add_cells, with_process}
 use Rattle.algol_meaning.specs.Instances.{leave}
-use Rattle.algol_laws.specs.Kept.{has_cell, InstanceGrown, ProcessGrown, InstanceKept, Freed, nobody, ProcessKept, Kept}
+use Rattle.algol_laws.specs.Kept.{cell_is_there, InstanceGrown, ProcessGrown, InstanceKept, Freed, nobody, ProcessKept, WorldKept}
 use Rattle.algol_laws.proofs.Cells.{numbered_set, numbered_other, same_number, itself, with_other}
 
 -- ---- lists
@@ -23,34 +23,34 @@ numbered_before xs ys (suc k) x e = got_before xs ys k x e
 
 -- ---- cells
 
-has_with : (cells : List NamedCell) (m n : List ℕ) (c : Cell) → has_cell cells n ≡ true → has_cell (cells_with cells m c) n ≡ true
+has_with : (cells : List NamedCell) (m n : List ℕ) (c : Cell) → cell_is_there cells n ≡ true → cell_is_there (cells_with cells m c) n ≡ true
 has_with [] m n c e = e
 has_with (x ∷ cells) m n c e = by (same_name x.name m) refl e (has_with cells m n c)
   where
-    by : (b : Bool) → same_name x.name m ≡ b → has_cell (x ∷ cells) n ≡ true → (has_cell cells n ≡ true → has_cell (cells_with cells m c) n ≡ true) →
-        has_cell (if b then record x { cell = c } ∷ cells else x ∷ cells_with cells m c) n ≡ true
+    by : (b : Bool) → same_name x.name m ≡ b → cell_is_there (x ∷ cells) n ≡ true → (cell_is_there cells n ≡ true → cell_is_there (cells_with cells m c) n ≡ true) →
+        cell_is_there (if b then record x { cell = c } ∷ cells else x ∷ cells_with cells m c) n ≡ true
     by true f e g = e
     by false f e g = under (same_name x.name n) e g
       where
-        under : (b : Bool) → (if b then true else has_cell cells n) ≡ true → (has_cell cells n ≡ true → has_cell (cells_with cells m c) n ≡ true) →
-            (if b then true else has_cell (cells_with cells m c) n) ≡ true
+        under : (b : Bool) → (if b then true else cell_is_there cells n) ≡ true → (cell_is_there cells n ≡ true → cell_is_there (cells_with cells m c) n ≡ true) →
+            (if b then true else cell_is_there (cells_with cells m c) n) ≡ true
         under true e g = refl
         under false e g = g e
 
-has_before : (cells more : List NamedCell) (n : List ℕ) → has_cell cells n ≡ true → has_cell (cells ++ more) n ≡ true
+has_before : (cells more : List NamedCell) (n : List ℕ) → cell_is_there cells n ≡ true → cell_is_there (cells ++ more) n ≡ true
 has_before [] more n e = cc
 has_before (x ∷ cells) more n e = by (same_name x.name n) e (has_before cells more n)
   where
-    by : (b : Bool) → (if b then true else has_cell cells n) ≡ true → (has_cell cells n ≡ true → has_cell (cells ++ more) n ≡ true) →
-        (if b then true else has_cell (cells ++ more) n) ≡ true
+    by : (b : Bool) → (if b then true else cell_is_there cells n) ≡ true → (cell_is_there cells n ≡ true → cell_is_there (cells ++ more) n ≡ true) →
+        (if b then true else cell_is_there (cells ++ more) n) ≡ true
     by true e g = refl
     by false e g = g e
 
-in_before : (cells more : List NamedCell) (n : List ℕ) → has_cell cells n ≡ true → cell_in (cells ++ more) n ≡ cell_in cells n
+in_before : (cells more : List NamedCell) (n : List ℕ) → cell_is_there cells n ≡ true → cell_in (cells ++ more) n ≡ cell_in cells n
 in_before [] more n e = cc
 in_before (x ∷ cells) more n e = by (same_name x.name n) e (in_before cells more n)
   where
-    by : (b : Bool) → (if b then true else has_cell cells n) ≡ true → (has_cell cells n ≡ true → cell_in (cells ++ more) n ≡ cell_in cells n) →
+    by : (b : Bool) → (if b then true else cell_is_there cells n) ≡ true → (cell_is_there cells n ≡ true → cell_in (cells ++ more) n ≡ cell_in cells n) →
         (if b then x.cell else cell_in (cells ++ more) n) ≡ (if b then x.cell else cell_in cells n)
     by true e g = refl
     by false e g = g e
@@ -84,7 +84,7 @@ instance_after s i x y z f g =
 process_stays : (p : ℕ) (j : ℕ) (q : Process) → ProcessKept p nobody j q q
 process_stays p j q = record { grown = record { critical = refl; task = refl }; freed = λ d e. cc; other = λ d e. refl }
 
-pub unchanged : (p : ℕ) (s : List Reference) (w : World) → Kept p nobody s w w
+pub unchanged : (p : ℕ) (s : List Reference) (w : World) → WorldKept p nobody s w w
 unchanged p s w =
     record {
       instances = λ i x e. (x, e, instance_stays s i x);
@@ -118,7 +118,7 @@ pub lines_after : (a b c : World) → ((lines : List (List ℕ)) × (b.output �
     (lines : List (List ℕ)) × (c.output ≡ a.output ++ lines)
 lines_after a b c f g = (f.0 ++ g.0, g.1 ∙ ap (λ x. x ++ g.0) f.1 ∙ append_assoc a.output f.0 g.0)
 
-pub kept_then : (p : ℕ) (rs : Freed) (s : List Reference) (a b c : World) → Kept p rs s a b → Kept p nobody s b c → Kept p rs s a c
+pub kept_then : (p : ℕ) (rs : Freed) (s : List Reference) (a b c : World) → WorldKept p rs s a b → WorldKept p nobody s b c → WorldKept p rs s a c
 kept_then p rs s a b c f g =
     record {
       instances = λ i x e.
@@ -129,7 +129,7 @@ kept_then p rs s a b c f g =
     }
 
 -- nobody is released, whatever a woken number would be
-pub nobody_kept : (p : ℕ) (woken : ℕ → Process → ℕ) (s : List Reference) (a b : World) → Kept p nobody s a b → Kept p (record { processes = []; woken = woken }) s a b
+pub nobody_kept : (p : ℕ) (woken : ℕ → Process → ℕ) (s : List Reference) (a b : World) → WorldKept p nobody s a b → WorldKept p (record { processes = []; woken = woken }) s a b
 nobody_kept p woken s a b f =
     record {
       instances = f.instances;
@@ -138,7 +138,7 @@ nobody_kept p woken s a b f =
       output = f.output;
     }
 
-pub kept_before : (p : ℕ) (rs : Freed) (s : List Reference) (a b c : World) → Kept p nobody s a b → Kept p rs s b c → Kept p rs s a c
+pub kept_before : (p : ℕ) (rs : Freed) (s : List Reference) (a b c : World) → WorldKept p nobody s a b → WorldKept p rs s b c → WorldKept p rs s a c
 kept_before p rs s a b c f g =
     record {
       instances = λ i x e.
@@ -156,7 +156,7 @@ or_this o x e = ap or_no_instance e
 not_itself : (i j : ℕ) → i ≡ j → (j == i) ≡ false → ⊥
 not_itself i j same e = let wrong : false ≡ true = sym e ∙ ap (λ k. j == k) same ∙ itself j in cc
 
-pub instance_changed : (p : ℕ) (s : List Reference) (w : World) (i : ℕ) (y : Instance) → InstanceKept s i (instance_at w i) y → Kept p nobody s w (with_instance w i y)
+pub instance_changed : (p : ℕ) (s : List Reference) (w : World) (i : ℕ) (y : Instance) → InstanceKept s i (instance_at w i) y → WorldKept p nobody s w (with_instance w i y)
 instance_changed p s w i y f =
     record {
       instances = λ j x e. by (j == i) refl x e;
@@ -180,7 +180,7 @@ instance_changed p s w i y f =
     by {j} true e x g = there j (same_number j i e) x g
     by {j} false e x g = (x, numbered_other w.instances i j y (λ same. not_itself i j same e) ∙ g, instance_stays s j x)
 
-pub cell_set : (p : ℕ) (w : World) (r : Reference) (c : Cell) → Kept p nobody (r ∷ []) w (set_cell w r c)
+pub cell_set : (p : ℕ) (w : World) (r : Reference) (c : Cell) → WorldKept p nobody (r ∷ []) w (set_cell w r c)
 cell_set p w r c =
     instance_changed p (r ∷ []) w r.instance (record x { cells = cells_with x.cells r.name c })
     (record {
@@ -191,7 +191,7 @@ cell_set p w r c =
     x : Instance
     x = instance_at w r.instance
 
-pub cells_added : (p : ℕ) (s : List Reference) (w : World) (i : ℕ) (more : List NamedCell) → Kept p nobody s w (add_cells w i more)
+pub cells_added : (p : ℕ) (s : List Reference) (w : World) (i : ℕ) (more : List NamedCell) → WorldKept p nobody s w (add_cells w i more)
 cells_added p s w i more =
     instance_changed p s w i (record x { cells = x.cells ++ more })
     (record {
@@ -202,7 +202,7 @@ cells_added p s w i more =
     x : Instance
     x = instance_at w i
 
-one_left : (p : ℕ) (s : List Reference) (w : World) (i : ℕ) → Kept p nobody s w (with_instance w i (record (instance_at w i) { left = true }))
+one_left : (p : ℕ) (s : List Reference) (w : World) (i : ℕ) → WorldKept p nobody s w (with_instance w i (record (instance_at w i) { left = true }))
 one_left p s w i =
     instance_changed p s w i (record x { left = true })
     (record { grown = record { block = refl; parent = refl; process = refl; left = λ e. refl; cells = λ n e. e }; values = λ n e d. refl })
@@ -210,7 +210,7 @@ one_left p s w i =
     x : Instance
     x = instance_at w i
 
-pub instances_left : (p : ℕ) (s : List Reference) (w : World) (is : List ℕ) → Kept p nobody s w (leave w is)
+pub instances_left : (p : ℕ) (s : List Reference) (w : World) (is : List ℕ) → WorldKept p nobody s w (leave w is)
 instances_left p s w [] = unchanged p s w
 instances_left p s w (i ∷ is) =
     kept_then p nobody s w (with_instance w i (record (instance_at w i) { left = true })) (leave (with_instance w i (record (instance_at w i) { left = true })) is)
@@ -218,7 +218,7 @@ instances_left p s w (i ∷ is) =
 
 -- ---- one more instance, one more process, lines and faults
 
-pub instance_added : (p : ℕ) (s : List Reference) (w : World) (x : Instance) → Kept p nobody s w (record w { instances = w.instances ++ x ∷ [] })
+pub instance_added : (p : ℕ) (s : List Reference) (w : World) (x : Instance) → WorldKept p nobody s w (record w { instances = w.instances ++ x ∷ [] })
 instance_added p s w x =
     record {
       instances = λ j y e. (y, numbered_before w.instances (x ∷ []) j y e, instance_stays s j y);
@@ -226,7 +226,7 @@ instance_added p s w x =
       output = ([], sym (append-nil w.output));
     }
 
-pub process_added : (p : ℕ) (s : List Reference) (w : World) (q : Process) → Kept p nobody s w (record w { processes = w.processes ++ q ∷ [] })
+pub process_added : (p : ℕ) (s : List Reference) (w : World) (q : Process) → WorldKept p nobody s w (record w { processes = w.processes ++ q ∷ [] })
 process_added p s w q =
     record {
       instances = λ j y e. (y, e, instance_stays s j y);
@@ -234,7 +234,7 @@ process_added p s w q =
       output = ([], sym (append-nil w.output));
     }
 
-pub line_added : (p : ℕ) (s : List Reference) (w : World) (line : List ℕ) → Kept p nobody s w (record w { output = w.output ++ line ∷ [] })
+pub line_added : (p : ℕ) (s : List Reference) (w : World) (line : List ℕ) → WorldKept p nobody s w (record w { output = w.output ++ line ∷ [] })
 line_added p s w line =
     record {
       instances = λ j y e. (y, e, instance_stays s j y);
@@ -242,7 +242,7 @@ line_added p s w line =
       output = (line ∷ [], refl);
     }
 
-pub fault_kept : (p : ℕ) (s : List Reference) (w : World) (f : Option WorldFault) → Kept p nobody s w (record w { fault = f })
+pub fault_kept : (p : ℕ) (s : List Reference) (w : World) (f : Option WorldFault) → WorldKept p nobody s w (record w { fault = f })
 fault_kept p s w f =
     record {
       instances = λ j y e. (y, e, instance_stays s j y);
@@ -267,7 +267,7 @@ module _ (p : ℕ) (rs : Freed) (s : List Reference) (w : World) (i : ℕ) (r : 
   process_by f g j false e q found = (q, numbered_other w.processes i j r (λ same. not_itself i j same e) ∙ found, g j q e)
 
   pub process_set : ((q : Process) → numbered w.processes i ≡ Some q → ProcessKept p rs i q r) → ((j : ℕ) (q : Process) → (j == i) ≡ false → ProcessKept p rs j q q) →
-      Kept p rs s w (with_process w i r)
+      WorldKept p rs s w (with_process w i r)
   process_set f g =
       record {
         instances = λ j y e. (y, e, instance_stays s j y);
@@ -277,7 +277,7 @@ module _ (p : ℕ) (rs : Freed) (s : List Reference) (w : World) (i : ℕ) (r : 
 
 -- the actor's own process
 pub actor_set : (p : ℕ) (s : List Reference) (w : World) (r : Process) →
-    ((q : Process) → numbered w.processes p ≡ Some q → (r.critical ≡ q.critical) × (r.task ≡ q.task)) → Kept p nobody s w (with_process w p r)
+    ((q : Process) → numbered w.processes p ≡ Some q → (r.critical ≡ q.critical) × (r.task ≡ q.task)) → WorldKept p nobody s w (with_process w p r)
 actor_set p s w r f =
     process_set p nobody s w p r
     (λ q e. record { grown = record { critical = (f q e).0; task = (f q e).1 }; freed = λ d g. absurd (d refl); other = λ d g. absurd (d refl) })

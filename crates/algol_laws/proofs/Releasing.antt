@@ -9,9 +9,9 @@ use Rattle.b67_deeds.specs.Events.{EventState, left_by}
 use Rattle.b67_deeds.specs.Deeds.{EventDeed, acts, tests, Deed, deed}
 use Rattle.algol_meaning.specs.Value.{Reference, event}
 use Rattle.algol_meaning.specs.World.{Instance, able, Process, World, or_no_process, process_at, set_able, set_all_able}
-use Rattle.algol_meaning.specs.Critical.{is_one_of}
-use Rattle.algol_meaning.specs.Events.{event_at, change_event, same_reference, first_that, is_among, joined_all, list_in, forgotten, told_number, woken_by, withdrawn, all_withdrawn, released}
-use Rattle.algol_laws.specs.Kept.{InstanceKept, nobody, woken_of, ProcessKept, Kept, IsNoneOf, changed, lists_of, stored_by_release}
+use Rattle.algol_meaning.specs.Critical.{process_is_one_of}
+use Rattle.algol_meaning.specs.Events.{event_at, change_event, same_reference, first_that, reference_is_among, joined_all, list_in, forgotten, told_number, woken_by, withdrawn, all_withdrawn, released}
+use Rattle.algol_laws.specs.Kept.{InstanceKept, nobody, woken_of, ProcessKept, WorldKept, IsNoneOf, changed_cells, lists_of, stored_by_release}
 use Rattle.algol_laws.proofs.Cells.{numbered_set, numbered_other, same_number, itself}
 use Rattle.algol_laws.proofs.Keeping.{instance_stays, instance_after, cell_set}
 
@@ -42,7 +42,7 @@ forgotten_processes w p (r ∷ rs) = forgotten_processes (change_event w r (Some
 
 pub joined_processes : (w : World) (p : ℕ) (seen rs : List Reference) → (joined_all w p seen rs).processes ≡ w.processes
 joined_processes w p seen [] = refl
-joined_processes w p seen (r ∷ rs) = by (is_among seen r) (joined_processes w p (r ∷ seen) rs) (joined_processes next p (r ∷ seen) rs)
+joined_processes w p seen (r ∷ rs) = by (reference_is_among seen r) (joined_processes w p (r ∷ seen) rs) (joined_processes next p (r ∷ seen) rs)
   where
     next : World
     next = change_event w r (deed (tests test.WaitAny) p (event_at w r)).change
@@ -89,7 +89,7 @@ pub all_withdrawn_process : (w : World) (r : Reference) (ps : List ℕ) (j : ℕ
 all_withdrawn_process w r [] j q e = e
 all_withdrawn_process w r (i ∷ ps) j q e =
     all_withdrawn_process (withdrawn w r i) r ps j (record q { woken = if i == j then woken_by r q else q.woken }) (withdrawn_process w r i j q e)
-    ∙ ap (λ n. Some (record q { woken = n })) (by (i == j) (is_one_of ps j))
+    ∙ ap (λ n. Some (record q { woken = n })) (by (i == j) (process_is_one_of ps j))
   where
     by : (b c : Bool) →
         (if c then woken_by r (record q { woken = if b then woken_by r q else q.woken }) else (if b then woken_by r q else q.woken))
@@ -100,11 +100,11 @@ all_withdrawn_process w r (i ∷ ps) j q e =
     by false false = refl
 
 pub able_process : (w : World) (ps : List ℕ) (j : ℕ) (q : Process) → numbered w.processes j ≡ Some q →
-    numbered (set_all_able w ps).processes j ≡ Some (record q { state = if is_one_of ps j then able else q.state })
+    numbered (set_all_able w ps).processes j ≡ Some (record q { state = if process_is_one_of ps j then able else q.state })
 able_process w [] j q e = e
 able_process w (i ∷ ps) j q e =
     able_process (set_able w i) ps j (record q { state = if i == j then able else q.state }) (one (i == j) refl)
-    ∙ ap (λ s. Some (record q { state = s })) (by (i == j) (is_one_of ps j))
+    ∙ ap (λ s. Some (record q { state = s })) (by (i == j) (process_is_one_of ps j))
   where
     next : Process
     next = record (process_at w i) { state = able }
@@ -122,7 +122,7 @@ able_process w (i ∷ ps) j q e =
 
 pub released_process : (w : World) (r : Reference) (d : Deed) (j : ℕ) (q : Process) → numbered w.processes j ≡ Some q →
     numbered (released w r d).world.processes j
-    ≡ Some (record q { state = if is_one_of d.frees j then able else q.state; woken = woken_of r d.withdraws j q })
+    ≡ Some (record q { state = if process_is_one_of d.frees j then able else q.state; woken = woken_of r d.withdraws j q })
 released_process w r d j q e =
     able_process (all_withdrawn (change_event w r d.change) r d.withdraws) d.frees j (record q { woken = woken_of r d.withdraws j q })
     (all_withdrawn_process (change_event w r d.change) r d.withdraws j q (ap (λ qs. numbered qs j) (changed_processes w r d.change) ∙ e))
@@ -194,7 +194,7 @@ both_kept s t a b c f g =
 set_kept : (w : World) (r : Reference) (e : EventState) → InstancesKept (r ∷ []) w (change_event w r (Some (λ d. e)))
 set_kept w r e = (cell_set 0 w r (event e)).instances
 
-change_kept : (w : World) (r : Reference) (c : Option (EventState → EventState)) → InstancesKept (changed c r) w (change_event w r c)
+change_kept : (w : World) (r : Reference) (c : Option (EventState → EventState)) → InstancesKept (changed_cells c r) w (change_event w r c)
 change_kept w r None = λ i x e. (x, e, instance_stays [] i x)
 change_kept w r (Some change) = set_kept w r (change (event_at w r))
 
@@ -214,7 +214,7 @@ all_withdrawn_kept w r (p ∷ ps) =
 released_kept : (w : World) (r : Reference) (d : Deed) → InstancesKept (stored_by_release w r d) w (released w r d).world
 released_kept w r d =
     subst (λ xs. InstancesKept (stored_by_release w r d) w (record (released w r d).world { instances = xs })) (sym (able_instances over d.frees))
-    (both_kept (changed d.change r) (lists_of w.processes d.withdraws) w next over (change_kept w r d.change)
+    (both_kept (changed_cells d.change r) (lists_of w.processes d.withdraws) w next over (change_kept w r d.change)
     (subst (λ qs. InstancesKept (lists_of qs d.withdraws) next over) (changed_processes w r d.change) (all_withdrawn_kept next r d.withdraws)))
   where
     next : World
@@ -225,7 +225,7 @@ released_kept w r d =
 
 joined_kept : (w : World) (p : ℕ) (seen rs : List Reference) → InstancesKept rs w (joined_all w p seen rs)
 joined_kept w p seen [] = λ i x e. (x, e, instance_stays [] i x)
-joined_kept w p seen (r ∷ rs) = by (is_among seen r) (joined_kept w p (r ∷ seen) rs) (joined_kept next p (r ∷ seen) rs)
+joined_kept w p seen (r ∷ rs) = by (reference_is_among seen r) (joined_kept w p (r ∷ seen) rs) (joined_kept next p (r ∷ seen) rs)
   where
     next : World
     next = change_event w r (deed (tests test.WaitAny) p (event_at w r)).change
@@ -254,7 +254,7 @@ able_output w (p ∷ ps) = able_output (set_able w p) ps
 
 joined_output : (w : World) (p : ℕ) (seen rs : List Reference) → (joined_all w p seen rs).output ≡ w.output
 joined_output w p seen [] = refl
-joined_output w p seen (r ∷ rs) = by (is_among seen r) (joined_output w p (r ∷ seen) rs) (joined_output next p (r ∷ seen) rs)
+joined_output w p seen (r ∷ rs) = by (reference_is_among seen r) (joined_output w p (r ∷ seen) rs) (joined_output next p (r ∷ seen) rs)
   where
     next : World
     next = change_event w r (deed (tests test.WaitAny) p (event_at w r)).change
@@ -269,28 +269,28 @@ joined_output w p seen (r ∷ rs) = by (is_among seen r) (joined_output w p (r �
 false_true : (b : Bool) → b ≡ false → b ≡ true → ⊥
 false_true b e f = let no : false ≡ true = sym e ∙ f in cc
 
-freed_kept : (p : ℕ) (frees withdraws : List ℕ) (r : Reference) → ((k : ℕ) → is_one_of withdraws k ≡ true → is_one_of frees k ≡ true) → (j : ℕ) (q : Process) →
+freed_kept : (p : ℕ) (frees withdraws : List ℕ) (r : Reference) → ((k : ℕ) → process_is_one_of withdraws k ≡ true → process_is_one_of frees k ≡ true) → (j : ℕ) (q : Process) →
     ProcessKept p (record { processes = frees; woken = woken_of r withdraws }) j q
-    (record q { state = if is_one_of frees j then able else q.state; woken = woken_of r withdraws j q })
+    (record q { state = if process_is_one_of frees j then able else q.state; woken = woken_of r withdraws j q })
 freed_kept p frees withdraws r among j q =
     record {
       grown = record { critical = refl; task = refl };
       freed = λ d e. (refl, ap (λ b. if b then able else q.state) e, refl);
-      other = λ d e. other e (is_one_of withdraws j) refl;
+      other = λ d e. other e (process_is_one_of withdraws j) refl;
     }
   where
-    other : is_one_of frees j ≡ false → (b : Bool) → is_one_of withdraws j ≡ b →
-        record q { state = if is_one_of frees j then able else q.state; woken = if b then woken_by r q else q.woken } ≡ q
-    other e true f = absurd (false_true (is_one_of frees j) e (among j f))
+    other : process_is_one_of frees j ≡ false → (b : Bool) → process_is_one_of withdraws j ≡ b →
+        record q { state = if process_is_one_of frees j then able else q.state; woken = if b then woken_by r q else q.woken } ≡ q
+    other e true f = absurd (false_true (process_is_one_of frees j) e (among j f))
     other e false f = ap (λ b. record q { state = if b then able else q.state }) e
 
-pub release_keeps : (p : ℕ) (w : World) (r : Reference) (d : Deed) → ((k : ℕ) → is_one_of d.withdraws k ≡ true → is_one_of d.frees k ≡ true) →
-    Kept p (record { processes = d.frees; woken = woken_of r d.withdraws }) (stored_by_release w r d) w (released w r d).world
+pub release_keeps : (p : ℕ) (w : World) (r : Reference) (d : Deed) → ((k : ℕ) → process_is_one_of d.withdraws k ≡ true → process_is_one_of d.frees k ≡ true) →
+    WorldKept p (record { processes = d.frees; woken = woken_of r d.withdraws }) (stored_by_release w r d) w (released w r d).world
 release_keeps p w r d among =
     record {
       instances = released_kept w r d;
       processes = λ j q e. (
-        record q { state = if is_one_of d.frees j then able else q.state; woken = woken_of r d.withdraws j q },
+        record q { state = if process_is_one_of d.frees j then able else q.state; woken = woken_of r d.withdraws j q },
         released_process w r d j q e,
         freed_kept p d.frees d.withdraws r among j q,
       );
@@ -302,17 +302,17 @@ release_keeps p w r d among =
     }
 
 pub deed_keeps : (p : ℕ) (w : World) (r : Reference) (x : EventDeed) (e : EventState) →
-    Kept p (record { processes = (deed x p e).frees; woken = woken_of r (deed x p e).withdraws }) (stored_by_release w r (deed x p e)) w
+    WorldKept p (record { processes = (deed x p e).frees; woken = woken_of r (deed x p e).withdraws }) (stored_by_release w r (deed x p e)) w
     (released w r (deed x p e)).world
 deed_keeps p w r x e = release_keeps p w r (deed x p e) (by (withdrawn_freed x p e))
   where
-    by : ((deed x p e).withdraws ≡ (deed x p e).frees) ⊎ ((deed x p e).withdraws ≡ []) → (k : ℕ) → is_one_of (deed x p e).withdraws k ≡ true →
-        is_one_of (deed x p e).frees k ≡ true
-    by (◌⊎◌.inl f) k n = subst (λ ps. is_one_of ps k ≡ true) f n
-    by (◌⊎◌.inr f) k n = let no : false ≡ true = ap (λ ps. is_one_of ps k) (sym f) ∙ n in cc
+    by : ((deed x p e).withdraws ≡ (deed x p e).frees) ⊎ ((deed x p e).withdraws ≡ []) → (k : ℕ) → process_is_one_of (deed x p e).withdraws k ≡ true →
+        process_is_one_of (deed x p e).frees k ≡ true
+    by (◌⊎◌.inl f) k n = subst (λ ps. process_is_one_of ps k ≡ true) f n
+    by (◌⊎◌.inr f) k n = let no : false ≡ true = ap (λ ps. process_is_one_of ps k) (sym f) ∙ n in cc
 
 -- who waits for several events joins those who wait for each
-pub joins_keep : (p : ℕ) (w : World) (rs : List Reference) → Kept p nobody rs w (joined_all w p [] rs)
+pub joins_keep : (p : ℕ) (w : World) (rs : List Reference) → WorldKept p nobody rs w (joined_all w p [] rs)
 joins_keep p w rs =
     record {
       instances = joined_kept w p [] rs;

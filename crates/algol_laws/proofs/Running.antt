@@ -17,7 +17,7 @@ use Rattle.b67_deeds.specs.Deeds as deeds
 use Rattle.b67_deeds.specs.Deeds.{EventDeed, Deed, Next, deed}
 use Rattle.algol_meaning.specs.Rest as rests
 use Rattle.algol_meaning.specs.Rest.{HalfPlace, Place, own, there, element_of, Rest, Answer, done, value, cell, place, entered}
-use Rattle.algol_meaning.specs.Settle.{block_of, settle, settle_actual_place}
+use Rattle.algol_meaning.specs.Settle.{block_of_sort, settle, settle_actual_place}
 use Rattle.algol_meaning.specs.Statements.{settle_items, items_of, items_from}
 use Rattle.algol_meaning.specs.World.{State, Purpose, able, started, waits_for, procures, waits_any, ended, block, procedure, name_read, name_place, add_cells, Part, Process, World, instance_at, cell_at, set_cell, followed, process_at, with_process, value_in, array_in}
 use Rattle.algol_meaning.specs.Critical.{some_depends, some_depends_on_any, is_evaluation, own_instances, newest_first, first_on_path, referred_by, referred_by_task}
@@ -29,7 +29,7 @@ use Rattle.b67_deeds.specs.declared.Letter.TheVariants as actions
 use Rattle.b67_deeds.specs.declared.Letter.{Letter}
 use Rattle.algol_meaning.specs.Asks as asks
 use Rattle.algol_meaning.specs.Asks.{Ask, ask, resume, evaluated_of, located_of}
-use Rattle.algol_meaning.specs.Choice.{Choice, choice, choice_in, choice_of, nth_exists, is_subscripted, answered, goes, stops, opens, fails, home, here, read_of, resolved_of, indexed_at, element_read_at, stored, given_cells, with_new_instance, new_part, left_with, left_or_ended, left, gone, gone_to, goes_to, task_of, with_started, next_process, starts, told, did, does_with_first, all_followed, waits_for_any, wakes_or_waits, does_with, made_arrays}
+use Rattle.algol_meaning.specs.Choice.{Choice, choice, choice_in, choice_of, nth_exists, is_subscripted, answered, goes, stops, opens, fails, home, here, read_of, resolved_of, indexed_at, element_read_at, stored, given_cells, with_new_instance, new_part, left_with, left_or_ended, left_choice, gone, gone_to, goes_to, task_of, with_started, next_process, starts, told_answer, did, does_with_first, all_followed, waits_for_any, wakes_or_waits, does_with, made_arrays}
 use Rattle.algol_meaning.specs.Run.{start, may_go, after_entry, run_from, run}
 use Rattle.algol_laws.proofs.Growing.{none_left}
 use Rattle.algol_laws.proofs.Releasing.{joined_processes}
@@ -167,7 +167,7 @@ module _ (sc : Scopes) (w : World) (p : ℕ) (q : Process) (part : Part) (outer 
       (by_end_good (leave w (part.instance ∷ [])) q.task (left_all (part.instance ∷ []))) (record {})
   left_or_ended_good a (next ∷ parts) g e h = left_with_good (leave w (part.instance ∷ [])) a (next ∷ parts) (left_all (part.instance ∷ [])) g e h
 
-  left_good : (a : Answer) → ask part.rest ≡ asks.leaves a → Good (left sc w p q part outer a)
+  left_good : (a : Answer) → ask part.rest ≡ asks.leaves a → Good (left_choice sc w p q part outer a)
   left_good a e =
       either (is_evaluation part.purpose) (left_with sc w p q part outer w a outer)
       (if some_depends w.processes part.instance then fails sc w p q part outer fault.CriticalBlockExit else left_or_ended sc w p q part outer a outer)
@@ -217,12 +217,12 @@ module _ (sc : Scopes) (w : World) (p : ℕ) (q : Process) (part : Part) (outer 
       }) all (new_part_ready j started, (λ f. cc), record {})) refl n
 
   -- ---- events
-  told_answers : (o : Option Bool) → is_answer (told sc w p q part outer o) ≡ true
+  told_answers : (o : Option Bool) → is_answer (told_answer sc w p q part outer o) ≡ true
   told_answers None = refl
   told_answers (Some b) = refl
 
   did_good : (x : EventDeed) (r : Reference) (d : Deed) (n : Next) → Plain → Good (did sc w p q part outer x r d n)
-  did_good x r d deeds.goes n = goes_plain (deeds.letter_of x) (released w r d).world (told sc w p q part outer d.answer) (released_good w r d all) (told_answers d.answer) n
+  did_good x r d deeds.goes n = goes_plain (deeds.letter_of x) (released w r d).world (told_answer sc w p q part outer d.answer) (released_good w r d all) (told_answers d.answer) n
   did_good x r d deeds.waits n = stops_good (deeds.letter_of x) (released w r d).world (waits_for r) (released_good w r d all) (λ f. absurd (n f))
   did_good x r d deeds.procures n = stops_good (deeds.letter_of x) (released w r d).world (procures r) (released_good w r d all) (λ f. absurd (n f))
 
@@ -272,8 +272,8 @@ module _ (sc : Scopes) (w : World) (p : ℕ) (q : Process) (part : Part) (outer 
   choice_good (asks.fails f) e = all
   choice_good (asks.enters n gs) e =
       opens_here (asks.enters n gs) e refl
-      (with_new_instance sc w p q part outer (block_of ((use_of sc n).sort)) (home sc w p q part outer n) p (given_cells sc w p q part outer gs))
-      (new_part sc w p q part outer (block_of ((use_of sc n).sort)) procedure) all (new_part_ready (block_of ((use_of sc n).sort)) procedure) (λ f. cc)
+      (with_new_instance sc w p q part outer (block_of_sort ((use_of sc n).sort)) (home sc w p q part outer n) p (given_cells sc w p q part outer gs))
+      (new_part sc w p q part outer (block_of_sort ((use_of sc n).sort)) procedure) all (new_part_ready (block_of_sort ((use_of sc n).sort)) procedure) (λ f. cc)
   choice_good (asks.passes n) e = goes_plain actions.Pass w (cell (cell_at w (here sc w p q part outer n))) all refl (plain (asks.passes n) e refl)
   choice_good (asks.resolves n) e = resolved_good n (cell_at w (here sc w p q part outer n))
   choice_good (asks.reads_result name) e =
@@ -291,9 +291,9 @@ module _ (sc : Scopes) (w : World) (p : ℕ) (q : Process) (part : Part) (outer 
       (new_part sc w p q part outer (number_at sc.blocks (spot_of b)) block) all (new_part_ready (number_at sc.blocks (spot_of b)) block) (λ f. cc)
   choice_good (asks.starts n gs task) e =
       either (nat_lt MOST_STARTED (length w.processes)) (fails sc w p q part outer fault.ProcessLimit)
-      (starts sc w p q part outer (block_of ((use_of sc n).sort)) (home sc w p q part outer n) (given_cells sc w p q part outer gs) (task_of sc w p q part outer task))
+      (starts sc w p q part outer (block_of_sort ((use_of sc n).sort)) (home sc w p q part outer n) (given_cells sc w p q part outer gs) (task_of sc w p q part outer task))
       all
-      (starts_good (block_of ((use_of sc n).sort)) (home sc w p q part outer n) (given_cells sc w p q part outer gs) (task_of sc w p q part outer task) (plain (asks.starts n gs task) e refl))
+      (starts_good (block_of_sort ((use_of sc n).sort)) (home sc w p q part outer n) (given_cells sc w p q part outer gs) (task_of sc w p q part outer task) (plain (asks.starts n gs task) e refl))
   choice_good (asks.event_deed x ns) e = does_good x ns (plain (asks.event_deed x ns) e refl)
   choice_good (asks.writes phrases vs) e =
       goes_plain actions.Line (record w { output = w.output ++ line_of phrases vs ∷ [] }) done all refl (plain (asks.writes phrases vs) e refl)

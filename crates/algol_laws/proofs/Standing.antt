@@ -13,14 +13,14 @@ use Rattle.algol_tree.specs.Sorts.{Sort}
 use Rattle.algol_meaning.specs.Value.{Value, Reference}
 use Rattle.algol_meaning.specs.Rest as rests
 use Rattle.algol_meaning.specs.Rest.{Place, own, there, element_of, Given, Hole, Actuals, Half, val, busy, HalfGiven, given, wants, Aim, HalfPlace, at, aims, Loop, Item, Rest, Answer, done, value, cell, place, entered}
-use Rattle.algol_meaning.specs.Settle.{is_typed, subscripted_of, called_of, valued_of, left_of, right_of, condition_of, negated_of, inverted_of, aimed_of, settle, settle_actuals, put, put_actuals, put_place}
+use Rattle.algol_meaning.specs.Settle.{is_typed, subscripted_of, called_of, valued_of, left_of, right_of, condition_of, negated_of, inverted_of, aimed_of, settle, settle_actuals, answer_put, put_actuals, put_place}
 use Rattle.algol_meaning.specs.Statements.{assigned_of, aimed_at, chosen_of, looped_of, checked_of, counted_of, counted_body, selected_of, statement_called_of, prepared_of, item_of, bound_of, tested_of, differed_of, settle_line, settle_bounds, settle_stmt, run_and, turn_and, settle_items}
 use Rattle.algol_meaning.specs.World.{Purpose, able, started, set_able, set_all_able, block, procedure, name_read, name_place, Part, Process, World, process_at, or_no_process}
 use Rattle.algol_meaning.specs.Critical.{is_evaluation}
 use Rattle.algol_meaning.specs.Instances.{cut_at, is_part_of}
 use Rattle.algol_meaning.specs.Events.{list_in, woken_by, withdrawn, all_withdrawn}
 use Rattle.algol_meaning.specs.Asks as asks
-use Rattle.algol_meaning.specs.Asks.{Ask, ask_hole, ask_actuals, ask_aim, ask, resume, called, evaluated_of, located_of}
+use Rattle.algol_meaning.specs.Asks.{Ask, ask_hole, ask_actuals, ask_aim, ask, resume, asks_called, evaluated_of, located_of}
 use Rattle.algol_laws.proofs.Heads.{acts_rest, is_answer, is_place, awaits_place, awaits_place_in}
 use Rattle.algol_laws.proofs.Releasing.{forgotten_processes}
 
@@ -204,7 +204,7 @@ valued_wants gs (val v) sorts es go_on e = cc
 
 module _ (sc : Scopes) where
   mutual
-    put_busy : (h : Hole) → opens_plain (ask_hole h) ≡ true → is_busy (put sc h entered) ≡ true
+    put_busy : (h : Hole) → opens_plain (ask_hole h) ≡ true → is_busy (answer_put sc h entered) ≡ true
     put_busy (rests.read n) e = refl
     put_busy (rests.element n ks i) e = cc
     put_busy (rests.index n ks i x es) e = cc
@@ -212,17 +212,17 @@ module _ (sc : Scopes) where
     put_busy (rests.broken op v w f) e = cc
     put_busy (rests.enter n gs) e = refl
     put_busy rests.inside e = cc
-    put_busy (rests.subscript n ks h es) e = subscripted_busy n ks (put sc h entered) es (put_busy h e)
+    put_busy (rests.subscript n ks h es) e = subscripted_busy n ks (answer_put sc h entered) es (put_busy h e)
     put_busy (rests.argument n x) e = called_busy n (put_actuals sc x entered) (put_wants x e)
-    put_busy (rests.left op h b) e = left_busy op (put sc h entered) b (settle sc b) (put_busy h e)
-    put_busy (rests.right op v h) e = right_busy op v (put sc h entered) (put_busy h e)
-    put_busy (rests.negated h) e = negated_busy (put sc h entered) (put_busy h e)
-    put_busy (rests.inverted h) e = inverted_busy (put sc h entered) (put_busy h e)
-    put_busy (rests.condition h x y) e = condition_busy (put sc h entered) x y (settle sc x) (settle sc y) (put_busy h e)
+    put_busy (rests.left op h b) e = left_busy op (answer_put sc h entered) b (settle sc b) (put_busy h e)
+    put_busy (rests.right op v h) e = right_busy op v (answer_put sc h entered) (put_busy h e)
+    put_busy (rests.negated h) e = negated_busy (answer_put sc h entered) (put_busy h e)
+    put_busy (rests.inverted h) e = inverted_busy (answer_put sc h entered) (put_busy h e)
+    put_busy (rests.condition h x y) e = condition_busy (answer_put sc h entered) x y (settle sc x) (settle sc y) (put_busy h e)
 
     put_wants : (x : Actuals) → opens_plain (ask_actuals x) ≡ true → is_wanting (put_actuals sc x entered) ≡ true
     put_wants (rests.pass gs n sorts es) e = cc
-    put_wants (rests.in_value gs h sorts es) e = valued_wants gs (put sc h entered) sorts es (settle_actuals sc es sorts) (put_busy h e)
+    put_wants (rests.in_value gs h sorts es) e = valued_wants gs (answer_put sc h entered) sorts es (settle_actuals sc es sorts) (put_busy h e)
 
   -- a place whose subscript is in progress
   in_subscript : (n : Named) (ks : List ℕ) (x : Half) (es : PExprs) → is_busy x ≡ true → awaits_place_in (located_of (aimed_of n ks x es)) ≡ false
@@ -288,7 +288,7 @@ module _ (sc : Scopes) where
   in_prepared n (wants x) task k = refl
   in_prepared n (given gs) task k = refl
 
-  in_call : (typed : Bool) (k : List Item) → awaits_place_in (called sc typed entered k) ≡ false
+  in_call : (typed : Bool) (k : List Item) → awaits_place_in (asks_called sc typed entered k) ≡ false
   in_call true k = refl
   in_call false k = refl
 
@@ -296,28 +296,28 @@ module _ (sc : Scopes) where
   pub opened : (r : Rest) → opens_plain (ask r) ≡ true → awaits_place_in (resume sc r entered) ≡ false
   opened (rests.entering_block b k) e = refl
   opened (rests.entering n gs k) e = in_call (is_typed sc n) k
-  opened (rests.evaluating h) e = in_evaluated (put sc h entered)
+  opened (rests.evaluating h) e = in_evaluated (answer_put sc h entered)
   opened (rests.locating (rests.resolve n)) e = cc
   opened (rests.locating (rests.place_index n ks i es)) e = cc
   opened (rests.locating rests.inside_place) e = cc
-  opened (rests.locating (rests.place_subscript n ks h es)) e = in_subscript n ks (put sc h entered) es (put_busy h e)
+  opened (rests.locating (rests.place_subscript n ks h es)) e = in_subscript n ks (answer_put sc h entered) es (put_busy h e)
   opened (rests.aiming (rests.resolve n) b k) e = cc
   opened (rests.aiming (rests.place_index n ks i es) b k) e = cc
   opened (rests.aiming rests.inside_place b k) e = cc
-  opened (rests.aiming (rests.place_subscript n ks h es) b k) e = in_left_subscript n ks (put sc h entered) es b (settle sc b) k (put_busy h e)
-  opened (rests.storing p h k) e = in_assigned p (put sc h entered) k
-  opened (rests.choosing h x y k) e = in_chosen (put sc h entered) x y k (settle_stmt sc x k (settle_items sc k)) (settle_stmt sc y k (settle_items sc k)) (put_busy h e)
+  opened (rests.aiming (rests.place_subscript n ks h es) b k) e = in_left_subscript n ks (answer_put sc h entered) es b (settle sc b) k (put_busy h e)
+  opened (rests.storing p h k) e = in_assigned p (answer_put sc h entered) k
+  opened (rests.choosing h x y k) e = in_chosen (answer_put sc h entered) x y k (settle_stmt sc x k (settle_items sc k)) (settle_stmt sc y k (settle_items sc k)) (put_busy h e)
   opened (rests.looping h c b k) e =
-      in_looped (put sc h entered) c b k (settle_stmt sc b (turn_and (tree.while c b) k) (rests.turning (run_and (tree.while c b) k))) (settle_items sc k) (put_busy h e)
-  opened (rests.checking h b c k) e = in_checked (put sc h entered) b c k (settle_items sc k) (put_busy h e)
-  opened (rests.counting h b k) e = in_counted (put sc h entered) b k (counted_body sc b k) (settle_items sc k) (put_busy h e)
-  opened (rests.differing h loop k) e = in_differed (put sc h entered) loop k (settle_items sc k) (put_busy h e)
-  opened (rests.stepping d h loop k) e = in_tested d (put sc h entered) loop k (settle_items sc k) (put_busy h e)
-  opened (rests.selecting h ss k) e = in_selected (put sc h entered) ss k
+      in_looped (answer_put sc h entered) c b k (settle_stmt sc b (turn_and (tree.while c b) k) (rests.turning (run_and (tree.while c b) k))) (settle_items sc k) (put_busy h e)
+  opened (rests.checking h b c k) e = in_checked (answer_put sc h entered) b c k (settle_items sc k) (put_busy h e)
+  opened (rests.counting h b k) e = in_counted (answer_put sc h entered) b k (counted_body sc b k) (settle_items sc k) (put_busy h e)
+  opened (rests.differing h loop k) e = in_differed (answer_put sc h entered) loop k (settle_items sc k) (put_busy h e)
+  opened (rests.stepping d h loop k) e = in_tested d (answer_put sc h entered) loop k (settle_items sc k) (put_busy h e)
+  opened (rests.selecting h ss k) e = in_selected (answer_put sc h entered) ss k
   opened (rests.calling n x k) e = in_called n (put_actuals sc x entered) k
   opened (rests.preparing n x task k) e = in_prepared n (put_actuals sc x entered) task k
-  opened (rests.writing ps vs h es k) e = in_item ps vs (put sc h entered) es k (settle_line sc es ps k) (put_busy h e)
-  opened (rests.bounding kind ns pairs vs h ps k) e = in_bound kind ns pairs vs (put sc h entered) ps k (settle_bounds sc ps kind ns pairs k) (put_busy h e)
+  opened (rests.writing ps vs h es k) e = in_item ps vs (answer_put sc h entered) es k (settle_line sc es ps k) (put_busy h e)
+  opened (rests.bounding kind ns pairs vs h ps k) e = in_bound kind ns pairs vs (answer_put sc h entered) ps k (settle_bounds sc ps kind ns pairs k) (put_busy h e)
   opened _ e = cc
 
   -- ---- parts

@@ -17,8 +17,8 @@ use Rattle.algol_meaning.specs.Critical.{some_depends, is_evaluation}
 use Rattle.algol_meaning.specs.Events.{event_at, first_happened}
 use Rattle.algol_meaning.specs.Asks as asks
 use Rattle.algol_meaning.specs.Asks.{Ask, ask}
-use Rattle.algol_meaning.specs.Choice.{Choice, choice, choice_in, choice_of, here, stored, fails, left, left_with, left_or_ended, did, does_with_first, all_followed, waits_for_any, wakes_or_waits, does_with}
-use Rattle.algol_laws.specs.Kept.{Kept, stays_woken, stored_by_release, woken_at_end, woken_by_first, woken_by_deed, woken_by_ask, woken_in, freed_by, stores, OnlyStoresStore}
+use Rattle.algol_meaning.specs.Choice.{Choice, choice, choice_in, choice_of, here, stored, fails, left_choice, left_with, left_or_ended, did, does_with_first, all_followed, waits_for_any, wakes_or_waits, does_with}
+use Rattle.algol_laws.specs.Kept.{WorldKept, stays_woken, stored_by_release, woken_at_end, woken_by_first, woken_by_deed, woken_by_ask, woken_in, freed_by, stores, OnlyStoresStore}
 use Rattle.algol_laws.proofs.Keeping.{unchanged, nobody_kept}
 use Rattle.algol_laws.proofs.Choices as kept
 use Rattle.algol_laws.proofs.Choices.{KeepsTelling}
@@ -37,7 +37,7 @@ module _ (sc : Scopes) (w : World) (p : ℕ) (q : Process) (part : Part) (outer 
   left_or_ended_quiet a [] e = cc
   left_or_ended_quiet a (next ∷ parts) e = kept.left_or_ended_keeps sc w p q part outer is a (next ∷ parts)
 
-  left_quiet : (a : Answer) → Quiet (woken_at_end sc w p q part outer outer) (left sc w p q part outer a)
+  left_quiet : (a : Answer) → Quiet (woken_at_end sc w p q part outer outer) (left_choice sc w p q part outer a)
   left_quiet a = by (is_evaluation part.purpose) (some_depends w.processes part.instance)
     where
       by : (b c : Bool) →
@@ -124,12 +124,12 @@ module _ (sc : Scopes) (w : World) (p : ℕ) (q : Process) (part : Part) (outer 
   choice_quiet (asks.makes_event n) e = kept.choice_keeps sc w p q part outer is (asks.makes_event n)
 
 in_quiet : (sc : Scopes) (w : World) (p : ℕ) (q : Process) (parts : List Part) → numbered w.processes p ≡ Some q → stores (choice_in sc w p q parts).action ≡ false →
-    Kept p (record { processes = (choice_in sc w p q parts).released; woken = woken_in sc w p q parts }) [] w (choice_in sc w p q parts).world
+    WorldKept p (record { processes = (choice_in sc w p q parts).released; woken = woken_in sc w p q parts }) [] w (choice_in sc w p q parts).world
 in_quiet sc w p q [] is e = unchanged p [] w
 in_quiet sc w p q (part ∷ outer) is e = choice_quiet sc w p q part outer is (ask part.rest) e
 
 by_process : (sc : Scopes) (w : World) (p : ℕ) (o : Option Process) → numbered w.processes p ≡ o → stores (choice_in sc w p (or_no_process o) (or_no_process o).todo).action ≡ false →
-    Kept p
+    WorldKept p
     (record {
       processes = (choice_in sc w p (or_no_process o) (or_no_process o).todo).released;
       woken = woken_in sc w p (or_no_process o) (or_no_process o).todo;

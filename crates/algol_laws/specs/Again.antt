@@ -37,26 +37,26 @@ module _ (sc : Scopes) where
   again_aim (rests.place_index n ks i es) = aims (rests.place_index n ks i es)
   again_aim rests.inside_place = aims rests.inside_place
 
-  abbrev pub again : Rest → Rest
-  again (rests.evaluating h) = evaluated_of (again_hole h)
-  again (rests.locating x) = located_of (again_aim x)
-  again (rests.aiming x e k) = aimed_at (again_aim x) e (settle sc e) k
-  again (rests.storing p h k) = assigned_of p (again_hole h) k
-  again (rests.choosing h x y k) =
+  abbrev pub repeated_rest : Rest → Rest
+  repeated_rest (rests.evaluating h) = evaluated_of (again_hole h)
+  repeated_rest (rests.locating x) = located_of (again_aim x)
+  repeated_rest (rests.aiming x e k) = aimed_at (again_aim x) e (settle sc e) k
+  repeated_rest (rests.storing p h k) = assigned_of p (again_hole h) k
+  repeated_rest (rests.choosing h x y k) =
       chosen_of (again_hole h) x y k (settle_stmt sc x k (settle_items sc k)) (settle_stmt sc y k (settle_items sc k))
-  again (rests.looping h c b k) =
+  repeated_rest (rests.looping h c b k) =
       looped_of (again_hole h) c b k (settle_stmt sc b (turn_and (tree.while c b) k) (rests.turning (run_and (tree.while c b) k))) (settle_items sc k)
-  again (rests.checking h b c k) = checked_of (again_hole h) b c k (settle_items sc k)
-  again (rests.counting h b k) = counted_of (again_hole h) b k (counted_body sc b k) (settle_items sc k)
-  again (rests.differing h loop k) = differed_of sc (again_hole h) loop k (settle_items sc k)
-  again (rests.stepping d h loop k) = tested_of sc d (again_hole h) loop k (settle_items sc k)
-  again (rests.selecting h ss k) = selected_of (again_hole h) ss k
-  again (rests.calling n x k) = statement_called_of n (again_actuals x) k
-  again (rests.preparing n x task k) = prepared_of n (again_actuals x) task k
-  again (rests.writing phrases vs h es k) = item_of phrases vs (again_hole h) es k (settle_line sc es phrases k)
-  again (rests.bounding kind ns pairs vs h ps k) = bound_of kind ns pairs vs (again_hole h) ps k (settle_bounds sc ps kind ns pairs k)
-  again r = r
+  repeated_rest (rests.checking h b c k) = checked_of (again_hole h) b c k (settle_items sc k)
+  repeated_rest (rests.counting h b k) = counted_of (again_hole h) b k (counted_body sc b k) (settle_items sc k)
+  repeated_rest (rests.differing h loop k) = differed_of sc (again_hole h) loop k (settle_items sc k)
+  repeated_rest (rests.stepping d h loop k) = tested_of sc d (again_hole h) loop k (settle_items sc k)
+  repeated_rest (rests.selecting h ss k) = selected_of (again_hole h) ss k
+  repeated_rest (rests.calling n x k) = statement_called_of n (again_actuals x) k
+  repeated_rest (rests.preparing n x task k) = prepared_of n (again_actuals x) task k
+  repeated_rest (rests.writing phrases vs h es k) = item_of phrases vs (again_hole h) es k (settle_line sc es phrases k)
+  repeated_rest (rests.bounding kind ns pairs vs h ps k) = bound_of kind ns pairs vs (again_hole h) ps k (settle_bounds sc ps kind ns pairs k)
+  repeated_rest r = r
 
 -- A rest is quiet: its silent steps, taken once more, change nothing.
 abbrev pub EachRestIsQuiet : Type 0
-EachRestIsQuiet = (sc : Scopes) (r : Rest) → again sc r ≡ r
+EachRestIsQuiet = (sc : Scopes) (r : Rest) → repeated_rest sc r ≡ r

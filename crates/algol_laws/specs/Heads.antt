@@ -7,12 +7,12 @@ use Rattle.algol_meaning.specs.Asks as asks
 use Rattle.algol_meaning.specs.Asks.{Ask, ask}
 use Rattle.algol_meaning.specs.Run.{run}
 
-abbrev pub is_action : Ask → Bool
-is_action asks.nothing = false
-is_action _ = true
+abbrev pub asks_action : Ask → Bool
+asks_action asks.nothing = false
+asks_action _ = true
 
 -- No rest is stuck: in the world after a legal schedule the innermost part of each process asks for an action.
 abbrev pub EachPartActs : Type 0
 EachPartActs =
     (tree : PProgram) (h : List ℕ) (w : World) → run tree h ≡ Some w → (p : ℕ) (q : Process) (part : Part) (outer : List Part) →
-    numbered w.processes p ≡ Some q → q.todo ≡ part ∷ outer → is_action (ask part.rest) ≡ true
+    numbered w.processes p ≡ Some q → q.todo ≡ part ∷ outer → asks_action (ask part.rest) ≡ true

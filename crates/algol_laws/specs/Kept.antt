@@ -5,7 +5,7 @@ use Rattle.algol_tree.specs.Sorts.{same_name}
 use Rattle.algol_tree.specs.Scopes.{Scopes}
 use Rattle.algol_meaning.specs.Value.{Reference}
 use Rattle.algol_meaning.specs.World.{NamedCell, cell_in, Instance, able, Part, Process, World, followed, or_no_process, process_at}
-use Rattle.algol_meaning.specs.Critical.{is_one_of}
+use Rattle.algol_meaning.specs.Critical.{process_is_one_of}
 use Rattle.algol_meaning.specs.Rest.{Place, own, there, element_of}
 use Rattle.algol_meaning.specs.Events.{event_at, first_happened, list_in, woken_by}
 use Rattle.b67_deeds.specs.declared.EventAct.TheVariants as act
@@ -20,9 +20,9 @@ use Rattle.algol_meaning.specs.Choice.{here, all_followed, choice}
 use Rattle.algol_meaning.specs.Run.{run_from}
 
 -- a cell of that name is there
-abbrev pub has_cell : List NamedCell → List ℕ → Bool
-has_cell [] name = false
-has_cell (c ∷ cells) name = if same_name c.name name then true else has_cell cells name
+abbrev pub cell_is_there : List NamedCell → List ℕ → Bool
+cell_is_there [] name = false
+cell_is_there (c ∷ cells) name = if same_name c.name name then true else cell_is_there cells name
 
 -- An instance, which was x, is now y: it is of the same block, with the same parent, in the same stack; one that was left stays left, and
 -- each cell stays there.
@@ -31,7 +31,7 @@ pub record InstanceGrown (x y : Instance) : Type 0 where
   pub parent : y.parent ≡ x.parent
   pub process : y.process ≡ x.process
   pub left : x.left ≡ true → y.left ≡ true
-  pub cells : (name : List ℕ) → has_cell x.cells name ≡ true → has_cell y.cells name ≡ true
+  pub cells : (name : List ℕ) → cell_is_there x.cells name ≡ true → cell_is_there y.cells name ≡ true
 
 -- the cell is none of those that are stored
 abbrev pub IsNoneOf : List Reference → Reference → Type 0
@@ -41,7 +41,7 @@ IsNoneOf (s ∷ stored) r = (s ≢ r) × IsNoneOf stored r
 -- Instance i has grown, and but for the cells that are stored each cell that was there holds what it held.
 pub record InstanceKept (stored : List Reference) (i : ℕ) (x y : Instance) : Type 0 where
   pub grown : InstanceGrown x y
-  pub values : (name : List ℕ) → has_cell x.cells name ≡ true → IsNoneOf stored (record { instance = i; name = name }) →
+  pub values : (name : List ℕ) → cell_is_there x.cells name ≡ true → IsNoneOf stored (record { instance = i; name = name }) →
       cell_in y.cells name ≡ cell_in x.cells name
 
 -- A process, which was q, is now r: its critical instance and its task stay.
@@ -60,7 +60,7 @@ stays_woken j q = q.woken
 
 -- of those who wait for no other event either, it is the place of the event at r in their lists
 abbrev pub woken_of : Reference → List ℕ → ℕ → Process → ℕ
-woken_of r withdrawn j q = if is_one_of withdrawn j then woken_by r q else q.woken
+woken_of r withdrawn j q = if process_is_one_of withdrawn j then woken_by r q else q.woken
 
 abbrev pub nobody : Freed
 nobody = record { processes = []; woken = stays_woken }
@@ -69,8 +69,8 @@ nobody = record { processes = []; woken = stays_woken }
 -- has that woken number.
 pub record ProcessKept (p : ℕ) (those : Freed) (j : ℕ) (q r : Process) : Type 0 where
   pub grown : ProcessGrown q r
-  pub freed : j ≢ p → is_one_of those.processes j ≡ true → (r.todo ≡ q.todo) × (r.state ≡ able) × (r.woken ≡ those.woken j q)
-  pub other : j ≢ p → is_one_of those.processes j ≡ false → r ≡ q
+  pub freed : j ≢ p → process_is_one_of those.processes j ≡ true → (r.todo ≡ q.todo) × (r.state ≡ able) × (r.woken ≡ those.woken j q)
+  pub other : j ≢ p → process_is_one_of those.processes j ≡ false → r ≡ q
 
 -- nothing that was there is lost
 pub record Grown (w after : World) : Type 0 where
@@ -81,7 +81,7 @@ pub record Grown (w after : World) : Type 0 where
   pub output : (lines : List (List ℕ)) × (after.output ≡ w.output ++ lines)
 
 -- a world before an action of process p and after it
-pub record Kept (p : ℕ) (those : Freed) (stored : List Reference) (w after : World) : Type 0 where
+pub record WorldKept (p : ℕ) (those : Freed) (stored : List Reference) (w after : World) : Type 0 where
   pub instances : (i : ℕ) (x : Instance) → numbered w.instances i ≡ Some x →
       (y : Instance) × (numbered after.instances i ≡ Some y) × InstanceKept stored i x y
   pub processes : (j : ℕ) (q : Process) → numbered w.processes j ≡ Some q →
@@ -101,9 +101,9 @@ where_none None rs = rs
 where_none (Some n) rs = []
 
 -- the cell of an event that changes
-abbrev pub changed : Option (EventState → EventState) → Reference → List Reference
-changed None r = []
-changed (Some change) r = r ∷ []
+abbrev pub changed_cells : Option (EventState → EventState) → Reference → List Reference
+changed_cells None r = []
+changed_cells (Some change) r = r ∷ []
 
 -- the events of the lists in which these wait
 abbrev pub lists_of : List Process → List ℕ → List Reference
@@ -112,7 +112,7 @@ lists_of qs (p ∷ ps) = list_in (or_no_process (numbered qs p)).state ++ lists_
 
 -- what is done with the event at r stores that, where it changes, and all events for which those wait who wait for no other event either
 abbrev pub stored_by_release : World → Reference → Deed → List Reference
-stored_by_release w r d = changed d.change r ++ lists_of w.processes d.withdraws
+stored_by_release w r d = changed_cells d.change r ++ lists_of w.processes d.withdraws
 
 module _ (sc : Scopes) (w : World) (p : ℕ) (q : Process) (part : Part) (outer : List Part) where
   abbrev pub cell_of_place : Place → Reference
@@ -210,12 +210,12 @@ stores _ = false
 -- adds: instances, processes, cells and lines.
 abbrev pub EachActionKeeps : Type 0
 EachActionKeeps =
-    (sc : Scopes) (w : World) (p : ℕ) → Kept p (freed_by sc w p) (stored_cells sc w p) w (choice sc w p).world
+    (sc : Scopes) (w : World) (p : ℕ) → WorldKept p (freed_by sc w p) (stored_cells sc w p) w (choice sc w p).world
 
 -- The letter says whether a cell is stored: an action with another letter leaves every cell that is there as it is.
 abbrev pub OnlyStoresStore : Type 0
 OnlyStoresStore =
-    (sc : Scopes) (w : World) (p : ℕ) → stores (choice sc w p).action ≡ false → Kept p (freed_by sc w p) [] w (choice sc w p).world
+    (sc : Scopes) (w : World) (p : ℕ) → stores (choice sc w p).action ≡ false → WorldKept p (freed_by sc w p) [] w (choice sc w p).world
 
 -- Along a run nothing that was there is lost.
 abbrev pub EachRunGrows : Type 0

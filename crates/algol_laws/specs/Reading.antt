@@ -41,8 +41,8 @@ pub record Told : Type 0 where
   pub started : Option ℕ
   pub after : Bare
 
-abbrev pub told : Choice → Told
-told c = record { action = c.action; released = c.released; started = c.started; after = bare c.world }
+abbrev pub told_choice : Choice → Told
+told_choice c = record { action = c.action; released = c.released; started = c.started; after = bare c.world }
 
 -- the same world, but that its cells hold these
 abbrev pub with_cells_of : World → List Instance → World
@@ -110,4 +110,4 @@ abbrev pub EachActionReads : Type 0
 EachActionReads =
     (sc : Scopes) (w : World) (instances : List Instance) (p : ℕ) → map outline instances ≡ map outline w.instances →
     live_elements instances ≡ live_elements w.instances → SameCells w (with_cells_of w instances) (read_cells sc w p) →
-    told (choice sc (with_cells_of w instances) p) ≡ told (choice sc w p)
+    told_choice (choice sc (with_cells_of w instances) p) ≡ told_choice (choice sc w p)

@@ -8,7 +8,7 @@ use Rattle.b67_deeds.specs.Deeds.{tests, Deed, deed}
 use Rattle.algol_meaning.specs.Value.{Reference, Cell, event}
 use Rattle.algol_meaning.specs.World.{NamedCell, Instance, instance_at, able, Process, WorldFault, World, cell_in, cell_at, cells_with, with_instance, set_cell, add_cells, event_in, or_no_process, process_at, with_process, set_able, set_all_able}
 use Rattle.algol_meaning.specs.Instances.{leave}
-use Rattle.algol_meaning.specs.Events.{event_at, change_event, set_event, is_among, joined_all, list_in, forgotten, woken_by, withdrawn, all_withdrawn, released}
+use Rattle.algol_meaning.specs.Events.{event_at, change_event, set_event, reference_is_among, joined_all, list_in, forgotten, woken_by, withdrawn, all_withdrawn, released}
 use Rattle.algol_laws.specs.Reading.{Outline, outline, Bare, bare}
 use Rattle.algol_lean.specs.Lean.{IsLean, Lean}
 use Rattle.algol_lean.proofs.Lists.{all_lean_self, lean_numbered, lean_set, lean_then, outlines_lean}
@@ -130,7 +130,7 @@ released_lean w v l r d =
 pub joined_lean : (p : ℕ) (seen rs : List Reference) (w v : World) → Lean w v → Lean (joined_all w p seen rs) (joined_all v p seen rs)
 joined_lean p seen [] w v l = l
 joined_lean p seen (r ∷ rs) w v l =
-    by (is_among seen r) (joined_lean p (r ∷ seen) rs w v l) (joined_lean p (r ∷ seen) rs (next w) (next v) (event_lean w v l r (λ (e : EventState). joined p e)))
+    by (reference_is_among seen r) (joined_lean p (r ∷ seen) rs w v l) (joined_lean p (r ∷ seen) rs (next w) (next v) (event_lean w v l r (λ (e : EventState). joined p e)))
   where
     next : World → World
     next u = change_event u r (deed (tests test.WaitAny) p (event_at u r)).change

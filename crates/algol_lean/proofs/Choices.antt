@@ -16,7 +16,7 @@ use Rattle.algol_tree.specs.Scopes.{Scopes, use_of}
 use Rattle.algol_meaning.specs.declared.TheConstants.{MOST_STARTED, MOST_ELEMENTS}
 use Rattle.algol_meaning.specs.Value.{Value, simple, whole_of, Reference, Bounds, ArrayCell, Cell, event, array, named, reference}
 use Rattle.algol_meaning.specs.Rest.{Place, own, there, element_of, Given, valued, passed, refers, names, Answer, done}
-use Rattle.algol_meaning.specs.Settle.{block_of, settle_actual_place}
+use Rattle.algol_meaning.specs.Settle.{block_of_sort, settle_actual_place}
 use Rattle.algol_meaning.specs.World.{Instance, name_place, Part, Process, World, instance_at, cell_at, set_cell, add_cells, by_cell, followed, array_in, event_in, process_at}
 use Rattle.algol_meaning.specs.Critical.{some_depends, some_depends_on_any, is_evaluation, own_instances}
 use Rattle.algol_meaning.specs.Arrays.{subscript_place, with_element, elements_of, new_arrays, has_wrong_size, has_no_room, bounds_of}
@@ -27,7 +27,7 @@ use Rattle.algol_meaning.specs.Asks.{Ask, ask, located_of}
 use Rattle.algol_meaning.specs.Choice as choices
 use Rattle.algol_meaning.specs.Choice.{Choice, choice, choice_in, choice_of, goes, fails, opens, home, here, is_subscripted, given_cell, given_cells, task_of, with_new_instance, nth_exists}
 use Rattle.algol_laws.specs.Kept.{if_any}
-use Rattle.algol_laws.specs.Reading.{Outline, Told, told, with_cells_of, read_by_leaving, read_by_first, all_led_to, read_by_several, read_by_deed, read_by, read_in, read_cells, SameCells}
+use Rattle.algol_laws.specs.Reading.{Outline, Told, told_choice, with_cells_of, read_by_leaving, read_by_first, all_led_to, read_by_several, read_by_deed, read_by, read_in, read_cells, SameCells}
 use Rattle.algol_laws.proofs.Bared.{ancestor_alike, cell_left}
 use Rattle.algol_laws.proofs.Reading.{each_reads}
 use Rattle.algol_lean.specs.Lean.{AreLean, Lean, NoneLeft, UsesNoneLeft}
@@ -155,7 +155,7 @@ module _ (sc : Scopes) (w : World) (xs : List Instance) (p : ℕ) (q : Process) 
   left_or_ended_lean x (next ∷ parts) cells =
       left_with_lean (leave w (part.instance ∷ [])) (leave v (part.instance ∷ [])) x (next ∷ parts) (leave_lean (part.instance ∷ []) w v lean).instances
 
-  left_lean : (x : Answer) → SameCells w v (read_by_leaving sc w p q part outer outer) → AfterLean (choices.left sc w p q part outer x) (choices.left sc v p q part outer x)
+  left_lean : (x : Answer) → SameCells w v (read_by_leaving sc w p q part outer outer) → AfterLean (choices.left_choice sc w p q part outer x) (choices.left_choice sc v p q part outer x)
   left_lean x cells =
       either (is_evaluation part.purpose) (choices.left_with sc w p q part outer w x outer) (choices.left_with sc v p q part outer v x outer)
       (if some_depends w.processes part.instance then fails sc w p q part outer fault.CriticalBlockExit else choices.left_or_ended sc w p q part outer x outer)
@@ -209,15 +209,15 @@ module _ (sc : Scopes) (w : World) (xs : List Instance) (p : ℕ) (q : Process) 
       AfterLean (choices.does_with_first sc w p q part outer x ns) (choices.does_with_first sc v p q part outer x ns)
   first_lean x [] cells = l
   first_lean x (n ∷ ns) cells =
-      subst (λ (s : Reference). AfterLean ours (choices.does sc v p q part outer x s (deed x p (event_at v s)))) (sym (led_same n cells.0))
-      (subst (λ (c : Cell). AfterLean ours (choices.does sc v p q part outer x r (deed x p (event_in c)))) (sym cells.1.0)
+      subst (λ (s : Reference). AfterLean ours (choices.deed_does sc v p q part outer x s (deed x p (event_at v s)))) (sym (led_same n cells.0))
+      (subst (λ (c : Cell). AfterLean ours (choices.deed_does sc v p q part outer x r (deed x p (event_in c)))) (sym cells.1.0)
       (did_lean x r (deed x p (event_at w r)) (deed x p (event_at w r)).next))
     where
       r : Reference
       r = followed w (here sc w p q part outer n)
 
       ours : Choice
-      ours = choices.does sc w p q part outer x r (deed x p (event_at w r))
+      ours = choices.deed_does sc w p q part outer x r (deed x p (event_at w r))
 
   pub all_same : (ns : List Named) → SameCells w v (all_led_to sc w p q part outer ns) → choices.all_followed sc v p q part outer ns ≡ choices.all_followed sc w p q part outer ns
   all_same [] cells = refl
@@ -315,7 +315,7 @@ module _ (sc : Scopes) (w : World) (xs : List Instance) (p : ℕ) (q : Process) 
       unchanged (choices.indexed_at sc w p q part outer r ks j) (choices.indexed_at sc v p q part outer s ks k) (indexed_leaves w r ks j) (indexed_leaves v s ks k)
   choice_lean (asks.fails f) cells = l
   choice_lean (asks.enters n gs) cells =
-      new_lean (block_of ((use_of sc n).sort)) (home sc w p q part outer n) (home sc v p q part outer n) p (given_cells sc w p q part outer gs)
+      new_lean (block_of_sort ((use_of sc n).sort)) (home sc w p q part outer n) (home sc v p q part outer n) p (given_cells sc w p q part outer gs)
       (given_cells sc v p q part outer gs) (home_same n) (all_given_same gs)
   choice_lean (asks.passes n) cells = l
   choice_lean (asks.resolves n) cells =
@@ -332,9 +332,9 @@ module _ (sc : Scopes) (w : World) (xs : List Instance) (p : ℕ) (q : Process) 
   choice_lean (asks.enters_block b) cells = new_lean (number_at sc.blocks (spot_of b)) part.instance part.instance p [] [] refl refl
   choice_lean (asks.starts n gs task) cells =
       either (nat_lt MOST_STARTED (length w.processes)) (fails sc w p q part outer fault.ProcessLimit) (fails sc v p q part outer fault.ProcessLimit)
-      (choices.starts sc w p q part outer (block_of ((use_of sc n).sort)) (home sc w p q part outer n) (given_cells sc w p q part outer gs) (task_of sc w p q part outer task))
-      (choices.starts sc v p q part outer (block_of ((use_of sc n).sort)) (home sc v p q part outer n) (given_cells sc v p q part outer gs) (task_of sc v p q part outer task))
-      l (starts_lean (block_of ((use_of sc n).sort)) n gs (task_of sc w p q part outer task) (task_of sc v p q part outer task))
+      (choices.starts sc w p q part outer (block_of_sort ((use_of sc n).sort)) (home sc w p q part outer n) (given_cells sc w p q part outer gs) (task_of sc w p q part outer task))
+      (choices.starts sc v p q part outer (block_of_sort ((use_of sc n).sort)) (home sc v p q part outer n) (given_cells sc v p q part outer gs) (task_of sc v p q part outer task))
+      l (starts_lean (block_of_sort ((use_of sc n).sort)) n gs (task_of sc w p q part outer task) (task_of sc v p q part outer task))
   choice_lean (asks.event_deed x ns) cells = deed_lean x ns cells
   choice_lean (asks.writes phrases vs) cells = l
   choice_lean (asks.makes_arrays kind ns pairs vs) cells = arrays_lean kind ns (bounds_of pairs vs)
@@ -374,7 +374,7 @@ goes_with sc w xs p l uses =
     cells : SameCells w (with_cells_of w xs) (read_cells sc w p)
     cells = same_cells w xs l (read_cells sc w p) uses.reads
 
-    same : told (choice sc (with_cells_of w xs) p) ≡ told (choice sc w p)
+    same : told_choice (choice sc (with_cells_of w xs) p) ≡ told_choice (choice sc w p)
     same = each_reads sc w xs p (outlines_lean w.instances xs l) (live_lean w.instances xs l) cells
 
 -- a lean world is w with other instances

@@ -19,7 +19,7 @@ use Rattle.algol_meaning.specs.Choice.{choice, here, all_followed}
 use Rattle.algol_meaning.specs.Run.{End, finished, end_by, end_of, goes_on, may_go}
 use Rattle.algol_laws.specs.Reading.{with_cells_of, read_by_first, all_led_to, read_by_several, read_by_deed, read_by, read_in, read_cells, SameCells}
 use Rattle.b67_race.specs.Entries.{Signal, Access, goes_by}
-use Rattle.algol_seen.specs.Accesses.{whole, number_in, element_at, storing, read_of, element_read, signal_of, first_signal, gone_by, several_signal, stored_at, access_by, acting_by, access_in, acting_in, signal_after, next_access, next_signal, done_of}
+use Rattle.algol_seen.specs.Accesses.{whole_cell, element_number_in, access_at_element, storing, read_of, element_read, signal_of, first_signal, gone_by, several_signal, stored_at, access_by, acting_by, access_in, acting_in, signal_after, next_access, next_signal, done_of}
 use Rattle.algol_lean.specs.Lean.{AreLean, Lean, led_by_place, given_by, given_in, UsesNoneLeft}
 use Rattle.algol_lean.proofs.Choices.{here_same, led_same, all_same, same_cells, goes_with, lean_is}
 
@@ -46,7 +46,7 @@ module _ (sc : Scopes) (w : World) (xs : List Instance) (p : ℕ) (q : Process) 
   stored_same : (x : Place) → SameCells w v (led_by_place x) → stored_at sc v part.instance x ≡ stored_at sc w part.instance x
   stored_same (own n) cells = ap (λ (r : Reference). storing r) (here_same sc w xs p q part outer l n)
   stored_same (there r) cells = refl
-  stored_same (element_of r ks) cells = ap (λ (c : Cell). element_at r (number_in (array_in c) ks) true) cells.0
+  stored_same (element_of r ks) cells = ap (λ (c : Cell). access_at_element r (element_number_in (array_in c) ks) true) cells.0
 
   access_same : (x : Ask) → SameCells w v (read_by sc w p q part outer x) → SameCells w v (given_by x) → access_by sc v part.instance x ≡ access_by sc w part.instance x
   access_same (asks.reads n) cells given =
@@ -63,8 +63,8 @@ module _ (sc : Scopes) (w : World) (xs : List Instance) (p : ℕ) (q : Process) 
       gone_by v (all_followed sc w p q part outer ns) ≡ gone_by w (all_followed sc w p q part outer ns)
   gone_same [] cells = refl
   gone_same (n ∷ ns) cells =
-      ap (λ (c : Cell). if answers test.WaitAny (event_in c) then goes_by (whole r) else gone_by v (all_followed sc w p q part outer ns)) cells.1.0
-      ∙ ap (λ (s : Signal). if answers test.WaitAny (event_at w r) then goes_by (whole r) else s) (gone_same ns cells.1.1)
+      ap (λ (c : Cell). if answers test.WaitAny (event_in c) then goes_by (whole_cell r) else gone_by v (all_followed sc w p q part outer ns)) cells.1.0
+      ∙ ap (λ (s : Signal). if answers test.WaitAny (event_at w r) then goes_by (whole_cell r) else s) (gone_same ns cells.1.1)
     where
       r : Reference
       r = followed w (here sc w p q part outer n)

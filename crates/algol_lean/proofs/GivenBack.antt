@@ -4,13 +4,13 @@ use Rattle.b67_list.specs.Numbered.{numbered}
 use Rattle.algol_tree.specs.Sorts.{same_name}
 use Rattle.algol_meaning.specs.Value.{Reference, Cell}
 use Rattle.algol_meaning.specs.World.{NamedCell, Instance, or_no_instance, instance_at, cells_with, set_cell, World}
-use Rattle.algol_instances.specs.Counting.{is_array}
+use Rattle.algol_instances.specs.Counting.{cell_is_array}
 use Rattle.algol_instances.specs.SeenInstance.{zero_cell}
 use Rattle.algol_laws.specs.Reading.{Outline}
 use Rattle.algol_laws.proofs.Cells.{numbered_set, same_name_refl}
 use Rattle.algol_perform.proofs.Newer.{drop_more, drop_none, below_length}
 use Rattle.algol_lean.specs.Lean.{Lean}
-use Rattle.algol_lean.specs.Shed.{without, without_arrays, shed_of, all_shed}
+use Rattle.algol_lean.specs.Shed.{world_without, without_arrays, shed_of, all_shed}
 use Rattle.algol_lean.proofs.Lists.{lean_set_right}
 use Rattle.algol_lean.proofs.Changes.{instance_lean}
 
@@ -27,7 +27,7 @@ emptied_lean w v l r c left =
       fault = l.fault;
     }
 
-one_lean : (w v : World) → Lean w v → (r : Reference) (b : Bool) → (instance_at w r.instance).left ≡ true → Lean w (without v r b)
+one_lean : (w v : World) → Lean w v → (r : Reference) (b : Bool) → (instance_at w r.instance).left ≡ true → Lean w (world_without v r b)
 one_lean w v l r true left = emptied_lean w v l r zero_cell left
 one_lean w v l r false left = l
 
@@ -35,7 +35,7 @@ without_lean : (w : World) (i : ℕ) (cells : List NamedCell) (v : World) → Le
 without_lean w i [] v l left = l
 without_lean w i (c ∷ cells) v l left =
     let r : Reference = record { instance = i; name = c.name } in
-    without_lean w i cells (without v r (is_array c.cell)) (one_lean w v l r (is_array c.cell) left) left
+    without_lean w i cells (world_without v r (cell_is_array c.cell)) (one_lean w v l r (cell_is_array c.cell) left) left
 
 shed_lean : (w v : World) → Lean w v → (i : ℕ) → Lean w (shed_of v i)
 shed_lean w v l i = by (instance_at v i).left refl
@@ -104,17 +104,17 @@ module _ (w : World) (i k : ℕ) where
     abbrev r : Reference
     r = record { instance = i; name = c.name }
 
-    later : (b : Bool) → drop (suc k) (cells_of (without w r b) i) ≡ drop (suc k) (cells_of w i)
+    later : (b : Bool) → drop (suc k) (cells_of (world_without w r b) i) ≡ drop (suc k) (cells_of w i)
     later true = ap (λ (cells : List NamedCell). drop (suc k) cells) (cells_set w i k c zero_cell e) ∙ with_drop (cells_of w i) k c zero_cell e
     later false = refl
 
-    as_many : (b : Bool) → length (cells_of (without w r b) i) ≡ length (cells_of w i)
+    as_many : (b : Bool) → length (cells_of (world_without w r b) i) ≡ length (cells_of w i)
     as_many true = ap (λ (cells : List NamedCell). length cells) (cells_set w i k c zero_cell e) ∙ with_length (cells_of w i) c.name zero_cell
     as_many false = refl
 
-    module _ (u : World) (b : Bool) (is : b ≡ is_array c.cell) (next : u ≡ without w r b) where
-      becomes : u ≡ without w r (is_array c.cell)
-      becomes = next ∙ ap (λ (x : Bool). without w r x) is
+    module _ (u : World) (b : Bool) (is : b ≡ cell_is_array c.cell) (next : u ≡ world_without w r b) where
+      becomes : u ≡ world_without w r (cell_is_array c.cell)
+      becomes = next ∙ ap (λ (x : Bool). world_without w r x) is
 
       -- the cell after it is the next one
       pub shed_more : without_arrays u i (drop (k + 1) (cells_of u i)) ≡ left_over
@@ -122,12 +122,12 @@ module _ (w : World) (i k : ℕ) where
           let one : k + 1 ≡ suc k = omega arith in
           ap (λ (n : ℕ). without_arrays u i (drop n (cells_of u i))) one
           ∙ ap (λ (v : World). without_arrays v i (drop (suc k) (cells_of v i))) becomes
-          ∙ ap (λ (cells : List NamedCell). without_arrays (without w r (is_array c.cell)) i cells) (later (is_array c.cell))
+          ∙ ap (λ (cells : List NamedCell). without_arrays (world_without w r (cell_is_array c.cell)) i cells) (later (cell_is_array c.cell))
           ∙ sym (ap (λ (cells : List NamedCell). without_arrays w i cells) (drop_more (cells_of w i) k c e))
 
       pub shed_smaller : length (cells_of u i) - (k + 1) < length (cells_of w i) - k
       shed_smaller =
-          let many : length (cells_of u i) ≡ length (cells_of w i) = ap (λ (v : World). length (cells_of v i)) becomes ∙ as_many (is_array c.cell) in
+          let many : length (cells_of u i) ≡ length (cells_of w i) = ap (λ (v : World). length (cells_of v i)) becomes ∙ as_many (cell_is_array c.cell) in
           let within : k < length (cells_of w i) = below_length (cells_of w i) k c e in
           omega (arith, many, within)
 

@@ -21,8 +21,8 @@ use Rattle.algol_meaning.specs.Choice.{home, here}
 use Rattle.algol_meaning.specs.Run.{start, may_go, run_from, run}
 use Rattle.algol_laws.specs.Kept.{if_any}
 use Rattle.algol_laws.specs.Reading.{read_by_leaving, read_by_first, all_led_to, read_by_several, read_by_deed, read_by, read_in, read_cells}
-use Rattle.algol_paths.specs.Blocks.{IsSeen}
-use Rattle.algol_standing.specs.Worlds.{held_in_place, newest_own, skeleton, IsStanding, IsOnPath, HasHead, IsWhole, IsSound}
+use Rattle.algol_paths.specs.Blocks.{BlockIsSeen}
+use Rattle.algol_standing.specs.Worlds.{held_in_place, newest_own, skeleton, IsStanding, IsOnPath, HasHead, IsWholeInstance, IsSound}
 use Rattle.algol_standing.specs.Fitting.{IsOk}
 use Rattle.algol_standing.proofs.Standing.{stands_path}
 use Rattle.algol_standing.proofs.Holding.{AreAll}
@@ -37,24 +37,24 @@ use Rattle.algol_lean.specs.Lean.{NoneLeft, led_by_place, given_by, given_in, Us
 use Rattle.algol_lean.specs.Beside.{KeepsInUse}
 use Rattle.algol_lean.specs.Laws.{SourcesKeepInUse, AcceptedKeepInUse}
 
-module _ (sc : Scopes) (w : World) (ok : IsSound sc IsWhole w) where
+module _ (sc : Scopes) (w : World) (ok : IsSound sc IsWholeInstance w) where
   stands_in_use : (i : ℕ) → IsStanding w i → (instance_at w i).left ≡ false
   stands_in_use i st =
-      let x = there_stands sc IsWhole w ok i st in
-      ap (λ (y : Instance). y.left) (instance_is sc IsWhole w ok i x.0 x.1) ∙ (ok.instances i x.0 x.1).left.1 st
+      let x = there_stands sc IsWholeInstance w ok i st in
+      ap (λ (y : Instance). y.left) (instance_is sc IsWholeInstance w ok i x.0 x.1) ∙ (ok.instances i x.0 x.1).left.1 st
 
   module _ (p : ℕ) (q : Process) (part : Part) (outer : List Part) (is : numbered w.processes p ≡ Some q) (todo : q.todo ≡ part ∷ outer) (able_is : q.state ≡ able) where
     abbrev top : ℕ
     top = newest_own (part ∷ outer)
 
     on_path : (i : ℕ) → IsOnPath w top i → (instance_at w i).left ≡ false
-    on_path i path = stands_in_use i (stands_path (skeleton w) ok.skeleton_ok top i (top_stands sc IsWhole w ok p q part outer is todo) path)
+    on_path i path = stands_in_use i (stands_path (skeleton w) ok.skeleton_ok top i (top_stands sc IsWholeInstance w ok p q part outer is todo) path)
 
     abbrev IsSeenHere : Named → Type 0
-    IsSeenHere n = IsSeen sc ((instance_at w part.instance).block) n
+    IsSeenHere n = BlockIsSeen sc ((instance_at w part.instance).block) n
 
     here_in_use : (n : Named) → IsSeenHere n → (instance_at w (home sc w p q part outer n)).left ≡ false
-    here_in_use n s = on_path (home sc w p q part outer n) (home_path sc IsWhole w ok p q part outer is todo n s)
+    here_in_use n s = on_path (home sc w p q part outer n) (home_path sc IsWholeInstance w ok p q part outer is todo n s)
 
     led_in_use : (n : Named) → IsSeenHere n → (instance_at w (followed w (here sc w p q part outer n)).instance).left ≡ false
     led_in_use n s = on_path (followed w (here sc w p q part outer n)).instance (at_followed sc (heads_act sc) w ok p q part outer is todo able_is n s)
@@ -63,7 +63,7 @@ module _ (sc : Scopes) (w : World) (ok : IsSound sc IsWhole w) where
 
     task_in_use : (o : Option Reference) → q.task ≡ o → NoneLeft w (if_any o)
     task_in_use None e = tt
-    task_in_use (Some r) e = (stands_in_use r.instance (task sc IsWhole w ok p q r is (ap lives able_is) e), tt)
+    task_in_use (Some r) e = (stands_in_use r.instance (task sc IsWholeInstance w ok p q r is (ap lives able_is) e), tt)
 
     leaving_in_use : (parts : List Part) → NoneLeft w (read_by_leaving sc w p q part outer parts)
     leaving_in_use [] = task_in_use q.task refl
@@ -97,14 +97,14 @@ module _ (sc : Scopes) (w : World) (ok : IsSound sc IsWhole w) where
         let s = sees sc (heads_act sc) w ok p q part outer is todo able_is (asks.indexes n ks v) e in (here_in_use n s, (led_in_use n s, tt))
     read_in_use (asks.passes n) e = (here_in_use n (sees sc (heads_act sc) w ok p q part outer is todo able_is (asks.passes n) e), tt)
     read_in_use (asks.resolves n) e = (here_in_use n (sees sc (heads_act sc) w ok p q part outer is todo able_is (asks.resolves n) e), tt)
-    read_in_use (asks.reads_result name) e = (stands_in_use part.instance (part_stands sc IsWhole w ok p q part outer is todo), tt)
+    read_in_use (asks.reads_result name) e = (stands_in_use part.instance (part_stands sc IsWholeInstance w ok p q part outer is todo), tt)
     read_in_use (asks.leaves a) e = leaving_in_use outer
     read_in_use (asks.event_deed x ns) e = deed_in_use x ns (sees sc (heads_act sc) w ok p q part outer is todo able_is (asks.event_deed x ns) e)
     read_in_use _ e = tt
 
     -- ---- what is stored by a place
 
-    place_in_use : (x : Place) → AreAll (CellOk sc IsWhole w ok top) (held_in_place x) → NoneLeft w (led_by_place x)
+    place_in_use : (x : Place) → AreAll (CellOk sc IsWholeInstance w ok top) (held_in_place x) → NoneLeft w (led_by_place x)
     place_in_use (own n) h = tt
     place_in_use (there r) h = (on_path r.instance (h.0.0 r.instance (◌⊎◌.inl refl)), tt)
     place_in_use (element_of r ks) h = (on_path r.instance (h.0.0 r.instance (◌⊎◌.inl refl)), tt)
@@ -112,13 +112,13 @@ module _ (sc : Scopes) (w : World) (ok : IsSound sc IsWhole w) where
     given_in_use : (x : Ask) → ask part.rest ≡ x → NoneLeft w (given_by x)
     given_in_use (asks.stores x v) e =
         place_in_use x
-        (subst (λ (y : Ask). AskHolds (CellOk sc IsWhole w ok top) y) e
-        (rest_asks (CellOk sc IsWhole w ok top) part.rest (held_ok sc IsWhole w ok p q part outer is todo)))
+        (subst (λ (y : Ask). AskHolds (CellOk sc IsWholeInstance w ok top) y) e
+        (rest_asks (CellOk sc IsWholeInstance w ok top) part.rest (held_ok sc IsWholeInstance w ok p q part outer is todo)))
     given_in_use _ e = tt
 
 -- ---- by process
 
-pub uses_none_left : (sc : Scopes) (w : World) (p : ℕ) → IsOk sc IsWhole w → may_go w p ≡ true → UsesNoneLeft sc w p
+pub uses_none_left : (sc : Scopes) (w : World) (p : ℕ) → IsOk sc IsWholeInstance w → may_go w p ≡ true → UsesNoneLeft sc w p
 unfolding read_cells
 uses_none_left sc w p ok goes =
     record {

@@ -9,10 +9,10 @@ use Rattle.algol_meaning.specs.Run.{End, start, end_of, may_go, after_entry, run
 use Rattle.algol_front.proofs.Ordered.{IsSource}
 use Rattle.algol_world.specs.SeenActed.{acted_choice}
 use Rattle.algol_world.specs.declared.acted.Acted.{Acted}
-use Rattle.algol_run.specs.Stepping.{ended, not_able, went, chosen_by, step_by, step_of, told, is_going, is_kept}
+use Rattle.algol_run.specs.Stepping.{ended, not_able, went, chosen_by, step_by, step_of, told_step, is_going, is_kept}
 use Rattle.algol_run.specs.declared.stepping.Stepped.{Stepped}
 use Rattle.algol_run.specs.declared.stepping.Stepped.TheVariants as stepped
-use Rattle.algol_seen.specs.Seen.{IsSeen}
+use Rattle.algol_seen.specs.Seen.{ProcessIsSeen}
 use Rattle.algol_seen.specs.declared.seen.Seen.{Seen}
 use Rattle.algol_lean.specs.Lean.{Lean, UsesNoneLeft}
 use Rattle.algol_lean.specs.Beside.{KeepsInUse, RunsBeside, StepsBeside, SeenBeside}
@@ -57,7 +57,7 @@ module _ (c d : Choice) (g : GoesAlike c d) (u : World) where
   same_end = ends_lean c.world d.world g.world
 
   -- the same is told of the other step
-  pub told_alike : (s : Stepped) → told s u ≡ chosen_by (end_of d.world) d → (told s c.world ≡ chosen_by (end_of c.world) c) × (u ≡ d.world)
+  pub told_alike : (s : Stepped) → told_step s u ≡ chosen_by (end_of d.world) d → (told_step s c.world ≡ chosen_by (end_of c.world) c) × (u ≡ d.world)
   told_alike stepped.NotAble e = by (end_of d.world) e
     where
       by : (o : Option End) → not_able ≡ chosen_by o d → (not_able ≡ chosen_by (end_of c.world) c) × (u ≡ d.world)
@@ -80,7 +80,7 @@ module _ (c d : Choice) (g : GoesAlike c d) (u : World) where
           let some : end_of c.world ≡ Some x = sym same_end ∙ k in
           (ap ended (told_same a u c d is g) ∙ sym (ap (λ (o : Option End). chosen_by o c) some), ap (λ (y : Choice). y.world) is)
 
-told_nothing : (s : Stepped) (u w : World) → told s u ≡ not_able → (told s w ≡ not_able) × (is_going s ≡ false)
+told_nothing : (s : Stepped) (u w : World) → told_step s u ≡ not_able → (told_step s w ≡ not_able) × (is_going s ≡ false)
 told_nothing stepped.NotAble u w e = (refl, refl)
 told_nothing (stepped.Went a) u w e = cc
 told_nothing (stepped.Ended a) u w e = cc
@@ -135,7 +135,7 @@ module _ (sc : Scopes) (w v after : World) (p : ℕ) (b : RunsBeside sc w v) whe
             beside = beside_then may t.went same.1 t.shed;
           }
         where
-          goes : (x : Stepped) → is_going x ≡ false → told x c.world ≡ chosen_by (end_of c.world) c → ⊥
+          goes : (x : Stepped) → is_going x ≡ false → told_step x c.world ≡ chosen_by (end_of c.world) c → ⊥
           goes stepped.NotAble f g = by_end (end_of c.world) g
             where
               by_end : (o : Option End) → not_able ≡ chosen_by o c → ⊥
@@ -147,7 +147,7 @@ module _ (sc : Scopes) (w v after : World) (p : ℕ) (b : RunsBeside sc w v) whe
   pub seen_beside : (o : Option Seen) → SeenShedding sc v p after o → SeenBeside sc w p after o
   seen_beside None t = record { after = w; step = (sym (may_lean w v p b.lean) ∙ t.step.0, refl); beside = beside_still t.went t.step.1 t.shed }
   seen_beside (Some s) t =
-      let is : IsSeen sc v p t.went s = t.step in
+      let is : ProcessIsSeen sc v p t.went s = t.step in
       let may : may_go w p ≡ true = sym (may_lean w v p b.lean) ∙ is.may in
       record {
         after = c.world;

@@ -3,7 +3,7 @@ use Rattle.std.specs.Prelude.{◌≡◌, ℕ, true, false, List, Option, Some}
 use Rattle.algol_tree.specs.Scopes.{Scopes}
 use Rattle.algol_meaning.specs.World.{World}
 use Rattle.algol_meaning.specs.Run.{may_go, run_from}
-use Rattle.algol_run.specs.Stepping.{step_of, told, is_going}
+use Rattle.algol_run.specs.Stepping.{step_of, told_step, is_going}
 use Rattle.algol_run.specs.declared.stepping.Stepped.{Stepped}
 use Rattle.algol_seen.specs.Seen.{SeenStep}
 use Rattle.algol_seen.specs.declared.seen.Seen.{Seen}
@@ -21,7 +21,7 @@ pub record RunsBeside (sc : Scopes) (w v : World) : Type 0 where
 -- What is told of a step in a world beside w is a step of w, and v is beside the world after it.
 pub record StepsBeside (sc : Scopes) (w : World) (p : ℕ) (v : World) (s : Stepped) : Type 0 where
   pub after : World
-  pub step : told s after ≡ step_of sc w p
+  pub step : told_step s after ≡ step_of sc w p
   pub still : is_going s ≡ false → after ≡ w
   pub beside : RunsBeside sc after v
 

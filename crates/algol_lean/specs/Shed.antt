@@ -8,11 +8,11 @@ use Rattle.algol_meaning.specs.Critical.{own_instances}
 use Rattle.algol_meaning.specs.Instances.{cut_at}
 use Rattle.algol_meaning.specs.Asks as asks
 use Rattle.algol_meaning.specs.Asks.{Ask, ask}
-use Rattle.algol_instances.specs.Counting.{is_array}
+use Rattle.algol_instances.specs.Counting.{cell_is_array}
 use Rattle.algol_instances.specs.SeenInstance.{zero_cell, named_cell}
 use Rattle.algol_instances.specs.declared.instance.NamedCell as code
 use Rattle.algol_perform.specs.Going.{instance_in}
-use Rattle.algol_run.specs.Stepping.{step_of, told, is_going}
+use Rattle.algol_run.specs.Stepping.{step_of, told_step, is_going}
 use Rattle.algol_run.specs.declared.stepping.Stepped.{Stepped}
 use Rattle.algol_seen.specs.Seen.{SeenStep}
 use Rattle.algol_seen.specs.declared.seen.Seen.{Seen}
@@ -22,13 +22,13 @@ named_or_none None = None
 named_or_none (Some c) = Some (named_cell c.now)
 
 -- a number 0 stands in for what the cell holds, if it is an array
-abbrev pub without : World → Reference → Bool → World
-without w r array = if array then set_cell w r zero_cell else w
+abbrev pub world_without : World → Reference → Bool → World
+world_without w r array = if array then set_cell w r zero_cell else w
 
 -- .. for each array among these cells of an instance
 abbrev pub without_arrays : World → ℕ → List NamedCell → World
 without_arrays w i [] = w
-without_arrays w i (c ∷ cells) = without_arrays (without w (record { instance = i; name = c.name }) (is_array c.cell)) i cells
+without_arrays w i (c ∷ cells) = without_arrays (world_without w (record { instance = i; name = c.name }) (cell_is_array c.cell)) i cells
 
 -- An instance that is left gives back its arrays; another one keeps them.
 abbrev pub shed_of : World → ℕ → World
@@ -58,7 +58,7 @@ leaving_in sc w parts = instance_in parts ∷ passed_in sc w parts
 -- What is told of a step is a step of w, and the instances that it may leave, if they are left, have given back their arrays in `after`.
 pub record StepsShedding (sc : Scopes) (w : World) (p : ℕ) (after : World) (s : Stepped) : Type 0 where
   pub went : World
-  pub step : told s went ≡ step_of sc w p
+  pub step : told_step s went ≡ step_of sc w p
   pub still : is_going s ≡ false → went ≡ w
   pub shed : after ≡ all_shed went (leaving_in sc w (process_at w p).todo)
 

@@ -4,7 +4,7 @@ ghost use Rattle.std.specs.Prelude.{◌≡◌, IfOk};
 ghost use Rattle.algol_meaning.specs.World as plain;
 ghost use Rattle.algol_meaning.specs.Critical as critical;
 ghost use Rattle.algol_cells.specs.SeenScope.{scoped};
-ghost use Rattle.algol_rest.specs.SeenRest.{asked};
+ghost use Rattle.algol_rest.specs.SeenRest.{rest_asked};
 ghost use Rattle.algol_world.specs.SeenWorld.{world_of, process_of};
 ghost use Rattle.algol_perform.specs.Going.{instance_in, own_in, owned, AreLeft};
 ghost use Rattle.algol_lean.specs.Shed as shedding;
@@ -80,7 +80,7 @@ fn passed_by<'p>(
     part: &Part<'p>,
     ask: &Ask<'_, 'p>,
 ) -> Result<List<Option<usize>>, AllocError>
-    ensures { IfOk result (λ is. owned is ≡ shedding.passed_by (scoped world.now.scopes) (world_of world.now) (process_of world.now process).todo part.now.instance (asked ask.now)) }
+    ensures { IfOk result (λ is. owned is ≡ shedding.passed_by (scoped world.now.scopes) (world_of world.now) (process_of world.now process).todo part.now.instance (rest_asked ask.now)) }
 {
     match ask {
         Ask::GoesTo(n) => {

@@ -7,7 +7,7 @@ ghost use Rattle.algol_cells.specs.SeenCell.{reference};
 ghost use Rattle.algol_instances.specs.Counting as counting;
 ghost use Rattle.algol_world.specs.SeenWorld.{world_of};
 ghost use Rattle.algol_perform.specs.Going.{owned};
-ghost use Rattle.algol_lean.specs.Shed.{named_or_none, without, shed_of, all_shed};
+ghost use Rattle.algol_lean.specs.Shed.{named_or_none, world_without, shed_of, all_shed};
 
 use algol_cells::{Cell, Reference};
 use algol_instances::{NamedCell, instance_at};
@@ -26,7 +26,7 @@ fn is_left(world: &World<'_>, number: usize) -> bool
 
 /// Tests that a cell is an array.
 fn is_array(cell: &Cell<'_>) -> bool
-    ensures { result ≡ counting.is_array (seen.cell cell.now) }
+    ensures { result ≡ counting.cell_is_array (seen.cell cell.now) }
 {
     match cell {
         Cell::Array(_) => true,
@@ -48,7 +48,7 @@ fn cell_under<'a, 'p>(world: &'a World<'p>, number: usize, at: usize) -> Option<
 
 /// A number 0 stands in for what a cell holds, if it is an array.
 fn give_back<'p>(world: &mut World<'p>, r: Reference<'p>, array: bool)
-    ensures empty { world_of world.new ≡ without (world_of world.old) (reference r.entry) array }
+    ensures empty { world_of world.new ≡ world_without (world_of world.old) (reference r.entry) array }
     ensures same { world.new.scopes ≡ world.old.scopes }
 {
     if array {

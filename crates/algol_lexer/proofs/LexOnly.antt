@@ -15,7 +15,7 @@ use Rattle.algol_tree.specs.declared.token.Symbol.TheVariants as symbols
 use Rattle.algol_tree.specs.declared.token.TokenKind.{TokenKind}
 use Rattle.algol_tree.specs.declared.token.TokenKind.TheVariants as kinds
 use Rattle.algol_tree.specs.Spelling.{is_letter, is_digit, is_blank, is_name, is_number, drawn}
-use Rattle.algol_tree.specs.Lexes.{Mode, Program, Comment, EndRemark, Front, Piece, Wrong, capitals, IsSpelled, IsLongest, token_of, front_of, remark_front, is_printable, string_or, string_front, BeginsNone, Stands, blank, percent, spelled, closed, unclosed, none, closing, commented, remarked, semicolon, period, passed}
+use Rattle.algol_tree.specs.Lexes.{Mode, Program, Comment, EndRemark, Front, Piece, Wrong, capitals, IsSpelled, IsLongest, token_of, front_of, remark_front, is_printable, string_or, string_front, BeginsNone, TokenStands, blank, percent, spelled, closed, unclosed, none, closing, commented, remarked, semicolon, period, passed}
 use Rattle.algol_lexer.proofs.LexSpelling.{Shape, letters, digits, mark, shape_of, is_letter-head, is_digit-head, length-shape-pos}
 use Rattle.algol_lexer.proofs.LexFronts.{one_front}
 use Rattle.algol_lexer.proofs.LexCapitals.{is_digit-uppercase, length-capitals, capitals-append, longest_of, drawn_from}
@@ -203,7 +203,7 @@ of_sort text f sort e p = subst (λ (s : Sort). OfSort s text f) (sym e) p
 of_sign : (text : List ℕ) (f : Front) (sign : Sign) → sign_of text ≡ sign → OfSign sign text f → OfSign (sign_of text) text f
 of_sign text f sign e p = subst (λ (s : Sign). OfSign s text f) (sym e) p
 
-of_mode : {m : Mode} {text : List ℕ} {f : Front} → Stands m text f → OfMode m text f
+of_mode : {m : Mode} {text : List ℕ} {f : Front} → TokenStands m text f → OfMode m text f
 of_mode (blank b after h) = of_sort (b ∷ after) (Piece 1 None Program) Blank (blank_sort b h) refl
 of_mode (percent after) = let size : 1 + length after ≡ length (37 ∷ after) = omega arith in ap (λ (n : ℕ). Piece n None Program) size
 of_mode (spelled bytes after k s l) = of_sort (bytes ++ after) (front_of k (length bytes)) Rest (sort_shape bytes after (capitals bytes) refl (shape_of s)) (token (bytes ++ after) bytes after k refl s l)
@@ -218,7 +218,7 @@ of_mode (period after) = refl
 of_mode (passed b after h i j) = of_sign (b ∷ after) (Piece 1 None EndRemark) Other (sign_other b (not_true (is_letter (to_ascii_uppercase b)) h) i j) refl
 
 -- One thing at most stands there.
-pub one_stands : {m : Mode} {text : List ℕ} {f g : Front} → Stands m text f → Stands m text g → f ≡ g
+pub one_stands : {m : Mode} {text : List ℕ} {f g : Front} → TokenStands m text f → TokenStands m text g → f ≡ g
 one_stands {m} {text} {f} {g} s t = one_of_mode m text f g (of_mode s) (of_mode t)
 
 -- a piece has a byte, and ends within the text; what is wrong stands within it
@@ -256,7 +256,7 @@ string_fits inside (Some k) len within e = let f = found_at (λ b. not (is_print
 spelled_some : (bytes : List ℕ) (k : TokenKind) → IsSpelled bytes k → 0 < length bytes
 spelled_some bytes k s = omega (arith, length-shape-pos (shape_of s), length-capitals bytes)
 
-pub stands_fits : {m : Mode} {text : List ℕ} {f : Front} → Stands m text f → FitsIn f (length text)
+pub stands_fits : {m : Mode} {text : List ℕ} {f : Front} → TokenStands m text f → FitsIn f (length text)
 stands_fits (blank b after h) = (omega arith, omega arith)
 stands_fits (percent after) = (omega arith, omega arith)
 stands_fits (spelled bytes after k s l) = front_fits k (length bytes) (length (bytes ++ after)) (spelled_some bytes k s) (omega (arith, length-append bytes after))

@@ -10,7 +10,7 @@ use Rattle.algol_tree.specs.declared.token.TokenKind.{TokenKind}
 use Rattle.algol_tree.specs.Accepted.{is_before}
 use Rattle.algol_tree.specs.Ascending.{IsAhead}
 use Rattle.algol_tree.specs.Records.{Record, is_line_feed, has_dollar, columns, records_from, records_of, spot_in}
-use Rattle.algol_tree.specs.Lexes.{Mode, token_at, end_of, Gives, stays, piece, IsRead, AreRead, all, next, Lexes}
+use Rattle.algol_tree.specs.Lexes.{Mode, token_at, end_of_text, Gives, stays, piece, IsRead, AreRead, all, next, Lexes}
 use Rattle.algol_lexer.specs.Order.{AreInOrder}
 use Rattle.algol_lexer.proofs.LexOnly.{stands_fits}
 
@@ -94,28 +94,28 @@ abbrev column_1 : ℕ → Spot
 column_1 line = record { line = line; column = 1 }
 
 -- the tokens after those of a record, and the end of the text
-rest_rises : (r : Record) (rs : List Record) (more : List Token) → (rs ≡ [] → more ≡ []) → ((line : ℕ) → AreFrom line rs → Rises (column_1 line) (more ++ end_of rs)) →
-    AreFrom (r.line + 1) rs → Rises (spot_in r (length (columns r))) (more ++ end_of (r ∷ rs))
+rest_rises : (r : Record) (rs : List Record) (more : List Token) → (rs ≡ [] → more ≡ []) → ((line : ℕ) → AreFrom line rs → Rises (column_1 line) (more ++ end_of_text rs)) →
+    AreFrom (r.line + 1) rs → Rises (spot_in r (length (columns r))) (more ++ end_of_text (r ∷ rs))
 rest_rises r [] more none whole f =
     let last = spot_in r (length r.bytes) in
     let within = columns_within r in
-    subst (λ (ts : List Token). Rises (spot_in r (length (columns r))) (ts ++ end_of (r ∷ []))) (sym (none refl)) (behind last, (omega arith, omega arith))
+    subst (λ (ts : List Token). Rises (spot_in r (length (columns r))) (ts ++ end_of_text (r ∷ []))) (sym (none refl)) (behind last, (omega arith, omega arith))
 rest_rises r (second ∷ rs) more none whole f =
-    let p = whole (r.line + 1) f in (p.0, climbs_from (spot_in r (length (columns r))) (column_1 (r.line + 1)) p.0 (more ++ end_of (second ∷ rs)) (omega arith) p.1)
+    let p = whole (r.line + 1) f in (p.0, climbs_from (spot_in r (length (columns r))) (column_1 (r.line + 1)) p.0 (more ++ end_of_text (second ∷ rs)) (omega arith) p.1)
 
 all_rise : {rs left : List Record} {m n : Mode} {tokens : List Token} → AreRead rs m tokens n left → left ≡ [] → (line : ℕ) → AreFrom line rs →
-    Rises (column_1 line) (tokens ++ end_of rs)
-all_rise (all rs m) e line f = subst (λ (rs : List Record). Rises (column_1 line) (end_of rs)) (sym e) (column_1 line, omega arith)
+    Rises (column_1 line) (tokens ++ end_of_text rs)
+all_rise (all rs m) e line f = subst (λ (rs : List Record). Rises (column_1 line) (end_of_text rs)) (sym e) (column_1 line, omega arith)
 all_rise (next r rs left m n o tokens more read there) e line f =
     let p = rest_rises r rs more (none_read there) (λ l g. all_rise there e l g) f.1 in
     let first : IsUpTo (column_1 line) (spot_in r 0) = omega (arith, f.0) in
     let here = climbs_from (column_1 line) (spot_in r 0) (spot_in r (length (columns r))) tokens first (record_climbs read) in (
       p.0,
-      subst (λ (ts : List Token). Climbs (column_1 line) ts p.0) (sym (append_assoc tokens more (end_of (r ∷ rs))))
-          (climbs_on (column_1 line) (spot_in r (length (columns r))) p.0 tokens (more ++ end_of (r ∷ rs)) here p.1),
+      subst (λ (ts : List Token). Climbs (column_1 line) ts p.0) (sym (append_assoc tokens more (end_of_text (r ∷ rs))))
+          (climbs_on (column_1 line) (spot_in r (length (columns r))) p.0 tokens (more ++ end_of_text (r ∷ rs)) here p.1),
     )
 
 pub tokens_ascend : (bytes : List ℕ) (tokens : List Token) → Lexes bytes tokens → AreInOrder tokens
 tokens_ascend bytes tokens l =
     let p = all_rise l.read refl 1 (records_are_from 1 0 (slice_split is_line_feed bytes)) in
-    subst AreInOrder (sym l.ended) (ascending (column_1 1) p.0 (l.found ++ end_of (records_of bytes)) p.1)
+    subst AreInOrder (sym l.ended) (ascending (column_1 1) p.0 (l.found ++ end_of_text (records_of bytes)) p.1)

@@ -9,12 +9,12 @@ use Rattle.algol_tree.specs.declared.token.Spot.{Spot}
 use Rattle.algol_tree.specs.declared.token.Token.{Token}
 use Rattle.algol_tree.specs.declared.token.TokenKind.{TokenKind}
 use Rattle.algol_tree.specs.Records.{Record, columns, records_of, spot_in}
-use Rattle.algol_tree.specs.Lexes.{Mode, Front, Piece, Wrong, Stands, token_at, Gives, stays, piece, IsRead, AreRead, all, next, Lexes, Fails, wrong, long, IsRefused, end_of}
-use Rattle.algol_lexer.specs.Outcome.{Reads, LexesOnly, RefusedOnly}
+use Rattle.algol_tree.specs.Lexes.{Mode, Front, Piece, Wrong, TokenStands, token_at, Gives, stays, piece, IsRead, AreRead, all, next, Lexes, Fails, wrong, long, TextIsRefused, end_of_text}
+use Rattle.algol_lexer.specs.Outcome.{RecordReads, LexesOnly, RefusedOnly}
 use Rattle.algol_lexer.proofs.LexOnly.{one_stands, FitsIn, stands_fits}
 
 -- one piece more
-pub gives_more : {r : Record} {m n o : Mode} {at to size : ℕ} {tokens : List Token} {kind : Option TokenKind} → Gives r m at tokens n to → Stands n (drop to (columns r)) (Piece size kind o) → Gives r m at (tokens ++ token_at r to size kind) o (to + size)
+pub gives_more : {r : Record} {m n o : Mode} {at to size : ℕ} {tokens : List Token} {kind : Option TokenKind} → Gives r m at tokens n to → TokenStands n (drop to (columns r)) (Piece size kind o) → Gives r m at (tokens ++ token_at r to size kind) o (to + size)
 gives_more {r} {o = o} {size = size} {kind = kind} (stays m at) st = subst (λ (ts : List Token). Gives r m at ts o (at + size)) (append-nil (token_at r at size kind)) (piece m o o at size (at + size) kind [] st (stays o (at + size)))
 gives_more {r} {o = o} {to = to} {size = size} {kind = kind} (piece m n p at first end k tokens here there) st =
     let more = gives_more there st in
@@ -22,7 +22,7 @@ gives_more {r} {o = o} {to = to} {size = size} {kind = kind} (piece m n p at fir
 
 -- no piece stands there
 abbrev pub IsHalt : Record → Mode → ℕ → Type 0
-IsHalt r n at = (size : ℕ) (kind : Option TokenKind) (o : Mode) → Stands n (drop at (columns r)) (Piece size kind o) → ⊥
+IsHalt r n at = (size : ℕ) (kind : Option TokenKind) (o : Mode) → TokenStands n (drop at (columns r)) (Piece size kind o) → ⊥
 
 pub record IsOneWay (tokens others : List Token) (n o : Mode) (to at : ℕ) : Type 0 where
   pub tokens_are : tokens ≡ others
@@ -48,7 +48,7 @@ one_way {r} (piece m n o at size to kind tokens st g) (piece m' n' o' at' size' 
     }
 
 -- after the last column stands nothing, and where something is wrong stands no piece
-nothing : {n : Mode} {text : List ℕ} {f : Front} → text ≡ [] → Stands n text f → ⊥
+nothing : {n : Mode} {text : List ℕ} {f : Front} → text ≡ [] → TokenStands n text f → ⊥
 nothing {text = text} {f} e st = none_fits f (length text) (ap length e) (stands_fits st)
   where
     none_fits : (f : Front) (n : ℕ) → n ≡ 0 → FitsIn f n → ⊥
@@ -58,7 +58,7 @@ nothing {text = text} {f} e st = none_fits f (length text) (ap length e) (stands
 pub end_halts : (r : Record) (n : Mode) (at : ℕ) → length (columns r) ≤ at → IsHalt r n at
 end_halts r n at ge size kind o st = nothing (drop_all at (columns r) ge) st
 
-wrong_halts : (r : Record) (n : Mode) (at : ℕ) {skipped : ℕ} {code : Code} → Stands n (drop at (columns r)) (Wrong skipped code) → IsHalt r n at
+wrong_halts : (r : Record) (n : Mode) (at : ℕ) {skipped : ℕ} {code : Code} → TokenStands n (drop at (columns r)) (Wrong skipped code) → IsHalt r n at
 wrong_halts r n at st size kind o other = let same = one_stands st other in cc
 
 -- a record is read in one way
@@ -72,7 +72,7 @@ one_reading {r} {n = n} {o = o} p q =
     record { tokens_are = w.tokens_are; mode_is = w.mode_is }
 
 -- what is read is not refused
-wrong_inside : {r : Record} {m n o : Mode} {at skipped : ℕ} {tokens others : List Token} {code : Code} → Gives r m 0 tokens n (length (columns r)) → Gives r m 0 others o at → Stands o (drop at (columns r)) (Wrong skipped code) → ⊥
+wrong_inside : {r : Record} {m n o : Mode} {at skipped : ℕ} {tokens others : List Token} {code : Code} → Gives r m 0 tokens n (length (columns r)) → Gives r m 0 others o at → TokenStands o (drop at (columns r)) (Wrong skipped code) → ⊥
 wrong_inside {r} {n = n} {o = o} {at = at} g w st =
     let one = one_way g w (end_halts r n (length (columns r)) (omega arith)) (wrong_halts r o at st) in
     let past : length (columns r) ≤ at = omega (arith, one.place_is) in
@@ -90,7 +90,7 @@ pub record IsOneRefusal (spot other : Spot) (code reason : Code) : Type 0 where
 one_failure : {r : Record} {m : Mode} {spot other : Spot} {code reason : Code} → Fails r m spot code → Fails r m other reason → IsOneRefusal spot other code reason
 one_failure {r} (wrong n at skipped tokens code g st) (wrong n' at' skipped' tokens' code' g' st') =
     let one = one_way g g' (wrong_halts r n at st) (wrong_halts r n' at' st') in
-    let here : Stands n' (drop at' (columns r)) (Wrong skipped code) = subst (λ (a : ℕ). Stands n' (drop a (columns r)) (Wrong skipped code)) one.place_is (subst (λ (q : Mode). Stands q (drop at (columns r)) (Wrong skipped code)) one.mode_is st) in
+    let here : TokenStands n' (drop at' (columns r)) (Wrong skipped code) = subst (λ (a : ℕ). TokenStands n' (drop a (columns r)) (Wrong skipped code)) one.place_is (subst (λ (q : Mode). TokenStands q (drop at (columns r)) (Wrong skipped code)) one.mode_is st) in
     let same = one_stands here st' in
     let skips : skipped ≡ skipped' = cc in
     let codes_are : code ≡ code' = cc in
@@ -140,12 +140,12 @@ fails_last {r} {left} {n} f q qs tokens o e read =
 pub one_lexing : {bytes : List ℕ} {tokens others : List Token} → Lexes bytes tokens → Lexes bytes others → tokens ≡ others
 one_lexing {bytes} p q =
     let one = one_part p.read q.read (none_left p.mode) (none_left q.mode) in
-    p.ended ∙ ap (λ (ts : List Token). ts ++ end_of (records_of bytes)) one.tokens_are ∙ sym q.ended
+    p.ended ∙ ap (λ (ts : List Token). ts ++ end_of_text (records_of bytes)) one.tokens_are ∙ sym q.ended
 
-pub not_both : {bytes : List ℕ} {tokens : List Token} {spot : Spot} {code : Code} → Lexes bytes tokens → IsRefused bytes spot code → ⊥
+pub not_both : {bytes : List ℕ} {tokens : List Token} {spot : Spot} {code : Code} → Lexes bytes tokens → TextIsRefused bytes spot code → ⊥
 not_both p q = let one = one_part p.read q.read (none_left p.mode) (fails_last q.fails) in let clash = one.left_is in cc
 
-pub one_refusal : {bytes : List ℕ} {spot other : Spot} {code reason : Code} → IsRefused bytes spot code → IsRefused bytes other reason → IsOneRefusal spot other code reason
+pub one_refusal : {bytes : List ℕ} {spot other : Spot} {code reason : Code} → TextIsRefused bytes spot code → TextIsRefused bytes other reason → IsOneRefusal spot other code reason
 one_refusal {spot = spot} {code = code} p q =
     let one = one_part p.read q.read (fails_last p.fails) (fails_last q.fails) in
     let left = one.left_is in
@@ -156,7 +156,7 @@ one_refusal {spot = spot} {code = code} p q =
 pub lexes_only : (bytes : List ℕ) (tokens : List Token) → Lexes bytes tokens → LexesOnly bytes tokens
 lexes_only bytes tokens l = record { lexes = l; only = λ others m. one_lexing m l; read = λ spot code r. not_both l r }
 
-pub refused_only : (bytes : List ℕ) (spot : Spot) (code : Code) → IsRefused bytes spot code → RefusedOnly bytes spot code
+pub refused_only : (bytes : List ℕ) (spot : Spot) (code : Code) → TextIsRefused bytes spot code → RefusedOnly bytes spot code
 refused_only bytes spot code r = record { refused = r; first = λ other reason q. let one = one_refusal q r in (one.spot_is, one.code_is); none = λ tokens l. not_both l r }
 
 -- a record is read up to a place, and the tokens so far stand after those before
@@ -168,7 +168,7 @@ pub record Reaches (r : Record) (m n : Mode) (at : ℕ) (before after : List Tok
 pub reaches_start : (r : Record) (m : Mode) (before : List Token) → Reaches r m m 0 before before
 reaches_start r m before = record { tokens = []; gives = stays m 0; appended = sym (append-nil before) }
 
-pub reaches_more : {r : Record} {m n o : Mode} {at size : ℕ} {kind : Option TokenKind} {before tokens after : List Token} → Reaches r m n at before tokens → Stands n (drop at (columns r)) (Piece size kind o) → after ≡ tokens ++ token_at r at size kind → Reaches r m o (at + size) before after
+pub reaches_more : {r : Record} {m n o : Mode} {at size : ℕ} {kind : Option TokenKind} {before tokens after : List Token} → Reaches r m n at before tokens → TokenStands n (drop at (columns r)) (Piece size kind o) → after ≡ tokens ++ token_at r at size kind → Reaches r m o (at + size) before after
 reaches_more {r} {at = at} {size = size} {kind = kind} {before = before} p st e = record {
   tokens = p.tokens ++ token_at r at size kind;
   gives = gives_more p.gives st;
@@ -178,12 +178,12 @@ reaches_more {r} {at = at} {size = size} {kind = kind} {before = before} p st e 
 pub reaches_long : {r : Record} {m n : Mode} {at : ℕ} {before after : List Token} → Reaches r m n at before after → at ≡ length (columns r) → MOST_RECORD_BYTES < length r.bytes → Fails r m (spot_in r MOST_RECORD_BYTES) LineTooLong
 reaches_long {r} {m} {n} p e lt = long n p.tokens (subst (λ (a : ℕ). Gives r m 0 p.tokens n a) e p.gives) lt
 
-pub reaches_wrong : {r : Record} {m n : Mode} {at skipped : ℕ} {code : Code} {before after : List Token} → Reaches r m n at before after → Stands n (drop at (columns r)) (Wrong skipped code) → Fails r m (spot_in r (at + skipped)) code
+pub reaches_wrong : {r : Record} {m n : Mode} {at skipped : ℕ} {code : Code} {before after : List Token} → Reaches r m n at before after → TokenStands n (drop at (columns r)) (Wrong skipped code) → Fails r m (spot_in r (at + skipped)) code
 reaches_wrong {n = n} {at} {skipped} {code} p st = wrong n at skipped p.tokens code p.gives st
 
 -- what was found to stand at the front of what is left of the columns
-pub stands_there : {n : Mode} {text found wanted : List ℕ} {f g : Front} (at : ℕ) → Stands n text f → f ≡ g → text ≡ drop at found → found ≡ wanted → Stands n (drop at wanted) g
-stands_there {n} {wanted = wanted} {f = f} {g} at st e back same = subst (Stands n (drop at wanted)) e (subst (λ (l : List ℕ). Stands n l f) (back ∙ ap (drop at) same) st)
+pub stands_there : {n : Mode} {text found wanted : List ℕ} {f g : Front} (at : ℕ) → TokenStands n text f → f ≡ g → text ≡ drop at found → found ≡ wanted → TokenStands n (drop at wanted) g
+stands_there {n} {wanted = wanted} {f = f} {g} at st e back same = subst (TokenStands n (drop at wanted)) e (subst (λ (l : List ℕ). TokenStands n l f) (back ∙ ap (drop at) same) st)
 
 -- a piece is one token at most
 pub length-token_at : (r : Record) (at size : ℕ) (kind : Option TokenKind) → length (token_at r at size kind) ≤ 1

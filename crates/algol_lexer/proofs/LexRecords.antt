@@ -8,7 +8,7 @@ use Rattle.std.proofs.lemmas.List.{take_all}
 use Rattle.std.proofs.lemmas.List.Splits.{slice_split_first, slice_split-cons_no}
 use Rattle.algol_tree.specs.declared.TheConstants.{LAST_COLUMN}
 use Rattle.algol_tree.specs.Records.{Record, is_line_feed, records_from, has_dollar, columns_of}
-use Rattle.algol_tree.specs.Lexes.{end_of}
+use Rattle.algol_tree.specs.Lexes.{end_of_text}
 use Rattle.algol_lexer.proofs.LexStrings.{first_is, none_passes}
 
 -- a split has a part
@@ -57,11 +57,11 @@ records_some line from [] some = absurd (omega arith)
 records_some line from (part ∷ []) some = omega arith
 records_some line from (part ∷ next ∷ parts) some = omega arith
 
-end_of_cons : (r : Record) (rs : List Record) → 0 < length rs → end_of (r ∷ rs) ≡ end_of rs
+end_of_cons : (r : Record) (rs : List Record) → 0 < length rs → end_of_text (r ∷ rs) ≡ end_of_text rs
 end_of_cons r [] some = absurd (omega arith)
 end_of_cons r (q ∷ rs) some = refl
 
-pub end_of-next : (r : Record) (line from : ℕ) (rest : List ℕ) → end_of (r ∷ records_from line from (slice_split is_line_feed rest)) ≡ end_of (records_from line from (slice_split is_line_feed rest))
+pub end_of-next : (r : Record) (line from : ℕ) (rest : List ℕ) → end_of_text (r ∷ records_from line from (slice_split is_line_feed rest)) ≡ end_of_text (records_from line from (slice_split is_line_feed rest))
 end_of-next r line from rest = end_of_cons r (records_from line from (slice_split is_line_feed rest)) (records_some line from (slice_split is_line_feed rest) (split_some is_line_feed rest))
 
 -- the columns of a short record are the record

@@ -14,7 +14,7 @@ use Rattle.algol_tree.specs.declared.token.Symbol.{Symbol}
 use Rattle.algol_tree.specs.declared.token.TokenKind.{TokenKind}
 use Rattle.algol_tree.specs.declared.token.TokenKind.TheVariants as kinds
 use Rattle.algol_tree.specs.Spelling.{is_letter, is_digit, is_letter_or_digit, is_name, is_number, written, drawn, value_of, IsReserved, Spells, word, name, number, symbol}
-use Rattle.algol_tree.specs.Lexes.{Program, EndRemark, Wrong, capitals, IsSpelled, IsLongest, token_of, word_front, front_of, remark_front, Stands, spelled, none, remarked}
+use Rattle.algol_tree.specs.Lexes.{Program, EndRemark, Wrong, capitals, IsSpelled, IsLongest, token_of, word_front, front_of, remark_front, TokenStands, spelled, none, remarked}
 use Rattle.algol_lexer.specs.Symbols.{BeginsWithSymbol}
 use Rattle.algol_lexer.specs.Runs.{in_word, IsNoOther}
 use Rattle.algol_lexer.proofs.LexSpelling.{Shape, letters, digits, mark, shape_of, is_letter-head, is_digit-head, length-shape-pos}
@@ -23,17 +23,17 @@ use Rattle.algol_lexer.proofs.LexFound.{first_passes, first_passes-append, first
 use Rattle.algol_lexer.proofs.LexCapitals.{is_digit-uppercase, capitals-digits, prefix_len-capitals, in_word-uppercase, length-capitals, take-capitals, drop-capitals, capitals-append, longest_from, capitals-drawn, drawn_from}
 
 -- the front of a text, where it has so many bytes
-pub spelled_at : (text : List ℕ) (n : ℕ) (k : TokenKind) → n ≤ length text → IsSpelled (take n text) k → IsLongest (take n text) (drop n text) → Stands Program text (front_of k n)
+pub spelled_at : (text : List ℕ) (n : ℕ) (k : TokenKind) → n ≤ length text → IsSpelled (take n text) k → IsLongest (take n text) (drop n text) → TokenStands Program text (front_of k n)
 spelled_at text n k within s g =
-    let here : Stands Program (take n text ++ drop n text) (front_of k (length (take n text))) = spelled (take n text) (drop n text) k s g in
-    let sized : Stands Program (take n text ++ drop n text) (front_of k n) = subst (λ (m : ℕ). Stands Program (take n text ++ drop n text) (front_of k m)) (length-take-le n text within) here in
-    subst (λ (l : List ℕ). Stands Program l (front_of k n)) (take-append-drop n text) sized
+    let here : TokenStands Program (take n text ++ drop n text) (front_of k (length (take n text))) = spelled (take n text) (drop n text) k s g in
+    let sized : TokenStands Program (take n text ++ drop n text) (front_of k n) = subst (λ (m : ℕ). TokenStands Program (take n text ++ drop n text) (front_of k m)) (length-take-le n text within) here in
+    subst (λ (l : List ℕ). TokenStands Program l (front_of k n)) (take-append-drop n text) sized
 
-pub remarked_at : (text : List ℕ) (n : ℕ) (k : TokenKind) → n ≤ length text → IsSpelled (take n text) k → IsLongest (take n text) (drop n text) → is_name (capitals (take n text)) ≡ true → Stands EndRemark text (remark_front k n)
+pub remarked_at : (text : List ℕ) (n : ℕ) (k : TokenKind) → n ≤ length text → IsSpelled (take n text) k → IsLongest (take n text) (drop n text) → is_name (capitals (take n text)) ≡ true → TokenStands EndRemark text (remark_front k n)
 remarked_at text n k within s g h =
-    let here : Stands EndRemark (take n text ++ drop n text) (remark_front k (length (take n text))) = remarked (take n text) (drop n text) k s g h in
-    let sized : Stands EndRemark (take n text ++ drop n text) (remark_front k n) = subst (λ (m : ℕ). Stands EndRemark (take n text ++ drop n text) (remark_front k m)) (length-take-le n text within) here in
-    subst (λ (l : List ℕ). Stands EndRemark l (remark_front k n)) (take-append-drop n text) sized
+    let here : TokenStands EndRemark (take n text ++ drop n text) (remark_front k (length (take n text))) = remarked (take n text) (drop n text) k s g h in
+    let sized : TokenStands EndRemark (take n text ++ drop n text) (remark_front k n) = subst (λ (m : ℕ). TokenStands EndRemark (take n text ++ drop n text) (remark_front k m)) (length-take-le n text within) here in
+    subst (λ (l : List ℕ). TokenStands EndRemark l (remark_front k n)) (take-append-drop n text) sized
 
 -- the run of letters and digits at a letter
 pub record Run (text : List ℕ) (n : ℕ) : Type 0 where
@@ -63,7 +63,7 @@ run_at text n some letter e = subst (Run text) (prefix_len-capitals is_letter_or
 pub spells_word : (bytes : List ℕ) (w : Reserved) → bytes ≡ written w → Spells bytes (kinds.Word w)
 spells_word bytes w e = subst (λ (l : List ℕ). Spells l (kinds.Word w)) (sym e) (word w)
 
-pub word_at : (text : List ℕ) (n : ℕ) (w : Reserved) → Run text n → capitals (take n text) ≡ written w → Stands Program text (word_front w n)
+pub word_at : (text : List ℕ) (n : ℕ) (w : Reserved) → Run text n → capitals (take n text) ≡ written w → TokenStands Program text (word_front w n)
 word_at text n w run e = spelled_at text n (kinds.Word w) run.within (spells_word (capitals (take n text)) w e) run.longest
 
 name_front : (bytes : List ℕ) (n : ℕ) → length bytes ≤ MOST_NAME_BYTES → front_of (kinds.Name bytes) n ≡ token_of (kinds.Name bytes) n
@@ -75,21 +75,21 @@ long_front bytes n lt = grind (arith, nat_tests)
 length-run : (text : List ℕ) (n : ℕ) → Run text n → length (capitals (take n text)) ≡ n
 length-run text n run = length-capitals (take n text) ∙ length-take-le n text run.within
 
-pub name_at : (text : List ℕ) (n : ℕ) → Run text n → (IsReserved (capitals (take n text)) → ⊥) → n ≤ MOST_NAME_BYTES → Stands Program text (token_of (kinds.Name (capitals (take n text))) n)
+pub name_at : (text : List ℕ) (n : ℕ) → Run text n → (IsReserved (capitals (take n text)) → ⊥) → n ≤ MOST_NAME_BYTES → TokenStands Program text (token_of (kinds.Name (capitals (take n text))) n)
 name_at text n run other le =
     let bytes : List ℕ = capitals (take n text) in
     let small : length bytes ≤ MOST_NAME_BYTES = omega (arith, length-run text n run) in
-    subst (Stands Program text) (name_front bytes n small) (spelled_at text n (kinds.Name bytes) run.within (name bytes run.shape other) run.longest)
+    subst (TokenStands Program text) (name_front bytes n small) (spelled_at text n (kinds.Name bytes) run.within (name bytes run.shape other) run.longest)
 
 length-written-le : (w : Reserved) → length (written w) ≤ 13
 length-written-le w = elim w as (λ v. length (written v) ≤ 13) [ reserved.And ↦ omega arith | _ ↦ omega arith ]
 
-pub long_name_at : (text : List ℕ) (n : ℕ) → Run text n → MOST_NAME_BYTES < n → Stands Program text (Wrong 0 NameTooLong)
+pub long_name_at : (text : List ℕ) (n : ℕ) → Run text n → MOST_NAME_BYTES < n → TokenStands Program text (Wrong 0 NameTooLong)
 long_name_at text n run lt =
     let bytes : List ℕ = capitals (take n text) in
     let long : MOST_NAME_BYTES < length bytes = omega (arith, length-run text n run) in
     let other : IsReserved bytes → ⊥ = λ r. omega (arith, length-written-le r.0, ap length r.1) in
-    subst (Stands Program text) (long_front bytes n long) (spelled_at text n (kinds.Name bytes) run.within (name bytes run.shape other) run.longest)
+    subst (TokenStands Program text) (long_front bytes n long) (spelled_at text n (kinds.Name bytes) run.within (name bytes run.shape other) run.longest)
 
 -- the run of digits at a digit
 pub record Digits (text : List ℕ) (n : ℕ) : Type 0 where
@@ -119,7 +119,7 @@ digits_of_prefix (b ∷ text) some digit =
 pub digits_at : (text : List ℕ) (n : ℕ) → 0 < length text → is_digit (get_or text 0 0) ≡ true → n ≡ prefix_len is_digit text → Digits text n
 digits_at text n some digit e = subst (Digits text) (sym e) (digits_of_prefix text some digit)
 
-number_spelled : (text : List ℕ) (n : ℕ) → Digits text n → Stands Program text (front_of (kinds.Number (pos (value_of (take n text)))) n)
+number_spelled : (text : List ℕ) (n : ℕ) → Digits text n → TokenStands Program text (front_of (kinds.Number (pos (value_of (take n text)))) n)
 number_spelled text n d =
     let bytes : List ℕ = take n text in
     let same = capitals-digits bytes d.each in
@@ -132,11 +132,11 @@ number_small value n le = grind (arith, nat_tests)
 number_wide : (value n : ℕ) → most < value → front_of (kinds.Number (pos value)) n ≡ Wrong 0 NumberTooWide
 number_wide value n lt = grind (arith, nat_tests)
 
-pub number_at : (text : List ℕ) (n : ℕ) → Digits text n → value_of (take n text) ≤ most → Stands Program text (token_of (kinds.Number (pos (value_of (take n text)))) n)
-number_at text n d le = subst (Stands Program text) (number_small (value_of (take n text)) n le) (number_spelled text n d)
+pub number_at : (text : List ℕ) (n : ℕ) → Digits text n → value_of (take n text) ≤ most → TokenStands Program text (token_of (kinds.Number (pos (value_of (take n text)))) n)
+number_at text n d le = subst (TokenStands Program text) (number_small (value_of (take n text)) n le) (number_spelled text n d)
 
-pub wide_at : (text : List ℕ) (n : ℕ) → Digits text n → most < value_of (take n text) → Stands Program text (Wrong 0 NumberTooWide)
-wide_at text n d lt = subst (Stands Program text) (number_wide (value_of (take n text)) n lt) (number_spelled text n d)
+pub wide_at : (text : List ℕ) (n : ℕ) → Digits text n → most < value_of (take n text) → TokenStands Program text (Wrong 0 NumberTooWide)
+wide_at text n d lt = subst (TokenStands Program text) (number_wide (value_of (take n text)) n lt) (number_spelled text n d)
 
 -- what is drawn with one byte more begins with no letter and no digit, and so is drawn
 symbol_longest : (text : List ℕ) (s : Symbol) (begins : BeginsWithSymbol text s) → IsLongest (drawn s) begins.after
@@ -158,11 +158,11 @@ symbol_longest text s begins b more k e spells =
     first_no_digit [] h = h
     first_no_digit (x ∷ bytes) h = grind (arith, nat_tests)
 
-pub symbol_at : (text : List ℕ) (s : Symbol) (n : ℕ) → BeginsWithSymbol text s → n ≡ length (drawn s) → Stands Program text (token_of (kinds.Symbol s) n)
+pub symbol_at : (text : List ℕ) (s : Symbol) (n : ℕ) → BeginsWithSymbol text s → n ≡ length (drawn s) → TokenStands Program text (token_of (kinds.Symbol s) n)
 symbol_at text s n begins e =
     let s' : IsSpelled (drawn s) (kinds.Symbol s) = subst (λ (l : List ℕ). Spells l (kinds.Symbol s)) (sym (capitals-drawn s)) (symbol s) in
-    let here : Stands Program (drawn s ++ begins.after) (token_of (kinds.Symbol s) (length (drawn s))) = spelled (drawn s) begins.after (kinds.Symbol s) s' (symbol_longest text s begins) in
-    subst (λ (m : ℕ). Stands Program text (token_of (kinds.Symbol s) m)) (sym e) (subst (λ (l : List ℕ). Stands Program l (token_of (kinds.Symbol s) (length (drawn s)))) (sym begins.split) here)
+    let here : TokenStands Program (drawn s ++ begins.after) (token_of (kinds.Symbol s) (length (drawn s))) = spelled (drawn s) begins.after (kinds.Symbol s) s' (symbol_longest text s begins) in
+    subst (λ (m : ℕ). TokenStands Program text (token_of (kinds.Symbol s) m)) (sym e) (subst (λ (l : List ℕ). TokenStands Program l (token_of (kinds.Symbol s) (length (drawn s)))) (sym begins.split) here)
 
 -- no letter, no digit and no symbol: nothing is spelled here
 not_true : (b : Bool) → not b ≡ true → b ≡ true → ⊥
@@ -181,9 +181,9 @@ unspelled b after plain other (c ∷ bytes) rest k big e f (digits big' h) =
     not_true (is_digit b) plain.digit (ap is_digit same ∙ sym (is_digit-uppercase c) ∙ head)
 unspelled b after plain other (c ∷ bytes) rest k big e f (mark s) = other s rest (e ∙ ap (λ (l : List ℕ). l ++ rest) (drawn_from (c ∷ bytes) s f))
 
-none_from : (b : ℕ) (after : List ℕ) → IsNoOther b → ((s : Symbol) (rest : List ℕ) → b ∷ after ≡ drawn s ++ rest → ⊥) → Stands Program (b ∷ after) (Wrong 0 BadCharacter)
+none_from : (b : ℕ) (after : List ℕ) → IsNoOther b → ((s : Symbol) (rest : List ℕ) → b ∷ after ≡ drawn s ++ rest → ⊥) → TokenStands Program (b ∷ after) (Wrong 0 BadCharacter)
 none_from b after plain other = none b after (record { blank = plain.blank; percent = plain.percent; quote = plain.quote; token = λ bytes rest k e s. unspelled b after plain other bytes rest k (capitals bytes) e refl (shape_of s) })
 
-pub none_at : (text : List ℕ) → 0 < length text → IsNoOther (get_or text 0 0) → ((s : Symbol) (rest : List ℕ) → text ≡ drawn s ++ rest → ⊥) → Stands Program text (Wrong 0 BadCharacter)
+pub none_at : (text : List ℕ) → 0 < length text → IsNoOther (get_or text 0 0) → ((s : Symbol) (rest : List ℕ) → text ≡ drawn s ++ rest → ⊥) → TokenStands Program text (Wrong 0 BadCharacter)
 none_at [] some plain other = absurd (omega arith)
 none_at (b ∷ text) some plain other = none_from b text plain other

@@ -8,7 +8,7 @@ use Rattle.std.proofs.lemmas.List.{take_all}
 use Rattle.std.proofs.lemmas.List.Sums.{split_at_first, passes_at_first}
 use Rattle.algol_tree.specs.declared.refusal.Code.TheVariants.{BadCharacter, OpenString}
 use Rattle.algol_tree.specs.declared.token.TokenKind.TheVariants as kinds
-use Rattle.algol_tree.specs.Lexes.{Program, Wrong, is_quote, is_printable, token_of, string_or, string_front, Stands, closed, unclosed}
+use Rattle.algol_tree.specs.Lexes.{Program, Wrong, is_quote, is_printable, token_of, string_or, string_front, TokenStands, closed, unclosed}
 use Rattle.algol_lexer.proofs.LexFound.{list_all-take_while}
 
 -- a position is the place of the first that passes, and there is none where none does
@@ -54,37 +54,37 @@ quote_is : (b : ℕ) → is_quote b ≡ true → b ≡ 34
 quote_is b h = grind (arith, nat_tests)
 
 -- a string that a quote closes, and one that none does
-closed_from : (b : ℕ) (after : List ℕ) (k : ℕ) → b ≡ 34 → position is_quote after ≡ Some k → Stands Program (b ∷ after) (string_front (take k after))
+closed_from : (b : ℕ) (after : List ℕ) (k : ℕ) → b ≡ 34 → position is_quote after ≡ Some k → TokenStands Program (b ∷ after) (string_front (take k after))
 closed_from b after k e h =
     let f = found_at is_quote after k h in
     let quote = quote_is (get_or after k 0) f.passes in
     let split : after ≡ take k after ++ 34 ∷ drop (k + 1) after = f.split ∙ ap (λ (n : ℕ). take k after ++ n ∷ drop (k + 1) after) quote in
-    let here : Stands Program (34 ∷ (take k after ++ 34 ∷ drop (k + 1) after)) (string_front (take k after)) = closed (take k after) (drop (k + 1) after) f.before in
-    subst (λ (n : ℕ). Stands Program (n ∷ after) (string_front (take k after))) (sym e) (subst (λ (l : List ℕ). Stands Program (34 ∷ l) (string_front (take k after))) (sym split) here)
+    let here : TokenStands Program (34 ∷ (take k after ++ 34 ∷ drop (k + 1) after)) (string_front (take k after)) = closed (take k after) (drop (k + 1) after) f.before in
+    subst (λ (n : ℕ). TokenStands Program (n ∷ after) (string_front (take k after))) (sym e) (subst (λ (l : List ℕ). TokenStands Program (34 ∷ l) (string_front (take k after))) (sym split) here)
 
-pub closed_at : (text : List ℕ) (k : ℕ) → 0 < length text → get_or text 0 0 ≡ 34 → position is_quote (drop 1 text) ≡ Some k → Stands Program text (string_front (take k (drop 1 text)))
+pub closed_at : (text : List ℕ) (k : ℕ) → 0 < length text → get_or text 0 0 ≡ 34 → position is_quote (drop 1 text) ≡ Some k → TokenStands Program text (string_front (take k (drop 1 text)))
 closed_at [] k some e h = absurd (omega arith)
 closed_at (b ∷ after) k some e h = closed_from b after k e h
 
-pub unclosed_at : (text : List ℕ) → 0 < length text → get_or text 0 0 ≡ 34 → position is_quote (drop 1 text) ≡ None → Stands Program text (Wrong 0 OpenString)
+pub unclosed_at : (text : List ℕ) → 0 < length text → get_or text 0 0 ≡ 34 → position is_quote (drop 1 text) ≡ None → TokenStands Program text (Wrong 0 OpenString)
 unclosed_at [] some e h = absurd (omega arith)
-unclosed_at (b ∷ after) some e h = subst (λ (n : ℕ). Stands Program (n ∷ after) (Wrong 0 OpenString)) (sym e) (unclosed after (none_passes is_quote after h))
+unclosed_at (b ∷ after) some e h = subst (λ (n : ℕ). TokenStands Program (n ∷ after) (Wrong 0 OpenString)) (sym e) (unclosed after (none_passes is_quote after h))
 
 -- a string with a byte that is not printable, and one without
 abbrev pub unprintable : ℕ → Bool
 unprintable b = not (is_printable b)
 
-pub bad_at : (text after : List ℕ) (k place : ℕ) → 0 < length text → get_or text 0 0 ≡ 34 → after ≡ drop 1 text → Some k ≡ position is_quote after → Some place ≡ position unprintable (take k after) → Stands Program text (Wrong (place + 1) BadCharacter)
+pub bad_at : (text after : List ℕ) (k place : ℕ) → 0 < length text → get_or text 0 0 ≡ 34 → after ≡ drop 1 text → Some k ≡ position is_quote after → Some place ≡ position unprintable (take k after) → TokenStands Program text (Wrong (place + 1) BadCharacter)
 bad_at text after k place some quote e h i =
-    let here : Stands Program text (string_front (take k after)) = subst (λ (l : List ℕ). Stands Program text (string_front (take k l))) (sym e) (closed_at text k some quote (sym (h ∙ ap (position is_quote) e))) in
-    subst (Stands Program text) (ap (string_or (take k after)) (sym i)) here
+    let here : TokenStands Program text (string_front (take k after)) = subst (λ (l : List ℕ). TokenStands Program text (string_front (take k l))) (sym e) (closed_at text k some quote (sym (h ∙ ap (position is_quote) e))) in
+    subst (TokenStands Program text) (ap (string_or (take k after)) (sym i)) here
 
-pub string_at : (text after : List ℕ) (k : ℕ) → 0 < length text → get_or text 0 0 ≡ 34 → after ≡ drop 1 text → Some k ≡ position is_quote after → None ≡ position unprintable (take k after) → Stands Program text (token_of (kinds.Text (take k after)) (k + 2))
+pub string_at : (text after : List ℕ) (k : ℕ) → 0 < length text → get_or text 0 0 ≡ 34 → after ≡ drop 1 text → Some k ≡ position is_quote after → None ≡ position unprintable (take k after) → TokenStands Program text (token_of (kinds.Text (take k after)) (k + 2))
 string_at text after k some quote e h i =
-    let here : Stands Program text (string_front (take k after)) = subst (λ (l : List ℕ). Stands Program text (string_front (take k l))) (sym e) (closed_at text k some quote (sym (h ∙ ap (position is_quote) e))) in
+    let here : TokenStands Program text (string_front (take k after)) = subst (λ (l : List ℕ). TokenStands Program text (string_front (take k l))) (sym e) (closed_at text k some quote (sym (h ∙ ap (position is_quote) e))) in
     let f = found_at is_quote after k (sym h) in
     let size : length (take k after) + 2 ≡ k + 2 = omega (arith, length-take-le k after, f.within) in
-    subst (λ (n : ℕ). Stands Program text (token_of (kinds.Text (take k after)) n)) size (subst (Stands Program text) (ap (string_or (take k after)) (sym i)) here)
+    subst (λ (n : ℕ). TokenStands Program text (token_of (kinds.Text (take k after)) n)) size (subst (TokenStands Program text) (ap (string_or (take k after)) (sym i)) here)
 
 -- one list of bytes stands before the first quote
 abbrev pub no_quote : ℕ → Bool

@@ -17,15 +17,15 @@ use Rattle.algol_tree.specs.declared.token.TokenKind.TheVariants as kinds
 use Rattle.algol_tree.specs.Ended.{EndsOnce}
 use Rattle.algol_tree.specs.Spelling.{Spells, word, name, number, symbol}
 use Rattle.algol_tree.specs.Records.{Record, is_line_feed, records_from, records_of, spot_in}
-use Rattle.algol_tree.specs.Lexes.{Mode, Program, Front, Piece, Wrong, token_of, front_of, remark_front, string_or, is_printable, Stands, blank, percent, spelled, closed, unclosed, none, closing, commented, remarked, semicolon, period, passed, token_at, Gives, stays, piece, AreRead, all, next, Lexes, Fails, IsRefused, end_of}
-use Rattle.algol_lexer.specs.Outcome.{Reads}
+use Rattle.algol_tree.specs.Lexes.{Mode, Program, Front, Piece, Wrong, token_of, front_of, remark_front, string_or, is_printable, TokenStands, blank, percent, spelled, closed, unclosed, none, closing, commented, remarked, semicolon, period, passed, token_at, Gives, stays, piece, AreRead, all, next, Lexes, Fails, TextIsRefused, end_of_text}
+use Rattle.algol_lexer.specs.Outcome.{RecordReads}
 use Rattle.algol_lexer.proofs.LexReach.{are_read_more}
 use Rattle.algol_lexer.proofs.LexRecords.{records_next, records_last, end_of-next}
 
 -- The tokens so far, and what is left of the text: from that line and that place on.
 pub record Text (bytes rest : List ℕ) (line from : ℕ) (mode : Mode) (tokens : List Token) : Type 0 where
   pub read : AreRead (records_of bytes) Program tokens mode (records_from line from (slice_split is_line_feed rest))
-  pub ended : end_of (records_of bytes) ≡ end_of (records_from line from (slice_split is_line_feed rest))
+  pub ended : end_of_text (records_of bytes) ≡ end_of_text (records_from line from (slice_split is_line_feed rest))
 
 pub text_start : (bytes : List ℕ) → Text bytes bytes 1 0 Program []
 text_start bytes = record { read = all (records_of bytes) Program; ended = refl }
@@ -40,30 +40,30 @@ record_next line from rest k = record_last line from (strip_carriage_return (tak
 text_at : {bytes rest : List ℕ} {line from : ℕ} {mode : Mode} {tokens : List Token} → Text bytes rest line from mode tokens → (rs : List Record) → records_from line from (slice_split is_line_feed rest) ≡ rs → AreRead (records_of bytes) Program tokens mode rs
 text_at {bytes} {mode = mode} {tokens = tokens} t rs e = subst (AreRead (records_of bytes) Program tokens mode) e t.read
 
-pub text_next : (bytes rest part : List ℕ) (line from k : ℕ) (m n : Mode) (tokens after : List Token) → Text bytes rest line from m tokens → Some k ≡ position is_line_feed rest → part ≡ strip_carriage_return (take k rest) → Reads (record_last line from part) m n tokens after → Text bytes (drop (k + 1) rest) (line + 1) (from + (k + 1)) n after
+pub text_next : (bytes rest part : List ℕ) (line from k : ℕ) (m n : Mode) (tokens after : List Token) → Text bytes rest line from m tokens → Some k ≡ position is_line_feed rest → part ≡ strip_carriage_return (take k rest) → RecordReads (record_last line from part) m n tokens after → Text bytes (drop (k + 1) rest) (line + 1) (from + (k + 1)) n after
 text_next bytes rest part line from k m n tokens after t e same there =
-    let reads : Reads (record_next line from rest k) m n tokens after = subst (λ (l : List ℕ). Reads (record_last line from l) m n tokens after) same there in
+    let reads : RecordReads (record_next line from rest k) m n tokens after = subst (λ (l : List ℕ). RecordReads (record_last line from l) m n tokens after) same there in
     let left : List Record = records_from (line + 1) (from + (k + 1)) (slice_split is_line_feed (drop (k + 1) rest)) in
     let split : records_from line from (slice_split is_line_feed rest) ≡ record_next line from rest k ∷ left = records_next line from rest k (sym e) in
     let more : AreRead (records_of bytes) Program (tokens ++ reads.tokens) n left = are_read_more (text_at t (record_next line from rest k ∷ left) split) reads.read in
     record {
       read = subst (λ (ts : List Token). AreRead (records_of bytes) Program ts n left) (sym reads.appended) more;
-      ended = t.ended ∙ ap end_of split ∙ end_of-next (record_next line from rest k) (line + 1) (from + (k + 1)) (drop (k + 1) rest);
+      ended = t.ended ∙ ap end_of_text split ∙ end_of-next (record_next line from rest k) (line + 1) (from + (k + 1)) (drop (k + 1) rest);
     }
 
-pub text_refused : (bytes rest part : List ℕ) (line from k : ℕ) (m : Mode) (tokens : List Token) (spot : Spot) (code : Code) → Text bytes rest line from m tokens → Some k ≡ position is_line_feed rest → part ≡ strip_carriage_return (take k rest) → Fails (record_last line from part) m spot code → IsRefused bytes spot code
+pub text_refused : (bytes rest part : List ℕ) (line from k : ℕ) (m : Mode) (tokens : List Token) (spot : Spot) (code : Code) → Text bytes rest line from m tokens → Some k ≡ position is_line_feed rest → part ≡ strip_carriage_return (take k rest) → Fails (record_last line from part) m spot code → TextIsRefused bytes spot code
 text_refused bytes rest part line from k m tokens spot code t e same there =
     let fails : Fails (record_next line from rest k) m spot code = subst (λ (l : List ℕ). Fails (record_last line from l) m spot code) same there in
     record { found = tokens; mode = m; at = record_next line from rest k; left = _; read = text_at t _ (records_next line from rest k (sym e)); fails = fails }
 
-pub text_last : (bytes rest : List ℕ) (line from : ℕ) (m n : Mode) (tokens after : List Token) → Text bytes rest line from m tokens → None ≡ position is_line_feed rest → Reads (record_last line from rest) m n tokens after → Lexes bytes (after ++ token_at (record_last line from rest) (length rest) 0 (Some kinds.End))
+pub text_last : (bytes rest : List ℕ) (line from : ℕ) (m n : Mode) (tokens after : List Token) → Text bytes rest line from m tokens → None ≡ position is_line_feed rest → RecordReads (record_last line from rest) m n tokens after → Lexes bytes (after ++ token_at (record_last line from rest) (length rest) 0 (Some kinds.End))
 text_last bytes rest line from m n tokens after t e reads =
     let split : records_from line from (slice_split is_line_feed rest) ≡ record_last line from rest ∷ [] = records_last line from rest (sym e) in
     let more : AreRead (records_of bytes) Program (tokens ++ reads.tokens) n [] = are_read_more (text_at t (record_last line from rest ∷ []) split) reads.read in
-    let end : end_of (records_of bytes) ≡ token_at (record_last line from rest) (length rest) 0 (Some kinds.End) = t.ended ∙ ap end_of split in
+    let end : end_of_text (records_of bytes) ≡ token_at (record_last line from rest) (length rest) 0 (Some kinds.End) = t.ended ∙ ap end_of_text split in
     record { found = tokens ++ reads.tokens; mode = n; read = more; ended = ap (λ (ts : List Token). ts ++ token_at (record_last line from rest) (length rest) 0 (Some kinds.End)) reads.appended ∙ ap (λ (ts : List Token). (tokens ++ reads.tokens) ++ ts) (sym end) }
 
-pub text_refused_last : (bytes rest : List ℕ) (line from : ℕ) (m : Mode) (tokens : List Token) (spot : Spot) (code : Code) → Text bytes rest line from m tokens → None ≡ position is_line_feed rest → Fails (record_last line from rest) m spot code → IsRefused bytes spot code
+pub text_refused_last : (bytes rest : List ℕ) (line from : ℕ) (m : Mode) (tokens : List Token) (spot : Spot) (code : Code) → Text bytes rest line from m tokens → None ≡ position is_line_feed rest → Fails (record_last line from rest) m spot code → TextIsRefused bytes spot code
 text_refused_last bytes rest line from m tokens spot code t e fails = record { found = tokens; mode = m; at = record_last line from rest; left = []; read = text_at t _ (records_last line from rest (sym e)); fails = fails }
 
 -- no token but the last is the end of the text
@@ -108,7 +108,7 @@ string_no_end : (inside : List ℕ) (o : Option ℕ) → HasNoEnd (string_or ins
 string_no_end inside None = λ e. cc
 string_no_end inside (Some k) = tt
 
-stands_no_end : {m : Mode} {text : List ℕ} {f : Front} → Stands m text f → HasNoEnd f
+stands_no_end : {m : Mode} {text : List ℕ} {f : Front} → TokenStands m text f → HasNoEnd f
 stands_no_end (blank b after h) = tt
 stands_no_end (percent after) = tt
 stands_no_end (spelled bytes after k s l) = front_no_end k (length bytes) (spells_no_end s)
@@ -150,7 +150,7 @@ passes_read (all rs m) = passes_none
 passes_read (next r rs left m n o tokens more read there) = passes_append tokens more (passes_gives read.gives) (passes_read there)
 
 -- The last token of a text, and no other, is its end.
-pub ends_once : (bytes rest : List ℕ) (line from : ℕ) (m n : Mode) (tokens after : List Token) → Text bytes rest line from m tokens → None ≡ position is_line_feed rest → Reads (record_last line from rest) m n tokens after → EndsOnce (after ++ token_at (record_last line from rest) (length rest) 0 (Some kinds.End))
+pub ends_once : (bytes rest : List ℕ) (line from : ℕ) (m n : Mode) (tokens after : List Token) → Text bytes rest line from m tokens → None ≡ position is_line_feed rest → RecordReads (record_last line from rest) m n tokens after → EndsOnce (after ++ token_at (record_last line from rest) (length rest) 0 (Some kinds.End))
 ends_once bytes rest line from m n tokens after t e reads =
     let split : records_from line from (slice_split is_line_feed rest) ≡ record_last line from rest ∷ [] = records_last line from rest (sym e) in
     let more : AreRead (records_of bytes) Program (tokens ++ reads.tokens) n [] = are_read_more (text_at t (record_last line from rest ∷ []) split) reads.read in

@@ -11,7 +11,7 @@ use Rattle.std.proofs.lemmas.Slice.Eq.{bytes_eq-Decides}
 use Rattle.algol_tree.specs.declared.token.Reserved.{Reserved}
 use Rattle.algol_tree.specs.declared.token.Reserved.TheVariants as reserved
 use Rattle.algol_tree.specs.Spelling.{written, IsReserved}
-use Rattle.algol_lexer.specs.Words.{first_written, rows_at, rows_or_none, word_in, word_of}
+use Rattle.algol_lexer.specs.Words.{first_written, rows_at, rows_or_none, reserved_word_in, word_of}
 use Rattle.algol_lexer.specs.declared.words.TheConstants.{TABLE}
 
 -- ---- rows as words and texts
@@ -91,13 +91,13 @@ module _ (table : List (Bor (List (Reserved × Bor (List ℕ))))) where
       ap (rows_or_none (λ rows. rows.now)) (sym there ∙ ap (slice_get table) (letter ∙ ap (λ z. z - 65) front))
 
   pub reads_some : (bytes : List ℕ) (b i : ℕ) (rows : Bor (List (Reserved × Bor (List ℕ)))) (o : Option Reserved) → Some b ≡ slice_get bytes 0 → i ≡ b - 65 →
-      slice_get table i ≡ Some rows → o ≡ word_in rows.now bytes → o ≡ word_of table bytes
+      slice_get table i ≡ Some rows → o ≡ reserved_word_in rows.now bytes → o ≡ word_of table bytes
   unfolding word_of
-  reads_some bytes b i rows o first letter there e = e ∙ ap (λ rs. word_in rs bytes) (at_first bytes b i (Some rows) first letter there)
+  reads_some bytes b i rows o first letter there e = e ∙ ap (λ rs. reserved_word_in rs bytes) (at_first bytes b i (Some rows) first letter there)
 
   pub reads_none : (bytes : List ℕ) (b i : ℕ) → Some b ≡ slice_get bytes 0 → i ≡ b - 65 → slice_get table i ≡ None → None ≡ word_of table bytes
   unfolding word_of
-  reads_none bytes b i first letter there = ap (λ rs. word_in rs bytes) (at_first bytes b i None first letter there)
+  reads_none bytes b i first letter there = ap (λ rs. reserved_word_in rs bytes) (at_first bytes b i None first letter there)
 
   pub reads_empty : (bytes : List ℕ) → None ≡ slice_get bytes 0 → None ≡ word_of table bytes
   unfolding word_of

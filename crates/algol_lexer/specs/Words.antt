@@ -9,8 +9,8 @@ abbrev pub first_written : {Name : Type 0} → (Name → List ℕ) → List ℕ 
 first_written at bytes [] = None
 first_written at bytes (row ∷ more) = if bytes_eq (at row.1) bytes then Some row.0 else first_written at bytes more
 
-abbrev pub word_in : List (Reserved × Bor (List ℕ)) → List ℕ → Option Reserved
-word_in rows bytes = first_written (λ (name : Bor (List ℕ)). name.now) bytes rows
+abbrev pub reserved_word_in : List (Reserved × Bor (List ℕ)) → List ℕ → Option Reserved
+reserved_word_in rows bytes = first_written (λ (name : Bor (List ℕ)). name.now) bytes rows
 
 abbrev pub rows_or_none : {Row Place : Type 0} → (Place → List Row) → Option Place → List Row
 rows_or_none rows None = []
@@ -23,4 +23,4 @@ rows_at rows table (first ∷ more) = rows_or_none rows (slice_get table (first 
 
 -- the word that such a table has for the text
 unfoldable pub word_of : List (Bor (List (Reserved × Bor (List ℕ)))) → List ℕ → Option Reserved
-word_of table bytes = word_in (rows_at (λ rows. rows.now) table bytes) bytes
+word_of table bytes = reserved_word_in (rows_at (λ rows. rows.now) table bytes) bytes

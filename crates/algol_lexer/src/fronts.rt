@@ -5,7 +5,7 @@ ghost use Rattle.std.specs.Char.{to_ascii_uppercase};
 ghost use Rattle.std.specs.List.{list_all};
 ghost use Rattle.b67_num.specs.Whole.{most};
 ghost use Rattle.algol_tree.specs.Spelling.{is_letter, is_digit, value_of};
-ghost use Rattle.algol_tree.specs.Lexes.{Program, Comment, EndRemark, Stands, capitals};
+ghost use Rattle.algol_tree.specs.Lexes.{Program, Comment, EndRemark, TokenStands, capitals};
 ghost use Rattle.algol_lexer.specs.Runs.{IsNoOther};
 ghost use Rattle.algol_lexer.specs.Shown.{mode_of, front_shown};
 
@@ -42,7 +42,7 @@ fn value(digits: &[u8]) -> Option<u64>
 fn number_front(text: &[u8]) -> Front
     requires some { 0 < length text.now }
     requires digit { IsTrue (is_digit (slice_index text.now 0)) }
-    ensures { Stands Program text.now (front_shown result) }
+    ensures { TokenStands Program text.now (front_shown result) }
 {
     let size = digits(text);
     match value(&text[..size]) {
@@ -64,7 +64,7 @@ fn capitals(alloc: Global, word: &[u8]) -> Result<Vec<u8>, AllocError>
 fn word_front(alloc: Global, text: &[u8]) -> Result<Front, AllocError>
     requires some { 0 < length text.now }
     requires letter { IsTrue (is_letter (to_ascii_uppercase (slice_index text.now 0))) }
-    ensures { IfOk result (λ front. Stands Program text.now (front_shown front)) }
+    ensures { IfOk result (λ front. TokenStands Program text.now (front_shown front)) }
 {
     let size = letters_and_digits(text);
     if size > MOST_NAME_BYTES {
@@ -81,7 +81,7 @@ fn word_front(alloc: Global, text: &[u8]) -> Result<Front, AllocError>
 fn string_front(alloc: Global, text: &[u8]) -> Result<Front, AllocError>
     requires some { 0 < length text.now }
     requires quote { slice_index text.now 0 ≡ 34 }
-    ensures { IfOk result (λ front. Stands Program text.now (front_shown front)) }
+    ensures { IfOk result (λ front. TokenStands Program text.now (front_shown front)) }
 {
     let (_, after) = text.split_at(1);
     let Some(length) = first_quote(after) else {
@@ -104,7 +104,7 @@ fn string_front(alloc: Global, text: &[u8]) -> Result<Front, AllocError>
 fn symbol_front(text: &[u8]) -> Front
     requires some { 0 < length text.now }
     requires plain { IsNoOther (slice_index text.now 0) }
-    ensures { Stands Program text.now (front_shown result) }
+    ensures { TokenStands Program text.now (front_shown result) }
 {
     match symbol(text) {
         Some((symbol, size)) => Front::symbol(symbol, size),
@@ -115,7 +115,7 @@ fn symbol_front(text: &[u8]) -> Front
 /// What a program's text begins with.
 fn program_front(alloc: Global, text: &[u8]) -> Result<Front, AllocError>
     requires { 0 < length text.now }
-    ensures { IfOk result (λ front. Stands Program text.now (front_shown front)) }
+    ensures { IfOk result (λ front. TokenStands Program text.now (front_shown front)) }
 {
     let first = text[0];
     if is_blank(first) {
@@ -137,7 +137,7 @@ fn program_front(alloc: Global, text: &[u8]) -> Result<Front, AllocError>
 /// What a comment's text begins with.
 fn comment_front(text: &[u8]) -> Front
     requires { 0 < length text.now }
-    ensures { Stands Comment text.now (front_shown result) }
+    ensures { TokenStands Comment text.now (front_shown result) }
 {
     match text[0] {
         b';' => Front::passed(1, Mode::Program),
@@ -157,7 +157,7 @@ fn is_word(bytes: &[u8], word: &[u8]) -> bool
 fn remark_word(text: &[u8]) -> Front
     requires some { 0 < length text.now }
     requires letter { IsTrue (is_letter (to_ascii_uppercase (slice_index text.now 0))) }
-    ensures { Stands EndRemark text.now (front_shown result) }
+    ensures { TokenStands EndRemark text.now (front_shown result) }
 {
     let size = letters_and_digits(text);
     let word = &text[..size];
@@ -176,7 +176,7 @@ fn remark_word(text: &[u8]) -> Front
 /// What a remark's text begins with.
 fn remark_front(text: &[u8]) -> Front
     requires { 0 < length text.now }
-    ensures { Stands EndRemark text.now (front_shown result) }
+    ensures { TokenStands EndRemark text.now (front_shown result) }
 {
     let first = text[0];
     if is_letter(first) {
@@ -192,7 +192,7 @@ fn remark_front(text: &[u8]) -> Front
 /// What a text begins with.
 pub(crate) fn front(alloc: Global, mode: Mode, text: &[u8]) -> Result<Front, AllocError>
     requires { 0 < length text.now }
-    ensures { IfOk result (λ front. Stands (mode_of mode) text.now (front_shown front)) }
+    ensures { IfOk result (λ front. TokenStands (mode_of mode) text.now (front_shown front)) }
 {
     match mode {
         Mode::Program => program_front(alloc, text),

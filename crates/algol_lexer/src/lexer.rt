@@ -6,7 +6,7 @@ ghost use Rattle.algol_tree.specs.declared.refusal.Refusal.TheVariants.{At};
 ghost use Rattle.algol_tree.specs.declared.token.Spot.{Spot};
 ghost use Rattle.algol_tree.specs.Ended.{EndsOnce};
 ghost use Rattle.algol_tree.specs.Lexes.{Fails};
-ghost use Rattle.algol_lexer.specs.Outcome.{Reads, LexesOnly, RefusedOnly};
+ghost use Rattle.algol_lexer.specs.Outcome.{RecordReads, LexesOnly, RefusedOnly};
 ghost use Rattle.algol_lexer.specs.Records.{record_of};
 ghost use Rattle.algol_lexer.specs.Shown.{mode_of};
 
@@ -26,7 +26,7 @@ fn read_record(
 ) -> Result<Mode, Refusal>
     requires room { card.now.from + length card.now.bytes.now < 2 ^ 32 - 1 }
     // The tokens of the record are put after those before.
-    ensures read { IfOk result (λ next. Reads (record_of card.now) (mode_of mode) (mode_of next) tokens.old.items tokens.new.items) }
+    ensures read { IfOk result (λ next. RecordReads (record_of card.now) (mode_of mode) (mode_of next) tokens.old.items tokens.new.items) }
     // There are at most as many as bytes.
     ensures many { OnOk result (length tokens.new.items ≤ length tokens.old.items + length card.now.bytes.now) }
     // What is refused first.

@@ -2,7 +2,7 @@
 
 ghost use Rattle.std.specs.Prelude.{◌≡◌, MatchOption};
 ghost use Rattle.algol_tree.specs.Spelling.{written, IsReserved};
-ghost use Rattle.algol_lexer.specs.Words.{word_in, word_of};
+ghost use Rattle.algol_lexer.specs.Words.{reserved_word_in, word_of};
 
 use algol_tree::Reserved;
 
@@ -89,7 +89,7 @@ const TABLE: [&[Row]; 26] = [
 
 /// The word of the first row that is written so.
 fn first_written(rows: &[Row], bytes: &[u8]) -> Option<Reserved>
-    ensures { result ≡ word_in rows.now bytes.now }
+    ensures { result ≡ reserved_word_in rows.now bytes.now }
 {
     'rows: for row in rows {
         if row.1.as_bytes() == bytes {

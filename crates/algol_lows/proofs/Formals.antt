@@ -17,7 +17,7 @@ use Rattle.algol_told.proofs.Declarations.{DeclsHave, InDecl, StmtHas, StmtsHave
 use Rattle.algol_told.proofs.Lists.{IsIn, all-both, all-in, all-right, all-weaker, in-left, in-right, of-in}
 use Rattle.algol_told.proofs.Parameters.{parameters-are-told}
 use Rattle.algol_told.proofs.Spots.{AreApart, IsApart, apart-left, apart-right, apart-turned, ascending-apart, spot-itself}
-use Rattle.algol_paths.specs.Arrays.{Lows, lows_among, lows_at, lows_declared, lows_in, or_lows, shape_in, stands_among}
+use Rattle.algol_paths.specs.Arrays.{Lows, lows_among, lows_at, lows_declared, lows_in_shape, or_lows, shape_in, stands_among}
 use Rattle.algol_lows.specs.Lows.{lows_begun, lows_in_decl, lows_in_decls, lows_in_stmt, lows_in_stmts, lows_made, lows_named, lows_of_specs, own_lows}
 use Rattle.algol_lows.proofs.LowerBounds.{declared_alike, heading_apart, in_parts, or_none}
 use Rattle.algol_lows.proofs.Specifying.{lows_alike}
@@ -79,7 +79,7 @@ named_away ns lows spot w = ap (λ (b : Bool). if b then Some lows else None) (a
 specified_away : (specs : List Spec) (ns : List Named) (spot : Spot) → Away spot (spots_of_names ns) → lows_among specs ns spot ≡ None
 specified_away specs [] spot w = refl
 specified_away specs (n ∷ ns) spot w =
-    ap (λ (b : Bool). if b then lows_in (shape_in specs n.name) else lows_among specs ns spot) w.0 ∙ specified_away specs ns spot w.1
+    ap (λ (b : Bool). if b then lows_in_shape (shape_in specs n.name) else lows_among specs ns spot) w.0 ∙ specified_away specs ns spot w.1
 
 params_away : (h : Heading) (spot : Spot) → Away spot (spots_of_heading h) → Away spot (spots_of_names h.params)
 params_away h spot w =
@@ -112,20 +112,20 @@ of_names : (P : Spot → Type 0) (ns : List Named) → AllByRecursion P (spots_o
 of_names P [] h = tt
 of_names P (n ∷ ns) h = (h.0, of_names P ns h.1)
 
-own_among : (specs : List Spec) (ns : List Named) → AreApart (spots_of_names ns) → AllByRecursion (λ (n : Named). lows_among specs ns n.spot ≡ lows_in (shape_in specs n.name)) ns
+own_among : (specs : List Spec) (ns : List Named) → AreApart (spots_of_names ns) → AllByRecursion (λ (n : Named). lows_among specs ns n.spot ≡ lows_in_shape (shape_in specs n.name)) ns
 own_among specs [] a = tt
 own_among specs (n ∷ ns) a = (
-  ap (λ (b : Bool). if b then lows_in (shape_in specs n.name) else lows_among specs ns n.spot) (spot-itself n.spot),
-  all-both (λ (m : Named). IsApart n.spot m.spot) (λ (m : Named). lows_among specs ns m.spot ≡ lows_in (shape_in specs m.name))
-      (λ (m : Named). lows_among specs (n ∷ ns) m.spot ≡ lows_in (shape_in specs m.name))
-      (λ m x h. ap (λ (b : Bool). if b then lows_in (shape_in specs n.name) else lows_among specs ns m.spot) x ∙ h) ns (of_names (IsApart n.spot) ns a.0) (own_among specs ns a.1),
+  ap (λ (b : Bool). if b then lows_in_shape (shape_in specs n.name) else lows_among specs ns n.spot) (spot-itself n.spot),
+  all-both (λ (m : Named). IsApart n.spot m.spot) (λ (m : Named). lows_among specs ns m.spot ≡ lows_in_shape (shape_in specs m.name))
+      (λ (m : Named). lows_among specs (n ∷ ns) m.spot ≡ lows_in_shape (shape_in specs m.name))
+      (λ m x h. ap (λ (b : Bool). if b then lows_in_shape (shape_in specs n.name) else lows_among specs ns m.spot) x ∙ h) ns (of_names (IsApart n.spot) ns a.0) (own_among specs ns a.1),
 )
 
 -- `found`: what is found under a place
 module _ (found : Spot → Option Lows) where
   -- under that of each parameter what its heading specifies is found
   abbrev pub FormalsFound : PDecl → PDecls → Type 0
-  FormalsFound (tree.procedure h b) later = AllByRecursion (λ (n : Named). found n.spot ≡ lows_in (shape_in h.specs n.name)) h.params
+  FormalsFound (tree.procedure h b) later = AllByRecursion (λ (n : Named). found n.spot ≡ lows_in_shape (shape_in h.specs n.name)) h.params
   FormalsFound _ later = Unit {0}
 
   module _ (scopes : Scopes) where
@@ -216,8 +216,8 @@ module _ (found : Spot → Option Lows) where
         let ps = spots_of_names h.params in
         let vs = spots_of_names h.values in
         let apart = heading_apart h a in
-        all-both (λ (n : Named). IsIn ps n.spot) (λ (n : Named). lows_among h.specs h.params n.spot ≡ lows_in (shape_in h.specs n.name))
-        (λ (n : Named). found n.spot ≡ lows_in (shape_in h.specs n.name))
+        all-both (λ (n : Named). IsIn ps n.spot) (λ (n : Named). lows_among h.specs h.params n.spot ≡ lows_in_shape (shape_in h.specs n.name))
+        (λ (n : Named). found n.spot ≡ lows_in_shape (shape_in h.specs n.name))
         (λ n i e.
         m n.spot (inr (in-left (ps ++ vs) (spots_of_names (specified h)) n.spot (in-left ps vs n.spot i))) ∙ lows_alike scopes h t apart n.spot ∙ e)
         h.params (of_names (IsIn ps) h.params (all-in ps)) (own_among h.specs h.params apart)

@@ -32,7 +32,7 @@ use Rattle.algol_told.proofs.Declarations.{DeclsHave, InDecl, StmtHas, StmtsHave
 use Rattle.algol_told.proofs.Parameters.{parameters-are-told}
 use Rattle.algol_told.proofs.Spots.{AreApart, apart-left, apart-right, ascending-apart}
 use Rattle.algol_lows.specs.declared.bounds.Lows as kept
-use Rattle.algol_lows.specs.Lows.{Adds, lows_begun, lows_in_body, lows_in_decl, lows_in_decls, lows_in_stmt, lows_in_stmts, lows_made, lows_meant, lows_named, lows_of_names, lows_of_specs, lows_told, own_lows, under}
+use Rattle.algol_lows.specs.Lows.{LowsAdd, lows_begun, lows_in_body, lows_in_decl, lows_in_decls, lows_in_stmt, lows_in_stmts, lows_made, lows_meant, lows_named, lows_of_names, lows_of_specs, lows_told, own_lows, lows_found_under}
 use Rattle.algol_lows.proofs.Specifying.{lows_alike}
 
 or_same : (a b c : Option Lows) → or_lows (or_lows a b) c ≡ or_lows a (or_lows b c)
@@ -198,7 +198,7 @@ pub ruleset body_laws = (body_added, body_is)
 
 -- what is added to an empty table for the body of a program
 pub program_added : (scopes : Scopes) (b : Body) (empty table : BTreeMap Spot kept.Lows) → AreOf (tree.program (plain.body b)) scopes → IsInOrder (tree.program (plain.body b)) → IsEmpty empty →
-    Adds empty table (lows_in_body scopes (plain.body b)) → (spot : Spot) → under table spot ≡ lows_at (blocks_of_program (tree.program (plain.body b))) spot
+    LowsAdd empty table (lows_in_body scopes (plain.body b)) → (spot : Spot) → lows_found_under table spot ≡ lows_at (blocks_of_program (tree.program (plain.body b))) spot
 program_added scopes b empty table are order none adds spot =
     adds spot
     ∙ ap (λ (es : List (Spot × kept.Lows)). or_lows (lows_told (lookup (is_at (ghosts.cmp spot)) es)) (lows_in_body scopes (plain.body b) spot)) none
@@ -206,53 +206,53 @@ program_added scopes b empty table are order none adds spot =
 
 -- one more name of a specification
 pub names_step : (scopes : Scopes) (ns : List Named) (i : ℕ) (n : Named) (lows : List ℤ) (old new : BTreeMap Spot kept.Lows) → i < length ns → n ≡ get_or ns i n →
-    Adds old new (lows_meant (declaration_of scopes n.spot) lows) → (spot : Spot) →
-    or_lows (under new spot) (lows_of_names scopes (drop (i + 1) ns) lows spot) ≡ or_lows (under old spot) (lows_of_names scopes (drop i ns) lows spot)
+    LowsAdd old new (lows_meant (declaration_of scopes n.spot) lows) → (spot : Spot) →
+    or_lows (lows_found_under new spot) (lows_of_names scopes (drop (i + 1) ns) lows spot) ≡ or_lows (lows_found_under old spot) (lows_of_names scopes (drop i ns) lows spot)
 names_step scopes ns i n lows old new h e adds spot =
     let next : suc i ≡ i + 1 = omega arith in
     let split : drop i ns ≡ n ∷ drop (i + 1) ns = drop-cons ns i n h ∙ ap (λ (m : Named). m ∷ drop (suc i) ns) (sym e) ∙ ap (λ (k : ℕ). n ∷ drop k ns) next in
     ap (λ (o : Option Lows). or_lows o (lows_of_names scopes (drop (i + 1) ns) lows spot)) (adds spot)
-    ∙ or_same (under old spot) (lows_meant (declaration_of scopes n.spot) lows spot) (lows_of_names scopes (drop (i + 1) ns) lows spot)
-    ∙ ap (λ (ms : List Named). or_lows (under old spot) (lows_of_names scopes ms lows spot)) (sym split)
+    ∙ or_same (lows_found_under old spot) (lows_meant (declaration_of scopes n.spot) lows spot) (lows_of_names scopes (drop (i + 1) ns) lows spot)
+    ∙ ap (λ (ms : List Named). or_lows (lows_found_under old spot) (lows_of_names scopes ms lows spot)) (sym split)
 
 -- one more statement, and one more declaration
-pub stmts_step : (scopes : Scopes) (ss : List Stmt) (i : ℕ) (s : Stmt) (old new : BTreeMap Spot kept.Lows) → i < length ss → s ≡ get_or ss i s → Adds old new (lows_in_stmt scopes (plain.stmt s)) →
-    (spot : Spot) → or_lows (under new spot) (lows_in_stmts scopes (plain.stmts (drop (i + 1) ss)) spot) ≡ or_lows (under old spot) (lows_in_stmts scopes (plain.stmts (drop i ss)) spot)
+pub stmts_step : (scopes : Scopes) (ss : List Stmt) (i : ℕ) (s : Stmt) (old new : BTreeMap Spot kept.Lows) → i < length ss → s ≡ get_or ss i s → LowsAdd old new (lows_in_stmt scopes (plain.stmt s)) →
+    (spot : Spot) → or_lows (lows_found_under new spot) (lows_in_stmts scopes (plain.stmts (drop (i + 1) ss)) spot) ≡ or_lows (lows_found_under old spot) (lows_in_stmts scopes (plain.stmts (drop i ss)) spot)
 stmts_step scopes ss i s old new h e adds spot =
     let next : suc i ≡ i + 1 = omega arith in
     let split : drop i ss ≡ s ∷ drop (i + 1) ss = drop-cons ss i s h ∙ ap (λ (r : Stmt). r ∷ drop (suc i) ss) (sym e) ∙ ap (λ (k : ℕ). s ∷ drop k ss) next in
     ap (λ (o : Option Lows). or_lows o (lows_in_stmts scopes (plain.stmts (drop (i + 1) ss)) spot)) (adds spot)
-    ∙ or_same (under old spot) (lows_in_stmt scopes (plain.stmt s) spot) (lows_in_stmts scopes (plain.stmts (drop (i + 1) ss)) spot)
-    ∙ ap (λ (rs : List Stmt). or_lows (under old spot) (lows_in_stmts scopes (plain.stmts rs) spot)) (sym split)
+    ∙ or_same (lows_found_under old spot) (lows_in_stmt scopes (plain.stmt s) spot) (lows_in_stmts scopes (plain.stmts (drop (i + 1) ss)) spot)
+    ∙ ap (λ (rs : List Stmt). or_lows (lows_found_under old spot) (lows_in_stmts scopes (plain.stmts rs) spot)) (sym split)
 
-pub decls_step : (scopes : Scopes) (ds : List Decl) (i : ℕ) (d : Decl) (old new : BTreeMap Spot kept.Lows) → i < length ds → d ≡ get_or ds i d → Adds old new (lows_in_decl scopes (plain.decl d)) →
-    (spot : Spot) → or_lows (under new spot) (lows_in_decls scopes (plain.decls (drop (i + 1) ds)) spot) ≡ or_lows (under old spot) (lows_in_decls scopes (plain.decls (drop i ds)) spot)
+pub decls_step : (scopes : Scopes) (ds : List Decl) (i : ℕ) (d : Decl) (old new : BTreeMap Spot kept.Lows) → i < length ds → d ≡ get_or ds i d → LowsAdd old new (lows_in_decl scopes (plain.decl d)) →
+    (spot : Spot) → or_lows (lows_found_under new spot) (lows_in_decls scopes (plain.decls (drop (i + 1) ds)) spot) ≡ or_lows (lows_found_under old spot) (lows_in_decls scopes (plain.decls (drop i ds)) spot)
 decls_step scopes ds i d old new h e adds spot =
     let next : suc i ≡ i + 1 = omega arith in
     let split : drop i ds ≡ d ∷ drop (i + 1) ds = drop-cons ds i d h ∙ ap (λ (r : Decl). r ∷ drop (suc i) ds) (sym e) ∙ ap (λ (k : ℕ). d ∷ drop k ds) next in
     ap (λ (o : Option Lows). or_lows o (lows_in_decls scopes (plain.decls (drop (i + 1) ds)) spot)) (adds spot)
-    ∙ or_same (under old spot) (lows_in_decl scopes (plain.decl d) spot) (lows_in_decls scopes (plain.decls (drop (i + 1) ds)) spot)
-    ∙ ap (λ (rs : List Decl). or_lows (under old spot) (lows_in_decls scopes (plain.decls rs) spot)) (sym split)
+    ∙ or_same (lows_found_under old spot) (lows_in_decl scopes (plain.decl d) spot) (lows_in_decls scopes (plain.decls (drop (i + 1) ds)) spot)
+    ∙ ap (λ (rs : List Decl). or_lows (lows_found_under old spot) (lows_in_decls scopes (plain.decls rs) spot)) (sym split)
 
 -- what is added one after the other
-both_added : (old middle new : BTreeMap Spot kept.Lows) (x y : Spot → Option Lows) → Adds old middle x → Adds middle new y → (spot : Spot) → under new spot ≡ or_lows (under old spot) (or_lows (x spot) (y spot))
+both_added : (old middle new : BTreeMap Spot kept.Lows) (x y : Spot → Option Lows) → LowsAdd old middle x → LowsAdd middle new y → (spot : Spot) → lows_found_under new spot ≡ or_lows (lows_found_under old spot) (or_lows (x spot) (y spot))
 both_added old middle new x y first second spot =
-    second spot ∙ ap (λ (o : Option Lows). or_lows o (y spot)) (first spot) ∙ or_same (under old spot) (x spot) (y spot)
+    second spot ∙ ap (λ (o : Option Lows). or_lows o (y spot)) (first spot) ∙ or_same (lows_found_under old spot) (x spot) (y spot)
 
 -- .. of the branches of an IF
 pub then_added : (scopes : Scopes) (s : Stmt) (c : Expr) (x : Box Stmt Global) (o : Option (Box Stmt Global)) (a : Stmt) (old new : BTreeMap Spot kept.Lows) → s ≡ forms.If c x o → o ≡ None → a ≡ x.value →
-    Adds old new (lows_in_stmt scopes (plain.stmt a)) → Adds old new (lows_in_stmt scopes (plain.stmt s))
+    LowsAdd old new (lows_in_stmt scopes (plain.stmt a)) → LowsAdd old new (lows_in_stmt scopes (plain.stmt s))
 then_added scopes s c x o a old new is none p adds spot =
     let whole : plain.stmt s ≡ tree.if_then (plain.expr c) (plain.stmt a) = if_read s c x o a is p ∙ ap (plain.branched (plain.expr c) (plain.stmt a)) none in
-    adds spot ∙ ap (λ (z : PStmt). or_lows (under old spot) (lows_in_stmt scopes z spot)) (sym whole)
+    adds spot ∙ ap (λ (z : PStmt). or_lows (lows_found_under old spot) (lows_in_stmt scopes z spot)) (sym whole)
 
 pub else_added : (scopes : Scopes) (s : Stmt) (c : Expr) (x y : Box Stmt Global) (o : Option (Box Stmt Global)) (a b : Stmt) (old middle new : BTreeMap Spot kept.Lows) → s ≡ forms.If c x o → o ≡ Some y →
-    a ≡ x.value → b ≡ y.value → Adds old middle (lows_in_stmt scopes (plain.stmt a)) → Adds middle new (lows_in_stmt scopes (plain.stmt b)) → Adds old new (lows_in_stmt scopes (plain.stmt s))
+    a ≡ x.value → b ≡ y.value → LowsAdd old middle (lows_in_stmt scopes (plain.stmt a)) → LowsAdd middle new (lows_in_stmt scopes (plain.stmt b)) → LowsAdd old new (lows_in_stmt scopes (plain.stmt s))
 else_added scopes s c x y o a b old middle new is some p q first second spot =
     let whole : plain.stmt s ≡ tree.if_else (plain.expr c) (plain.stmt a) (plain.stmt b) =
     if_read s c x o a is p ∙ ap (plain.branched (plain.expr c) (plain.stmt a)) some ∙ ap (λ (z : Stmt). tree.if_else (plain.expr c) (plain.stmt a) (plain.stmt z)) (sym q) in
     both_added old middle new (lows_in_stmt scopes (plain.stmt a)) (lows_in_stmt scopes (plain.stmt b)) first second spot
-    ∙ ap (λ (z : PStmt). or_lows (under old spot) (lows_in_stmt scopes z spot)) (sym whole)
+    ∙ ap (λ (z : PStmt). or_lows (lows_found_under old spot) (lows_in_stmt scopes z spot)) (sym whole)
 
 -- .. where the calls that add it end well
 pub on_ok : {X E P Q : Type 0} (r : Result X E) → (P → Q) → OnOk r P → OnOk r Q

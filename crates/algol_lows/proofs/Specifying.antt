@@ -10,12 +10,12 @@ use Rattle.algol_tree.specs.declared.tree.Spec.{Spec}
 use Rattle.algol_tree.specs.declared.tree.Spec.TheVariants as spec
 use Rattle.algol_tree.specs.Ascending.{spots_of_names}
 use Rattle.algol_tree.specs.Blocks.{same_spot}
-use Rattle.algol_tree.specs.Names.{if_so, is_one_of, names_of_spec, repeated, result_names, specified}
+use Rattle.algol_tree.specs.Names.{if_so, name_is_one_of, names_of_spec, repeated, result_names, specified}
 use Rattle.algol_tree.specs.Sorts.{is_named_in, same_name}
 use Rattle.algol_frames.specs.declared.scopes.Scopes.{Scopes}
-use Rattle.algol_paths.specs.Arrays.{Lows, lows_among, lows_in, or_lows, shape_in}
+use Rattle.algol_paths.specs.Arrays.{Lows, lows_among, lows_in_shape, or_lows, shape_in}
 use Rattle.algol_scope.specs.Resolved.{declaration_of}
-use Rattle.algol_told.specs.Parameters.{TellsParameter, TellsParameters, place_in}
+use Rattle.algol_told.specs.Parameters.{TellsParameter, TellsParameters, parameter_place_in}
 use Rattle.algol_told.proofs.Known.{name-is, nor-first, spot-is, unseen}
 use Rattle.algol_told.proofs.Lists.{all-left, all-right, all-weaker, none-right}
 use Rattle.algol_told.proofs.Spots.{AreApart, IsApart, apart-turned}
@@ -39,15 +39,15 @@ turned (x ∷ xs) (y ∷ ys) = ap (λ (b : Bool). b && same_name xs ys) (number_
 -- ---- names that are not repeated
 
 rest_once : (seen : List (List ℕ)) (x : Named) (xs : List Named) → repeated seen (x ∷ xs) ≡ [] → repeated (x.name ∷ seen) xs ≡ []
-rest_once seen x xs r = none-right (if_so (is_one_of seen x.name) x.spot) (repeated (x.name ∷ seen) xs) r
+rest_once seen x xs r = none-right (if_so (name_is_one_of seen x.name) x.spot) (repeated (x.name ∷ seen) xs) r
 
 -- those after a name have another
 others_after : (seen : List (List ℕ)) (x : Named) (xs : List Named) (m : List ℕ) → repeated seen (x ∷ xs) ≡ [] → same_name x.name m ≡ true →
     AllByRecursion (λ (n : Named). same_name n.name m ≡ false) xs
 others_after seen x xs m r t =
-    all-weaker (λ (n : Named). is_one_of (x.name ∷ seen) n.name ≡ false) (λ (n : Named). same_name n.name m ≡ false)
+    all-weaker (λ (n : Named). name_is_one_of (x.name ∷ seen) n.name ≡ false) (λ (n : Named). same_name n.name m ≡ false)
     (λ n u.
-    turned n.name m ∙ ap (λ (z : List ℕ). same_name z n.name) (sym (name-is x.name m t)) ∙ nor-first (same_name x.name n.name) (is_one_of seen n.name) u) xs
+    turned n.name m ∙ ap (λ (z : List ℕ). same_name z n.name) (sym (name-is x.name m t)) ∙ nor-first (same_name x.name n.name) (name_is_one_of seen n.name) u) xs
     (unseen (x.name ∷ seen) xs (rest_once seen x xs r))
 
 later_others : (seen : List (List ℕ)) (xs ys : List Named) (m : List ℕ) → repeated seen (xs ++ ys) ≡ [] → is_named_in xs m ≡ true →
@@ -82,11 +82,11 @@ nowhere_called (p ∷ ps) name spot h = by (same_spot p.spot spot) (nowhere_call
     by true later = h.0
     by false later = later
 
-elsewhere : (ps : List Named) (name : List ℕ) (spot at : Spot) → AllByRecursion (λ (n : Named). IsApart n.spot spot) ps → place_in ps name ≡ Some at → same_spot at spot ≡ false
+elsewhere : (ps : List Named) (name : List ℕ) (spot at : Spot) → AllByRecursion (λ (n : Named). IsApart n.spot spot) ps → parameter_place_in ps name ≡ Some at → same_spot at spot ≡ false
 elsewhere [] name spot at h e = absurd (let clash : None ≡ Some at = e in cc)
 elsewhere (p ∷ ps) name spot at h e = by (same_name p.name name) e (elsewhere ps name spot at h.1)
   where
-    by : (b : Bool) → (if b then Some p.spot else place_in ps name) ≡ Some at → (place_in ps name ≡ Some at → same_spot at spot ≡ false) → same_spot at spot ≡ false
+    by : (b : Bool) → (if b then Some p.spot else parameter_place_in ps name) ≡ Some at → (parameter_place_in ps name ≡ Some at → same_spot at spot ≡ false) → same_spot at spot ≡ false
     by true q later =
         let same : p.spot ≡ at = cc in
         subst (λ (z : Spot). same_spot z spot ≡ false) same h.0
@@ -97,7 +97,7 @@ far s spot [] e h = tt
 far s spot (p ∷ ps) e h = (subst (IsApart p.spot) e (apart-turned s p.spot h.0), far s spot ps e h.1)
 
 -- Where the parameter of a name stands there, the parameter there has this name.
-meets : (seen : List (List ℕ)) (ps : List Named) (name : List ℕ) (spot at : Spot) → repeated seen ps ≡ [] → AreApart (spots_of_names ps) → place_in ps name ≡ Some at →
+meets : (seen : List (List ℕ)) (ps : List Named) (name : List ℕ) (spot at : Spot) → repeated seen ps ≡ [] → AreApart (spots_of_names ps) → parameter_place_in ps name ≡ Some at →
     same_spot at spot ≡ is_called (name_at ps spot) name
 meets seen [] name spot at r a e = absurd (let clash : None ≡ Some at = e in cc)
 meets seen (p ∷ ps) name spot at r a e = by (same_name p.name name) refl (same_spot p.spot spot) refl e (meets (p.name ∷ seen) ps name spot at (rest_once seen p ps r) a.1)
@@ -107,8 +107,8 @@ meets seen (p ∷ ps) name spot at r a e = by (same_name p.name name) refl (same
         let same : p.spot ≡ at = cc in
         ap (λ (z : Spot). same_spot z spot) (sym same) ∙ s
 
-    by : (b : Bool) → same_name p.name name ≡ b → (c : Bool) → same_spot p.spot spot ≡ c → (if b then Some p.spot else place_in ps name) ≡ Some at →
-        (place_in ps name ≡ Some at → same_spot at spot ≡ is_called (name_at ps spot) name) → same_spot at spot ≡ is_called (if c then Some p.name else name_at ps spot) name
+    by : (b : Bool) → same_name p.name name ≡ b → (c : Bool) → same_spot p.spot spot ≡ c → (if b then Some p.spot else parameter_place_in ps name) ≡ Some at →
+        (parameter_place_in ps name ≡ Some at → same_spot at spot ≡ is_called (name_at ps spot) name) → same_spot at spot ≡ is_called (if c then Some p.name else name_at ps spot) name
     by true n true s q later = here true s q ∙ sym n
     by true n false s q later = here false s q ∙ sym (nowhere_called ps name spot (others_after seen p ps name r n))
     by false n true s q later = elsewhere ps name spot at (far p.spot spot ps (spot-is p.spot spot s) a.0) q ∙ sym n
@@ -118,14 +118,14 @@ meets seen (p ∷ ps) name spot at r a e = by (same_name p.name name) refl (same
 
 abbrev lows_called : List Spec → Option (List ℕ) → Option Lows
 lows_called specs None = None
-lows_called specs (Some m) = lows_in (shape_in specs m)
+lows_called specs (Some m) = lows_in_shape (shape_in specs m)
 
 among_called : (specs : List Spec) (ps : List Named) (spot : Spot) → lows_among specs ps spot ≡ lows_called specs (name_at ps spot)
 among_called specs [] spot = refl
 among_called specs (p ∷ ps) spot = by (same_spot p.spot spot) (among_called specs ps spot)
   where
     by : (b : Bool) → lows_among specs ps spot ≡ lows_called specs (name_at ps spot) →
-        (if b then lows_in (shape_in specs p.name) else lows_among specs ps spot) ≡ lows_called specs (if b then Some p.name else name_at ps spot)
+        (if b then lows_in_shape (shape_in specs p.name) else lows_among specs ps spot) ≡ lows_called specs (if b then Some p.name else name_at ps spot)
     by true later = refl
     by false later = later
 
@@ -183,21 +183,21 @@ module _ (s : Scopes) (h : Heading) (spot : Spot) where
 
     -- the first specification of the name is the only one
     named_so : (seen : List (List ℕ)) (ns : List Named) (xs : List Spec) → AllByRecursion (TellsParameter s h) (flat_map names_of_spec xs) →
-        repeated seen (ns ++ flat_map names_of_spec xs) ≡ [] → lows_of_specs s xs spot ≡ lows_in (shape_in xs m) →
-        lows_of_specs s xs spot ≡ lows_in (if is_named_in ns m then None else shape_in xs m)
+        repeated seen (ns ++ flat_map names_of_spec xs) ≡ [] → lows_of_specs s xs spot ≡ lows_in_shape (shape_in xs m) →
+        lows_of_specs s xs spot ≡ lows_in_shape (if is_named_in ns m then None else shape_in xs m)
     named_so seen ns xs t r later = by (is_named_in ns m) refl
       where
-        by : (b : Bool) → is_named_in ns m ≡ b → lows_of_specs s xs spot ≡ lows_in (if b then None else shape_in xs m)
+        by : (b : Bool) → is_named_in ns m ≡ b → lows_of_specs s xs spot ≡ lows_in_shape (if b then None else shape_in xs m)
         by true e = specs_away xs (others_away m g (flat_map names_of_spec xs) t (later_others seen ns (flat_map names_of_spec xs) m r e))
         by false e = later
 
-    arrays_so : (kind : Kind) (lows : List ℤ) (xs : List Spec) (b : Bool) → lows_of_specs s xs spot ≡ lows_in (shape_in xs m) →
-        or_lows (if b then Some (parameter_lows lows) else None) (lows_of_specs s xs spot) ≡ lows_in (if b then Some (record { kind = kind; lows = lows }) else shape_in xs m)
+    arrays_so : (kind : Kind) (lows : List ℤ) (xs : List Spec) (b : Bool) → lows_of_specs s xs spot ≡ lows_in_shape (shape_in xs m) →
+        or_lows (if b then Some (parameter_lows lows) else None) (lows_of_specs s xs spot) ≡ lows_in_shape (if b then Some (record { kind = kind; lows = lows }) else shape_in xs m)
     arrays_so kind lows xs true later = refl
     arrays_so kind lows xs false later = later
 
     specs_met : (seen : List (List ℕ)) (xs : List Spec) → AllByRecursion (TellsParameter s h) (flat_map names_of_spec xs) → repeated seen (flat_map names_of_spec xs) ≡ [] →
-        lows_of_specs s xs spot ≡ lows_in (shape_in xs m)
+        lows_of_specs s xs spot ≡ lows_in_shape (shape_in xs m)
     specs_met seen [] t r = refl
     specs_met seen (spec.Simple kind ns ∷ xs) t r =
         let more = all-right (TellsParameter s h) ns (flat_map names_of_spec xs) t in

@@ -16,12 +16,12 @@ use Rattle.algol_paths.specs.Arrays.{Lows, lows_of, stands_among, or_lows}
 use Rattle.algol_lows.specs.declared.bounds.Lows as kept
 
 -- what is kept of an array
-abbrev pub told : kept.Lows → Lows
-told l = record { list = l.list; formal = l.formal }
+abbrev pub told_lows : kept.Lows → Lows
+told_lows l = record { list = l.list; formal = l.formal }
 
 abbrev pub lows_told : Option kept.Lows → Option Lows
 lows_told None = None
-lows_told (Some l) = Some (told l)
+lows_told (Some l) = Some (told_lows l)
 
 -- of a declared array
 abbrev pub own_lows : List PPair → Lows
@@ -97,9 +97,9 @@ module _ (s : Scopes) where
 -- ---- in a table
 
 -- what the table has under a place
-abbrev pub under : BTreeMap Spot kept.Lows → Spot → Option Lows
-under table spot = lows_told (get ghosts.cmp table spot)
+abbrev pub lows_found_under : BTreeMap Spot kept.Lows → Spot → Option Lows
+lows_found_under table spot = lows_told (get ghosts.cmp table spot)
 
 -- the second table has also what is found at a place where the first has nothing
-abbrev pub Adds : BTreeMap Spot kept.Lows → BTreeMap Spot kept.Lows → (Spot → Option Lows) → Type 0
-Adds old new found = (spot : Spot) → under new spot ≡ or_lows (under old spot) (found spot)
+abbrev pub LowsAdd : BTreeMap Spot kept.Lows → BTreeMap Spot kept.Lows → (Spot → Option Lows) → Type 0
+LowsAdd old new found = (spot : Spot) → lows_found_under new spot ≡ or_lows (lows_found_under old spot) (found spot)

@@ -7,7 +7,7 @@ ghost use Rattle.algol_tree.specs.Blocks.{blocks_of_program};
 ghost use Rattle.algol_tree.specs.Image as plain;
 ghost use Rattle.algol_paths.specs.Arrays as arrays;
 ghost use Rattle.algol_scope.specs.Resolved.{AreOf, declaration_of};
-ghost use Rattle.algol_lows.specs.Lows.{Adds, lows_begun, lows_in_body, lows_in_decl, lows_in_decls, lows_in_stmt, lows_in_stmts, lows_made, lows_meant, lows_named, lows_of_names, lows_of_spec, lows_of_specs, lows_there, own_lows, told, under};
+ghost use Rattle.algol_lows.specs.Lows.{LowsAdd, lows_begun, lows_in_body, lows_in_decl, lows_in_decls, lows_in_stmt, lows_in_stmts, lows_made, lows_meant, lows_named, lows_of_names, lows_of_spec, lows_of_specs, lows_there, own_lows, told_lows, lows_found_under};
 
 use algol_scope::Scopes;
 use algol_tree::{Body, Decl, Named, Pair, Program, Spec, Spot, Stmt};
@@ -27,7 +27,7 @@ pub type LowsByPlace = BTreeMap<Spot, Lows>;
 
 /// The lower bounds of a declared array.
 fn own_lows(alloc: Global, pairs: &[Pair]) -> Result<Lows, AllocError>
-    ensures { IfOk result (λ lows. told lows ≡ own_lows (plain.pairs pairs.now)) }
+    ensures { IfOk result (λ lows. told_lows lows ≡ own_lows (plain.pairs pairs.now)) }
 {
     let mut list = Vec::new(alloc);
     'pairs: for pair in pairs {
@@ -41,7 +41,7 @@ fn own_lows(alloc: Global, pairs: &[Pair]) -> Result<Lows, AllocError>
 
 /// Those of a parameter that is specified as an array.
 fn formal_lows(alloc: Global, lows: &[i64]) -> Result<Lows, AllocError>
-    ensures { IfOk result (λ own. told own ≡ record { list = lows.now; formal = true }) }
+    ensures { IfOk result (λ own. told_lows own ≡ record { list = lows.now; formal = true }) }
 {
     Ok(Lows {
         list: List::of(lows.to_vec(alloc)?),
@@ -51,7 +51,7 @@ fn formal_lows(alloc: Global, lows: &[i64]) -> Result<Lows, AllocError>
 
 /// The lower bounds stand under the place, unless some stand there already.
 fn add(table: &mut LowsByPlace, spot: Spot, lows: Lows) -> Result<(), AllocError>
-    ensures { OnOk result (Adds table.old table.new (lows_there spot (told lows))) }
+    ensures { OnOk result (LowsAdd table.old table.new (lows_there spot (told_lows lows))) }
 {
     table.entry(spot)?.or_insert(lows);
     Ok(())
@@ -64,7 +64,7 @@ fn add_names(
     names: &[Named],
     pairs: &[Pair],
 ) -> Result<(), AllocError>
-    ensures { OnOk result (Adds table.old table.new (lows_named names.now (own_lows (plain.pairs pairs.now)))) }
+    ensures { OnOk result (LowsAdd table.old table.new (lows_named names.now (own_lows (plain.pairs pairs.now)))) }
 {
     'names: for n in names {
         add(table, n.spot, own_lows(alloc, pairs)?)?;
@@ -80,7 +80,7 @@ fn add_parameter(
     n: &Named,
     lows: &[i64],
 ) -> Result<(), AllocError>
-    ensures { OnOk result (Adds table.old table.new (lows_meant (declaration_of scopes.now n.now.spot) lows.now)) }
+    ensures { OnOk result (LowsAdd table.old table.new (lows_meant (declaration_of scopes.now n.now.spot) lows.now)) }
 {
     match scopes.declaration(n.spot) {
         None => Ok(()),
@@ -96,7 +96,7 @@ fn add_parameters(
     names: &[Named],
     lows: &[i64],
 ) -> Result<(), AllocError>
-    ensures { OnOk result (Adds table.old table.new (lows_of_names scopes.now names.now lows.now)) }
+    ensures { OnOk result (LowsAdd table.old table.new (lows_of_names scopes.now names.now lows.now)) }
 {
     'names: for n in names {
         add_parameter(table, alloc, scopes, n, lows)?;
@@ -111,7 +111,7 @@ fn add_spec(
     scopes: &Scopes,
     spec: &Spec,
 ) -> Result<(), AllocError>
-    ensures { OnOk result (Adds table.old table.new (lows_of_spec scopes.now spec.now)) }
+    ensures { OnOk result (LowsAdd table.old table.new (lows_of_spec scopes.now spec.now)) }
 {
     match spec {
         Spec::Arrays(_, ns, lows) => {
@@ -135,7 +135,7 @@ fn add_specs(
     scopes: &Scopes,
     specs: &[Spec],
 ) -> Result<(), AllocError>
-    ensures { OnOk result (Adds table.old table.new (lows_of_specs scopes.now specs.now)) }
+    ensures { OnOk result (LowsAdd table.old table.new (lows_of_specs scopes.now specs.now)) }
 {
     'specs: for spec in specs {
         add_spec(table, alloc, scopes, spec)?;
@@ -150,7 +150,7 @@ fn add_made(
     scopes: &Scopes,
     d: &Decl,
 ) -> Result<(), AllocError>
-    ensures { OnOk result (Adds table.old table.new (lows_made scopes.now (plain.decl d.now))) }
+    ensures { OnOk result (LowsAdd table.old table.new (lows_made scopes.now (plain.decl d.now))) }
 {
     match d {
         Decl::Arrays(_, ns, pairs) => {
@@ -178,7 +178,7 @@ fn add_declared(
     scopes: &Scopes,
     ds: &[Decl],
 ) -> Result<(), AllocError>
-    ensures { OnOk result (Adds table.old table.new (lows_begun scopes.now (plain.decls ds.now))) }
+    ensures { OnOk result (LowsAdd table.old table.new (lows_begun scopes.now (plain.decls ds.now))) }
 {
     'declarations: for d in ds {
         add_made(table, alloc, scopes, d)?;
@@ -194,7 +194,7 @@ fn add_in_stmt(
     scopes: &Scopes,
     s: &Stmt,
 ) -> Result<(), AllocError>
-    ensures { OnOk result (Adds table.old table.new (lows_in_stmt scopes.now (plain.stmt s.now))) }
+    ensures { OnOk result (LowsAdd table.old table.new (lows_in_stmt scopes.now (plain.stmt s.now))) }
 {
     match s {
         Stmt::Label(_, s) => add_in_stmt(table, alloc, scopes, s),
@@ -223,7 +223,7 @@ fn add_in_stmts(
     scopes: &Scopes,
     ss: &[Stmt],
 ) -> Result<(), AllocError>
-    ensures { OnOk result (Adds table.old table.new (lows_in_stmts scopes.now (plain.stmts ss.now))) }
+    ensures { OnOk result (LowsAdd table.old table.new (lows_in_stmts scopes.now (plain.stmts ss.now))) }
 {
     'statements: for s in ss {
         add_in_stmt(table, alloc, scopes, s)?;
@@ -239,7 +239,7 @@ fn add_in_decl(
     scopes: &Scopes,
     d: &Decl,
 ) -> Result<(), AllocError>
-    ensures { OnOk result (Adds table.old table.new (lows_in_decl scopes.now (plain.decl d.now))) }
+    ensures { OnOk result (LowsAdd table.old table.new (lows_in_decl scopes.now (plain.decl d.now))) }
 {
     match d {
         Decl::Procedure(_, s) => add_in_stmt(table, alloc, scopes, s),
@@ -255,7 +255,7 @@ fn add_in_decls(
     scopes: &Scopes,
     ds: &[Decl],
 ) -> Result<(), AllocError>
-    ensures { OnOk result (Adds table.old table.new (lows_in_decls scopes.now (plain.decls ds.now))) }
+    ensures { OnOk result (LowsAdd table.old table.new (lows_in_decls scopes.now (plain.decls ds.now))) }
 {
     'declarations: for d in ds {
         add_in_decl(table, alloc, scopes, d)?;
@@ -272,7 +272,7 @@ fn add_in_body(
     scopes: &Scopes,
     b: &Body,
 ) -> Result<(), AllocError>
-    ensures { OnOk result (Adds table.old table.new (lows_in_body scopes.now (plain.body b.now))) }
+    ensures { OnOk result (LowsAdd table.old table.new (lows_in_body scopes.now (plain.body b.now))) }
 {
     let ds = b.decls.items().as_slice();
     add_declared(table, alloc, scopes, ds)?;
@@ -289,7 +289,7 @@ pub fn lows_of_program(
 ) -> Result<LowsByPlace, AllocError>
     requires resolved { AreOf (plain.program tree.now) scopes.now }
     requires order { IsInOrder (plain.program tree.now) }
-    ensures { IfOk result (λ table. (spot : token.Spot) → under table spot ≡ arrays.lows_at (blocks_of_program (plain.program tree.now)) spot) }
+    ensures { IfOk result (λ table. (spot : token.Spot) → lows_found_under table spot ≡ arrays.lows_at (blocks_of_program (plain.program tree.now)) spot) }
 {
     let mut table = BTreeMap::new(alloc);
     add_in_body(&mut table, alloc, scopes, &tree.body)?;

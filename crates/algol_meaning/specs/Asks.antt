@@ -11,7 +11,7 @@ use Rattle.b67_num.specs.declared.NumFault.{NumFault}
 use Rattle.algol_meaning.specs.Value.{Value, whole_of}
 use Rattle.algol_tree.specs.Scopes.{Scopes}
 use Rattle.algol_meaning.specs.Rest.{Place, Given, Hole, read, element, index, tests, broken, enter, inside, subscript, argument, left, right, negated, inverted, condition, Actuals, pass, in_value, Half, val, busy, Aim, resolve, place_index, inside_place, place_subscript, HalfPlace, at, aims, Item, Rest, over, reading, giving, giving_place, store, select, turning, going, entering_block, entering, starting, acting, line, arrays, event, within, dropping, evaluating, locating, aiming, storing, choosing, looping, checking, counting, differing, stepping, selecting, calling, preparing, writing, bounding, Answer, done, value, place, entered}
-use Rattle.algol_meaning.specs.Settle.{is_typed, settle, half_of, put, put_actuals, put_place}
+use Rattle.algol_meaning.specs.Settle.{is_typed, settle, half_of, answer_put, put_actuals, put_place}
 use Rattle.algol_meaning.specs.Statements.{assigned_of, aimed_at, chosen_of, looped_of, checked_of, counted_of, selected_of, statement_called_of, prepared_of, item_of, bound_of, settle_line, settle_bounds, settle_stmt, tested_of, differed_of, run_and, turn_and, counted_body, settle_items}
 
 pub data Ask : Type 0 where
@@ -119,9 +119,9 @@ module _ (sc : Scopes) where
   inside_or_after entered k = within k
   inside_or_after _ k = settle_items sc k
 
-  abbrev pub called : Bool → Answer → List Item → Rest
-  called typed entered k = if typed then dropping k else within k
-  called typed _ k = settle_items sc k
+  abbrev pub asks_called : Bool → Answer → List Item → Rest
+  asks_called typed entered k = if typed then dropping k else within k
+  asks_called typed _ k = settle_items sc k
 
   abbrev pub resume : Rest → Answer → Rest
   resume over a = over
@@ -133,7 +133,7 @@ module _ (sc : Scopes) where
   resume (turning k) a = settle_items sc k
   resume (going n) a = going n
   resume (entering_block b k) a = inside_or_after a k
-  resume (entering n gs k) a = called (is_typed sc n) a k
+  resume (entering n gs k) a = asks_called (is_typed sc n) a k
   resume (starting n gs task k) a = settle_items sc k
   resume (acting act n k) a = settle_items sc k
   resume (line phrases vs k) a = settle_items sc k
@@ -141,21 +141,21 @@ module _ (sc : Scopes) where
   resume (event n k) a = settle_items sc k
   resume (within k) a = settle_items sc k
   resume (dropping k) a = settle_items sc k
-  resume (evaluating h) a = evaluated_of (put sc h a)
+  resume (evaluating h) a = evaluated_of (answer_put sc h a)
   resume (locating x) a = located_of (put_place sc x a)
   resume (aiming x e k) a = aimed_at (put_place sc x a) e (settle sc e) k
-  resume (storing p h k) a = assigned_of p (put sc h a) k
+  resume (storing p h k) a = assigned_of p (answer_put sc h a) k
   resume (choosing h x y k) a =
-      chosen_of (put sc h a) x y k (settle_stmt sc x k (settle_items sc k)) (settle_stmt sc y k (settle_items sc k))
+      chosen_of (answer_put sc h a) x y k (settle_stmt sc x k (settle_items sc k)) (settle_stmt sc y k (settle_items sc k))
   resume (looping h c b k) a =
-      looped_of (put sc h a) c b k (settle_stmt sc b (turn_and (tree.while c b) k) (turning (run_and (tree.while c b) k))) (settle_items sc k)
-  resume (checking h b c k) a = checked_of (put sc h a) b c k (settle_items sc k)
+      looped_of (answer_put sc h a) c b k (settle_stmt sc b (turn_and (tree.while c b) k) (turning (run_and (tree.while c b) k))) (settle_items sc k)
+  resume (checking h b c k) a = checked_of (answer_put sc h a) b c k (settle_items sc k)
   resume (counting h b k) a =
-      counted_of (put sc h a) b k (counted_body sc b k) (settle_items sc k)
-  resume (differing h loop k) a = differed_of sc (put sc h a) loop k (settle_items sc k)
-  resume (stepping d h loop k) a = tested_of sc d (put sc h a) loop k (settle_items sc k)
-  resume (selecting h ss k) a = selected_of (put sc h a) ss k
+      counted_of (answer_put sc h a) b k (counted_body sc b k) (settle_items sc k)
+  resume (differing h loop k) a = differed_of sc (answer_put sc h a) loop k (settle_items sc k)
+  resume (stepping d h loop k) a = tested_of sc d (answer_put sc h a) loop k (settle_items sc k)
+  resume (selecting h ss k) a = selected_of (answer_put sc h a) ss k
   resume (calling n x k) a = statement_called_of n (put_actuals sc x a) k
   resume (preparing n x task k) a = prepared_of n (put_actuals sc x a) task k
-  resume (writing phrases vs h es k) a = item_of phrases vs (put sc h a) es k (settle_line sc es phrases k)
-  resume (bounding kind ns pairs vs h ps k) a = bound_of kind ns pairs vs (put sc h a) ps k (settle_bounds sc ps kind ns pairs k)
+  resume (writing phrases vs h es k) a = item_of phrases vs (answer_put sc h a) es k (settle_line sc es phrases k)
+  resume (bounding kind ns pairs vs h ps k) a = bound_of kind ns pairs vs (answer_put sc h a) ps k (settle_bounds sc ps kind ns pairs k)

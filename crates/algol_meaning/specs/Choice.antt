@@ -16,7 +16,7 @@ use Rattle.b67_deeds.specs.Deeds.{EventDeed, Deed, Next, deed}
 use Rattle.algol_tree.specs.Blocks.{Block, spot_of, block_numbered, number_at}
 use Rattle.algol_tree.specs.Scopes.{Scopes, use_of}
 use Rattle.algol_meaning.specs.Rest.{Place, own, there, element_of, Given, valued, passed, refers, names, Answer, done, value, cell, place, entered}
-use Rattle.algol_meaning.specs.Settle.{block_of, settle, settle_actual_place}
+use Rattle.algol_meaning.specs.Settle.{block_of_sort, settle, settle_actual_place}
 use Rattle.algol_meaning.specs.Statements.{settle_items, items_of, items_from}
 use Rattle.algol_meaning.specs.World.{Purpose, block, procedure, name_read, name_place, started, Part, State, able, waits_for, procures, waits_any, ended, Process, World, instance_at, ancestor, cell_at, set_cell, add_cells, followed, value_in, array_in, process_at, with_process}
 use Rattle.algol_meaning.specs.Critical.{some_depends, some_depends_on_any, is_evaluation, own_instances, newest_first, first_on_path, referred_by, referred_by_task}
@@ -159,8 +159,8 @@ module _ (sc : Scopes) (w : World) (p : ℕ) (q : Process) (part : Part) (outer 
   left_or_ended a [] = ended_releasing (caused_by_end (leave w (part.instance ∷ [])) p q.task)
   left_or_ended a (next ∷ parts) = left_with (leave w (part.instance ∷ [])) a (next ∷ parts)
 
-  abbrev pub left : Answer → Choice
-  left a =
+  abbrev pub left_choice : Answer → Choice
+  left_choice a =
       if is_evaluation part.purpose then left_with w a outer
       else if some_depends w.processes part.instance then fails fault.CriticalBlockExit
       else left_or_ended a outer
@@ -210,26 +210,26 @@ module _ (sc : Scopes) (w : World) (p : ℕ) (q : Process) (part : Part) (outer 
 
   -- ---- events
 
-  abbrev pub told : Option Bool → Answer
-  told None = done
-  told (Some b) = value (truth b)
+  abbrev pub told_answer : Option Bool → Answer
+  told_answer None = done
+  told_answer (Some b) = value (truth b)
 
   abbrev pub goes_releasing : Letter → Released → Answer → Choice
   goes_releasing action x a = record (goes action x.world a) { released = x.processes }
 
   -- what becomes of the process when it has done this with the event there
   abbrev pub did : EventDeed → Reference → Deed → Next → Choice
-  did x r d deeds.goes = goes_releasing (deeds.letter_of x) (released w r d) (told d.answer)
+  did x r d deeds.goes = goes_releasing (deeds.letter_of x) (released w r d) (told_answer d.answer)
   did x r d deeds.waits = stops (deeds.letter_of x) (released w r d).world (waits_for r)
   did x r d deeds.procures = stops (deeds.letter_of x) (released w r d).world (procures r)
 
-  abbrev pub does : EventDeed → Reference → Deed → Choice
-  does x r d = did x r d d.next
+  abbrev pub deed_does : EventDeed → Reference → Deed → Choice
+  deed_does x r d = did x r d d.next
 
   -- a deed is done with the first event that is named
   abbrev pub does_with_first : EventDeed → List Named → Choice
   does_with_first x [] = chosen Fault w
-  does_with_first x (n ∷ ns) = does x (followed w (here n)) (deed x p (event_at w (followed w (here n))))
+  does_with_first x (n ∷ ns) = deed_does x (followed w (here n)) (deed x p (event_at w (followed w (here n))))
 
   -- ---- several events
 
@@ -273,18 +273,18 @@ module _ (sc : Scopes) (w : World) (p : ℕ) (q : Process) (part : Part) (outer 
   choice_of (asks.reads_element n ks v) = element_read n ks (whole_of v) (array_in (cell_at w (followed w (here n))))
   choice_of (asks.indexes n ks v) = indexed n ks (whole_of v) (followed w (here n))
   choice_of (asks.fails f) = fails (fault_of f)
-  choice_of (asks.enters n gs) = entered_procedure (block_of ((use_of sc n).sort)) (home n) (given_cells gs)
+  choice_of (asks.enters n gs) = entered_procedure (block_of_sort ((use_of sc n).sort)) (home n) (given_cells gs)
   choice_of (asks.passes n) = goes Pass w (cell (cell_at w (here n)))
   choice_of (asks.resolves n) = resolved_of n (cell_at w (here n))
   choice_of (asks.reads_result name) = goes Read w (value (value_in (cell_at w (record { instance = part.instance; name = name }))))
-  choice_of (asks.leaves a) = left a
+  choice_of (asks.leaves a) = left_choice a
   choice_of (asks.stores x v) = stored x v
   choice_of (asks.selects v ss) = if nth_exists (whole_of v) ss then (goes Select w done) else fails fault.CaseIndex
   choice_of asks.turns = goes Turn w done
   choice_of (asks.goes_to n) = goes_to n (home n)
   choice_of (asks.enters_block b) = entered_block (number_at sc.blocks (spot_of b))
   choice_of (asks.starts n gs task) =
-      if nat_lt MOST_STARTED (length w.processes) then fails fault.ProcessLimit else (starts (block_of ((use_of sc n).sort)) (home n) (given_cells gs) (task_of task))
+      if nat_lt MOST_STARTED (length w.processes) then fails fault.ProcessLimit else (starts (block_of_sort ((use_of sc n).sort)) (home n) (given_cells gs) (task_of task))
   choice_of (asks.event_deed x ns) = does_with x ns
   choice_of (asks.writes phrases vs) = goes Line (record w { output = w.output ++ line_of phrases vs ∷ [] }) done
   choice_of (asks.makes_arrays kind ns pairs vs) = made_arrays kind ns (bounds_of pairs vs)

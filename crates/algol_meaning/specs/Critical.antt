@@ -40,16 +40,16 @@ abbrev pub newest_first : ℕ → List Instance → List NumberedInstance → Li
 newest_first next [] older = older
 newest_first next (x ∷ xs) older = newest_first (next + 1) xs (record { number = next; of = x } ∷ older)
 
-abbrev pub is_one_of : List ℕ → ℕ → Bool
-is_one_of [] i = false
-is_one_of (j ∷ js) i = (j == i) || is_one_of js i
+abbrev pub process_is_one_of : List ℕ → ℕ → Bool
+process_is_one_of [] i = false
+process_is_one_of (j ∷ js) i = (j == i) || process_is_one_of js i
 
 -- The first of these that lies on the path of process p: the path goes down p's stack, which is older the lower it is, and on from
 -- p's critical instance in the stack that holds it. A critical instance is older than each instance of a stack that depends on it.
 abbrev pub first_on_path : World → List NumberedInstance → ℕ → List ℕ → ℕ
 first_on_path w [] p wanted = 0
 first_on_path w (x ∷ older) p wanted =
-    let on_path = if is_one_of wanted x.number then x.number else first_on_path w older x.of.process wanted in
+    let on_path = if process_is_one_of wanted x.number then x.number else first_on_path w older x.of.process wanted in
     let off_path = first_on_path w older p wanted in
     if is_on then on_path else off_path
   where

@@ -130,9 +130,9 @@ pub data Answer : Type 0 where
   place : Place → Answer
   entered : Answer  -- a part inside is in progress
 
-abbrev pub cell_of : Answer → Cell → Cell
-cell_of (cell c) otherwise = c
-cell_of _ otherwise = otherwise
+abbrev pub cell_of_answer : Answer → Cell → Cell
+cell_of_answer (cell c) otherwise = c
+cell_of_answer _ otherwise = otherwise
 
 -- the subscripts of an element's place
 abbrev pub subscripts_of : Answer → List ℕ

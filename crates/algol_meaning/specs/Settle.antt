@@ -13,7 +13,7 @@ use Rattle.algol_tree.specs.Sorts.{Sort, is_formal, is_by_name, is_variable, pro
 use Rattle.algol_tree.specs.Blocks.{Block, block_numbered}
 use Rattle.algol_tree.specs.Scopes.{Scopes, use_of}
 use Rattle.algol_meaning.specs.Operators.{result_of}
-use Rattle.algol_meaning.specs.Rest.{own, Given, valued, passed, refers, names, Hole, read, element, index, tests, broken, enter, inside, subscript, argument, left, right, negated, inverted, condition, Actuals, pass, in_value, Half, val, busy, HalfGiven, given, wants, Aim, resolve, place_index, inside_place, place_subscript, HalfPlace, at, aims, Answer, value, place, entered, cell_of, subscripts_of}
+use Rattle.algol_meaning.specs.Rest.{own, Given, valued, passed, refers, names, Hole, read, element, index, tests, broken, enter, inside, subscript, argument, left, right, negated, inverted, condition, Actuals, pass, in_value, Half, val, busy, HalfGiven, given, wants, Aim, resolve, place_index, inside_place, place_subscript, HalfPlace, at, aims, Answer, value, place, entered, cell_of_answer, subscripts_of}
 
 abbrev pub after_result : Op → Value → Value → Result Value NumFault → Half
 after_result op v w (Ok x) = val x
@@ -75,8 +75,8 @@ abbrev pub or_zero : Option ℕ → ℕ
 or_zero (Some block) = block
 or_zero None = 0
 
-abbrev pub block_of : Sort → ℕ
-block_of s = or_zero (procedure_in s)
+abbrev pub block_of_sort : Sort → ℕ
+block_of_sort s = or_zero (procedure_in s)
 
 -- ---- left sides
 
@@ -106,7 +106,7 @@ has_result None = false
 module _ (sc : Scopes) where
   -- the block of the procedure that this use names
   abbrev pub callee : Named → Block
-  callee n = block_numbered sc.blocks (block_of ((use_of sc n).sort))
+  callee n = block_numbered sc.blocks (block_of_sort ((use_of sc n).sort))
 
   -- it has a result
   abbrev pub is_typed : Named → Bool
@@ -149,25 +149,25 @@ module _ (sc : Scopes) where
         first_actual_of sorts e (settle e) gs es (settle_actuals es)
 
   abbrev mutual
-    pub put : Hole → Answer → Half
-    put (read n) a = half_of a
-    put (element n ks i) a = half_of a
-    put (index n ks i e es) a = subscripted_of n (subscripts_of a) (settle e) es
-    put (tests test ns) a = half_of a
-    put (broken op v w fault) a = half_of a
-    put (enter n gs) a = half_of a
-    put inside a = half_of a
-    put (subscript n ks h es) a = subscripted_of n ks (put h a) es
-    put (argument n x) a = called_of n (put_actuals x a)
-    put (left op h b) a = left_of op (put h a) b (settle b)
-    put (right op v h) a = right_of op v (put h a)
-    put (negated h) a = negated_of (put h a)
-    put (inverted h) a = inverted_of (put h a)
-    put (condition h x y) a = condition_of (put h a) x y (settle x) (settle y)
+    pub answer_put : Hole → Answer → Half
+    answer_put (read n) a = half_of a
+    answer_put (element n ks i) a = half_of a
+    answer_put (index n ks i e es) a = subscripted_of n (subscripts_of a) (settle e) es
+    answer_put (tests test ns) a = half_of a
+    answer_put (broken op v w fault) a = half_of a
+    answer_put (enter n gs) a = half_of a
+    answer_put inside a = half_of a
+    answer_put (subscript n ks h es) a = subscripted_of n ks (answer_put h a) es
+    answer_put (argument n x) a = called_of n (put_actuals x a)
+    answer_put (left op h b) a = left_of op (answer_put h a) b (settle b)
+    answer_put (right op v h) a = right_of op v (answer_put h a)
+    answer_put (negated h) a = negated_of (answer_put h a)
+    answer_put (inverted h) a = inverted_of (answer_put h a)
+    answer_put (condition h x y) a = condition_of (answer_put h a) x y (settle x) (settle y)
 
     pub put_actuals : Actuals → Answer → HalfGiven
-    put_actuals (pass gs n sorts es) a = settle_actuals es sorts (gs ++ passed (cell_of a (simple (number (pos 0)))) ∷ [])
-    put_actuals (in_value gs h sorts es) a = valued_of gs (put h a) sorts es (settle_actuals es sorts)
+    put_actuals (pass gs n sorts es) a = settle_actuals es sorts (gs ++ passed (cell_of_answer a (simple (number (pos 0)))) ∷ [])
+    put_actuals (in_value gs h sorts es) a = valued_of gs (answer_put h a) sorts es (settle_actuals es sorts)
 
   -- ---- left sides
 
@@ -189,4 +189,4 @@ module _ (sc : Scopes) where
   put_place (resolve n) a = half_place_of a
   put_place (place_index n ks i es) a = indexed_of n a es
   put_place inside_place a = half_place_of a
-  put_place (place_subscript n ks h es) a = aimed_of n ks (put h a) es
+  put_place (place_subscript n ks h es) a = aimed_of n ks (answer_put h a) es

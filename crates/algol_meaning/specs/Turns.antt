@@ -6,14 +6,14 @@ use Rattle.algol_meaning.specs.World.{World}
 use Rattle.algol_meaning.specs.Choice.{Choice, choice}
 use Rattle.algol_meaning.specs.Run.{start, may_go}
 
-abbrev pub listed : Option ℕ → List ℕ
-listed None = []
-listed (Some p) = p ∷ []
+abbrev pub turn_listed : Option ℕ → List ℕ
+turn_listed None = []
+turn_listed (Some p) = p ∷ []
 
 -- the released processes in their order, then a started one, then the actor where it is able
 abbrev pub queued : List ℕ → ℕ → Choice → List ℕ
 queued waiting p c =
-    if may_go c.world p then waiting ++ c.released ++ listed c.started ++ p ∷ [] else waiting ++ c.released ++ listed c.started
+    if may_go c.world p then waiting ++ c.released ++ turn_listed c.started ++ p ∷ [] else waiting ++ c.released ++ turn_listed c.started
 
 -- p is taken from place `at` of the queue; `go_on` are the entries after it
 abbrev pub entries_with : Scopes → World → List ℕ → ℕ → Option ℕ → (World → List ℕ → List ℕ) → List ℕ

@@ -12,7 +12,7 @@ use Rattle.algol_sorts.specs.declared.sort.Sort.{Sort}
 use Rattle.algol_sorts.specs.declared.sort.Sort.TheVariants as sort
 use Rattle.algol_told.proofs.Known.{spot-is}
 use Rattle.algol_told.proofs.Spots.{spot-itself}
-use Rattle.algol_cells.specs.Shown.{shown}
+use Rattle.algol_cells.specs.Shown.{shown_cell}
 use Rattle.algol_cells.specs.SeenScope.{lows_under, or_no_lows, sort_as, used}
 use Rattle.algol_cells.specs.declared.scope.Use.{Use}
 use Rattle.algol_names.specs.Kept.{found_if, is_formal_at, is_used_among, lows_from, lows_there, lows_used}
@@ -57,7 +57,7 @@ alone (Some x) lows = refl
 pub all_kept : (kept : Spot → List ℤ) (us left : List Use) (o : Option (List ℤ)) (spot : Spot) → left ≡ [] → option_or o (lows_from kept left spot) ≡ lows_from kept us spot → o ≡ lows_from kept us spot
 all_kept kept us left o spot e h = sym (alone o (kept spot)) ∙ ap (λ (vs : List Use). option_or o (lows_from kept vs spot)) (sym e) ∙ h
 
-found_lows : (o : Option (Bor (List ℤ))) (b : Bool) (lows : List ℤ) → shown o ≡ found_if b lows → b ≡ true → or_no_lows o ≡ lows
+found_lows : (o : Option (Bor (List ℤ))) (b : Bool) (lows : List ℤ) → shown_cell o ≡ found_if b lows → b ≡ true → or_no_lows o ≡ lows
 found_lows None true lows e h = absurd (let clash : None ≡ Some lows = e in cc)
 found_lows (Some x) true lows e h = let same : Some x.now ≡ Some lows = e in cc
 found_lows o false lows e h = absurd (let clash : false ≡ true = h in cc)
@@ -103,6 +103,6 @@ module _ (kept found : Spot → List ℤ) (number : Spot → ℕ) where
       (all_same us (λ spot h. m spot (later_of_them (is_formal_at u.sort u.declared spot) (is_used_among us spot) h)))
 
 pub kept_same : (kept : Spot → List ℤ) (table : BTreeMap Spot (Bor (List ℤ))) (us : List Use) (number : Spot → ℕ) →
-    ((spot : Spot) → shown (get ghosts.cmp table spot) ≡ lows_from kept us spot) → map (used (lows_under table) number) us ≡ map (used kept number) us
+    ((spot : Spot) → shown_cell (get ghosts.cmp table spot) ≡ lows_from kept us spot) → map (used (lows_under table) number) us ≡ map (used kept number) us
 kept_same kept table us number t =
     all_same kept (lows_under table) number us (λ spot h. found_lows (get ghosts.cmp table spot) (is_used_among us spot) (kept spot) (t spot) h)

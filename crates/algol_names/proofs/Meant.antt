@@ -20,7 +20,7 @@ use Rattle.algol_sorts.specs.Sorts.{sort_of}
 use Rattle.algol_frames.specs.declared.scopes.Declared as laid
 use Rattle.algol_frames.specs.declared.scopes.Scopes.{Scopes}
 use Rattle.algol_scope.specs.Resolved.{AreOf, declaration_of}
-use Rattle.algol_told.specs.Telling.{Tells, TellsAll, TellsAt}
+use Rattle.algol_told.specs.Telling.{ScopesTell, TellsAll, TellsAt}
 use Rattle.algol_told.proofs.Declarations.{DeclsHave, InDecl, StmtHas, StmtsHave}
 use Rattle.algol_told.proofs.Lists.{all-left, all-right}
 use Rattle.algol_told.proofs.Told.{all-found, each-part-is-told}
@@ -29,7 +29,7 @@ use Rattle.algol_lows.proofs.Formals.{FormalsFound, formals_found}
 use Rattle.algol_names.specs.declared.found.Found.{Found}
 use Rattle.algol_names.specs.Found.{at, at_left, in_body, in_decl, in_decls, in_expr, in_exprs, in_pairs, in_stmt, in_stmts, in_task}
 use Rattle.algol_cells.specs.SeenScope.{sort_as}
-use Rattle.algol_names.specs.Kept.{listed}
+use Rattle.algol_names.specs.Kept.{lows_listed as listed}
 use Rattle.algol_names.specs.Meant as meant
 use Rattle.algol_names.proofs.Clear.{AllClear, IsClear, all_clear, inside_clear, knowing_clear}
 use Rattle.algol_names.proofs.Parts.{assign_uses, body_uses, call_uses, called_uses, case_uses, counting_uses, decl_uses, declared_uses, decls_uses, else_uses, event_uses, expr_uses, go_to_uses, if_uses, label_uses, list_uses, more_uses, pairs_uses, process_uses, stmt_uses, stmts_uses, task_uses, then_uses, thru_uses, two_uses, until_uses, variable_uses, while_uses, whole_uses, write_uses}
@@ -66,7 +66,7 @@ module _ (s : Scopes) (lows : Spot → Option Lows) (blocks : List Block) where
   abbrev made : Spot → ℕ → ℕ → plain.Sort → List scoping.Use
   made spot block up sort = record { spot = spot; block = block; up = up; sort = sort } ∷ []
 
-  name_meant : (n : Named) (a : Surroundings) → Clear a → Tells s a n → told (at n (suc a.depth)) ≡ scoping.used a n
+  name_meant : (n : Named) (a : Surroundings) → Clear a → ScopesTell s a n → told (at n (suc a.depth)) ≡ scoping.used a n
   name_meant n a c t =
       let d = t.declared in
       let x = t.told in
@@ -85,15 +85,15 @@ module _ (s : Scopes) (lows : Spot → Option Lows) (blocks : List Block) where
   left_by n k None = refl
   left_by n k (Some x) = refl
 
-  left_meant : (n : Named) (a : Surroundings) → Clear a → Tells s a n → told (at_left n (suc a.depth)) ≡ scoping.left_uses (scoping.used a n)
+  left_meant : (n : Named) (a : Surroundings) → Clear a → ScopesTell s a n → told (at_left n (suc a.depth)) ≡ scoping.left_uses (scoping.used a n)
   left_meant n a c t = left_by n (suc a.depth) (declaration_of s n.spot) ∙ ap scoping.left_uses (name_meant n a c t)
 
   -- a name before others
-  first_meant : (n : Named) (a : Surroundings) (fs : List Found) (us : List scoping.Use) → Clear a → Tells s a n → all_told fs ≡ us →
+  first_meant : (n : Named) (a : Surroundings) (fs : List Found) (us : List scoping.Use) → Clear a → ScopesTell s a n → all_told fs ≡ us →
       all_told (at n (suc a.depth) ∷ fs) ≡ scoping.used a n ++ us
   first_meant n a fs us c t h = ap (λ (z : List scoping.Use). z ++ all_told fs) (name_meant n a c t) ∙ ap (λ (z : List scoping.Use). scoping.used a n ++ z) h
 
-  alone_meant : (n : Named) (a : Surroundings) → Clear a → Tells s a n → all_told (at n (suc a.depth) ∷ []) ≡ scoping.used a n
+  alone_meant : (n : Named) (a : Surroundings) → Clear a → ScopesTell s a n → all_told (at n (suc a.depth) ∷ []) ≡ scoping.used a n
   alone_meant n a c t = first_meant n a [] [] c t refl ∙ append-nil (scoping.used a n)
 
   -- ---- expressions
@@ -117,7 +117,7 @@ module _ (s : Scopes) (lows : Spot → Option Lows) (blocks : List Block) where
   abbrev events_uses : List EventName → Surroundings → List scoping.Use
   events_uses es a = flat_map (scoping.used a) (map (λ (e : EventName). e.name) es)
 
-  events_meant : (es : List EventName) (a : Surroundings) → Clear a → AllByRecursion (Tells s a) (map (λ (e : EventName). e.name) es) →
+  events_meant : (es : List EventName) (a : Surroundings) → Clear a → AllByRecursion (ScopesTell s a) (map (λ (e : EventName). e.name) es) →
       all_told (map (λ (e : EventName). at e.name (suc a.depth)) es) ≡ events_uses es a
   events_meant [] a c t = refl
   events_meant (e ∷ es) a c t = first_meant e.name a (map (λ (f : EventName). at f.name (suc a.depth)) es) (events_uses es a) c t.0 (events_meant es a c t.1)
@@ -175,7 +175,7 @@ module _ (s : Scopes) (lows : Spot → Option Lows) (blocks : List Block) where
       (pairs_meant ps a c (right_told (sites p.high a) (sites_in_pairs ps a) t.1))
       ∙ sym (flat_map-append scoping.uses_at (sites p.high a) (sites_in_pairs ps a))
 
-  task_meant : (task : Option Named) (a : Surroundings) → Clear a → AllByRecursion (Tells s a) (scoping.if_named task) → all_told (in_task task (suc a.depth)) ≡ task_uses task a
+  task_meant : (task : Option Named) (a : Surroundings) → Clear a → AllByRecursion (ScopesTell s a) (scoping.if_named task) → all_told (in_task task (suc a.depth)) ≡ task_uses task a
   task_meant None a c t = refl
   task_meant (Some n) a c t = alone_meant n a c t.0
 

@@ -10,17 +10,17 @@ use Rattle.algol_sorts.specs.declared.sort.Sort.{Sort}
 use Rattle.algol_sorts.specs.declared.sort.Sort.TheVariants as sort
 use Rattle.algol_paths.specs.Arrays.{Lows}
 use Rattle.algol_lows.specs.declared.bounds.Lows as bounds
-use Rattle.algol_lows.specs.Lows.{under}
-use Rattle.algol_cells.specs.Shown.{shown}
+use Rattle.algol_lows.specs.Lows.{lows_found_under}
+use Rattle.algol_cells.specs.Shown.{shown_cell}
 use Rattle.algol_cells.specs.declared.scope.Use.{Use}
 
-abbrev pub listed : Option Lows → List ℤ
-listed None = []
-listed (Some lows) = lows.list
+abbrev pub lows_listed : Option Lows → List ℤ
+lows_listed None = []
+lows_listed (Some lows) = lows.list
 
 -- the lower bounds that are kept of what is declared there, none where none are
 abbrev pub kept : BTreeMap Spot bounds.Lows → Spot → List ℤ
-kept table spot = listed (under table spot)
+kept table spot = lows_listed (lows_found_under table spot)
 
 abbrev pub found_if : Bool → List ℤ → Option (List ℤ)
 found_if there lows = if there then Some lows else None
@@ -45,5 +45,5 @@ abbrev pub lows_from : (Spot → List ℤ) → List Use → Spot → Option (Lis
 lows_from lows us spot = found_if (is_used_among us spot) (lows spot)
 
 -- the second table has also what is found at a place where the first has nothing
-abbrev pub Adds : BTreeMap Spot (Bor (List ℤ)) → BTreeMap Spot (Bor (List ℤ)) → (Spot → Option (List ℤ)) → Type 0
-Adds old new found = (spot : Spot) → shown (get ghosts.cmp new spot) ≡ option_or (shown (get ghosts.cmp old spot)) (found spot)
+abbrev pub NamesAdd : BTreeMap Spot (Bor (List ℤ)) → BTreeMap Spot (Bor (List ℤ)) → (Spot → Option (List ℤ)) → Type 0
+NamesAdd old new found = (spot : Spot) → shown_cell (get ghosts.cmp new spot) ≡ option_or (shown_cell (get ghosts.cmp old spot)) (found spot)

@@ -3,7 +3,7 @@
 ghost use Rattle.std.specs.Prelude.{◌≡◌, ℕ, map, OnOk, IfOk};
 ghost use Rattle.algol_tree.specs.declared.token.Spot as token;
 ghost use Rattle.algol_cells.specs.SeenScope.{lows_under, used};
-ghost use Rattle.algol_names.specs.Kept.{Adds, kept, lows_there, lows_used};
+ghost use Rattle.algol_names.specs.Kept.{NamesAdd, kept, lows_there, lows_used};
 
 use algol_cells::{LowerBounds, Use};
 use algol_lows::LowsByPlace;
@@ -24,7 +24,7 @@ fn kept_at<'p>(lows: &'p LowsByPlace, spot: Spot) -> &'p [i64]
 
 /// These stand under the place, unless some stand there already.
 fn add<'p>(table: &mut LowerBounds<'p>, spot: Spot, lows: &'p [i64]) -> Result<(), AllocError>
-    ensures { OnOk result (Adds table.old table.new (lows_there spot lows.now)) }
+    ensures { OnOk result (NamesAdd table.old table.new (lows_there spot lows.now)) }
 {
     table.entry(spot)?.or_insert(lows);
     Ok(())
@@ -36,7 +36,7 @@ fn add_used<'p>(
     lows: &'p LowsByPlace,
     u: Use,
 ) -> Result<(), AllocError>
-    ensures { OnOk result (Adds table.old table.new (lows_used (kept lows.now) u)) }
+    ensures { OnOk result (NamesAdd table.old table.new (lows_used (kept lows.now) u)) }
 {
     match u.sort {
         Sort::FormalArray(_, _) => add(table, u.declared, kept_at(lows, u.declared)),

@@ -8,7 +8,7 @@ ghost use Rattle.algol_tree.specs.Image.{body, program};
 ghost use Rattle.algol_tree.specs.Scopes as scoping;
 ghost use Rattle.algol_scope.specs.Resolved.{AreOf, declaration_of};
 ghost use Rattle.algol_paths.specs.Arrays.{lows_at};
-ghost use Rattle.algol_lows.specs.Lows.{under};
+ghost use Rattle.algol_lows.specs.Lows.{lows_found_under};
 ghost use Rattle.algol_cells.specs.SeenScope.{lows_under, scoped, used};
 ghost use Rattle.algol_names.specs.Blocks.{blocks_in};
 ghost use Rattle.algol_names.specs.Found.{in_body};
@@ -73,7 +73,7 @@ pub fn scopes_of<'p>(
 ) -> Result<Scopes<'p>, AllocError>
     requires are { AreOf (program p.now) resolved.now }
     requires order { IsInOrder (program p.now) }
-    requires bounds { (spot : token.Spot) → under lows.now spot ≡ lows_at (blocks_of_program (program p.now)) spot }
+    requires bounds { (spot : token.Spot) → lows_found_under lows.now spot ≡ lows_at (blocks_of_program (program p.now)) spot }
     ensures { IfOk result (λ scopes. scoped scopes ≡ scoping.scopes_of (program p.now)) }
 {
     let blocks = placed_blocks(alloc, p)?;

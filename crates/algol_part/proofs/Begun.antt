@@ -18,17 +18,17 @@ use Rattle.algol_tree.specs.Plain.{called, none, no_decls}
 use Rattle.algol_tree.specs.Tokens.{is_word, is_symbol, name_in}
 use Rattle.algol_tree.specs.Headings.{type_of}
 use Rattle.algol_tree.specs.Due as due
-use Rattle.algol_tree.specs.Due.{Value, put, stmt, list, declared, Due, make, word, symbol, whole, statement, else_part, behind_start, actuals_part, stmts_more, declarations, typed, procedure_body, plain, nests, label, takes, makes, skips, refuses, Turn, followed, either}
+use Rattle.algol_tree.specs.Due.{Value, value_put, stmt, list, declared, Due, make, word, symbol, whole, statement, else_part, behind_start, actuals_part, stmts_more, declarations, typed, procedure_body, plain, nests, label, takes, makes, skips, refuses, Turn, followed, either}
 use Rattle.algol_tree.specs.DueStmt.{labelled, assigned, calling, wholes_in, turn_statement, turn_behind_start, turn_declarations, turn_typed, two_armed, one_armed, stmt_added, names_declared, segment_in, procedure_in, with_body, announced, turn_procedure_body, programmed}
-use Rattle.algol_tree.specs.Reading.{turn, outside, read}
-use Rattle.algol_tree.specs.Found.{Refuses}
+use Rattle.algol_tree.specs.Reading.{reading_turn, outside, read}
+use Rattle.algol_tree.specs.Found.{ReaderRefuses}
 use Rattle.algol_expr.proofs.Turns.{word_from, symbol_from, opens_step, label_step, deep_label_step, makes_step, make_step, takes_step, symbol_step}
 use Rattle.algol_expr.proofs.Chain.{Reaches}
 use Rattle.algol_part.specs.declared.start.Start.{Start}
 use Rattle.algol_part.specs.declared.start.Start.TheVariants as starts
 use Rattle.algol_part.specs.Starts.{start_of, begins_body}
 use Rattle.algol_part.specs.Openings.{behind_word, behind_verb}
-use Rattle.algol_tree.specs.DueDecl.{names_in}
+use Rattle.algol_tree.specs.DueDecl.{names_in_list}
 use Rattle.algol_part.specs.declared.declaration.Listed.{Listed}
 use Rattle.algol_part.specs.Phrases.{element_in, lists_names, listed_by, listed_in}
 use Rattle.algol_expr.proofs.Reading.{Takes, taken, read-at}
@@ -37,7 +37,7 @@ use Rattle.algol_part.proofs.Specs.{names_there}
 
 -- after a level that is opened
 pub opens_with : {tokens : List Token} {t : Token} {ts : List Token} → tokens ≡ t ∷ ts → (d i : ℕ) (s : Due) (es : ℕ → List Due) {us : List Value} →
-    turn s t.spot t.kind ≡ takes (nests d) (es (d + 1)) → d < MOST_NESTING → i ≡ d + 1 → Reaches (s ∷ []) us tokens (es i) us ts
+    reading_turn s t.spot t.kind ≡ takes (nests d) (es (d + 1)) → d < MOST_NESTING → i ≡ d + 1 → Reaches (s ∷ []) us tokens (es i) us ts
 opens_with {tokens = tokens} {t = t} {ts = ts} at_ d i s es {us = us} q o is = subst (λ i. Reaches (s ∷ []) us tokens (es i) us ts) (sym is) (record {
   run = λ due_ vs. ap (λ x. read 0 x (s ∷ due_) (us ++ vs)) at_ ∙ opens_step 0 d t ts s (es (d + 1)) due_ (us ++ vs) q (inl o);
 })
@@ -71,14 +71,14 @@ start_turns d spot (kinds.Word reserved.Liberate) = refl
 start_turns d spot k = tt
 
 pub starting : (d : ℕ) {tokens : List Token} {t : Token} {ts : List Token} → tokens ≡ t ∷ ts → (s : Start) → start_of t.kind ≡ s → (x : Turn) → by_start d t.spot s ≡ Some x →
-    turn (statement d) t.spot t.kind ≡ x
+    reading_turn (statement d) t.spot t.kind ≡ x
 starting d {t = t} at_ s e x p = subst (λ o. Starts o (turn_statement d t.spot t.kind)) (ap (by_start d t.spot) e ∙ p) (start_turns d t.spot t.kind)
 
 pub not_end_start : (k : TokenKind) (s : Start) → start_of k ≡ s → (starts.Nothing ≡ s → ⊥) → k ≡ kinds.End → ⊥
 not_end_start k s e f q = f (sym (ap start_of q) ∙ e)
 
 abbrev Empties : Option (List ℕ) → Start → Turn → Type 0
-Empties None starts.Nothing x = x ≡ makes (put (stmt trees.empty))
+Empties None starts.Nothing x = x ≡ makes (value_put (stmt trees.empty))
 Empties name s x = Unit
 
 empty_turns : (d : ℕ) (spot : Spot) (k : TokenKind) → Empties (name_in k) (start_of k) (turn_statement d spot k)
@@ -102,7 +102,7 @@ empty_turns d spot (kinds.Word reserved.Liberate) = tt
 empty_turns d spot k = refl
 
 pub empty_here : (d : ℕ) {tokens : List Token} {t : Token} {ts : List Token} → tokens ≡ t ∷ ts → name_in t.kind ≡ None → start_of t.kind ≡ starts.Nothing →
-    turn (statement d) t.spot t.kind ≡ makes (put (stmt trees.empty))
+    reading_turn (statement d) t.spot t.kind ≡ makes (value_put (stmt trees.empty))
 empty_here d {t = t} at_ e f = subst (λ name. Empties name starts.Nothing (turn_statement d t.spot t.kind)) e
     (subst (λ s. Empties (name_in t.kind) s (turn_statement d t.spot t.kind)) f (empty_turns d t.spot t.kind))
 
@@ -111,23 +111,23 @@ name_of (kinds.Name n) name e = let same : n ≡ name = cc in ap kinds.Name same
 name_of k name e = cc
 
 pub name_begins : (d : ℕ) {tokens : List Token} {t : Token} {ts : List Token} → tokens ≡ t ∷ ts → (n : Named) (name : List ℕ) → name_in t.kind ≡ Some name →
-    (n.name ≡ name) × (n.spot ≡ t.spot) → turn (statement d) t.spot t.kind ≡ takes plain (behind_start n d ∷ [])
+    (n.name ≡ name) × (n.spot ≡ t.spot) → reading_turn (statement d) t.spot t.kind ≡ takes plain (behind_start n d ∷ [])
 name_begins d {t = t} at_ n name e same = ap (turn_statement d t.spot) (name_of t.kind name e ∙ ap kinds.Name (sym same.0))
     ∙ ap (λ spot. takes plain (behind_start (record { name = n.name; spot = spot }) d ∷ [])) (sym same.1)
 
 -- after a name
 
 module _ (n : Named) (d : ℕ) {tokens : List Token} {t : Token} {ts : List Token} (at_ : tokens ≡ t ∷ ts) where
-  pub becomes_takes : is_symbol symbols.Becomes t.kind ≡ true → turn (behind_start n d) t.spot t.kind ≡ takes plain (whole 0 ∷ make (assigned n) ∷ [])
+  pub becomes_takes : is_symbol symbols.Becomes t.kind ≡ true → reading_turn (behind_start n d) t.spot t.kind ≡ takes plain (whole 0 ∷ make (assigned n) ∷ [])
   becomes_takes e = ap (turn_behind_start n d) (symbol_from t.kind symbols.Becomes e)
 
-  pub square_takes : is_symbol symbols.OpenSquare t.kind ≡ true → turn (behind_start n d) t.spot t.kind ≡ takes plain (element_in n)
+  pub square_takes : is_symbol symbols.OpenSquare t.kind ≡ true → reading_turn (behind_start n d) t.spot t.kind ≡ takes plain (element_in n)
   square_takes e = ap (turn_behind_start n d) (symbol_from t.kind symbols.OpenSquare e)
 
 -- without a parenthesis both the statement and its actuals are done
 silent : (n : Named) (d : ℕ) (spot : Spot) (k : TokenKind) → is_symbol symbols.Colon k ≡ false → is_symbol symbols.Becomes k ≡ false →
     is_symbol symbols.OpenSquare k ≡ false → is_symbol symbols.OpenRound k ≡ false →
-    (turn_behind_start n d k ≡ makes (put (stmt (trees.call_of (called n none))))) × (turn actuals_part spot k ≡ makes (put (due.many none)))
+    (turn_behind_start n d k ≡ makes (value_put (stmt (trees.call_of (called n none))))) × (reading_turn actuals_part spot k ≡ makes (value_put (due.many none)))
 silent n d spot (kinds.Symbol symbols.Colon) a b c e = cc
 silent n d spot (kinds.Symbol symbols.Becomes) a b c e = cc
 silent n d spot (kinds.Symbol symbols.OpenSquare) a b c e = cc
@@ -140,11 +140,11 @@ call_turn : (n : Named) (d : ℕ) (t : Token) (ts : List Token) (due_ : List Due
 call_turn n d t ts due_ vs true e a b c =
     let k = symbol_from t.kind symbols.OpenRound e in
     takes_step 0 t ts (behind_start n d) (wholes_in ++ symbol symbols.CloseRound ∷ make (calling n) ∷ []) due_ vs (ap (turn_behind_start n d) k)
-    ∙ sym (takes_step 0 t ts actuals_part (wholes_in ++ symbol symbols.CloseRound ∷ []) (make (calling n) ∷ due_) vs (ap (turn actuals_part t.spot) k))
+    ∙ sym (takes_step 0 t ts actuals_part (wholes_in ++ symbol symbols.CloseRound ∷ []) (make (calling n) ∷ due_) vs (ap (reading_turn actuals_part t.spot) k))
 call_turn n d t ts due_ vs false e a b c =
     let q = silent n d t.spot t.kind a b c e in
-    makes_step 0 t ts (behind_start n d) due_ vs (put (stmt (trees.call_of (called n none)))) q.0
-    ∙ sym (makes_step 0 t ts actuals_part (make (calling n) ∷ due_) vs (put (due.many none)) q.1
+    makes_step 0 t ts (behind_start n d) due_ vs (value_put (stmt (trees.call_of (called n none)))) q.0
+    ∙ sym (makes_step 0 t ts actuals_part (make (calling n) ∷ due_) vs (value_put (due.many none)) q.1
     ∙ make_step 0 (t ∷ ts) (calling n) due_ (due.many none ∷ vs))
 
 pub call_there : (n : Named) (d : ℕ) {us : List Value} {tokens : List Token} {t : Token} {ts : List Token} → tokens ≡ t ∷ ts → is_symbol symbols.Colon t.kind ≡ false →
@@ -156,7 +156,7 @@ call_there n d {us = us} {t = t} {ts = ts} at_ a b c = subst (λ x. Reaches (beh
 -- a label's colon
 
 module _ (n : Named) (d : ℕ) {tokens : List Token} {t : Token} {ts : List Token} (at_ : tokens ≡ t ∷ ts) (e : is_symbol symbols.Colon t.kind ≡ true) where
-  colon_turn : turn (behind_start n d) t.spot t.kind ≡ takes (label d n.spot) (statement (d + 1) ∷ make (labelled n) ∷ [])
+  colon_turn : reading_turn (behind_start n d) t.spot t.kind ≡ takes (label d n.spot) (statement (d + 1) ∷ make (labelled n) ∷ [])
   colon_turn = ap (turn_behind_start n d) (symbol_from t.kind symbols.Colon e)
 
   pub colon_opens : (i : ℕ) → d < MOST_NESTING → i ≡ d + 1 → Reaches (behind_start n d ∷ []) [] tokens (statement i ∷ make (labelled n) ∷ []) [] ts
@@ -166,7 +166,7 @@ module _ (n : Named) (d : ℕ) {tokens : List Token} {t : Token} {ts : List Toke
         ∙ label_step 0 d t t ts (behind_start n d) n.spot (statement (d + 1) ∷ make (labelled n) ∷ []) due_ vs colon_turn (inl o);
   })
 
-  pub colon_too_deep : (e : Refusal) → MOST_NESTING ≤ d → e ≡ At n.spot codes.TooDeep → Refuses (behind_start n d ∷ []) [] tokens e
+  pub colon_too_deep : (e : Refusal) → MOST_NESTING ≤ d → e ≡ At n.spot codes.TooDeep → ReaderRefuses (behind_start n d ∷ []) [] tokens e
   colon_too_deep e o r = record {
     left = length (t ∷ ts);
     fails = record {
@@ -180,28 +180,28 @@ module _ (n : Named) (d : ℕ) {tokens : List Token} {t : Token} {ts : List Toke
 -- what follows a statement
 
 pub else_on : (d : ℕ) {tokens : List Token} {t : Token} {ts : List Token} → tokens ≡ t ∷ ts → is_word reserved.Else t.kind ≡ true →
-    turn (else_part d) t.spot t.kind ≡ takes plain (statement d ∷ make two_armed ∷ [])
+    reading_turn (else_part d) t.spot t.kind ≡ takes plain (statement d ∷ make two_armed ∷ [])
 else_on d {t = t} at_ e = ap (λ b. either b (takes plain (statement d ∷ make two_armed ∷ [])) (makes one_armed)) e
 
 pub else_off : (d : ℕ) {tokens : List Token} {t : Token} {ts : List Token} → tokens ≡ t ∷ ts → is_word reserved.Else t.kind ≡ false →
-    turn (else_part d) t.spot t.kind ≡ makes one_armed
+    reading_turn (else_part d) t.spot t.kind ≡ makes one_armed
 else_off d {t = t} at_ e = ap (λ b. either b (takes plain (statement d ∷ make two_armed ∷ [])) (makes one_armed)) e
 
 abbrev pub more_stmts : ℕ → List Due
 more_stmts d = statement d ∷ make stmt_added ∷ stmts_more d ∷ []
 
 pub stmts_on : (d : ℕ) {tokens : List Token} {t : Token} {ts : List Token} → tokens ≡ t ∷ ts → is_symbol symbols.Semicolon t.kind ≡ true →
-    turn (stmts_more d) t.spot t.kind ≡ takes plain (more_stmts d)
+    reading_turn (stmts_more d) t.spot t.kind ≡ takes plain (more_stmts d)
 stmts_on d {t = t} at_ e = ap (λ b. either b (takes plain (more_stmts d)) skips) e
 
 pub stmts_off : (d : ℕ) {tokens : List Token} {t : Token} {ts : List Token} → tokens ≡ t ∷ ts → is_symbol symbols.Semicolon t.kind ≡ false →
-    turn (stmts_more d) t.spot t.kind ≡ skips
+    reading_turn (stmts_more d) t.spot t.kind ≡ skips
 stmts_off d {t = t} at_ e = ap (λ b. either b (takes plain (more_stmts d)) skips) e
 
 -- declarations
 
 pub array_declared : (d : ℕ) {tokens : List Token} {t : Token} {ts : List Token} → tokens ≡ t ∷ ts → is_word reserved.Array t.kind ≡ true →
-    turn (declarations d) t.spot t.kind ≡ takes plain ((segment_in types.Number ++ symbol symbols.Semicolon ∷ []) ++ declarations d ∷ [])
+    reading_turn (declarations d) t.spot t.kind ≡ takes plain ((segment_in types.Number ++ symbol symbols.Semicolon ∷ []) ++ declarations d ∷ [])
 array_declared d {t = t} at_ e = ap (turn_declarations d) (word_from t.kind reserved.Array e)
 
 -- names that are declared by the word before them
@@ -217,7 +217,7 @@ listed_turns d (kinds.Word reserved.Label) = refl
 listed_turns d k = tt
 
 pub listed_declared : (d : ℕ) {tokens : List Token} {t : Token} {ts : List Token} → tokens ≡ t ∷ ts → (l : Listed) → listed_by t.kind ≡ Some l →
-    turn (declarations d) t.spot t.kind ≡ takes plain (listed_in l ++ declarations d ∷ [])
+    reading_turn (declarations d) t.spot t.kind ≡ takes plain (listed_in l ++ declarations d ∷ [])
 listed_declared d {t = t} at_ l e = subst (λ o. ListedTurn o d (turn_declarations d t.kind)) e (listed_turns d t.kind)
 
 -- ARRAY is the other word
@@ -240,7 +240,7 @@ pub not_end_lists : (k : TokenKind) → lists_names k ≡ true → k ≡ kinds.E
 not_end_lists k e q = let no : false ≡ true = sym (ap lists_names q) ∙ e in cc
 
 pub procedure_declared : (d : ℕ) {tokens : List Token} {t : Token} {ts : List Token} → tokens ≡ t ∷ ts → is_word reserved.Procedure t.kind ≡ true →
-    turn (declarations d) t.spot t.kind ≡ takes plain (procedure_in None d ++ declarations d ∷ [])
+    reading_turn (declarations d) t.spot t.kind ≡ takes plain (procedure_in None d ++ declarations d ∷ [])
 procedure_declared d {t = t} at_ e = ap (turn_declarations d) (word_from t.kind reserved.Procedure e)
 
 abbrev Types : ℕ → Option Kind → Turn → Type 0
@@ -254,7 +254,7 @@ type_turns d (kinds.Word reserved.Boolean) = refl
 type_turns d k = tt
 
 pub type_declared : (d : ℕ) {tokens : List Token} {t : Token} {ts : List Token} → tokens ≡ t ∷ ts → (kind : Kind) → type_of t.kind ≡ Some kind →
-    turn (declarations d) t.spot t.kind ≡ takes plain (typed kind d ∷ declarations d ∷ [])
+    reading_turn (declarations d) t.spot t.kind ≡ takes plain (typed kind d ∷ declarations d ∷ [])
 type_declared d {t = t} at_ kind e = subst (λ o. Types d o (turn_declarations d t.kind)) e (type_turns d t.kind)
 
 none_turn : (d : ℕ) (k : TokenKind) → is_word reserved.Procedure k ≡ false → type_of k ≡ None → lists_names k ≡ false → turn_declarations d k ≡ skips
@@ -270,16 +270,16 @@ none_turn d (kinds.Word reserved.Boolean) a b c = cc
 none_turn d k a b c = refl
 
 pub none_declared : (d : ℕ) {tokens : List Token} {t : Token} {ts : List Token} → tokens ≡ t ∷ ts → is_word reserved.Procedure t.kind ≡ false → type_of t.kind ≡ None →
-    lists_names t.kind ≡ false → turn (declarations d) t.spot t.kind ≡ skips
+    lists_names t.kind ≡ false → reading_turn (declarations d) t.spot t.kind ≡ skips
 none_declared d {t = t} at_ a b c = none_turn d t.kind a b c
 
 -- after a type
 
 module _ (kind : Kind) (d : ℕ) {tokens : List Token} {t : Token} {ts : List Token} (at_ : tokens ≡ t ∷ ts) where
-  pub typed_procedure : is_word reserved.Procedure t.kind ≡ true → turn (typed kind d) t.spot t.kind ≡ takes plain (procedure_in (Some kind) d)
+  pub typed_procedure : is_word reserved.Procedure t.kind ≡ true → reading_turn (typed kind d) t.spot t.kind ≡ takes plain (procedure_in (Some kind) d)
   typed_procedure e = ap (turn_typed kind d t.spot) (word_from t.kind reserved.Procedure e)
 
-  pub typed_arrays : is_word reserved.Array t.kind ≡ true → turn (typed kind d) t.spot t.kind ≡ takes plain (segment_in kind ++ symbol symbols.Semicolon ∷ [])
+  pub typed_arrays : is_word reserved.Array t.kind ≡ true → reading_turn (typed kind d) t.spot t.kind ≡ takes plain (segment_in kind ++ symbol symbols.Semicolon ∷ [])
   typed_arrays e = ap (turn_typed kind d t.spot) (word_from t.kind reserved.Array e)
 
 typed_refused : (kind : Kind) (d : ℕ) (spot : Spot) (k : TokenKind) → is_word reserved.Procedure k ≡ false → is_word reserved.Array k ≡ false → name_in k ≡ None →
@@ -290,9 +290,9 @@ typed_refused kind d spot (kinds.Word reserved.Procedure) a b c = cc
 typed_refused kind d spot k a b c = refl
 
 pub typed_list : (kind : Kind) (d : ℕ) (us : List Value) {tokens : List Token} {t : Token} {ts : List Token} → tokens ≡ t ∷ ts → is_word reserved.Procedure t.kind ≡ false →
-    is_word reserved.Array t.kind ≡ false → Reaches (typed kind d ∷ []) us tokens (names_in ++ make (names_declared (trees.simple kind)) ∷ symbol symbols.Semicolon ∷ []) us tokens
+    is_word reserved.Array t.kind ≡ false → Reaches (typed kind d ∷ []) us tokens (names_in_list ++ make (names_declared (trees.simple kind)) ∷ symbol symbols.Semicolon ∷ []) us tokens
 typed_list kind d us {t = t} {ts = ts} at_ a b =
-    subst (λ x. Reaches (typed kind d ∷ []) us x (names_in ++ make (names_declared (trees.simple kind)) ∷ symbol symbols.Semicolon ∷ []) us x) (sym at_)
+    subst (λ x. Reaches (typed kind d ∷ []) us x (names_in_list ++ make (names_declared (trees.simple kind)) ∷ symbol symbols.Semicolon ∷ []) us x) (sym at_)
     (names_there (typed kind d) (make (names_declared (trees.simple kind)) ∷ symbol symbols.Semicolon ∷ []) t ts (λ name q. ap (turn_typed kind d t.spot) q)
     (λ q. typed_refused kind d t.spot t.kind a b q) us)
 
@@ -337,30 +337,30 @@ enters d spot k a b = subst (λ begins. EntersWhere false begins d (turn_stateme
     (subst (λ semicolon. EntersWhere semicolon (begins_body k) d (turn_statement (d + 1) spot k) (turn_procedure_body d spot k)) a (entering d spot k))
 
 module _ (d : ℕ) (t : Token) (ts : List Token) where
-  entered_read : (x y : Turn) → Enters d x y → turn (statement (d + 1)) t.spot t.kind ≡ x → turn (procedure_body d) t.spot t.kind ≡ y → d < MOST_NESTING →
+  entered_read : (x y : Turn) → Enters d x y → reading_turn (statement (d + 1)) t.spot t.kind ≡ x → reading_turn (procedure_body d) t.spot t.kind ≡ y → d < MOST_NESTING →
       (due_ : List Due) (vs : List Value) → read 0 (t ∷ ts) (procedure_body d ∷ due_) vs ≡ read 0 (t ∷ ts) (statement (d + 1) ∷ (behind_body ++ due_)) vs
   entered_read _ _ (flat ds) p q o due_ vs = opens_step 0 d t ts (procedure_body d) (ds ++ behind_body) due_ vs q (inl o)
       ∙ ap (λ x. read 0 ts x vs) (append_assoc ds behind_body due_) ∙ sym (takes_step 0 t ts (statement (d + 1)) ds (behind_body ++ due_) vs p)
   entered_read _ _ (nested ds) p q o due_ vs = read-at 0 outside (procedure_body d) (statement (d + 1)) behind_body due_ t ts vs
       (subst Takes (sym p) (taken (nests (d + 1)) ds)) (q ∙ ap (λ x. followed x behind_body) (sym p))
 
-  entered_deep : (x y : Turn) → Enters d x y → turn (procedure_body d) t.spot t.kind ≡ y → MOST_NESTING ≤ d → (us : List Value) (e : Refusal) → e ≡ At t.spot codes.TooDeep →
-      Refuses (procedure_body d ∷ []) us (t ∷ ts) e
+  entered_deep : (x y : Turn) → Enters d x y → reading_turn (procedure_body d) t.spot t.kind ≡ y → MOST_NESTING ≤ d → (us : List Value) (e : Refusal) → e ≡ At t.spot codes.TooDeep →
+      ReaderRefuses (procedure_body d ∷ []) us (t ∷ ts) e
   entered_deep _ _ (flat ds) q o us e r = too_deep_here (here t ts) d (procedure_body d) (ds ++ behind_body) {ds = []} {us = us} e q o r
   entered_deep _ _ (nested ds) q o us e r =
       let deeper : MOST_NESTING ≤ d + 1 = omega (arith, o) in too_deep_here (here t ts) (d + 1) (procedure_body d) (ds ++ behind_body) {ds = []} {us = us} e q deeper r
 
-  empty_body : turn (procedure_body d) t.spot (kinds.Symbol symbols.Semicolon) ≡ takes (nests d) (make (put (stmt trees.empty)) ∷ make with_body ∷ [])
+  empty_body : reading_turn (procedure_body d) t.spot (kinds.Symbol symbols.Semicolon) ≡ takes (nests d) (make (value_put (stmt trees.empty)) ∷ make with_body ∷ [])
   empty_body = refl
 
   semicolon_read : is_symbol symbols.Semicolon t.kind ≡ true → d < MOST_NESTING → (due_ : List Due) (vs : List Value) →
       read 0 (t ∷ ts) (procedure_body d ∷ due_) vs ≡ read 0 (t ∷ ts) (statement (d + 1) ∷ (behind_body ++ due_)) vs
   semicolon_read e o due_ vs =
       let k = symbol_from t.kind symbols.Semicolon e in
-      opens_step 0 d t ts (procedure_body d) (make (put (stmt trees.empty)) ∷ make with_body ∷ []) due_ vs (ap (turn (procedure_body d) t.spot) k) (inl o)
-      ∙ make_step 0 ts (put (stmt trees.empty)) (make with_body ∷ due_) vs
+      opens_step 0 d t ts (procedure_body d) (make (value_put (stmt trees.empty)) ∷ make with_body ∷ []) due_ vs (ap (reading_turn (procedure_body d) t.spot) k) (inl o)
+      ∙ make_step 0 ts (value_put (stmt trees.empty)) (make with_body ∷ due_) vs
       ∙ make_step 0 ts with_body due_ (stmt trees.empty ∷ vs)
-      ∙ sym (makes_step 0 t ts (statement (d + 1)) (behind_body ++ due_) vs (put (stmt trees.empty)) (ap (turn_statement (d + 1) t.spot) k)
+      ∙ sym (makes_step 0 t ts (statement (d + 1)) (behind_body ++ due_) vs (value_put (stmt trees.empty)) (ap (turn_statement (d + 1) t.spot) k)
       ∙ make_step 0 (t ∷ ts) with_body (symbol symbols.Semicolon ∷ due_) (stmt trees.empty ∷ vs)
       ∙ symbol_step 0 t ts symbols.Semicolon due_ (with_body (stmt trees.empty ∷ vs)) k)
 
@@ -370,9 +370,9 @@ module _ (d : ℕ) (t : Token) (ts : List Token) where
   body_read false s e o due_ vs = entered_read _ _ (enters d t.spot t.kind s e) refl refl o due_ vs
 
   body_deep : (b : Bool) → is_symbol symbols.Semicolon t.kind ≡ b → begins_body t.kind ≡ true → MOST_NESTING ≤ d → (us : List Value) (e : Refusal) → e ≡ At t.spot codes.TooDeep →
-      Refuses (procedure_body d ∷ []) us (t ∷ ts) e
-  body_deep true s q o us e r = too_deep_here (here t ts) d (procedure_body d) (make (put (stmt trees.empty)) ∷ make with_body ∷ []) {ds = []} {us = us} e
-      (ap (turn (procedure_body d) t.spot) (symbol_from t.kind symbols.Semicolon s)) o r
+      ReaderRefuses (procedure_body d ∷ []) us (t ∷ ts) e
+  body_deep true s q o us e r = too_deep_here (here t ts) d (procedure_body d) (make (value_put (stmt trees.empty)) ∷ make with_body ∷ []) {ds = []} {us = us} e
+      (ap (reading_turn (procedure_body d) t.spot) (symbol_from t.kind symbols.Semicolon s)) o r
   body_deep false s q o us e r = entered_deep _ _ (enters d t.spot t.kind s q) refl o us e r
 
 pub body_starts : (d i : ℕ) {us : List Value} {tokens : List Token} {t : Token} {ts : List Token} → tokens ≡ t ∷ ts → begins_body t.kind ≡ true → d < MOST_NESTING → i ≡ d + 1 →
@@ -382,11 +382,11 @@ body_starts d i {us = us} {t = t} {ts = ts} at_ e o is = subst (λ x. Reaches (p
     (record { run = λ due_ vs. body_read d t ts (is_symbol symbols.Semicolon t.kind) refl e o due_ (us ++ vs) }))
 
 pub body_too_deep : (d : ℕ) (us : List Value) {tokens : List Token} {t : Token} {ts : List Token} → tokens ≡ t ∷ ts → (e : Refusal) → begins_body t.kind ≡ true → MOST_NESTING ≤ d →
-    e ≡ At t.spot codes.TooDeep → Refuses (procedure_body d ∷ []) us tokens e
-body_too_deep d us {t = t} {ts = ts} at_ e b o r = subst (λ x. Refuses (procedure_body d ∷ []) us x e) (sym at_) (body_deep d t ts (is_symbol symbols.Semicolon t.kind) refl b o us e r)
+    e ≡ At t.spot codes.TooDeep → ReaderRefuses (procedure_body d ∷ []) us tokens e
+body_too_deep d us {t = t} {ts = ts} at_ e b o r = subst (λ x. ReaderRefuses (procedure_body d ∷ []) us x e) (sym at_) (body_deep d t ts (is_symbol symbols.Semicolon t.kind) refl b o us e r)
 
 pub forward_takes : (d : ℕ) {tokens : List Token} {t : Token} {ts : List Token} → tokens ≡ t ∷ ts → is_word reserved.Forward t.kind ≡ true →
-    turn (procedure_body d) t.spot t.kind ≡ takes plain (make announced ∷ symbol symbols.Semicolon ∷ [])
+    reading_turn (procedure_body d) t.spot t.kind ≡ takes plain (make announced ∷ symbol symbols.Semicolon ∷ [])
 forward_takes d {t = t} at_ e = ap (turn_procedure_body d t.spot) (word_from t.kind reserved.Forward e)
 
 body_refused : (d : ℕ) (spot : Spot) (k : TokenKind) → is_word reserved.Forward k ≡ false → begins_body k ≡ false → turn_procedure_body d spot k ≡ refuses
@@ -412,19 +412,19 @@ body_refused d spot (kinds.Word reserved.Liberate) a b = cc
 body_refused d spot k a b = refl
 
 pub body_refuses : (d : ℕ) {tokens : List Token} {t : Token} {ts : List Token} → tokens ≡ t ∷ ts → is_word reserved.Forward t.kind ≡ false → begins_body t.kind ≡ false →
-    turn (procedure_body d) t.spot t.kind ≡ refuses
+    reading_turn (procedure_body d) t.spot t.kind ≡ refuses
 body_refuses d {t = t} at_ a b = body_refused d t.spot t.kind a b
 
 -- a program
 
 abbrev pub after_program : Spot → ℕ → List Due
-after_program spot i = make (put (declared no_decls)) ∷ declarations i ∷ make (put (list trees.no_stmts)) ∷ statement i ∷ make stmt_added ∷ stmts_more i
+after_program spot i = make (value_put (declared no_decls)) ∷ declarations i ∷ make (value_put (list trees.no_stmts)) ∷ statement i ∷ make stmt_added ∷ stmts_more i
     ∷ word reserved.End ∷ symbol symbols.Period ∷ make (programmed spot) ∷ []
 
 pub program_begins : {tokens : List Token} {t : Token} {ts : List Token} → tokens ≡ t ∷ ts → is_word reserved.Begin t.kind ≡ true →
-    turn due.program t.spot t.kind ≡ takes (nests 0) (after_program t.spot 1)
+    reading_turn due.program t.spot t.kind ≡ takes (nests 0) (after_program t.spot 1)
 program_begins {t = t} at_ e = ap (λ b. either b (takes (nests 0) (after_program t.spot 1)) refuses) e
 
 pub program_refuses : {tokens : List Token} {t : Token} {ts : List Token} → tokens ≡ t ∷ ts → is_word reserved.Begin t.kind ≡ false →
-    turn due.program t.spot t.kind ≡ refuses
+    reading_turn due.program t.spot t.kind ≡ refuses
 program_refuses {t = t} at_ e = ap (λ b. either b (takes (nests 0) (after_program t.spot 1)) refuses) e

@@ -12,11 +12,11 @@ use Rattle.algol_tree.specs.declared.refusal.Refusal.TheVariants.{At, NoMemory}
 use Rattle.algol_tree.specs.Ended.{EndsOnce}
 use Rattle.algol_tree.specs.Tokens.{is_word, is_symbol}
 use Rattle.algol_tree.specs.Due.{Value, Make, Due, make, plain, nests, takes, makes, skips, refuses}
-use Rattle.algol_tree.specs.Reading.{turn, read}
-use Rattle.algol_tree.specs.Found.{IsRest, Finds, Completes, Lists, Fails, Refuses}
+use Rattle.algol_tree.specs.Reading.{reading_turn, read}
+use Rattle.algol_tree.specs.Found.{IsRest, ReaderFinds, Completes, Lists, Fails, ReaderRefuses}
 use Rattle.algol_expr.proofs.Turns.{takes_step, opens_step, skips_step, makes_step, make_step, fails_step, deep_step, word_from, symbol_from}
 use Rattle.algol_expr.proofs.Chain.{Reaches, behind_first}
-use Rattle.algol_part.specs.Brings.{Brings, Adds, Skips}
+use Rattle.algol_part.specs.Brings.{Brings, PartAdds, Skips}
 
 -- nothing is read yet
 pub begun : (from : List Due) (us : List Value) (tokens : List Token) → Reaches from us tokens from us tokens
@@ -34,7 +34,7 @@ module _ {from : List Due} {us : List Value} {tokens : List Token} {ds : List Du
   }
 
   pub adding : {A : Type 0} {part : List Due} {all : A → Value} {xs : A} {more : A → A} → Reaches from us tokens (part ++ ds) (all xs ∷ ws) mid →
-      Adds part all mid more rest → Reaches from us tokens ds (all (more xs) ∷ ws) rest
+      PartAdds part all mid more rest → Reaches from us tokens ds (all (more xs) ∷ ws) rest
   adding {part = part} {all = all} {xs = xs} r p = record {
     run = λ due vs. r.run due vs ∙ ap (λ x. read 0 mid x (all xs ∷ (ws ++ vs))) (append_assoc part ds due) ∙ p.run xs (ds ++ due) (ws ++ vs);
   }
@@ -45,14 +45,14 @@ module _ {from : List Due} {us : List Value} {tokens : List Token} {ds : List Du
 -- where it is refused
 
 module _ {from : List Due} {us : List Value} {tokens : List Token} {ds : List Due} {ws : List Value} {mid : List Token} {e : Refusal} where
-  pub refusing : {s : Due} → Reaches from us tokens (s ∷ ds) ws mid → Refuses (s ∷ []) [] mid e → Refuses from us tokens e
+  pub refusing : {s : Due} → Reaches from us tokens (s ∷ ds) ws mid → ReaderRefuses (s ∷ []) [] mid e → ReaderRefuses from us tokens e
   refusing r p = record { left = p.left; fails = record { run = λ spot code q due vs. r.run due vs ∙ p.fails.run spot code q (ds ++ due) (ws ++ vs) } }
 
-  pub failing : {left : ℕ} {s : Due} → Reaches from us tokens (s ∷ ds) ws mid → Fails (s ∷ []) [] mid left e → Refuses from us tokens e
+  pub failing : {left : ℕ} {s : Due} → Reaches from us tokens (s ∷ ds) ws mid → Fails (s ∷ []) [] mid left e → ReaderRefuses from us tokens e
   failing {left = left} r p = record { left = left; fails = record { run = λ spot code q due vs. r.run due vs ∙ p.run spot code q (ds ++ due) (ws ++ vs) } }
 
 module _ {from : List Due} {us : List Value} {tokens : List Token} {part : List Due} (ds : List Due) {ws : List Value} {mid : List Token} {e : Refusal} where
-  pub refusing_all : Reaches from us tokens (part ++ ds) ws mid → Refuses part [] mid e → Refuses from us tokens e
+  pub refusing_all : Reaches from us tokens (part ++ ds) ws mid → ReaderRefuses part [] mid e → ReaderRefuses from us tokens e
   refusing_all r p = record {
     left = p.left;
     fails = record {
@@ -60,7 +60,7 @@ module _ {from : List Due} {us : List Value} {tokens : List Token} {part : List 
     };
   }
 
-  pub refusing_on : {left : Value} → Reaches from us tokens (part ++ ds) (left ∷ ws) mid → Refuses part (left ∷ []) mid e → Refuses from us tokens e
+  pub refusing_on : {left : Value} → Reaches from us tokens (part ++ ds) (left ∷ ws) mid → ReaderRefuses part (left ∷ []) mid e → ReaderRefuses from us tokens e
   refusing_on {left = left} r p = record {
     left = p.left;
     fails = record {
@@ -70,7 +70,7 @@ module _ {from : List Due} {us : List Value} {tokens : List Token} {part : List 
   }
 
 -- want of memory is no refusal
-pub no_memory : {from : List Due} {us : List Value} {tokens : List Token} {e : Refusal} → e ≡ NoMemory → Refuses from us tokens e
+pub no_memory : {from : List Due} {us : List Value} {tokens : List Token} {e : Refusal} → e ≡ NoMemory → ReaderRefuses from us tokens e
 no_memory q = record { left = 0; fails = record { run = λ spot code at due vs. let no : NoMemory ≡ At spot code = sym q ∙ at in cc } }
 
 -- the error of a `?` is the callee's
@@ -88,12 +88,12 @@ module _ {from : List Due} {tokens rest : List Token} {v w : Value} where
   listed {left = left} r is b = subst (λ x. Lists from tokens left x rest) (sym is) (record { run = λ due vs. r.run due vs; behind = b })
 
 pub added : {A : Type 0} {from : List Due} {all : A → Value} {tokens rest : List Token} {more : A → A} →
-    ((xs : A) → Reaches from (all xs ∷ []) tokens [] (all (more xs) ∷ []) rest) → IsRest tokens rest → Adds from all tokens more rest
+    ((xs : A) → Reaches from (all xs ∷ []) tokens [] (all (more xs) ∷ []) rest) → IsRest tokens rest → PartAdds from all tokens more rest
 added r b = record { run = λ xs due vs. (r xs).run due vs; behind = b }
 
 module _ {s : Due} {tokens rest : List Token} {v w : Value} where
-  pub found : Reaches (s ∷ []) [] tokens [] (v ∷ []) rest → w ≡ v → IsRest tokens rest → Finds s tokens w rest
-  found r is b = subst (λ x. Finds s tokens x rest) (sym is) (record { run = λ due vs. r.run due vs; behind = b })
+  pub found : Reaches (s ∷ []) [] tokens [] (v ∷ []) rest → w ≡ v → IsRest tokens rest → ReaderFinds s tokens w rest
+  found r is b = subst (λ x. ReaderFinds s tokens x rest) (sym is) (record { run = λ due vs. r.run due vs; behind = b })
 
   pub completed : Reaches (s ∷ []) [] tokens [] (v ∷ []) rest → w ≡ v → EndsOnce rest → length rest ≤ length tokens → Completes s tokens w rest
   completed r is b c = subst (λ x. Completes s tokens x rest) (sym is) (record { run = λ due vs. r.run due vs; ended = b; no_longer = c })
@@ -105,8 +105,8 @@ here t ts = refl
 
 module _ {tokens : List Token} {t : Token} {ts : List Token} (is : tokens ≡ t ∷ ts) where
   -- it is refused
-  pub refuses_here : (from : List Due) (s : Due) (ds : List Due) (us : List Value) (e : Refusal) → from ≡ s ∷ ds → turn s t.spot t.kind ≡ refuses → e ≡ At t.spot codes.Unexpected →
-      Refuses from us tokens e
+  pub refuses_here : (from : List Due) (s : Due) (ds : List Due) (us : List Value) (e : Refusal) → from ≡ s ∷ ds → reading_turn s t.spot t.kind ≡ refuses → e ≡ At t.spot codes.Unexpected →
+      ReaderRefuses from us tokens e
   refuses_here from s ds us e f q r = record {
     left = length (t ∷ ts);
     fails = record {
@@ -117,24 +117,24 @@ module _ {tokens : List Token} {t : Token} {ts : List Token} (is : tokens ≡ t 
   }
 
   -- it is taken, what is due is left out, or made into a value
-  pub takes_it : (s : Due) (es : List Due) {ds : List Due} {us : List Value} → turn s t.spot t.kind ≡ takes plain es → Reaches (s ∷ ds) us tokens (es ++ ds) us ts
+  pub takes_it : (s : Due) (es : List Due) {ds : List Due} {us : List Value} → reading_turn s t.spot t.kind ≡ takes plain es → Reaches (s ∷ ds) us tokens (es ++ ds) us ts
   takes_it s es {ds = ds} {us = us} q = record {
     run = λ due vs. ap (λ x. read 0 x (s ∷ (ds ++ due)) (us ++ vs)) is ∙ takes_step 0 t ts s es (ds ++ due) (us ++ vs) q
         ∙ ap (λ x. read 0 ts x (us ++ vs)) (sym (append_assoc es ds due));
   }
 
-  pub takes_all : (s : Due) (es : List Due) {us : List Value} → turn s t.spot t.kind ≡ takes plain es → Reaches (s ∷ []) us tokens es us ts
+  pub takes_all : (s : Due) (es : List Due) {us : List Value} → reading_turn s t.spot t.kind ≡ takes plain es → Reaches (s ∷ []) us tokens es us ts
   takes_all s es {us = us} q = record { run = λ due vs. ap (λ x. read 0 x (s ∷ due) (us ++ vs)) is ∙ takes_step 0 t ts s es due (us ++ vs) q }
 
-  pub opens_it : (d : ℕ) (s : Due) (es : List Due) {ds : List Due} {us : List Value} → turn s t.spot t.kind ≡ takes (nests d) es → d < MOST_NESTING →
+  pub opens_it : (d : ℕ) (s : Due) (es : List Due) {ds : List Due} {us : List Value} → reading_turn s t.spot t.kind ≡ takes (nests d) es → d < MOST_NESTING →
       Reaches (s ∷ ds) us tokens (es ++ ds) us ts
   opens_it d s es {ds = ds} {us = us} q o = record {
     run = λ due vs. ap (λ x. read 0 x (s ∷ (ds ++ due)) (us ++ vs)) is ∙ opens_step 0 d t ts s es (ds ++ due) (us ++ vs) q (inl o)
         ∙ ap (λ x. read 0 ts x (us ++ vs)) (sym (append_assoc es ds due));
   }
 
-  pub too_deep_here : (d : ℕ) (s : Due) (es : List Due) {ds : List Due} {us : List Value} (e : Refusal) → turn s t.spot t.kind ≡ takes (nests d) es → MOST_NESTING ≤ d →
-      e ≡ At t.spot codes.TooDeep → Refuses (s ∷ ds) us tokens e
+  pub too_deep_here : (d : ℕ) (s : Due) (es : List Due) {ds : List Due} {us : List Value} (e : Refusal) → reading_turn s t.spot t.kind ≡ takes (nests d) es → MOST_NESTING ≤ d →
+      e ≡ At t.spot codes.TooDeep → ReaderRefuses (s ∷ ds) us tokens e
   too_deep_here d s es {ds = ds} {us = us} e q o r = record {
     left = length (t ∷ ts);
     fails = record {
@@ -144,12 +144,12 @@ module _ {tokens : List Token} {t : Token} {ts : List Token} (is : tokens ≡ t 
     };
   }
 
-  pub skips_it : (s : Due) {ds : List Due} {us : List Value} → turn s t.spot t.kind ≡ skips → Reaches (s ∷ ds) us tokens ds us tokens
+  pub skips_it : (s : Due) {ds : List Due} {us : List Value} → reading_turn s t.spot t.kind ≡ skips → Reaches (s ∷ ds) us tokens ds us tokens
   skips_it s {ds = ds} {us = us} q = record {
     run = λ due vs. ap (λ x. read 0 x (s ∷ (ds ++ due)) (us ++ vs)) is ∙ skips_step 0 t ts s (ds ++ due) (us ++ vs) q ∙ ap (λ x. read 0 x (ds ++ due) (us ++ vs)) (sym is);
   }
 
-  pub makes_it : (s : Due) (m : Make) {ds : List Due} {us : List Value} → turn s t.spot t.kind ≡ makes m → Reaches (s ∷ ds) us tokens (make m ∷ ds) us tokens
+  pub makes_it : (s : Due) (m : Make) {ds : List Due} {us : List Value} → reading_turn s t.spot t.kind ≡ makes m → Reaches (s ∷ ds) us tokens (make m ∷ ds) us tokens
   makes_it s m {ds = ds} {us = us} q = record {
     run = λ due vs. ap (λ x. read 0 x (s ∷ (ds ++ due)) (us ++ vs)) is ∙ makes_step 0 t ts s (ds ++ due) (us ++ vs) m q
         ∙ ap (λ x. read 0 x (ds ++ due) (m (us ++ vs))) (sym is) ∙ sym (make_step 0 tokens m (ds ++ due) (us ++ vs));

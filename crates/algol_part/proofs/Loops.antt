@@ -15,8 +15,8 @@ use Rattle.algol_tree.specs.DueExpr.{behind}
 use Rattle.algol_tree.specs.Image as image
 use Rattle.algol_tree.specs.Image.{listed_exprs, listed_decls, exprs as plain_list}
 use Rattle.algol_tree.specs.Due.{Value, Due, plain, takes, skips}
-use Rattle.algol_tree.specs.Found.{IsRest, Extends, Refuses}
-use Rattle.algol_tree.specs.Reading.{turn, read}
+use Rattle.algol_tree.specs.Found.{IsRest, Extends, ReaderRefuses}
+use Rattle.algol_tree.specs.Reading.{reading_turn, read}
 use Rattle.algol_expr.proofs.Chain.{Reaches}
 use Rattle.algol_part.specs.Brings.{Repeats}
 use Rattle.algol_part.proofs.Chains.{then, takes_all, skips_it, behind_symbol}
@@ -36,12 +36,12 @@ module _ {from : List Due} {us : List Value} {tokens : List Token} {loop : List 
     (g : GoesOn from us tokens loop v rest) (r : Reaches from us tokens (s ∷ []) (w ∷ []) after) (b : IsRest rest after)
     {t : Token} {ts : List Token} (is : after ≡ t ∷ ts) where
   -- a separator
-  pub another : (sign : Symbol) → is_symbol sign t.kind ≡ true → turn s t.spot t.kind ≡ takes plain loop → GoesOn from us tokens loop w ts
+  pub another : (sign : Symbol) → is_symbol sign t.kind ≡ true → reading_turn s t.spot t.kind ≡ takes plain loop → GoesOn from us tokens loop w ts
   another sign e q =
       let c = behind_symbol is sign b.ended e in
       record { run = then r (takes_all is s loop q); ended = c.ended; no_longer = omega (arith, g.no_longer, b.shorter, c.shorter) }
 
-  pub the_last : turn s t.spot t.kind ≡ skips → Reaches from us tokens [] (w ∷ []) after
+  pub the_last : reading_turn s t.spot t.kind ≡ skips → Reaches from us tokens [] (w ∷ []) after
   the_last q = then r (skips_it is s q)
 
   pub whole_list : IsRest tokens after
@@ -67,12 +67,12 @@ pub one_decl : (found new : List Decl) (d : Decl) → new ≡ found ++ d ∷ [] 
 one_decl found new d e = decls-snoc (map image.decl found) (image.decl d) ∙ ap listed_decls (sym (map-append image.decl found (d ∷ []))) ∙ ap image.decls (sym e)
 
 -- one statement more
-stmts-snoc : (ss : List PStmt) (s : PStmt) → stmt_behind (image.listed ss) s ≡ image.listed (ss ++ s ∷ [])
+stmts-snoc : (ss : List PStmt) (s : PStmt) → stmt_behind (image.statements_listed ss) s ≡ image.statements_listed (ss ++ s ∷ [])
 stmts-snoc [] s = refl
 stmts-snoc (x ∷ ss) s = ap (stmts x) (stmts-snoc ss s)
 
 pub one_stmt : (found new : List Stmt) (s : Stmt) → new ≡ found ++ s ∷ [] → stmt_behind (image.stmts found) (image.stmt s) ≡ image.stmts new
-one_stmt found new s e = stmts-snoc (map image.stmt found) (image.stmt s) ∙ ap image.listed (sym (map-append image.stmt found (s ∷ []))) ∙ ap image.stmts (sym e)
+one_stmt found new s e = stmts-snoc (map image.stmt found) (image.stmt s) ∙ ap image.statements_listed (sym (map-append image.stmt found (s ∷ []))) ∙ ap image.stmts (sym e)
 
 -- one item, and two
 pub one_item : {A : Type 0} (start first : List A) (x : A) → start ≡ [] → first ≡ start ++ x ∷ [] → first ≡ x ∷ []
@@ -108,14 +108,14 @@ module _ {from : List Due} {us : List Value} {tokens : List Token} {s : Due} {v 
     no_longer = omega (arith, g.no_longer, p.behind.shorter, ap length is);
   }
 
-  pub refused_as_other : {other : List Token} {e : Refusal} → GoesOn from us tokens (s ∷ []) v rest → rest ≡ other → Refuses (s ∷ []) (v ∷ []) other e → Refuses from us tokens e
+  pub refused_as_other : {other : List Token} {e : Refusal} → GoesOn from us tokens (s ∷ []) v rest → rest ≡ other → ReaderRefuses (s ∷ []) (v ∷ []) other e → ReaderRefuses from us tokens e
   refused_as_other g is p = record {
     left = p.left;
     fails = record { run = λ spot code q due vs. g.run.run due vs ∙ ap (λ x. read 0 x (s ∷ due) (v ∷ vs)) is ∙ p.fails.run spot code q due vs };
   }
 
 pub extends_all : {s : Due} {left v w : Value} {tokens rest : List Token} {t : Token} {ts : List Token} → GoesOn (s ∷ []) (left ∷ []) tokens (s ∷ []) v rest → rest ≡ t ∷ ts →
-    turn s t.spot t.kind ≡ skips → w ≡ v → Extends s tokens left w rest
+    reading_turn s t.spot t.kind ≡ skips → w ≡ v → Extends s tokens left w rest
 extends_all {s = s} {left = left} {v = v} {tokens = tokens} {rest = rest} g is q e = subst (λ x. Extends s tokens left x rest) (sym e) (record {
   run = λ due vs. (then g.run (skips_it is s {ds = []} {us = v ∷ []} q)).run due vs;
   ended = g.ended;

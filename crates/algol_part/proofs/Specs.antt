@@ -11,34 +11,34 @@ use Rattle.algol_tree.specs.declared.tree.Kind.TheVariants as types
 use Rattle.algol_tree.specs.Tokens.{is_word, is_symbol, name_in}
 use Rattle.algol_tree.specs.Headings.{type_of}
 use Rattle.algol_tree.specs.Due as due
-use Rattle.algol_tree.specs.Due.{Value, put, names, Due, make, symbol, named, names_more, plain, takes, skips, refuses, Turn, followed, either, optional}
-use Rattle.algol_tree.specs.DueDecl.{headed, name_added, names_in, rows_specified, spec_simple, spec_events, turn_spec, turn_spec_typed}
-use Rattle.algol_tree.specs.Reading.{turn, outside, read}
+use Rattle.algol_tree.specs.Due.{Value, value_put, names, Due, make, symbol, named, names_more, plain, takes, skips, refuses, Turn, followed, either, optional}
+use Rattle.algol_tree.specs.DueDecl.{headed, name_added, names_in_list, rows_specified, spec_simple, spec_events, turn_spec, turn_spec_typed}
+use Rattle.algol_tree.specs.Reading.{reading_turn, outside, read}
 use Rattle.algol_expr.proofs.Turns.{word_from, symbol_from, takes_step, make_step, fails_step}
 use Rattle.algol_expr.proofs.Reading.{Takes, taken, refused_, read-at}
 use Rattle.algol_expr.proofs.Chain.{Reaches}
-use Rattle.algol_part.specs.Phrases.{closed_names, parameters_in, is_type, begins_spec}
+use Rattle.algol_part.specs.Phrases.{closed_names, parameters_in_phrase, is_type, begins_spec}
 
 -- a specification
 
 pub spec_kind : {tokens : List Token} {t : Token} {ts : List Token} → tokens ≡ t ∷ ts → (kind : Kind) → type_of t.kind ≡ Some kind →
-    turn due.spec t.spot t.kind ≡ takes plain (due.spec_typed kind ∷ [])
+    reading_turn due.spec t.spot t.kind ≡ takes plain (due.spec_typed kind ∷ [])
 spec_kind {t = t} at_ kind e = ap (λ o. optional o (λ kind. due.spec_typed kind ∷ [])
-    (either (is_word reserved.Event t.kind) (takes plain (names_in ++ symbol symbols.Semicolon ∷ make spec_events ∷ []))
+    (either (is_word reserved.Event t.kind) (takes plain (names_in_list ++ symbol symbols.Semicolon ∷ make spec_events ∷ []))
     (either (is_word reserved.Array t.kind) (takes plain (rows_specified types.Number)) refuses))) e
 
 pub not_end_type : (k : TokenKind) (kind : Kind) → type_of k ≡ Some kind → k ≡ kinds.End → ⊥
 not_end_type k kind e q = let no : None ≡ Some kind = sym (ap type_of q) ∙ e in cc
 
 abbrev pub spec_of_events : List Due
-spec_of_events = names_in ++ symbol symbols.Semicolon ∷ make spec_events ∷ []
+spec_of_events = names_in_list ++ symbol symbols.Semicolon ∷ make spec_events ∷ []
 
 pub spec_event : {tokens : List Token} {t : Token} {ts : List Token} → tokens ≡ t ∷ ts → is_word reserved.Event t.kind ≡ true →
-    turn due.spec t.spot t.kind ≡ takes plain spec_of_events
+    reading_turn due.spec t.spot t.kind ≡ takes plain spec_of_events
 spec_event {t = t} at_ e = ap (λ k. turn_spec k refuses) (word_from t.kind reserved.Event e)
 
 pub spec_array : {tokens : List Token} {t : Token} {ts : List Token} → tokens ≡ t ∷ ts → is_word reserved.Array t.kind ≡ true →
-    turn due.spec t.spot t.kind ≡ takes plain (rows_specified types.Number)
+    reading_turn due.spec t.spot t.kind ≡ takes plain (rows_specified types.Number)
 spec_array {t = t} at_ e = ap (λ k. turn_spec k refuses) (word_from t.kind reserved.Array e)
 
 module _ (x y : List Due) where
@@ -70,12 +70,12 @@ module _ (x y : List Due) where
   tests_take None false false = refused_
 
 pub spec_refuses : {tokens : List Token} {t : Token} {ts : List Token} → tokens ≡ t ∷ ts → type_of t.kind ≡ None → is_word reserved.Event t.kind ≡ false →
-    is_word reserved.Array t.kind ≡ false → turn due.spec t.spot t.kind ≡ refuses
+    is_word reserved.Array t.kind ≡ false → reading_turn due.spec t.spot t.kind ≡ refuses
 spec_refuses {t = t} at_ p q r = no_test spec_of_events (rows_specified types.Number) (type_of t.kind) (is_word reserved.Event t.kind) (is_word reserved.Array t.kind) refuses p q r
 
 -- one specification more
 
-pub specs_off : {tokens : List Token} {t : Token} {ts : List Token} → tokens ≡ t ∷ ts → begins_spec t.kind ≡ false → turn due.specs_more t.spot t.kind ≡ skips
+pub specs_off : {tokens : List Token} {t : Token} {ts : List Token} → tokens ≡ t ∷ ts → begins_spec t.kind ≡ false → reading_turn due.specs_more t.spot t.kind ≡ skips
 specs_off {t = t} at_ e = ap (λ x. followed x (due.specs_more ∷ []))
     (none_of spec_of_events (rows_specified types.Number) (type_of t.kind) (is_word reserved.Event t.kind) (is_word reserved.Array t.kind) skips e)
 
@@ -91,25 +91,25 @@ specs_on {us = us} {t = t} {ts = ts} at_ e = subst (λ x. Reaches (due.specs_mor
 -- names that stand where something else may
 
 module _ (s : Due) (ds : List Due) (t : Token) (ts : List Token)
-    (named_so : (name : List ℕ) → t.kind ≡ kinds.Name name → turn s t.spot t.kind ≡ takes plain (make (put (names (record { name = name; spot = t.spot } ∷ []))) ∷ names_more ∷ ds))
-    (else_none : name_in t.kind ≡ None → turn s t.spot t.kind ≡ refuses) where
-  names_at : (due_ : List Due) (vs : List Value) (k : TokenKind) → t.kind ≡ k → read 0 (t ∷ ts) (s ∷ due_) vs ≡ read 0 (t ∷ ts) (names_in ++ (ds ++ due_)) vs
+    (named_so : (name : List ℕ) → t.kind ≡ kinds.Name name → reading_turn s t.spot t.kind ≡ takes plain (make (value_put (names (record { name = name; spot = t.spot } ∷ []))) ∷ names_more ∷ ds))
+    (else_none : name_in t.kind ≡ None → reading_turn s t.spot t.kind ≡ refuses) where
+  names_at : (due_ : List Due) (vs : List Value) (k : TokenKind) → t.kind ≡ k → read 0 (t ∷ ts) (s ∷ due_) vs ≡ read 0 (t ∷ ts) (names_in_list ++ (ds ++ due_)) vs
   names_at due_ vs (kinds.Name name) e =
-      takes_step 0 t ts s (make (put (names (record { name = name; spot = t.spot } ∷ []))) ∷ names_more ∷ ds) due_ vs (named_so name e)
-      ∙ make_step 0 ts (put (names (record { name = name; spot = t.spot } ∷ []))) (names_more ∷ (ds ++ due_)) vs
-      ∙ sym (make_step 0 (t ∷ ts) (put (names [])) (named ∷ make name_added ∷ names_more ∷ (ds ++ due_)) vs
-      ∙ takes_step 0 t ts named (make (put (due.name_is (record { name = name; spot = t.spot }))) ∷ []) (make name_added ∷ names_more ∷ (ds ++ due_)) (names [] ∷ vs) (ap (turn named t.spot) e)
-      ∙ make_step 0 ts (put (due.name_is (record { name = name; spot = t.spot }))) (make name_added ∷ names_more ∷ (ds ++ due_)) (names [] ∷ vs)
+      takes_step 0 t ts s (make (value_put (names (record { name = name; spot = t.spot } ∷ []))) ∷ names_more ∷ ds) due_ vs (named_so name e)
+      ∙ make_step 0 ts (value_put (names (record { name = name; spot = t.spot } ∷ []))) (names_more ∷ (ds ++ due_)) vs
+      ∙ sym (make_step 0 (t ∷ ts) (value_put (names [])) (named ∷ make name_added ∷ names_more ∷ (ds ++ due_)) vs
+      ∙ takes_step 0 t ts named (make (value_put (due.name_is (record { name = name; spot = t.spot }))) ∷ []) (make name_added ∷ names_more ∷ (ds ++ due_)) (names [] ∷ vs) (ap (reading_turn named t.spot) e)
+      ∙ make_step 0 ts (value_put (due.name_is (record { name = name; spot = t.spot }))) (make name_added ∷ names_more ∷ (ds ++ due_)) (names [] ∷ vs)
       ∙ make_step 0 ts name_added (names_more ∷ (ds ++ due_)) (due.name_is (record { name = name; spot = t.spot }) ∷ names [] ∷ vs))
   names_at due_ vs k e = fails_step 0 t ts s due_ vs (else_none (ap name_in e ∙ refl))
-      ∙ sym (make_step 0 (t ∷ ts) (put (names [])) (named ∷ make name_added ∷ names_more ∷ (ds ++ due_)) vs
-      ∙ fails_step 0 t ts named (make name_added ∷ names_more ∷ (ds ++ due_)) (names [] ∷ vs) (ap (turn named t.spot) e))
+      ∙ sym (make_step 0 (t ∷ ts) (value_put (names [])) (named ∷ make name_added ∷ names_more ∷ (ds ++ due_)) vs
+      ∙ fails_step 0 t ts named (make name_added ∷ names_more ∷ (ds ++ due_)) (names [] ∷ vs) (ap (reading_turn named t.spot) e))
 
-  pub names_there : (us : List Value) → Reaches (s ∷ []) us (t ∷ ts) (names_in ++ ds) us (t ∷ ts)
+  pub names_there : (us : List Value) → Reaches (s ∷ []) us (t ∷ ts) (names_in_list ++ ds) us (t ∷ ts)
   names_there us = record { run = λ due_ vs. names_at due_ (us ++ vs) t.kind refl }
 
 pub typed_array : {tokens : List Token} {t : Token} {ts : List Token} → tokens ≡ t ∷ ts → (kind : Kind) → is_word reserved.Array t.kind ≡ true →
-    turn (due.spec_typed kind) t.spot t.kind ≡ takes plain (rows_specified kind)
+    reading_turn (due.spec_typed kind) t.spot t.kind ≡ takes plain (rows_specified kind)
 typed_array {t = t} at_ kind e = ap (turn_spec_typed kind t.spot) (word_from t.kind reserved.Array e)
 
 typed_refused : (kind : Kind) (spot : Spot) (k : TokenKind) → is_word reserved.Array k ≡ false → name_in k ≡ None → turn_spec_typed kind spot k ≡ refuses
@@ -126,14 +126,14 @@ typed_names us {t = t} {ts = ts} at_ kind e = subst (λ x. Reaches (due.spec_typ
 -- after the name of a procedure
 
 pub heading_bare : {tokens : List Token} {t : Token} {ts : List Token} → tokens ≡ t ∷ ts → (kind : Option Kind) → is_symbol symbols.Semicolon t.kind ≡ true →
-    turn (due.behind_procedure kind) t.spot t.kind ≡ takes plain (make (headed kind) ∷ [])
-heading_bare {t = t} at_ kind e = ap (λ b. either b (takes plain (make (headed kind) ∷ [])) (either (is_symbol symbols.OpenRound t.kind) (takes plain (parameters_in kind)) refuses)) e
+    reading_turn (due.behind_procedure kind) t.spot t.kind ≡ takes plain (make (headed kind) ∷ [])
+heading_bare {t = t} at_ kind e = ap (λ b. either b (takes plain (make (headed kind) ∷ [])) (either (is_symbol symbols.OpenRound t.kind) (takes plain (parameters_in_phrase kind)) refuses)) e
 
 pub heading_round : {tokens : List Token} {t : Token} {ts : List Token} → tokens ≡ t ∷ ts → (kind : Option Kind) → is_symbol symbols.OpenRound t.kind ≡ true →
-    turn (due.behind_procedure kind) t.spot t.kind ≡ takes plain (parameters_in kind)
-heading_round {t = t} at_ kind e = ap (turn (due.behind_procedure kind) t.spot) (symbol_from t.kind symbols.OpenRound e)
+    reading_turn (due.behind_procedure kind) t.spot t.kind ≡ takes plain (parameters_in_phrase kind)
+heading_round {t = t} at_ kind e = ap (reading_turn (due.behind_procedure kind) t.spot) (symbol_from t.kind symbols.OpenRound e)
 
 pub heading_refuses : {tokens : List Token} {t : Token} {ts : List Token} → tokens ≡ t ∷ ts → (kind : Option Kind) → is_symbol symbols.Semicolon t.kind ≡ false →
-    is_symbol symbols.OpenRound t.kind ≡ false → turn (due.behind_procedure kind) t.spot t.kind ≡ refuses
-heading_refuses {t = t} at_ kind e f = ap (λ b. either b (takes plain (make (headed kind) ∷ [])) (either (is_symbol symbols.OpenRound t.kind) (takes plain (parameters_in kind)) refuses)) e
-    ∙ ap (λ b. either b (takes plain (parameters_in kind)) refuses) f
+    is_symbol symbols.OpenRound t.kind ≡ false → reading_turn (due.behind_procedure kind) t.spot t.kind ≡ refuses
+heading_refuses {t = t} at_ kind e f = ap (λ b. either b (takes plain (make (headed kind) ∷ [])) (either (is_symbol symbols.OpenRound t.kind) (takes plain (parameters_in_phrase kind)) refuses)) e
+    ∙ ap (λ b. either b (takes plain (parameters_in_phrase kind)) refuses) f

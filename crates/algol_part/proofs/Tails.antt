@@ -6,10 +6,10 @@ use Rattle.algol_tree.specs.declared.token.Token.{Token}
 use Rattle.algol_tree.specs.declared.refusal.Refusal.{Refusal}
 use Rattle.algol_tree.specs.declared.tree.Named.{Named}
 use Rattle.algol_tree.specs.Due.{Value, names, Due, declarations}
-use Rattle.algol_tree.specs.Found.{IsRest, Finds, Completes, Lists, Refuses}
+use Rattle.algol_tree.specs.Found.{IsRest, ReaderFinds, Completes, Lists, ReaderRefuses}
 use Rattle.algol_expr.proofs.Chain.{Reaches, via, completing}
-use Rattle.algol_part.specs.Brings.{Brings, Adds, AddsNone, Repeats}
-use Rattle.algol_part.specs.Phrases.{names_of}
+use Rattle.algol_part.specs.Brings.{Brings, PartAdds, AddsNone, Repeats}
+use Rattle.algol_part.specs.Phrases.{names_of_phrase}
 use Rattle.algol_part.proofs.Chains.{bringing, listing, adding, refusing_all, refusing_on, rest_of}
 
 pub if_err : {T E : Type 0} (r : Result T E) (P Q : E → Type 0) → ((e : E) → P e → Q e) → IfErr r P → IfErr r Q
@@ -29,7 +29,7 @@ module _ {T : Type 0} (r : Result T Refusal) (tree : T → Value) (end : T → L
       IfOk r (λ x. Lists part mid left (tree x) (end x)) → IfOk r (λ x. Brings from tokens (tree x) (end x))
   brings_listed part a h = IfOk-weaker r _ _ (λ x f. record { run = (listing a f).run; behind = rest_of b f.behind }) h
 
-  pub finds_by : {s p : Due} → Reaches (s ∷ []) [] tokens (p ∷ []) [] mid → IfOk r (λ x. Finds p mid (tree x) (end x)) → IfOk r (λ x. Finds s tokens (tree x) (end x))
+  pub finds_by : {s p : Due} → Reaches (s ∷ []) [] tokens (p ∷ []) [] mid → IfOk r (λ x. ReaderFinds p mid (tree x) (end x)) → IfOk r (λ x. ReaderFinds s tokens (tree x) (end x))
   finds_by a h = IfOk-weaker r _ _ (λ x f. record { run = (via a f).run; behind = rest_of b f.behind }) h
 
   pub completes_found : {s p : Due} → Reaches (s ∷ []) [] tokens (p ∷ []) [] mid → IfOk r (λ x. Completes p mid (tree x) (end x)) →
@@ -38,8 +38,8 @@ module _ {T : Type 0} (r : Result T Refusal) (tree : T → Value) (end : T → L
 
 -- one item more
 pub adds_by : {T A : Type 0} (r : Result T Refusal) (all : A → Value) (more : T → A → A) (end : T → List Token) {tokens mid : List Token} {from : List Due} (part : List Due) →
-    IsRest tokens mid → ((us : List Value) → Reaches from us tokens (part ++ []) us mid) → IfOk r (λ x. Adds part all mid (more x) (end x)) →
-    IfOk r (λ x. Adds from all tokens (more x) (end x))
+    IsRest tokens mid → ((us : List Value) → Reaches from us tokens (part ++ []) us mid) → IfOk r (λ x. PartAdds part all mid (more x) (end x)) →
+    IfOk r (λ x. PartAdds from all tokens (more x) (end x))
 adds_by r all more end part b a h = IfOk-weaker r _ _ (λ x f. record { run = λ xs due vs. (adding (a (all xs ∷ [])) f).run due vs; behind = rest_of b f.behind }) h
 
 pub adds_none : {T A : Type 0} (r : Result T Refusal) (all : A → Value) {tokens mid : List Token} {from : List Due} (part : List Due) →
@@ -47,11 +47,11 @@ pub adds_none : {T A : Type 0} (r : Result T Refusal) (all : A → Value) {token
 adds_none r all part a h = if_err r _ _ (λ e f xs. refusing_on [] (a (all xs ∷ [])) (f xs)) h
 
 module _ {T : Type 0} (r : Result T Refusal) {from : List Due} {us : List Value} {tokens mid : List Token} (part : List Due) {ws : List Value} where
-  pub refuses_by : Reaches from us tokens (part ++ []) ws mid → IfErr r (λ e. Refuses part [] mid e) → IfErr r (λ e. Refuses from us tokens e)
+  pub refuses_by : Reaches from us tokens (part ++ []) ws mid → IfErr r (λ e. ReaderRefuses part [] mid e) → IfErr r (λ e. ReaderRefuses from us tokens e)
   refuses_by a h = if_err r _ _ (λ e f. refusing_all [] a f) h
 
-  pub refuses_on : {left : Value} → Reaches from us tokens (part ++ []) (left ∷ ws) mid → IfErr r (λ e. Refuses part (left ∷ []) mid e) →
-      IfErr r (λ e. Refuses from us tokens e)
+  pub refuses_on : {left : Value} → Reaches from us tokens (part ++ []) (left ∷ ws) mid → IfErr r (λ e. ReaderRefuses part (left ∷ []) mid e) →
+      IfErr r (λ e. ReaderRefuses from us tokens e)
   refuses_on a h = if_err r _ _ (λ e f. refusing_on [] a f) h
 
 -- a declaration
@@ -65,8 +65,8 @@ pub repeats_by : {T : Type 0} (r : Result T Refusal) (left v : Value) (end : T �
 repeats_by r left v end part b a h = IfOk-weaker r _ _ (λ x f d. repeated (listing (a d) f) (rest_of b f.behind)) h
 
 pub repeats_none : {T : Type 0} (r : Result T Refusal) (left : Value) {tokens mid : List Token} (part : List Due) →
-    ((d : ℕ) → Reaches (declarations d ∷ []) (left ∷ []) tokens (part ++ declarations d ∷ []) (left ∷ []) mid) → IfErr r (λ e. Refuses part (left ∷ []) mid e) →
-    IfErr r (λ e. (d : ℕ) → Refuses (declarations d ∷ []) (left ∷ []) tokens e)
+    ((d : ℕ) → Reaches (declarations d ∷ []) (left ∷ []) tokens (part ++ declarations d ∷ []) (left ∷ []) mid) → IfErr r (λ e. ReaderRefuses part (left ∷ []) mid e) →
+    IfErr r (λ e. (d : ℕ) → ReaderRefuses (declarations d ∷ []) (left ∷ []) tokens e)
 repeats_none r left part a h = if_err r _ _ (λ e f d. refusing_on (declarations d ∷ []) (a d) f) h
 
 -- the same of the tokens by another name
@@ -74,12 +74,12 @@ module _ {T : Type 0} (r : Result T Refusal) {tokens other : List Token} (is : t
   pub completes_same : (tree : T → Value) (end : T → List Token) (s : Due) → IfOk r (λ x. Completes s other (tree x) (end x)) → IfOk r (λ x. Completes s tokens (tree x) (end x))
   completes_same tree end s h = subst (λ ts. IfOk r (λ x. Completes s ts (tree x) (end x))) (sym is) h
 
-  pub completes_as : (tree : T → Value) (end : T → List Token) (s : Due) → IfOk r (λ x. Finds s other (tree x) (end x)) → IfOk r (λ x. Completes s tokens (tree x) (end x))
+  pub completes_as : (tree : T → Value) (end : T → List Token) (s : Due) → IfOk r (λ x. ReaderFinds s other (tree x) (end x)) → IfOk r (λ x. Completes s tokens (tree x) (end x))
   completes_as tree end s h = completes_same tree end s
       (IfOk-weaker r _ _ (λ x f. record { run = f.run; ended = f.behind.ended; no_longer = omega (arith, f.behind.shorter) }) h)
 
-  pub refuses_as : (from : List Due) (us : List Value) → IfErr r (λ e. Refuses from us other e) → IfErr r (λ e. Refuses from us tokens e)
-  refuses_as from us h = subst (λ ts. IfErr r (λ e. Refuses from us ts e)) (sym is) h
+  pub refuses_as : (from : List Due) (us : List Value) → IfErr r (λ e. ReaderRefuses from us other e) → IfErr r (λ e. ReaderRefuses from us tokens e)
+  refuses_as from us h = subst (λ ts. IfErr r (λ e. ReaderRefuses from us ts e)) (sym is) h
 
 pub lists_by : {T : Type 0} (r : Result T Refusal) (left v : Value) (end : T → List Token) {tokens mid : List Token} {from : List Due} (part : List Due) → IsRest tokens mid →
     Reaches from (left ∷ []) tokens (part ++ []) (left ∷ []) mid → IfOk r (λ x. Lists part mid left v (end x)) → IfOk r (λ x. Lists from tokens left v (end x))
@@ -92,9 +92,9 @@ lists_here r left v end part a h = IfOk-weaker r _ _ (λ x f. record { run = (li
 
 -- names or files, by the test that told them apart
 module _ {T : Type 0} (r : Result T Refusal) {b files : Bool} (is : b ≡ files) (tokens : List Token) where
-  pub names_brought : (found : T → List Named) (end : T → List Token) → IfOk r (λ x. Brings (names_of files) tokens (names (found x)) (end x)) →
-      IfOk r (λ x. Brings (names_of b) tokens (names (found x)) (end x))
-  names_brought found end h = subst (λ y. IfOk r (λ x. Brings (names_of y) tokens (names (found x)) (end x))) (sym is) h
+  pub names_brought : (found : T → List Named) (end : T → List Token) → IfOk r (λ x. Brings (names_of_phrase files) tokens (names (found x)) (end x)) →
+      IfOk r (λ x. Brings (names_of_phrase b) tokens (names (found x)) (end x))
+  names_brought found end h = subst (λ y. IfOk r (λ x. Brings (names_of_phrase y) tokens (names (found x)) (end x))) (sym is) h
 
-  pub names_refused : IfErr r (λ e. Refuses (names_of files) [] tokens e) → IfErr r (λ e. Refuses (names_of b) [] tokens e)
-  names_refused h = subst (λ y. IfErr r (λ e. Refuses (names_of y) [] tokens e)) (sym is) h
+  pub names_refused : IfErr r (λ e. ReaderRefuses (names_of_phrase files) [] tokens e) → IfErr r (λ e. ReaderRefuses (names_of_phrase b) [] tokens e)
+  names_refused h = subst (λ y. IfErr r (λ e. ReaderRefuses (names_of_phrase y) [] tokens e)) (sym is) h

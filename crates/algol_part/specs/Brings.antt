@@ -5,7 +5,7 @@ use Rattle.algol_tree.specs.declared.token.Token.{Token}
 use Rattle.algol_tree.specs.declared.refusal.Refusal.{Refusal}
 use Rattle.algol_tree.specs.Due.{Value, Due}
 use Rattle.algol_tree.specs.Reading.{read}
-use Rattle.algol_tree.specs.Found.{IsRest, Refuses}
+use Rattle.algol_tree.specs.Found.{IsRest, ReaderRefuses}
 
 -- All that is due in `from` is read from these tokens up to `rest`, and makes this value.
 pub record Brings (from : List Due) (tokens : List Token) (v : Value) (rest : List Token) : Type 0 where
@@ -13,13 +13,13 @@ pub record Brings (from : List Due) (tokens : List Token) (v : Value) (rest : Li
   pub behind : IsRest tokens rest
 
 -- All that is due in `from` is read from these tokens up to `rest`, and changes whatever stands before it so.
-pub record Adds {A : Type 0} (from : List Due) (all : A → Value) (tokens : List Token) (more : A → A) (rest : List Token) : Type 0 where
+pub record PartAdds {A : Type 0} (from : List Due) (all : A → Value) (tokens : List Token) (more : A → A) (rest : List Token) : Type 0 where
   pub run : (xs : A) (due : List Due) (vs : List Value) → read 0 tokens (from ++ due) (all xs ∷ vs) ≡ read 0 rest due (all (more xs) ∷ vs)
   pub behind : IsRest tokens rest
 
 -- Reading it comes to this refusal, whatever stands before it.
 abbrev pub AddsNone : {A : Type 0} → List Due → (A → Value) → List Token → Refusal → Type 0
-AddsNone {A} from all tokens e = (xs : A) → Refuses from (all xs ∷ []) tokens e
+AddsNone {A} from all tokens e = (xs : A) → ReaderRefuses from (all xs ∷ []) tokens e
 
 -- What is due first may be left out, and makes no value: `rest` follows it.
 pub record Skips (s : Due) (tokens rest : List Token) : Type 0 where

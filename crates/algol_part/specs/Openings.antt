@@ -11,7 +11,7 @@ use Rattle.algol_tree.specs.Ended.{EndsOnce}
 use Rattle.algol_tree.specs.Reading.{read}
 use Rattle.algol_tree.specs.Found.{IsRest, Completes}
 use Rattle.algol_tree.specs.Due.{Value, one, name_is, stmt, Make, Due, make, word, symbol, named, whole, actuals_part, task_part, to_part, statement, else_part}
-use Rattle.algol_tree.specs.DueStmt.{labelled, looping, so_often, counting, compound, repeating, choosing, going, processing, written, body_in, stmts_in}
+use Rattle.algol_tree.specs.DueStmt.{labelled, looping, so_often, counting, compound, repeating, choosing, going, processing, write_due, body_in, stmts_in}
 use Rattle.algol_part.specs.Phrases.{acted}
 use Rattle.algol_part.specs.declared.start.Opener.{Opener}
 use Rattle.algol_part.specs.declared.start.Opener.TheVariants as openers
@@ -42,7 +42,7 @@ behind_word openers.Case spot i = whole 0 ∷ word reserved.Of ∷ word reserved
 abbrev pub behind_verb : Verb → List Due
 behind_verb verbs.Go = to_part ∷ named ∷ make going ∷ []
 behind_verb verbs.Process = named ∷ actuals_part ∷ task_part ∷ make processing ∷ []
-behind_verb verbs.Write = written
+behind_verb verbs.Write = write_due
 behind_verb (verbs.Act act) = acted act
 
 -- what the lead of a statement makes of it, and of which values
@@ -80,17 +80,17 @@ so_far openings.Do = []
 so_far (openings.Case c) = one (image.expr c) ∷ []
 
 -- From these tokens, with that due and the values us made, the reader comes to `rest`, where ds is still due and the values ws are made.
-pub record ComesTo (from : List Due) (us : List Value) (tokens : List Token) (ds : List Due) (ws : List Value) (rest : List Token) : Type 0 where
+pub record ReaderComesTo (from : List Due) (us : List Value) (tokens : List Token) (ds : List Due) (ws : List Value) (rest : List Token) : Type 0 where
   pub run : (due : List Due) (vs : List Value) → read 0 tokens (from ++ due) (us ++ vs) ≡ read 0 rest (ds ++ due) (ws ++ vs)
   pub ended : EndsOnce rest
   pub no_longer : length rest ≤ length tokens
 
 -- The tokens open a statement so, with i levels after it, and `rest` is what follows.
-pub record Opens (s : Due) (tokens : List Token) (opening : Opening) (i : ℕ) (rest : List Token) : Type 0 where
+pub record StatementOpens (s : Due) (tokens : List Token) (opening : Opening) (i : ℕ) (rest : List Token) : Type 0 where
   pub run : (due : List Due) (vs : List Value) → read 0 tokens (s ∷ due) vs ≡ read 0 rest (still_due opening i ++ due) (so_far opening ++ vs)
   pub behind : IsRest tokens rest
 
 -- They begin one so: all of it is read, or they open it.
-abbrev pub Begins : Due → List Token → Beginning → List Token → Type 0
-Begins s tokens (beginnings.Whole x) rest = Completes s tokens (stmt (image.stmt x)) rest
-Begins s tokens (beginnings.Open opening i) rest = Opens s tokens opening i rest
+abbrev pub PartBegins : Due → List Token → Beginning → List Token → Type 0
+PartBegins s tokens (beginnings.Whole x) rest = Completes s tokens (stmt (image.stmt x)) rest
+PartBegins s tokens (beginnings.Open opening i) rest = StatementOpens s tokens opening i rest

@@ -14,15 +14,15 @@ use Rattle.algol_part.specs.declared.declaration.Listed.TheVariants as sorts
 use Rattle.algol_tree.specs.Plain.{PDecl, simple, files, events, tasks, labels, no_stmts}
 use Rattle.algol_tree.specs.Tokens.{is_word}
 use Rattle.algol_tree.specs.Headings.{type_of}
-use Rattle.algol_tree.specs.Due.{put, pairs, lows, specified, phrases, list, Due, make, word, symbol, named, angle, event, whole, items_part, literal, lows_more, values_part, spec, specs_more, pairs_more, phrase, phrases_more, statement, stmts_more}
-use Rattle.algol_tree.specs.DueDecl.{names_in, files_in, low_added, headed_with}
+use Rattle.algol_tree.specs.Due.{value_put, pairs, lows, specified, phrases, list, Due, make, word, symbol, named, angle, event, whole, items_part, literal, lows_more, values_part, spec, specs_more, pairs_more, phrase, phrases_more, statement, stmts_more}
+use Rattle.algol_tree.specs.DueDecl.{names_in_list, files_in, low_added, headed_with}
 use Rattle.algol_tree.specs.DueStmt.{writing, assigned, wholes_in, names_declared, pair_in, segment_in, rows_declared, assigned_element, acting, stmt_added}
 
 abbrev pub name_before : Symbol → List Due
 name_before s = named ∷ symbol s ∷ []
 
 abbrev pub names_before : Symbol → List Due
-names_before s = names_in ++ symbol s ∷ []
+names_before s = names_in_list ++ symbol s ∷ []
 
 abbrev pub closed_names : List Due
 closed_names = names_before symbols.Semicolon
@@ -39,17 +39,17 @@ abbrev pub are_files : Listed → Bool
 are_files sorts.Files = true
 are_files l = false
 
-abbrev pub names_of : Bool → List Due
-names_of true = files_in
-names_of false = names_in
+abbrev pub names_of_phrase : Bool → List Due
+names_of_phrase true = files_in
+names_of_phrase false = names_in_list
 
 -- names that are declared so, up to the semicolon
 abbrev pub listed_in : Listed → List Due
-listed_in l = names_of (are_files l) ++ make (names_declared (declares l)) ∷ symbol symbols.Semicolon ∷ []
+listed_in l = names_of_phrase (are_files l) ++ make (names_declared (declares l)) ∷ symbol symbols.Semicolon ∷ []
 
 -- the names after a type
 abbrev pub simples_in : Kind → List Due
-simples_in kind = names_in ++ make (names_declared (simple kind)) ∷ symbol symbols.Semicolon ∷ []
+simples_in kind = names_in_list ++ make (names_declared (simple kind)) ∷ symbol symbols.Semicolon ∷ []
 
 abbrev pub closed_wholes : Symbol → List Due
 closed_wholes closing = wholes_in ++ symbol closing ∷ []
@@ -62,32 +62,32 @@ whole_behind w = word w ∷ whole 0 ∷ []
 
 -- the values and the specifications of a heading
 abbrev pub specified_in : List Due
-specified_in = values_part ∷ make (put (specified [])) ∷ spec ∷ specs_more ∷ []
+specified_in = values_part ∷ make (value_put (specified [])) ∷ spec ∷ specs_more ∷ []
 
 -- a heading after its "("
-abbrev pub parameters_in : Option Kind → List Due
-parameters_in kind = names_in ++ symbol symbols.CloseRound ∷ symbol symbols.Semicolon ∷ values_part ∷ make (put (specified [])) ∷ spec ∷ specs_more
+abbrev pub parameters_in_phrase : Option Kind → List Due
+parameters_in_phrase kind = names_in_list ++ symbol symbols.CloseRound ∷ symbol symbols.Semicolon ∷ values_part ∷ make (value_put (specified [])) ∷ spec ∷ specs_more
     ∷ make (headed_with kind) ∷ []
 
 abbrev pub specs_in : List Due
-specs_in = make (put (specified [])) ∷ spec ∷ specs_more ∷ []
+specs_in = make (value_put (specified [])) ∷ spec ∷ specs_more ∷ []
 
-abbrev pub lows_in : List Due
-lows_in = make (put (lows [])) ∷ literal ∷ make low_added ∷ lows_more ∷ []
+abbrev pub lows_in_phrase : List Due
+lows_in_phrase = make (value_put (lows [])) ∷ literal ∷ make low_added ∷ lows_more ∷ []
 
 abbrev pub pairs_in : List Due
-pairs_in = make (put (pairs [])) ∷ pair_in ++ pairs_more ∷ []
+pairs_in = make (value_put (pairs [])) ∷ pair_in ++ pairs_more ∷ []
 
 -- one segment of arrays
 abbrev pub one_segment : Kind → List Due
-one_segment kind = names_in ++ symbol symbols.OpenSquare ∷ pairs_in ++ symbol symbols.CloseSquare ∷ make (rows_declared kind) ∷ []
+one_segment kind = names_in_list ++ symbol symbols.OpenSquare ∷ pairs_in ++ symbol symbols.CloseSquare ∷ make (rows_declared kind) ∷ []
 
 -- segments and the semicolon after them
 abbrev pub arrays_in : Kind → List Due
 arrays_in kind = segment_in kind ++ symbol symbols.Semicolon ∷ []
 
 abbrev pub phrases_in : List Due
-phrases_in = make (put (phrases [])) ∷ phrase ∷ phrases_more ∷ []
+phrases_in = make (value_put (phrases [])) ∷ phrase ∷ phrases_more ∷ []
 
 abbrev pub closed_phrases : List Due
 closed_phrases = phrases_in ++ symbol symbols.Greater ∷ []
@@ -117,7 +117,7 @@ acted act = symbol symbols.OpenRound ∷ event ∷ symbol symbols.CloseRound ∷
 
 -- statements up to their END
 abbrev pub statements_in : ℕ → List Due
-statements_in d = make (put (list no_stmts)) ∷ statement d ∷ make stmt_added ∷ stmts_more d ∷ word reserved.End ∷ []
+statements_in d = make (value_put (list no_stmts)) ∷ statement d ∷ make stmt_added ∷ stmts_more d ∷ word reserved.End ∷ []
 
 abbrev pub is_type : Option Kind → Bool
 is_type (Some kind) = true

@@ -31,9 +31,9 @@ start_of (kinds.Word reserved.Procure) = starts.Acts (verbs.Act acts.Procure)
 start_of (kinds.Word reserved.Liberate) = starts.Acts (verbs.Act acts.Liberate)
 start_of k = starts.Nothing
 
-abbrev pub is_name : TokenKind → Bool
-is_name (kinds.Name name) = true
-is_name k = false
+abbrev pub token_is_name : TokenKind → Bool
+token_is_name (kinds.Name name) = true
+token_is_name k = false
 
 abbrev pub starts_some : Start → Bool
 starts_some starts.Nothing = false
@@ -41,4 +41,4 @@ starts_some s = true
 
 -- the body of a procedure may begin so: with a statement that is not empty, or with the semicolon after an empty one
 abbrev pub begins_body : TokenKind → Bool
-begins_body k = is_symbol symbols.Semicolon k || (is_name k || starts_some (start_of k))
+begins_body k = is_symbol symbols.Semicolon k || (token_is_name k || starts_some (start_of k))

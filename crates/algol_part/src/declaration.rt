@@ -6,9 +6,9 @@ ghost use Rattle.algol_tree.specs.Due.{pairs, names, declared, declarations};
 ghost use Rattle.algol_tree.specs.DueStmt.{pair_in, decl_behind};
 ghost use Rattle.algol_tree.specs.Image as image;
 ghost use Rattle.algol_tree.specs.Image.{decls as decls_of};
-ghost use Rattle.algol_tree.specs.Found.{Lists, Refuses};
-ghost use Rattle.algol_part.specs.Brings.{Brings, Adds, AddsNone, Repeats};
-ghost use Rattle.algol_part.specs.Phrases.{pairs_in, one_segment, arrays_in, lists_names, listed_by, listed_in, names_of, are_files, declares, simples_in};
+ghost use Rattle.algol_tree.specs.Found.{Lists, ReaderRefuses};
+ghost use Rattle.algol_part.specs.Brings.{Brings, PartAdds, AddsNone, Repeats};
+ghost use Rattle.algol_part.specs.Phrases.{pairs_in, one_segment, arrays_in, lists_names, listed_by, listed_in, names_of_phrase, are_files, declares, simples_in};
 
 use crate::make::{arrays, pair};
 use crate::names::{read_files, read_names, read_names_before};
@@ -36,7 +36,7 @@ pub fn read_arrays<'a>(
 ) -> Result<&'a [Token], Refusal>
     requires ended { EndsOnce tokens.now }
     ensures found { IfOk result (λ rest. Lists (arrays_in kind) tokens.now (declared (decls_of decls.old.items)) (declared (decls_of decls.new.items)) rest.now) }
-    ensures refused { IfErr result (λ e. Refuses (arrays_in kind) (declared (decls_of decls.old.items) ∷ []) tokens.now e) }
+    ensures refused { IfErr result (λ e. ReaderRefuses (arrays_in kind) (declared (decls_of decls.old.items) ∷ []) tokens.now e) }
 {
     let mut rest = tokens;
     'segments: loop {
@@ -54,7 +54,7 @@ pub fn read_arrays<'a>(
 /// segment = names "[" pair [ "," pair ] "]"
 fn read_segment(alloc: Global, kind: Kind, tokens: &[Token]) -> Result<(Decl, &[Token]), Refusal>
     requires ended { EndsOnce tokens.now }
-    ensures found { IfOk result (λ r. Adds (one_segment kind) declared tokens.now (λ ds. decl_behind ds (image.decl r.0)) r.1.now) }
+    ensures found { IfOk result (λ r. PartAdds (one_segment kind) declared tokens.now (λ ds. decl_behind ds (image.decl r.0)) r.1.now) }
     ensures refused { IfErr result (λ e. AddsNone (one_segment kind) declared tokens.now e) }
 {
     let (names, rest) = read_names_before(alloc, tokens, Symbol::OpenSquare)?;
@@ -67,7 +67,7 @@ fn read_segment(alloc: Global, kind: Kind, tokens: &[Token]) -> Result<(Decl, &[
 fn read_pairs(alloc: Global, tokens: &[Token]) -> Result<(List<Pair>, &[Token]), Refusal>
     requires ended { EndsOnce tokens.now }
     ensures found { IfOk result (λ r. Brings pairs_in tokens.now (pairs (image.pairs r.0)) r.1.now) }
-    ensures refused { IfErr result (λ e. Refuses pairs_in [] tokens.now e) }
+    ensures refused { IfErr result (λ e. ReaderRefuses pairs_in [] tokens.now e) }
 {
     let mut pairs = Vec::new(alloc);
     let (pair, rest) = read_pair(alloc, tokens)?;
@@ -85,7 +85,7 @@ fn read_pairs(alloc: Global, tokens: &[Token]) -> Result<(List<Pair>, &[Token]),
 /// pair = literal ":" expr
 fn read_pair(alloc: Global, tokens: &[Token]) -> Result<(Pair, &[Token]), Refusal>
     requires ended { EndsOnce tokens.now }
-    ensures found { IfOk result (λ r. Adds pair_in pairs tokens.now (λ ps. ps ++ image.pair r.0 ∷ []) r.1.now) }
+    ensures found { IfOk result (λ r. PartAdds pair_in pairs tokens.now (λ ps. ps ++ image.pair r.0 ∷ []) r.1.now) }
     ensures refused { IfErr result (λ e. AddsNone pair_in pairs tokens.now e) }
 {
     let (low, rest) = read_literal(tokens)?;
@@ -118,7 +118,7 @@ pub fn read_listed<'a>(
     requires ended { EndsOnce (first.now ∷ behind.now) }
     requires word { lists_names first.now.kind ≡ true }
     ensures found { IfOk result (λ rest. (d : ℕ) → Repeats (declarations d) (first.now ∷ behind.now) (declared (decls_of decls.old.items)) (declared (decls_of decls.new.items)) rest.now) }
-    ensures refused { IfErr result (λ e. (d : ℕ) → Refuses (declarations d ∷ []) (declared (decls_of decls.old.items) ∷ []) (first.now ∷ behind.now) e) }
+    ensures refused { IfErr result (λ e. (d : ℕ) → ReaderRefuses (declarations d ∷ []) (declared (decls_of decls.old.items) ∷ []) (first.now ∷ behind.now) e) }
 {
     match listed_by(first) {
         Some(listed) => read_declared(alloc, listed, decls, behind),
@@ -135,7 +135,7 @@ pub fn read_simples<'a>(
 ) -> Result<&'a [Token], Refusal>
     requires ended { EndsOnce tokens.now }
     ensures found { IfOk result (λ rest. Lists (simples_in kind) tokens.now (declared (decls_of decls.old.items)) (declared (decls_of decls.new.items)) rest.now) }
-    ensures refused { IfErr result (λ e. Refuses (simples_in kind) (declared (decls_of decls.old.items) ∷ []) tokens.now e) }
+    ensures refused { IfErr result (λ e. ReaderRefuses (simples_in kind) (declared (decls_of decls.old.items) ∷ []) tokens.now e) }
 {
     read_declared(alloc, Listed::Simple(kind), decls, tokens)
 }
@@ -149,7 +149,7 @@ fn read_declared<'a>(
 ) -> Result<&'a [Token], Refusal>
     requires ended { EndsOnce tokens.now }
     ensures found { IfOk result (λ rest. Lists (listed_in listed) tokens.now (declared (decls_of decls.old.items)) (declared (decls_of decls.new.items)) rest.now) }
-    ensures refused { IfErr result (λ e. Refuses (listed_in listed) (declared (decls_of decls.old.items) ∷ []) tokens.now e) }
+    ensures refused { IfErr result (λ e. ReaderRefuses (listed_in listed) (declared (decls_of decls.old.items) ∷ []) tokens.now e) }
 {
     let (names, rest) = read_listed_names(alloc, listed, tokens)?;
     let rest = expect_symbol(rest, Symbol::Semicolon)?;
@@ -164,8 +164,8 @@ fn read_listed_names(
     tokens: &[Token],
 ) -> Result<(List<Named>, &[Token]), Refusal>
     requires ended { EndsOnce tokens.now }
-    ensures found { IfOk result (λ r. Brings (names_of (are_files listed)) tokens.now (names r.0) r.1.now) }
-    ensures refused { IfErr result (λ e. Refuses (names_of (are_files listed)) [] tokens.now e) }
+    ensures found { IfOk result (λ r. Brings (names_of_phrase (are_files listed)) tokens.now (names r.0) r.1.now) }
+    ensures refused { IfErr result (λ e. ReaderRefuses (names_of_phrase (are_files listed)) [] tokens.now e) }
 {
     if are_files(listed) {
         read_files(alloc, tokens)

@@ -6,7 +6,7 @@ ghost use Rattle.algol_tree.specs.Due as due;
 ghost use Rattle.algol_tree.specs.Due.{many};
 ghost use Rattle.algol_tree.specs.DueStmt.{wholes_in};
 ghost use Rattle.algol_tree.specs.Image.{exprs as plain_list};
-ghost use Rattle.algol_tree.specs.Found.{Completes, Refuses};
+ghost use Rattle.algol_tree.specs.Found.{Completes, ReaderRefuses};
 ghost use Rattle.algol_part.specs.Brings.{Brings};
 ghost use Rattle.algol_part.specs.Phrases.{closed_wholes};
 
@@ -18,7 +18,7 @@ use std::alloc::Global;
 pub(crate) fn read_exprs(alloc: Global, tokens: &[Token]) -> Result<(List<Expr>, &[Token]), Refusal>
     requires ended { EndsOnce tokens.now }
     ensures found { IfOk result (λ r. Brings wholes_in tokens.now (many (plain_list r.0)) r.1.now) }
-    ensures refused { IfErr result (λ e. Refuses wholes_in [] tokens.now e) }
+    ensures refused { IfErr result (λ e. ReaderRefuses wholes_in [] tokens.now e) }
 {
     let mut exprs = Vec::new(alloc);
     let mut rest = tokens;
@@ -42,7 +42,7 @@ pub(crate) fn read_closed_exprs(
 ) -> Result<(List<Expr>, &[Token]), Refusal>
     requires ended { EndsOnce tokens.now }
     ensures found { IfOk result (λ r. Brings (closed_wholes closing) tokens.now (many (plain_list r.0)) r.1.now) }
-    ensures refused { IfErr result (λ e. Refuses (closed_wholes closing) [] tokens.now e) }
+    ensures refused { IfErr result (λ e. ReaderRefuses (closed_wholes closing) [] tokens.now e) }
 {
     let (exprs, rest) = read_exprs(alloc, tokens)?;
     let rest = expect_symbol(rest, closing)?;
@@ -56,7 +56,7 @@ pub(crate) fn read_actuals(
 ) -> Result<(List<Expr>, &[Token]), Refusal>
     requires ended { EndsOnce tokens.now }
     ensures found { IfOk result (λ r. Completes due.actuals_part tokens.now (many (plain_list r.0)) r.1.now) }
-    ensures refused { IfErr result (λ e. Refuses (due.actuals_part ∷ []) [] tokens.now e) }
+    ensures refused { IfErr result (λ e. ReaderRefuses (due.actuals_part ∷ []) [] tokens.now e) }
 {
     let (first, behind) = first_of(tokens);
     if is_symbol(first, Symbol::OpenRound) {
@@ -70,7 +70,7 @@ pub(crate) fn read_actuals(
 pub(crate) fn read_items(alloc: Global, tokens: &[Token]) -> Result<(List<Expr>, &[Token]), Refusal>
     requires ended { EndsOnce tokens.now }
     ensures found { IfOk result (λ r. Completes due.items_part tokens.now (many (plain_list r.0)) r.1.now) }
-    ensures refused { IfErr result (λ e. Refuses (due.items_part ∷ []) [] tokens.now e) }
+    ensures refused { IfErr result (λ e. ReaderRefuses (due.items_part ∷ []) [] tokens.now e) }
 {
     let (first, behind) = first_of(tokens);
     if is_symbol(first, Symbol::Comma) {

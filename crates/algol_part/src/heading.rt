@@ -5,10 +5,10 @@ ghost use Rattle.algol_tree.specs.Ended.{EndsOnce};
 ghost use Rattle.algol_tree.specs.Due as due;
 ghost use Rattle.algol_tree.specs.Due.{name_is, names, heading, specified, lows};
 ghost use Rattle.algol_tree.specs.DueDecl.{rows_specified};
-ghost use Rattle.algol_tree.specs.Found.{Lists, Completes, Refuses};
-ghost use Rattle.algol_part.specs.Brings.{Brings, Adds, AddsNone};
-ghost use Rattle.algol_part.specs.Openings.{ComesTo};
-ghost use Rattle.algol_part.specs.Phrases.{parameters_in, specified_in, closed_names, specs_in, lows_in, begins_spec};
+ghost use Rattle.algol_tree.specs.Found.{Lists, Completes, ReaderRefuses};
+ghost use Rattle.algol_part.specs.Brings.{Brings, PartAdds, AddsNone};
+ghost use Rattle.algol_part.specs.Openings.{ReaderComesTo};
+ghost use Rattle.algol_part.specs.Phrases.{parameters_in_phrase, specified_in, closed_names, specs_in, lows_in_phrase, begins_spec};
 
 use crate::names::{read_name, read_names_before};
 use crate::take::{read_literal, type_of, unexpected};
@@ -25,7 +25,7 @@ pub fn read_heading(
 ) -> Result<(Heading, &[Token]), Refusal>
     requires ended { EndsOnce tokens.now }
     ensures found { IfOk result (λ r. Brings (due.named ∷ due.behind_procedure kind ∷ []) tokens.now (heading r.0) r.1.now) }
-    ensures refused { IfErr result (λ e. Refuses (due.named ∷ due.behind_procedure kind ∷ []) [] tokens.now e) }
+    ensures refused { IfErr result (λ e. ReaderRefuses (due.named ∷ due.behind_procedure kind ∷ []) [] tokens.now e) }
 {
     let (name, rest) = read_name(alloc, tokens)?;
     let (first, behind) = first_of(rest);
@@ -59,8 +59,8 @@ fn read_parameters(
     tokens: &[Token],
 ) -> Result<(Heading, &[Token]), Refusal>
     requires ended { EndsOnce tokens.now }
-    ensures found { IfOk result (λ r. Lists (parameters_in kind) tokens.now (name_is name) (heading r.0) r.1.now) }
-    ensures refused { IfErr result (λ e. Refuses (parameters_in kind) (name_is name ∷ []) tokens.now e) }
+    ensures found { IfOk result (λ r. Lists (parameters_in_phrase kind) tokens.now (name_is name) (heading r.0) r.1.now) }
+    ensures refused { IfErr result (λ e. ReaderRefuses (parameters_in_phrase kind) (name_is name ∷ []) tokens.now e) }
 {
     let (params, rest) = read_names_before(alloc, tokens, Symbol::CloseRound)?;
     let rest = expect_symbol(rest, Symbol::Semicolon)?;
@@ -82,8 +82,8 @@ fn read_specified(
     tokens: &[Token],
 ) -> Result<((List<Named>, List<Spec>), &[Token]), Refusal>
     requires ended { EndsOnce tokens.now }
-    ensures found { IfOk result (λ r. ComesTo specified_in [] tokens.now [] (specified r.0.1 ∷ names r.0.0 ∷ []) r.1.now) }
-    ensures refused { IfErr result (λ e. Refuses specified_in [] tokens.now e) }
+    ensures found { IfOk result (λ r. ReaderComesTo specified_in [] tokens.now [] (specified r.0.1 ∷ names r.0.0 ∷ []) r.1.now) }
+    ensures refused { IfErr result (λ e. ReaderRefuses specified_in [] tokens.now e) }
 {
     let (values, rest) = read_values(alloc, tokens)?;
     let (specs, rest) = read_specs(alloc, rest)?;
@@ -94,7 +94,7 @@ fn read_specified(
 fn read_values(alloc: Global, tokens: &[Token]) -> Result<(List<Named>, &[Token]), Refusal>
     requires ended { EndsOnce tokens.now }
     ensures found { IfOk result (λ r. Completes due.values_part tokens.now (names r.0) r.1.now) }
-    ensures refused { IfErr result (λ e. Refuses (due.values_part ∷ []) [] tokens.now e) }
+    ensures refused { IfErr result (λ e. ReaderRefuses (due.values_part ∷ []) [] tokens.now e) }
 {
     let (first, behind) = first_of(tokens);
     if is_word(first, Reserved::Value) {
@@ -111,7 +111,7 @@ pub(crate) fn read_closed_names(
 ) -> Result<(List<Named>, &[Token]), Refusal>
     requires ended { EndsOnce tokens.now }
     ensures found { IfOk result (λ r. Brings closed_names tokens.now (names r.0) r.1.now) }
-    ensures refused { IfErr result (λ e. Refuses closed_names [] tokens.now e) }
+    ensures refused { IfErr result (λ e. ReaderRefuses closed_names [] tokens.now e) }
 {
     read_names_before(alloc, tokens, Symbol::Semicolon)
 }
@@ -120,7 +120,7 @@ pub(crate) fn read_closed_names(
 fn read_specs(alloc: Global, tokens: &[Token]) -> Result<(List<Spec>, &[Token]), Refusal>
     requires ended { EndsOnce tokens.now }
     ensures found { IfOk result (λ r. Brings specs_in tokens.now (specified r.0) r.1.now) }
-    ensures refused { IfErr result (λ e. Refuses specs_in [] tokens.now e) }
+    ensures refused { IfErr result (λ e. ReaderRefuses specs_in [] tokens.now e) }
 {
     let mut specs = Vec::new(alloc);
     let mut rest = tokens;
@@ -149,7 +149,7 @@ fn begins_spec(token: &Token) -> bool
 /// spec = type names ";" | EVENT names ";" | [ type ] ARRAY names "[" literal [ "," literal ] "]" ";"
 fn read_spec(alloc: Global, tokens: &[Token]) -> Result<(Spec, &[Token]), Refusal>
     requires ended { EndsOnce tokens.now }
-    ensures found { IfOk result (λ r. Adds (due.spec ∷ []) specified tokens.now (λ ss. ss ++ r.0 ∷ []) r.1.now) }
+    ensures found { IfOk result (λ r. PartAdds (due.spec ∷ []) specified tokens.now (λ ss. ss ++ r.0 ∷ []) r.1.now) }
     ensures refused { IfErr result (λ e. AddsNone (due.spec ∷ []) specified tokens.now e) }
 {
     let (first, behind) = first_of(tokens);
@@ -169,7 +169,7 @@ fn read_spec(alloc: Global, tokens: &[Token]) -> Result<(Spec, &[Token]), Refusa
 /// names ";" | ARRAY names "[" literal [ "," literal ] "]" ";", after a type
 fn read_typed_spec(alloc: Global, kind: Kind, tokens: &[Token]) -> Result<(Spec, &[Token]), Refusal>
     requires ended { EndsOnce tokens.now }
-    ensures found { IfOk result (λ r. Adds (due.spec_typed kind ∷ []) specified tokens.now (λ ss. ss ++ r.0 ∷ []) r.1.now) }
+    ensures found { IfOk result (λ r. PartAdds (due.spec_typed kind ∷ []) specified tokens.now (λ ss. ss ++ r.0 ∷ []) r.1.now) }
     ensures refused { IfErr result (λ e. AddsNone (due.spec_typed kind ∷ []) specified tokens.now e) }
 {
     let (first, behind) = first_of(tokens);
@@ -184,7 +184,7 @@ fn read_typed_spec(alloc: Global, kind: Kind, tokens: &[Token]) -> Result<(Spec,
 /// names "[" literal [ "," literal ] "]" ";", after ARRAY
 fn read_array_spec(alloc: Global, kind: Kind, tokens: &[Token]) -> Result<(Spec, &[Token]), Refusal>
     requires ended { EndsOnce tokens.now }
-    ensures found { IfOk result (λ r. Adds (rows_specified kind) specified tokens.now (λ ss. ss ++ r.0 ∷ []) r.1.now) }
+    ensures found { IfOk result (λ r. PartAdds (rows_specified kind) specified tokens.now (λ ss. ss ++ r.0 ∷ []) r.1.now) }
     ensures refused { IfErr result (λ e. AddsNone (rows_specified kind) specified tokens.now e) }
 {
     let (names, rest) = read_names_before(alloc, tokens, Symbol::OpenSquare)?;
@@ -197,8 +197,8 @@ fn read_array_spec(alloc: Global, kind: Kind, tokens: &[Token]) -> Result<(Spec,
 /// literal [ "," literal ]
 fn read_lows(alloc: Global, tokens: &[Token]) -> Result<(List<i64>, &[Token]), Refusal>
     requires ended { EndsOnce tokens.now }
-    ensures found { IfOk result (λ r. Brings lows_in tokens.now (lows r.0) r.1.now) }
-    ensures refused { IfErr result (λ e. Refuses lows_in [] tokens.now e) }
+    ensures found { IfOk result (λ r. Brings lows_in_phrase tokens.now (lows r.0) r.1.now) }
+    ensures refused { IfErr result (λ e. ReaderRefuses lows_in_phrase [] tokens.now e) }
 {
     let mut lows = Vec::new(alloc);
     let (low, rest) = read_literal(tokens)?;

@@ -4,11 +4,11 @@ ghost use Rattle.std.specs.Prelude.{◌≡◌, [], ◌∷◌, ◌++◌, IfOk, If
 ghost use Rattle.algol_tree.specs.Ended.{EndsOnce};
 ghost use Rattle.algol_tree.specs.Due as due;
 ghost use Rattle.algol_tree.specs.Due.{many, name_is, phrases, place, stmt};
-ghost use Rattle.algol_tree.specs.DueStmt.{written};
+ghost use Rattle.algol_tree.specs.DueStmt.{write_due};
 ghost use Rattle.algol_tree.specs.Statements.{phrase_of};
 ghost use Rattle.algol_tree.specs.Image.{stmt as plain, exprs as plain_list};
-ghost use Rattle.algol_tree.specs.Found.{Finds, Lists, Refuses};
-ghost use Rattle.algol_part.specs.Brings.{Brings, Adds, AddsNone};
+ghost use Rattle.algol_tree.specs.Found.{ReaderFinds, Lists, ReaderRefuses};
+ghost use Rattle.algol_part.specs.Brings.{Brings, PartAdds, AddsNone};
 ghost use Rattle.algol_part.specs.Phrases.{phrases_in, format_in, closed_phrases, closed_items};
 
 use crate::exprs::read_items;
@@ -24,8 +24,8 @@ use std::alloc::{AllocError, Global};
 /// WRITE "(" name "," "<" phrase { "," phrase } ">" [ "," expr { "," expr } ] ")", after the WRITE
 pub(crate) fn read_write(alloc: Global, tokens: &[Token]) -> Result<(Stmt, &[Token]), Refusal>
     requires ended { EndsOnce tokens.now }
-    ensures found { IfOk result (λ r. Brings written tokens.now (stmt (plain r.0)) r.1.now) }
-    ensures refused { IfErr result (λ e. Refuses written [] tokens.now e) }
+    ensures found { IfOk result (λ r. Brings write_due tokens.now (stmt (plain r.0)) r.1.now) }
+    ensures refused { IfErr result (λ e. ReaderRefuses write_due [] tokens.now e) }
 {
     let rest = expect_symbol(tokens, Symbol::OpenRound)?;
     let (file, rest) = read_name_before(alloc, rest, Symbol::Comma)?;
@@ -36,7 +36,7 @@ pub(crate) fn read_write(alloc: Global, tokens: &[Token]) -> Result<(Stmt, &[Tok
 fn read_format(alloc: Global, file: Named, tokens: &[Token]) -> Result<(Stmt, &[Token]), Refusal>
     requires ended { EndsOnce tokens.now }
     ensures found { IfOk result (λ r. Lists format_in tokens.now (name_is file) (stmt (plain r.0)) r.1.now) }
-    ensures refused { IfErr result (λ e. Refuses format_in (name_is file ∷ []) tokens.now e) }
+    ensures refused { IfErr result (λ e. ReaderRefuses format_in (name_is file ∷ []) tokens.now e) }
 {
     let (spot, rest) = read_angle(tokens)?;
     let (phrases, rest) = read_closed_phrases(alloc, rest)?;
@@ -51,7 +51,7 @@ fn read_closed_phrases(
 ) -> Result<(List<PhraseText>, &[Token]), Refusal>
     requires ended { EndsOnce tokens.now }
     ensures found { IfOk result (λ r. Brings closed_phrases tokens.now (phrases r.0) r.1.now) }
-    ensures refused { IfErr result (λ e. Refuses closed_phrases [] tokens.now e) }
+    ensures refused { IfErr result (λ e. ReaderRefuses closed_phrases [] tokens.now e) }
 {
     let (phrases, rest) = read_phrases(alloc, tokens)?;
     let rest = expect_symbol(rest, Symbol::Greater)?;
@@ -62,7 +62,7 @@ fn read_closed_phrases(
 fn read_closed_items(alloc: Global, tokens: &[Token]) -> Result<(List<Expr>, &[Token]), Refusal>
     requires ended { EndsOnce tokens.now }
     ensures found { IfOk result (λ r. Brings closed_items tokens.now (many (plain_list r.0)) r.1.now) }
-    ensures refused { IfErr result (λ e. Refuses closed_items [] tokens.now e) }
+    ensures refused { IfErr result (λ e. ReaderRefuses closed_items [] tokens.now e) }
 {
     let (items, rest) = read_items(alloc, tokens)?;
     let rest = expect_symbol(rest, Symbol::CloseRound)?;
@@ -72,8 +72,8 @@ fn read_closed_items(alloc: Global, tokens: &[Token]) -> Result<(List<Expr>, &[T
 /// "<", and its place
 fn read_angle(tokens: &[Token]) -> Result<(Spot, &[Token]), Refusal>
     requires ended { EndsOnce tokens.now }
-    ensures found { IfOk result (λ r. Finds due.angle tokens.now (place r.0) r.1.now) }
-    ensures refused { IfErr result (λ e. Refuses (due.angle ∷ []) [] tokens.now e) }
+    ensures found { IfOk result (λ r. ReaderFinds due.angle tokens.now (place r.0) r.1.now) }
+    ensures refused { IfErr result (λ e. ReaderRefuses (due.angle ∷ []) [] tokens.now e) }
 {
     let (first, behind) = first_of(tokens);
     if is_symbol(first, Symbol::Less) {
@@ -87,7 +87,7 @@ fn read_angle(tokens: &[Token]) -> Result<(Spot, &[Token]), Refusal>
 fn read_phrases(alloc: Global, tokens: &[Token]) -> Result<(List<PhraseText>, &[Token]), Refusal>
     requires ended { EndsOnce tokens.now }
     ensures found { IfOk result (λ r. Brings phrases_in tokens.now (phrases r.0) r.1.now) }
-    ensures refused { IfErr result (λ e. Refuses phrases_in [] tokens.now e) }
+    ensures refused { IfErr result (λ e. ReaderRefuses phrases_in [] tokens.now e) }
 {
     let mut phrases = Vec::new(alloc);
     let mut rest = tokens;
@@ -106,7 +106,7 @@ fn read_phrases(alloc: Global, tokens: &[Token]) -> Result<(List<PhraseText>, &[
 /// phrase = string | name
 fn read_phrase(alloc: Global, tokens: &[Token]) -> Result<(PhraseText, &[Token]), Refusal>
     requires ended { EndsOnce tokens.now }
-    ensures found { IfOk result (λ r. Adds (due.phrase ∷ []) phrases tokens.now (λ ps. ps ++ r.0 ∷ []) r.1.now) }
+    ensures found { IfOk result (λ r. PartAdds (due.phrase ∷ []) phrases tokens.now (λ ps. ps ++ r.0 ∷ []) r.1.now) }
     ensures refused { IfErr result (λ e. AddsNone (due.phrase ∷ []) phrases tokens.now e) }
 {
     let (first, behind) = first_of(tokens);

@@ -4,8 +4,8 @@ ghost use Rattle.std.specs.Prelude.{[], ◌∷◌, IfOk, IfErr};
 ghost use Rattle.algol_tree.specs.Ended.{EndsOnce};
 ghost use Rattle.algol_tree.specs.Due as due;
 ghost use Rattle.algol_tree.specs.Due.{name_is, names};
-ghost use Rattle.algol_tree.specs.DueDecl.{names_in, files_in};
-ghost use Rattle.algol_tree.specs.Found.{Finds, Refuses};
+ghost use Rattle.algol_tree.specs.DueDecl.{names_in_list, files_in};
+ghost use Rattle.algol_tree.specs.Found.{ReaderFinds, ReaderRefuses};
 ghost use Rattle.algol_part.specs.Brings.{Brings, Skips};
 ghost use Rattle.algol_part.specs.Phrases.{name_before, names_before};
 
@@ -17,8 +17,8 @@ use std::alloc::Global;
 /// The name that is due.
 pub(crate) fn read_name(alloc: Global, tokens: &[Token]) -> Result<(Named, &[Token]), Refusal>
     requires ended { EndsOnce tokens.now }
-    ensures found { IfOk result (λ r. Finds due.named tokens.now (name_is r.0) r.1.now) }
-    ensures refused { IfErr result (λ e. Refuses (due.named ∷ []) [] tokens.now e) }
+    ensures found { IfOk result (λ r. ReaderFinds due.named tokens.now (name_is r.0) r.1.now) }
+    ensures refused { IfErr result (λ e. ReaderRefuses (due.named ∷ []) [] tokens.now e) }
 {
     let (first, behind) = first_of(tokens);
     match name_in(first) {
@@ -35,7 +35,7 @@ pub(crate) fn read_name_before(
 ) -> Result<(Named, &[Token]), Refusal>
     requires ended { EndsOnce tokens.now }
     ensures found { IfOk result (λ r. Brings (name_before symbol) tokens.now (name_is r.0) r.1.now) }
-    ensures refused { IfErr result (λ e. Refuses (name_before symbol) [] tokens.now e) }
+    ensures refused { IfErr result (λ e. ReaderRefuses (name_before symbol) [] tokens.now e) }
 {
     let (name, rest) = read_name(alloc, tokens)?;
     let rest = expect_symbol(rest, symbol)?;
@@ -48,8 +48,8 @@ pub(crate) fn read_names(
     tokens: &[Token],
 ) -> Result<(List<Named>, &[Token]), Refusal>
     requires ended { EndsOnce tokens.now }
-    ensures found { IfOk result (λ r. Brings names_in tokens.now (names r.0) r.1.now) }
-    ensures refused { IfErr result (λ e. Refuses names_in [] tokens.now e) }
+    ensures found { IfOk result (λ r. Brings names_in_list tokens.now (names r.0) r.1.now) }
+    ensures refused { IfErr result (λ e. ReaderRefuses names_in_list [] tokens.now e) }
 {
     let mut names = Vec::new(alloc);
     let mut rest = tokens;
@@ -73,7 +73,7 @@ pub(crate) fn read_names_before(
 ) -> Result<(List<Named>, &[Token]), Refusal>
     requires ended { EndsOnce tokens.now }
     ensures found { IfOk result (λ r. Brings (names_before symbol) tokens.now (names r.0) r.1.now) }
-    ensures refused { IfErr result (λ e. Refuses (names_before symbol) [] tokens.now e) }
+    ensures refused { IfErr result (λ e. ReaderRefuses (names_before symbol) [] tokens.now e) }
 {
     let (names, rest) = read_names(alloc, tokens)?;
     let rest = expect_symbol(rest, symbol)?;
@@ -87,7 +87,7 @@ pub(crate) fn read_files(
 ) -> Result<(List<Named>, &[Token]), Refusal>
     requires ended { EndsOnce tokens.now }
     ensures found { IfOk result (λ r. Brings files_in tokens.now (names r.0) r.1.now) }
-    ensures refused { IfErr result (λ e. Refuses files_in [] tokens.now e) }
+    ensures refused { IfErr result (λ e. ReaderRefuses files_in [] tokens.now e) }
 {
     let mut files = Vec::new(alloc);
     let mut rest = tokens;
@@ -108,7 +108,7 @@ pub(crate) fn read_files(
 fn read_printer(tokens: &[Token]) -> Result<&[Token], Refusal>
     requires ended { EndsOnce tokens.now }
     ensures found { IfOk result (λ rest. Skips due.printer_part tokens.now rest.now) }
-    ensures refused { IfErr result (λ e. Refuses (due.printer_part ∷ []) [] tokens.now e) }
+    ensures refused { IfErr result (λ e. ReaderRefuses (due.printer_part ∷ []) [] tokens.now e) }
 {
     let (first, behind) = first_of(tokens);
     if is_symbol(first, Symbol::OpenRound) {

@@ -8,13 +8,13 @@ ghost use Rattle.algol_tree.specs.Due as due;
 ghost use Rattle.algol_tree.specs.Due.{one, stmt};
 ghost use Rattle.algol_tree.specs.Image as image;
 ghost use Rattle.algol_tree.specs.Image.{stmt as plain};
-ghost use Rattle.algol_tree.specs.Found.{Refuses};
+ghost use Rattle.algol_tree.specs.Found.{ReaderRefuses};
 ghost use Rattle.algol_part.specs.Brings.{Brings};
 ghost use Rattle.algol_part.specs.declared.opening.Beginning.TheVariants as beginnings;
 ghost use Rattle.algol_part.specs.declared.opening.Lead.TheVariants as leads;
 ghost use Rattle.algol_part.specs.declared.opening.Opening.TheVariants as openings;
 ghost use Rattle.algol_part.specs.Phrases.{choice_in};
-ghost use Rattle.algol_part.specs.Openings.{behind_for, behind_word, behind_verb, still_due, so_far, ComesTo, Begins};
+ghost use Rattle.algol_part.specs.Openings.{behind_for, behind_word, behind_verb, still_due, so_far, ReaderComesTo, PartBegins};
 
 use crate::exprs::read_actuals;
 use crate::line::read_write;
@@ -59,8 +59,8 @@ pub fn read_beginning(
     depth: u32,
 ) -> Result<(Beginning, &[Token]), Refusal>
     requires ended { EndsOnce tokens.now }
-    ensures found { IfOk result (λ r. Begins (due.statement depth) tokens.now r.0 r.1.now) }
-    ensures refused { IfErr result (λ e. Refuses (due.statement depth ∷ []) [] tokens.now e) }
+    ensures found { IfOk result (λ r. PartBegins (due.statement depth) tokens.now r.0 r.1.now) }
+    ensures refused { IfErr result (λ e. ReaderRefuses (due.statement depth ∷ []) [] tokens.now e) }
 {
     let (first, behind) = first_of(tokens);
     if let Some(name) = name_in(first) {
@@ -90,8 +90,8 @@ fn read_behind_name(
     depth: u32,
 ) -> Result<(Beginning, &[Token]), Refusal>
     requires ended { EndsOnce tokens.now }
-    ensures found { IfOk result (λ r. Begins (due.behind_start name depth) tokens.now r.0 r.1.now) }
-    ensures refused { IfErr result (λ e. Refuses (due.behind_start name depth ∷ []) [] tokens.now e) }
+    ensures found { IfOk result (λ r. PartBegins (due.behind_start name depth) tokens.now r.0 r.1.now) }
+    ensures refused { IfErr result (λ e. ReaderRefuses (due.behind_start name depth ∷ []) [] tokens.now e) }
 {
     let (first, behind) = first_of(tokens);
     if is_symbol(first, Symbol::Colon) {
@@ -132,8 +132,8 @@ fn read_opening(
     tokens: &[Token],
 ) -> Result<(Opening, &[Token]), Refusal>
     requires ended { EndsOnce tokens.now }
-    ensures found { IfOk result (λ r. (i : ℕ) → ComesTo (behind_word opener spot i) [] tokens.now (still_due r.0 i) (so_far r.0) r.1.now) }
-    ensures refused { IfErr result (λ e. (i : ℕ) → Refuses (behind_word opener spot i) [] tokens.now e) }
+    ensures found { IfOk result (λ r. (i : ℕ) → ReaderComesTo (behind_word opener spot i) [] tokens.now (still_due r.0 i) (so_far r.0) r.1.now) }
+    ensures refused { IfErr result (λ e. (i : ℕ) → ReaderRefuses (behind_word opener spot i) [] tokens.now e) }
 {
     match opener {
         Opener::Begin => Ok((Opening::Begin(spot), tokens)),
@@ -162,7 +162,7 @@ fn read_opening(
 fn read_choice(alloc: Global, tokens: &[Token]) -> Result<(Expr, &[Token]), Refusal>
     requires ended { EndsOnce tokens.now }
     ensures found { IfOk result (λ r. Brings choice_in tokens.now (one (image.expr r.0)) r.1.now) }
-    ensures refused { IfErr result (λ e. Refuses choice_in [] tokens.now e) }
+    ensures refused { IfErr result (λ e. ReaderRefuses choice_in [] tokens.now e) }
 {
     let (choice, rest) = read_before(alloc, tokens, Reserved::Of)?;
     let rest = expect_word(rest, Reserved::Begin)?;
@@ -172,8 +172,8 @@ fn read_choice(alloc: Global, tokens: &[Token]) -> Result<(Expr, &[Token]), Refu
 /// name ":=" expr STEP expr UNTIL expr DO, after FOR
 fn read_range(alloc: Global, tokens: &[Token]) -> Result<(Opening, &[Token]), Refusal>
     requires ended { EndsOnce tokens.now }
-    ensures found { IfOk result (λ r. (i : ℕ) → ComesTo (behind_for i) [] tokens.now (still_due r.0 i) (so_far r.0) r.1.now) }
-    ensures refused { IfErr result (λ e. (i : ℕ) → Refuses (behind_for i) [] tokens.now e) }
+    ensures found { IfOk result (λ r. (i : ℕ) → ReaderComesTo (behind_for i) [] tokens.now (still_due r.0 i) (so_far r.0) r.1.now) }
+    ensures refused { IfErr result (λ e. (i : ℕ) → ReaderRefuses (behind_for i) [] tokens.now e) }
 {
     let (name, rest) = read_name_before(alloc, tokens, Symbol::Becomes)?;
     let (from, rest) = read_before(alloc, rest, Reserved::Step)?;
@@ -186,7 +186,7 @@ fn read_range(alloc: Global, tokens: &[Token]) -> Result<(Opening, &[Token]), Re
 fn read_simple(alloc: Global, verb: Verb, tokens: &[Token]) -> Result<(Stmt, &[Token]), Refusal>
     requires ended { EndsOnce tokens.now }
     ensures found { IfOk result (λ r. Brings (behind_verb verb) tokens.now (stmt (plain r.0)) r.1.now) }
-    ensures refused { IfErr result (λ e. Refuses (behind_verb verb) [] tokens.now e) }
+    ensures refused { IfErr result (λ e. ReaderRefuses (behind_verb verb) [] tokens.now e) }
 {
     match verb {
         Verb::Go => read_go(alloc, tokens),

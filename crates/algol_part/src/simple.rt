@@ -9,7 +9,7 @@ ghost use Rattle.algol_tree.specs.DueStmt.{going, processing};
 ghost use Rattle.algol_tree.specs.Plain as trees;
 ghost use Rattle.algol_tree.specs.Image as image;
 ghost use Rattle.algol_tree.specs.Image.{stmt as plain};
-ghost use Rattle.algol_tree.specs.Found.{Completes, Refuses};
+ghost use Rattle.algol_tree.specs.Found.{Completes, ReaderRefuses};
 ghost use Rattle.algol_part.specs.Brings.{Brings, Skips};
 ghost use Rattle.algol_part.specs.Phrases.{acted, element_in, whole_before, whole_behind};
 
@@ -53,7 +53,7 @@ pub(crate) fn read_element(
 ) -> Result<(Stmt, &[Token]), Refusal>
     requires ended { EndsOnce tokens.now }
     ensures found { IfOk result (λ r. Brings (element_in name) tokens.now (stmt (plain r.0)) r.1.now) }
-    ensures refused { IfErr result (λ e. Refuses (element_in name) [] tokens.now e) }
+    ensures refused { IfErr result (λ e. ReaderRefuses (element_in name) [] tokens.now e) }
 {
     let (subs, rest) = read_closed_exprs(alloc, tokens, Symbol::CloseSquare)?;
     let rest = expect_symbol(rest, Symbol::Becomes)?;
@@ -65,7 +65,7 @@ pub(crate) fn read_element(
 pub(crate) fn read_go(alloc: Global, tokens: &[Token]) -> Result<(Stmt, &[Token]), Refusal>
     requires ended { EndsOnce tokens.now }
     ensures found { IfOk result (λ r. Brings (due.to_part ∷ due.named ∷ make going ∷ []) tokens.now (stmt (plain r.0)) r.1.now) }
-    ensures refused { IfErr result (λ e. Refuses (due.to_part ∷ due.named ∷ make going ∷ []) [] tokens.now e) }
+    ensures refused { IfErr result (λ e. ReaderRefuses (due.to_part ∷ due.named ∷ make going ∷ []) [] tokens.now e) }
 {
     let (label, rest) = read_name(alloc, behind_to(tokens))?;
     Ok((going(label), rest))
@@ -88,7 +88,7 @@ fn behind_to(tokens: &[Token]) -> &[Token]
 pub(crate) fn read_process(alloc: Global, tokens: &[Token]) -> Result<(Stmt, &[Token]), Refusal>
     requires ended { EndsOnce tokens.now }
     ensures found { IfOk result (λ r. Brings (due.named ∷ due.actuals_part ∷ due.task_part ∷ make processing ∷ []) tokens.now (stmt (plain r.0)) r.1.now) }
-    ensures refused { IfErr result (λ e. Refuses (due.named ∷ due.actuals_part ∷ due.task_part ∷ make processing ∷ []) [] tokens.now e) }
+    ensures refused { IfErr result (λ e. ReaderRefuses (due.named ∷ due.actuals_part ∷ due.task_part ∷ make processing ∷ []) [] tokens.now e) }
 {
     let (name, rest) = read_name(alloc, tokens)?;
     let (actuals, rest) = read_actuals(alloc, rest)?;
@@ -107,7 +107,7 @@ fn process(name: Named, actuals: List<Expr>, task: Option<Named>) -> Stmt
 fn read_task(alloc: Global, tokens: &[Token]) -> Result<(Option<Named>, &[Token]), Refusal>
     requires ended { EndsOnce tokens.now }
     ensures found { IfOk result (λ r. Completes due.task_part tokens.now (due.task r.0) r.1.now) }
-    ensures refused { IfErr result (λ e. Refuses (due.task_part ∷ []) [] tokens.now e) }
+    ensures refused { IfErr result (λ e. ReaderRefuses (due.task_part ∷ []) [] tokens.now e) }
 {
     let (first, behind) = first_of(tokens);
     if is_symbol(first, Symbol::OpenSquare) {
@@ -127,7 +127,7 @@ pub(crate) fn read_act(
 ) -> Result<(Stmt, &[Token]), Refusal>
     requires ended { EndsOnce tokens.now }
     ensures found { IfOk result (λ r. Brings (acted act) tokens.now (stmt (plain r.0)) r.1.now) }
-    ensures refused { IfErr result (λ e. Refuses (acted act) [] tokens.now e) }
+    ensures refused { IfErr result (λ e. ReaderRefuses (acted act) [] tokens.now e) }
 {
     let rest = expect_symbol(tokens, Symbol::OpenRound)?;
     let (event, rest) = read_event(alloc, rest)?;
@@ -143,7 +143,7 @@ pub(crate) fn read_before(
 ) -> Result<(Expr, &[Token]), Refusal>
     requires ended { EndsOnce tokens.now }
     ensures found { IfOk result (λ r. Brings (whole_before word) tokens.now (one (image.expr r.0)) r.1.now) }
-    ensures refused { IfErr result (λ e. Refuses (whole_before word) [] tokens.now e) }
+    ensures refused { IfErr result (λ e. ReaderRefuses (whole_before word) [] tokens.now e) }
 {
     let (expr, rest) = read_whole(alloc, tokens, 0)?;
     let rest = expect_word(rest, word)?;
@@ -154,7 +154,7 @@ pub(crate) fn read_before(
 pub fn read_until(alloc: Global, tokens: &[Token]) -> Result<(Expr, &[Token]), Refusal>
     requires ended { EndsOnce tokens.now }
     ensures found { IfOk result (λ r. Brings (whole_behind reserved.Until) tokens.now (one (image.expr r.0)) r.1.now) }
-    ensures refused { IfErr result (λ e. Refuses (whole_behind reserved.Until) [] tokens.now e) }
+    ensures refused { IfErr result (λ e. ReaderRefuses (whole_behind reserved.Until) [] tokens.now e) }
 {
     let rest = expect_word(tokens, Reserved::Until)?;
     let (expr, rest) = read_whole(alloc, rest, 0)?;

@@ -2,7 +2,7 @@
 
 ghost use Rattle.std.specs.Prelude.{◌≡◌};
 ghost use Rattle.algol_tree.specs.declared.token.TokenKind.TheVariants as kinds;
-ghost use Rattle.algol_part.specs.Starts.{start_of, starts_some, is_name, begins_body};
+ghost use Rattle.algol_part.specs.Starts.{start_of, starts_some, token_is_name, begins_body};
 
 use algol_expr::is_symbol;
 use algol_tree::{EventAct, Reserved, Symbol, Token, TokenKind};
@@ -89,7 +89,7 @@ fn begins_statement(token: &Token) -> bool
 }
 
 fn is_name(token: &Token) -> bool
-    ensures { result ≡ is_name token.now.kind }
+    ensures { result ≡ token_is_name token.now.kind }
 {
     match token.kind {
         TokenKind::Name(_) => true,

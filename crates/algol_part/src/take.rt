@@ -8,7 +8,7 @@ ghost use Rattle.algol_tree.specs.declared.token.TokenKind.TheVariants as kinds;
 ghost use Rattle.algol_tree.specs.Headings as grammar;
 ghost use Rattle.algol_tree.specs.Due as due;
 ghost use Rattle.algol_tree.specs.Due.{low};
-ghost use Rattle.algol_tree.specs.Found.{Finds, Refuses};
+ghost use Rattle.algol_tree.specs.Found.{ReaderFinds, ReaderRefuses};
 
 use algol_expr::{first_of, is_symbol};
 use algol_tree::{Code, Kind, Refusal, Reserved, Symbol, Token, TokenKind, Whole};
@@ -49,8 +49,8 @@ pub(crate) fn number_in(token: &Token) -> Option<Whole>
 /// literal = [ "-" ] number
 pub(crate) fn read_literal(tokens: &[Token]) -> Result<(i64, &[Token]), Refusal>
     requires ended { EndsOnce tokens.now }
-    ensures found { IfOk result (λ r. Finds due.literal tokens.now (low r.0) r.1.now) }
-    ensures refused { IfErr result (λ e. Refuses (due.literal ∷ []) [] tokens.now e) }
+    ensures found { IfOk result (λ r. ReaderFinds due.literal tokens.now (low r.0) r.1.now) }
+    ensures refused { IfErr result (λ e. ReaderRefuses (due.literal ∷ []) [] tokens.now e) }
 {
     let (first, behind) = first_of(tokens);
     if is_symbol(first, Symbol::Minus) {
@@ -65,8 +65,8 @@ pub(crate) fn read_literal(tokens: &[Token]) -> Result<(i64, &[Token]), Refusal>
 /// The number after a "-", negated
 fn read_negated(tokens: &[Token]) -> Result<(i64, &[Token]), Refusal>
     requires ended { EndsOnce tokens.now }
-    ensures found { IfOk result (λ r. Finds due.number_negated tokens.now (low r.0) r.1.now) }
-    ensures refused { IfErr result (λ e. Refuses (due.number_negated ∷ []) [] tokens.now e) }
+    ensures found { IfOk result (λ r. ReaderFinds due.number_negated tokens.now (low r.0) r.1.now) }
+    ensures refused { IfErr result (λ e. ReaderRefuses (due.number_negated ∷ []) [] tokens.now e) }
 {
     let (first, behind) = first_of(tokens);
     match number_in(first) {

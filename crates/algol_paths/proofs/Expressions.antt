@@ -11,8 +11,8 @@ use Rattle.algol_tree.proofs.Alone.{named_alone}
 use Rattle.b67_num.specs.declared.NumFault.{NumFault}
 use Rattle.algol_meaning.specs.Value.{Value, number, truth_of, simple}
 use Rattle.algol_meaning.specs.Operators.{result_of}
-use Rattle.algol_meaning.specs.Rest.{Given, valued, passed, refers, names, Hole, read, element, index, tests, broken, enter, inside, subscript, argument, left, right, negated, inverted, condition, Actuals, pass, in_value, Half, val, busy, HalfGiven, given, wants, Aim, resolve, place_index, inside_place, place_subscript, HalfPlace, at, aims, Answer, value, place, entered, cell_of, subscripts_of}
-use Rattle.algol_meaning.specs.Settle.{after_result, right_of, left_of, negated_of, inverted_of, condition_of, named_of, subscripted_of, called_of, valued_of, alone_of, sorts_of, left_alone_of, aimed_of, half_of, half_place_of, callee, sort_at, other_of, actual_of, first_actual_of, settle, settle_actuals, put, put_actuals, settle_place, indexed_of, put_place}
+use Rattle.algol_meaning.specs.Rest.{Given, valued, passed, refers, names, Hole, read, element, index, tests, broken, enter, inside, subscript, argument, left, right, negated, inverted, condition, Actuals, pass, in_value, Half, val, busy, HalfGiven, given, wants, Aim, resolve, place_index, inside_place, place_subscript, HalfPlace, at, aims, Answer, value, place, entered, cell_of_answer, subscripts_of}
+use Rattle.algol_meaning.specs.Settle.{after_result, right_of, left_of, negated_of, inverted_of, condition_of, named_of, subscripted_of, called_of, valued_of, alone_of, sorts_of, left_alone_of, aimed_of, half_of, half_place_of, callee, sort_at, other_of, actual_of, first_actual_of, settle, settle_actuals, answer_put, put_actuals, settle_place, indexed_of, put_place}
 use Rattle.algol_paths.specs.Texts.{InExpr, InExprs, InPlace, InGivens, InHole, InActuals, InAim, InAnswer}
 
 module _ (P : Named → Type 0) where
@@ -160,7 +160,7 @@ module _ (P : Named → Type 0) where
 
     mutual
       -- whatever the answer
-      pub put_in : (h : Hole) (a : Answer) → InHole P h → InHalf (put sc h a)
+      pub put_in : (h : Hole) (a : Answer) → InHole P h → InHalf (answer_put sc h a)
       put_in (read n) a i = half_in a
       put_in (element n ks v) a i = half_in a
       put_in (index n ks v e es) a i = subscripted_in n (subscripts_of a) (settle sc e) es i.0 (settle_in e i.1) i.2
@@ -168,21 +168,21 @@ module _ (P : Named → Type 0) where
       put_in (broken op v w fault) a i = half_in a
       put_in (enter n gs) a i = half_in a
       put_in inside a i = half_in a
-      put_in (subscript n ks h es) a i = subscripted_in n ks (put sc h a) es i.0 (put_in h a i.1) i.2
+      put_in (subscript n ks h es) a i = subscripted_in n ks (answer_put sc h a) es i.0 (put_in h a i.1) i.2
       put_in (argument n x) a i = called_in n (put_actuals sc x a) i.0 (put_actuals_in x a i.1)
-      put_in (left op h b) a i = left_in op (put sc h a) b (settle sc b) (put_in h a i.0) i.1 (settle_in b i.1)
-      put_in (right op v h) a i = right_in op v (put sc h a) (put_in h a i)
-      put_in (negated h) a i = negated_in (put sc h a) (put_in h a i)
-      put_in (inverted h) a i = inverted_in (put sc h a) (put_in h a i)
+      put_in (left op h b) a i = left_in op (answer_put sc h a) b (settle sc b) (put_in h a i.0) i.1 (settle_in b i.1)
+      put_in (right op v h) a i = right_in op v (answer_put sc h a) (put_in h a i)
+      put_in (negated h) a i = negated_in (answer_put sc h a) (put_in h a i)
+      put_in (inverted h) a i = inverted_in (answer_put sc h a) (put_in h a i)
       put_in (condition h x y) a i =
-          condition_in (put sc h a) x y (settle sc x) (settle sc y) (put_in h a i.0) i.1 i.2 (settle_in x i.1) (settle_in y i.2)
+          condition_in (answer_put sc h a) x y (settle sc x) (settle sc y) (put_in h a i.0) i.1 i.2 (settle_in x i.1) (settle_in y i.2)
 
       pub put_actuals_in : (x : Actuals) (a : Answer) → InActuals P x → InHalfGiven (put_actuals sc x a)
       put_actuals_in (pass gs n sorts es) a i =
-          let c = passed (cell_of a (simple (number (pos 0)))) in
+          let c = passed (cell_of_answer a (simple (number (pos 0)))) in
           settle_actuals_in es sorts (gs ++ c ∷ []) i.2 (and_given gs c i.0 tt)
       put_actuals_in (in_value gs h sorts es) a i =
-          valued_in gs (put sc h a) sorts es (settle_actuals sc es sorts) i.0 (put_in h a i.1) i.2 (λ more l. settle_actuals_in es sorts more i.2 l)
+          valued_in gs (answer_put sc h a) sorts es (settle_actuals sc es sorts) i.0 (put_in h a i.1) i.2 (λ more l. settle_actuals_in es sorts more i.2 l)
 
     -- ---- left sides
 
@@ -198,4 +198,4 @@ module _ (P : Named → Type 0) where
     put_place_in (resolve n) a i j = half_place_in a j
     put_place_in (place_index n ks v es) a i j = indexed_in n a es i.0 j i.1
     put_place_in inside_place a i j = half_place_in a j
-    put_place_in (place_subscript n ks h es) a i j = aimed_in n ks (put sc h a) es i.0 (put_in h a i.1) i.2
+    put_place_in (place_subscript n ks h es) a i j = aimed_in n ks (answer_put sc h a) es i.0 (put_in h a i.1) i.2

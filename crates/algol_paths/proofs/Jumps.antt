@@ -10,7 +10,7 @@ use Rattle.algol_tree.specs.Scopes.{Scopes}
 use Rattle.algol_meaning.specs.Rest as rests
 use Rattle.algol_meaning.specs.Rest.{Item}
 use Rattle.algol_meaning.specs.Statements.{items, event_items, decls_items, ending, items_of, is_labelled, stmts_from, items_from}
-use Rattle.algol_paths.specs.Blocks.{IsSeen, IsSeenAround, IsInner}
+use Rattle.algol_paths.specs.Blocks.{BlockIsSeen, IsSeenAround, IsInner}
 use Rattle.algol_paths.specs.Texts.{InItems, InDeclared}
 use Rattle.algol_paths.specs.Arrays.{to_come}
 use Rattle.algol_paths.specs.Laws.{ItemsKeepToText, JumpsKeepToTheirText}
@@ -69,16 +69,16 @@ module _ (P : Named → Type 0) (Q : PBody → Type 0) where
 -- ---- the law
 
 module _ (sc : Scopes) (j : ℕ) (b : Block) (name : List ℕ) (i : ItemsKeepToText sc j (items_of b)) where
-  from_here : InItems (IsSeen sc j) (IsInner sc j) (items_from b name)
-  from_here = jumps_keep (IsSeen sc j) (IsInner sc j) (IsSeenAround sc j) b name i
+  from_here : InItems (BlockIsSeen sc j) (IsInner sc j) (items_from b name)
+  from_here = jumps_keep (BlockIsSeen sc j) (IsInner sc j) (IsSeenAround sc j) b name i
 
   jumps_declared : ItemsKeepToText sc j (items_from b name)
-  jumps_declared = declared_of (IsSeen sc j) (IsInner sc j) (IsSeenAround sc j) (items_from b name) from_here
+  jumps_declared = declared_of (BlockIsSeen sc j) (IsInner sc j) (IsSeenAround sc j) (items_from b name) from_here
 
 pub jumps_keep_to_their_text : JumpsKeepToTheirText
 jumps_keep_to_their_text = record {
   text = λ sc j b name i. jumps_declared sc j b name i;
   none = λ sc j b name i.
       all_is_made_in_order.settled sc j (items_from b name) (jumps_declared sc j b name i)
-      ∙ none_to_come (IsSeen sc j) (IsInner sc j) (items_from b name) (from_here sc j b name i);
+      ∙ none_to_come (BlockIsSeen sc j) (IsInner sc j) (items_from b name) (from_here sc j b name i);
 }

@@ -9,10 +9,10 @@ use Rattle.algol_tree.specs.Plain.{PExpr, PExprs, PPair, PStmt, PStmts, PBody}
 use Rattle.algol_tree.specs.Scopes.{Scopes}
 use Rattle.algol_meaning.specs.Value.{Value, whole_of, truth_of}
 use Rattle.algol_meaning.specs.Rest.{Place, Half, val, busy, HalfGiven, given, wants, HalfPlace, at, aims, Loop, Item, run, turn, count, check, test, result, make_arrays, make_event, Rest, over, reading, giving, giving_place, store, select, turning, going, entering_block, entering, starting, acting, line, arrays, event, within, dropping, evaluating, locating, aiming, storing, choosing, looping, checking, counting, differing, stepping, selecting, calling, preparing, writing, bounding, Answer, entered}
-use Rattle.algol_meaning.specs.Settle.{sorts_of, callee, is_typed, settle, settle_actuals, settle_place, half_of, put, put_actuals, put_place}
+use Rattle.algol_meaning.specs.Settle.{sorts_of, callee, is_typed, settle, settle_actuals, settle_place, half_of, answer_put, put_actuals, put_place}
 use Rattle.algol_meaning.specs.Statements.{items, run_and, turn_and, assigned_of, aimed_at, chosen_of, looped_of, checked_of, repeated_of, counted_of, after_count, selected_of, statement_called_of, prepared_of, item_of, bound_of, is_past, difference_in, stepped, settle_line, settle_bounds, settle_stmt, settle_stmts, counted_body, again, tested_of, differed_of, settle_items}
-use Rattle.algol_meaning.specs.Asks.{evaluated_of, located_of, nth_stmt, inside_or_after, called, resume}
-use Rattle.algol_paths.specs.Blocks.{IsSeen, IsSeenAround, IsInner}
+use Rattle.algol_meaning.specs.Asks.{evaluated_of, located_of, nth_stmt, inside_or_after, asks_called, resume}
+use Rattle.algol_paths.specs.Blocks.{BlockIsSeen, IsSeenAround, IsInner}
 use Rattle.algol_paths.specs.Texts.{InItems, InDeclared, InRest}
 use Rattle.algol_paths.specs.Arrays.{DeclaredArray, arrays_in, arrays_to_come, to_make, left_to_make, Made, an_array, made_in, to_come, all_to_make, all_left_to_make, arrays_among}
 use Rattle.algol_paths.specs.Laws.{ArraysAreMadeInOrder, AllIsMadeInOrder}
@@ -168,7 +168,7 @@ module _ (sc : Scopes) where
     inside_none entered k i = refl
     inside_none _ k i = items_none k i
 
-    entered_none : (typed : Bool) (a : Answer) (k : List Item) → InItems P Q k → MakesNone (called sc typed a k)
+    entered_none : (typed : Bool) (a : Answer) (k : List Item) → InItems P Q k → MakesNone (asks_called sc typed a k)
     entered_none true entered k i = refl
     entered_none false entered k i = refl
     entered_none typed _ k i = items_none k i
@@ -199,30 +199,30 @@ module _ (sc : Scopes) where
       resumed_makes (event n k) a i = declared_make k i
       resumed_makes (within k) a i = items_none k i
       resumed_makes (dropping k) a i = items_none k i
-      resumed_makes (evaluating h) a i = evaluated_none (put sc h a)
+      resumed_makes (evaluating h) a i = evaluated_none (answer_put sc h a)
       resumed_makes (locating x) a i = located_none (put_place sc x a)
       resumed_makes (aiming x e k) a i = aimed_none (put_place sc x a) e (settle sc e) k
-      resumed_makes (storing p h k) a i = assigned_none p (put sc h a) k
+      resumed_makes (storing p h k) a i = assigned_none p (answer_put sc h a) k
       resumed_makes (choosing h x y k) a i =
           let n = items_none k i.3 in
           let r = settle_items sc k in
-          chosen_none (put sc h a) x y k (settle_stmt sc x k r) (settle_stmt sc y k r) (stmt_none x k r n) (stmt_none y k r n)
+          chosen_none (answer_put sc h a) x y k (settle_stmt sc x k r) (settle_stmt sc y k r) (stmt_none x k r n) (stmt_none y k r n)
       resumed_makes (looping h c b k) a i =
           let next = turning (run_and (tree.while c b) k) in
-          looped_none (put sc h a) c b k (settle_stmt sc b (turn_and (tree.while c b) k) next) (settle_items sc k)
+          looped_none (answer_put sc h a) c b k (settle_stmt sc b (turn_and (tree.while c b) k) next) (settle_items sc k)
           (stmt_none b (turn_and (tree.while c b) k) next refl) (items_none k i.3)
-      resumed_makes (checking h b c k) a i = checked_none (put sc h a) b c k (settle_items sc k) (items_none k i.3)
+      resumed_makes (checking h b c k) a i = checked_none (answer_put sc h a) b c k (settle_items sc k) (items_none k i.3)
       resumed_makes (counting h b k) a i =
-          counted_none (put sc h a) b k (counted_body sc b k) (settle_items sc k) (counted_body_none b k) (items_none k i.2)
-      resumed_makes (differing h loop k) a i = differed_none (put sc h a) loop k (settle_items sc k) (items_none k i.2)
-      resumed_makes (stepping d h loop k) a i = tested_none d (put sc h a) loop k (settle_items sc k) (items_none k i.2)
-      resumed_makes (selecting h ss k) a i = selected_none (put sc h a) ss k
+          counted_none (answer_put sc h a) b k (counted_body sc b k) (settle_items sc k) (counted_body_none b k) (items_none k i.2)
+      resumed_makes (differing h loop k) a i = differed_none (answer_put sc h a) loop k (settle_items sc k) (items_none k i.2)
+      resumed_makes (stepping d h loop k) a i = tested_none d (answer_put sc h a) loop k (settle_items sc k) (items_none k i.2)
+      resumed_makes (selecting h ss k) a i = selected_none (answer_put sc h a) ss k
       resumed_makes (calling n x k) a i = called_none n (put_actuals sc x a) k
       resumed_makes (preparing n x task k) a i = prepared_none n (put_actuals sc x a) task k
       resumed_makes (writing phrases vs h es k) a i =
-          item_none phrases vs (put sc h a) es k (settle_line sc es phrases k) (λ ws. line_none es phrases k ws)
+          item_none phrases vs (answer_put sc h a) es k (settle_line sc es phrases k) (λ ws. line_none es phrases k ws)
       resumed_makes (bounding kind ns pairs vs h ps k) a i =
-          bound_makes kind ns pairs vs (put sc h a) ps k (settle_bounds sc ps kind ns pairs k) (λ ws. bounds_make ps kind ns pairs k ws)
+          bound_makes kind ns pairs vs (answer_put sc h a) ps k (settle_bounds sc ps kind ns pairs k) (λ ws. bounds_make ps kind ns pairs k ws)
 
 -- ---- the arrays among what is made
 
@@ -260,8 +260,8 @@ arrays_left _ = refl
 
 pub all_is_made_in_order : AllIsMadeInOrder
 all_is_made_in_order = record {
-  settled = λ sc j k i. declared_make sc (IsSeen sc j) (IsInner sc j) (IsSeenAround sc j) k i;
-  resumed = λ sc j r a i. resumed_makes sc (IsSeen sc j) (IsInner sc j) (IsSeenAround sc j) r a i;
+  settled = λ sc j k i. declared_make sc (BlockIsSeen sc j) (IsInner sc j) (IsSeenAround sc j) k i;
+  resumed = λ sc j r a i. resumed_makes sc (BlockIsSeen sc j) (IsInner sc j) (IsSeenAround sc j) r a i;
 }
 
 pub arrays_are_made_in_order : ArraysAreMadeInOrder

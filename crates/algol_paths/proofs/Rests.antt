@@ -7,10 +7,10 @@ use Rattle.algol_tree.specs.Plain.{PStmts, PBody}
 use Rattle.algol_tree.specs.Scopes.{Scopes}
 use Rattle.algol_meaning.specs.Value.{whole_of}
 use Rattle.algol_meaning.specs.Rest.{Half, val, busy, HalfPlace, at, aims, Item, Rest, over, reading, giving, giving_place, store, select, turning, going, entering_block, entering, starting, acting, line, arrays, event, within, dropping, evaluating, locating, aiming, storing, choosing, looping, checking, counting, differing, stepping, selecting, calling, preparing, writing, bounding, Answer, entered}
-use Rattle.algol_meaning.specs.Settle.{is_typed, settle, half_of, put, put_actuals, put_place}
+use Rattle.algol_meaning.specs.Settle.{is_typed, settle, half_of, answer_put, put_actuals, put_place}
 use Rattle.algol_meaning.specs.Statements.{settle_line, settle_bounds, settle_stmt, run_and, turn_and, counted_body, settle_items}
-use Rattle.algol_meaning.specs.Asks.{evaluated_of, located_of, nth_stmt, inside_or_after, called, resume}
-use Rattle.algol_paths.specs.Blocks.{IsSeen, IsSeenAround, IsInner}
+use Rattle.algol_meaning.specs.Asks.{evaluated_of, located_of, nth_stmt, inside_or_after, asks_called, resume}
+use Rattle.algol_paths.specs.Blocks.{BlockIsSeen, IsSeenAround, IsInner}
 use Rattle.algol_paths.specs.Texts.{InAnswer, InStmt, InStmts, InItems, InRest}
 use Rattle.algol_paths.specs.Laws.{RestsKeepToTheirText}
 use Rattle.algol_paths.proofs.Expressions.{InHalf, InHalfPlace, half_in, settle_in, put_in, put_actuals_in, put_place_in}
@@ -35,7 +35,7 @@ module _ (P : Named → Type 0) (Q : PBody → Type 0) (R : Named → Type 0) wh
     inside_keeps entered k j = j
     inside_keeps _ k j = settled_keeps P Q R sc k j
 
-    entered_keeps : (typed : Bool) (a : Answer) (k : List Item) → InItems P Q k → InRest P Q R (called sc typed a k)
+    entered_keeps : (typed : Bool) (a : Answer) (k : List Item) → InItems P Q k → InRest P Q R (asks_called sc typed a k)
     entered_keeps true entered k j = j
     entered_keeps false entered k j = j
     entered_keeps typed _ k j = settled_keeps P Q R sc k j
@@ -59,41 +59,41 @@ module _ (P : Named → Type 0) (Q : PBody → Type 0) (R : Named → Type 0) wh
     resumed_keeps (event n k) a i j = declared_keeps P Q R sc k i
     resumed_keeps (within k) a i j = settled_keeps P Q R sc k i
     resumed_keeps (dropping k) a i j = settled_keeps P Q R sc k i
-    resumed_keeps (evaluating h) a i j = evaluated_keeps (put sc h a) (put_in P sc h a i)
+    resumed_keeps (evaluating h) a i j = evaluated_keeps (answer_put sc h a) (put_in P sc h a i)
     resumed_keeps (locating x) a i j = located_keeps (put_place sc x a) (put_place_in P sc x a i j)
     resumed_keeps (aiming x e k) a i j = aimed_keeps P Q R (put_place sc x a) e (settle sc e) k (put_place_in P sc x a i.0 j) i.1 (settle_in P sc e i.1) i.2
-    resumed_keeps (storing p h k) a i j = assigned_keeps P Q R p (put sc h a) k i.0 (put_in P sc h a i.1) i.2
+    resumed_keeps (storing p h k) a i j = assigned_keeps P Q R p (answer_put sc h a) k i.0 (put_in P sc h a i.1) i.2
     resumed_keeps (choosing h x y k) a i j =
         let r = settle_items sc k in
         let s = settled_keeps P Q R sc k i.3 in
-        chosen_keeps P Q R (put sc h a) x y k (settle_stmt sc x k r) (settle_stmt sc y k r) (put_in P sc h a i.0) i.1 i.2 i.3
+        chosen_keeps P Q R (answer_put sc h a) x y k (settle_stmt sc x k r) (settle_stmt sc y k r) (put_in P sc h a i.0) i.1 i.2 i.3
         (stmt_keeps P Q R sc x k r i.1 i.3 s) (stmt_keeps P Q R sc y k r i.2 i.3 s)
     resumed_keeps (looping h c b k) a i j =
         let next = turning (run_and (tree.while c b) k) in
-        looped_keeps P Q R (put sc h a) c b k (settle_stmt sc b (turn_and (tree.while c b) k) next) (settle_items sc k) (put_in P sc h a i.0) i.1 i.2 i.3
+        looped_keeps P Q R (answer_put sc h a) c b k (settle_stmt sc b (turn_and (tree.while c b) k) next) (settle_items sc k) (put_in P sc h a i.0) i.1 i.2 i.3
         (stmt_keeps P Q R sc b (turn_and (tree.while c b) k) next i.2 (tt, ((i.1, i.2), i.3)) ((i.1, i.2), i.3)) (settled_keeps P Q R sc k i.3)
     resumed_keeps (checking h b c k) a i j =
-        checked_keeps P Q R (put sc h a) b c k (settle_items sc k) (put_in P sc h a i.0) i.1 i.2 i.3 (settled_keeps P Q R sc k i.3)
+        checked_keeps P Q R (answer_put sc h a) b c k (settle_items sc k) (put_in P sc h a i.0) i.1 i.2 i.3 (settled_keeps P Q R sc k i.3)
     resumed_keeps (counting h b k) a i j =
-        counted_keeps P Q R (put sc h a) b k (counted_body sc b k) (settle_items sc k) (put_in P sc h a i.0) i.1 i.2 (counted_body_keeps P Q R sc b k i.1 i.2)
+        counted_keeps P Q R (answer_put sc h a) b k (counted_body sc b k) (settle_items sc k) (put_in P sc h a i.0) i.1 i.2 (counted_body_keeps P Q R sc b k i.1 i.2)
         (settled_keeps P Q R sc k i.2)
     resumed_keeps (differing h loop k) a i j =
-        differed_keeps P Q R sc (put sc h a) loop k (settle_items sc k) (put_in P sc h a i.0) i.1 i.2 (settled_keeps P Q R sc k i.2)
+        differed_keeps P Q R sc (answer_put sc h a) loop k (settle_items sc k) (put_in P sc h a i.0) i.1 i.2 (settled_keeps P Q R sc k i.2)
     resumed_keeps (stepping d h loop k) a i j =
-        tested_keeps P Q R sc d (put sc h a) loop k (settle_items sc k) (put_in P sc h a i.0) i.1 i.2 (settled_keeps P Q R sc k i.2)
-    resumed_keeps (selecting h ss k) a i j = selected_keeps P Q R (put sc h a) ss k (put_in P sc h a i.0) i.1 i.2
+        tested_keeps P Q R sc d (answer_put sc h a) loop k (settle_items sc k) (put_in P sc h a i.0) i.1 i.2 (settled_keeps P Q R sc k i.2)
+    resumed_keeps (selecting h ss k) a i j = selected_keeps P Q R (answer_put sc h a) ss k (put_in P sc h a i.0) i.1 i.2
     resumed_keeps (calling n x k) a i j = called_keeps P Q R n (put_actuals sc x a) k i.0 (put_actuals_in P sc x a i.1) i.2
     resumed_keeps (preparing n x task k) a i j = prepared_keeps P Q R n (put_actuals sc x a) task k i.0 (put_actuals_in P sc x a i.1) i.2 i.3
     resumed_keeps (writing phrases vs h es k) a i j =
-        item_keeps P Q R phrases vs (put sc h a) es k (settle_line sc es phrases k) (put_in P sc h a i.0) i.1 i.2 (λ ws. line_keeps P Q R sc es phrases k ws i.1 i.2)
+        item_keeps P Q R phrases vs (answer_put sc h a) es k (settle_line sc es phrases k) (put_in P sc h a i.0) i.1 i.2 (λ ws. line_keeps P Q R sc es phrases k ws i.1 i.2)
     resumed_keeps (bounding kind ns pairs vs h ps k) a i j =
-        bound_keeps P Q R kind ns pairs vs (put sc h a) ps k (settle_bounds sc ps kind ns pairs k) (put_in R sc h a i.0) i.1 i.2
+        bound_keeps P Q R kind ns pairs vs (answer_put sc h a) ps k (settle_bounds sc ps kind ns pairs k) (put_in R sc h a i.0) i.1 i.2
         (λ ws. bounds_keep P Q R sc ps kind ns pairs k ws i.1 i.2)
 
 -- ---- the law
 
 pub rests_keep_to_their_text : RestsKeepToTheirText
 rests_keep_to_their_text = record {
-  settled = λ sc j k i. declared_keeps (IsSeen sc j) (IsInner sc j) (IsSeenAround sc j) sc k i;
-  resumed = λ sc j r a i l. resumed_keeps (IsSeen sc j) (IsInner sc j) (IsSeenAround sc j) sc r a i l;
+  settled = λ sc j k i. declared_keeps (BlockIsSeen sc j) (IsInner sc j) (IsSeenAround sc j) sc k i;
+  resumed = λ sc j r a i l. resumed_keeps (BlockIsSeen sc j) (IsInner sc j) (IsSeenAround sc j) sc r a i l;
 }

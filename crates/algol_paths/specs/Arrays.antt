@@ -60,9 +60,9 @@ abbrev pub stands_among : List Named → Spot → Bool
 stands_among [] spot = false
 stands_among (n ∷ ns) spot = if same_spot n.spot spot then true else stands_among ns spot
 
-abbrev pub lows_in : Option Shape → Option Lows
-lows_in None = None
-lows_in (Some shape) = Some (record { list = shape.lows; formal = true })
+abbrev pub lows_in_shape : Option Shape → Option Lows
+lows_in_shape None = None
+lows_in_shape (Some shape) = Some (record { list = shape.lows; formal = true })
 
 abbrev pub or_lows : Option Lows → Option Lows → Option Lows
 or_lows None otherwise = otherwise
@@ -71,7 +71,7 @@ or_lows (Some lows) otherwise = Some lows
 -- of a parameter whose name stands there
 abbrev pub lows_among : List Spec → List Named → Spot → Option Lows
 lows_among specs [] spot = None
-lows_among specs (n ∷ ns) spot = if same_spot n.spot spot then lows_in (shape_in specs n.name) else lows_among specs ns spot
+lows_among specs (n ∷ ns) spot = if same_spot n.spot spot then lows_in_shape (shape_in specs n.name) else lows_among specs ns spot
 
 -- the lower bounds of the array whose name is declared there, or of the parameter
 abbrev pub lows_declared : PDecls → Spot → Option Lows

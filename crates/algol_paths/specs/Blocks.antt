@@ -10,13 +10,13 @@ use Rattle.algol_tree.specs.Sorts.{is_variable, is_formal}
 use Rattle.algol_tree.specs.Scopes.{Scopes, use_of}
 
 -- The name, in the text of the block with this number, means a declaration of the block that is so many up.
-abbrev pub IsSeen : Scopes → ℕ → Named → Type 0
-IsSeen sc j n = slice_get (j ∷ around sc.blocks j) ((use_of sc n).up) ≡ Some ((use_of sc n).block)
+abbrev pub BlockIsSeen : Scopes → ℕ → Named → Type 0
+BlockIsSeen sc j n = slice_get (j ∷ around sc.blocks j) ((use_of sc n).up) ≡ Some ((use_of sc n).block)
 
 -- .. of one around it, or of a parameter: a bound of an array knows nothing else of its own block
 abbrev pub IsSeenAround : Scopes → ℕ → Named → Type 0
 IsSeenAround sc j n =
-    IsSeen sc j n × ((1 ≤ (use_of sc n).up) ⊎ (is_variable ((use_of sc n).sort) ≡ true) ⊎ (is_formal ((use_of sc n).sort) ≡ true))
+    BlockIsSeen sc j n × ((1 ≤ (use_of sc n).up) ⊎ (is_variable ((use_of sc n).sort) ≡ true) ⊎ (is_formal ((use_of sc n).sort) ≡ true))
 
 abbrev pub decls_in : PBody → PDecls
 decls_in (tree.body spot ds ss) = ds

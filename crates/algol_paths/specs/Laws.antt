@@ -5,22 +5,22 @@ use Rattle.algol_tree.specs.Scopes.{Scopes}
 use Rattle.algol_meaning.specs.Rest.{Item, Rest, Answer}
 use Rattle.algol_meaning.specs.Asks.{resume}
 use Rattle.algol_meaning.specs.Statements.{settle_items, items_of, items_from}
-use Rattle.algol_paths.specs.Blocks.{IsSeen, IsSeenAround, IsInner}
+use Rattle.algol_paths.specs.Blocks.{BlockIsSeen, IsSeenAround, IsInner}
 use Rattle.algol_paths.specs.Texts.{InAnswer, InDeclared, InRest}
 use Rattle.algol_paths.specs.Arrays.{arrays_to_come, to_make, left_to_make, to_come, all_to_make, all_left_to_make}
 
 -- what a part of the block with this number has still to do keeps to its text
 abbrev pub KeepsToText : Scopes → ℕ → Rest → Type 0
-KeepsToText sc j r = InRest (IsSeen sc j) (IsInner sc j) (IsSeenAround sc j) r
+KeepsToText sc j r = InRest (BlockIsSeen sc j) (IsInner sc j) (IsSeenAround sc j) r
 
 abbrev pub ItemsKeepToText : Scopes → ℕ → List Item → Type 0
-ItemsKeepToText sc j k = InDeclared (IsSeen sc j) (IsInner sc j) (IsSeenAround sc j) k
+ItemsKeepToText sc j k = InDeclared (BlockIsSeen sc j) (IsInner sc j) (IsSeenAround sc j) k
 
 pub record RestsKeepToTheirText : Type 0 where
   -- after the silent steps of items
   pub settled : (sc : Scopes) (j : ℕ) (k : List Item) → ItemsKeepToText sc j k → KeepsToText sc j (settle_items sc k)
   -- and after an action, whose answer names nothing that is not seen
-  pub resumed : (sc : Scopes) (j : ℕ) (r : Rest) (a : Answer) → KeepsToText sc j r → InAnswer (IsSeen sc j) a → KeepsToText sc j (resume sc r a)
+  pub resumed : (sc : Scopes) (j : ℕ) (r : Rest) (a : Answer) → KeepsToText sc j r → InAnswer (BlockIsSeen sc j) a → KeepsToText sc j (resume sc r a)
 
 pub record ArraysAreMadeInOrder : Type 0 where
   -- after the silent steps of items all arrays among them are still to be made

@@ -5,16 +5,16 @@ use Rattle.algol_tree.specs.Scopes.{Scopes}
 use Rattle.algol_tree.specs.declared.tree.Named.{Named}
 use Rattle.algol_meaning.specs.World.{World, Part, process_at}
 use Rattle.b67_deeds.specs.declared.Letter.TheVariants as actions
-use Rattle.algol_world.specs.Going.{chosen}
+use Rattle.algol_world.specs.Going.{action_chosen}
 use Rattle.algol_effect.specs.declared.effect.Effect.TheVariants as effects
 use Rattle.algol_perform.specs.Going.{going_by, going_to, making_by, making}
 use Rattle.algol_perform.specs.Performing.{performed, performed_by}
 
 module _ (sc : Scopes) (w : World) (p : ℕ) where
-  pub does_nothing : chosen actions.Fault w ≡ performed sc w p effects.Nothing
+  pub does_nothing : action_chosen actions.Fault w ≡ performed sc w p effects.Nothing
   does_nothing = under ((process_at w p).todo)
     where
-      under : (parts : List Part) → chosen actions.Fault w ≡ performed_by sc w p (process_at w p) parts effects.Nothing
+      under : (parts : List Part) → action_chosen actions.Fault w ≡ performed_by sc w p (process_at w p) parts effects.Nothing
       under [] = refl
       under (part ∷ outer) = refl
 

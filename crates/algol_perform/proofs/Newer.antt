@@ -5,15 +5,15 @@ use Rattle.algol_tree.specs.Scopes.{Scopes}
 use Rattle.algol_meaning.specs.World.{Part}
 use Rattle.algol_meaning.specs.Critical.{is_evaluation, is_this, own_instances}
 use Rattle.algol_meaning.specs.Instances.{cut_at, is_part_of}
-use Rattle.algol_cells.specs.Shown.{shown}
+use Rattle.algol_cells.specs.Shown.{shown_cell}
 use Rattle.algol_world.specs.SeenWorld as views
 use Rattle.algol_world.specs.declared.world.Part as code
 use Rattle.algol_world.specs.Leaving.{is_nothing}
 use Rattle.algol_instances.proofs.Numbering.{map_get_none, map_get_some}
-use Rattle.algol_perform.specs.Going.{part_or_none, instance_in, own, owned, AreLeft}
+use Rattle.algol_perform.specs.Going.{part_or_none, instance_in, own_instance_of, owned, AreLeft}
 
 pub part_shown :
-    (sc : Scopes) (o : Option (Bor code.Part)) (parts : List code.Part) (n : ℕ) → shown o ≡ slice_get parts n
+    (sc : Scopes) (o : Option (Bor code.Part)) (parts : List code.Part) (n : ℕ) → shown_cell o ≡ slice_get parts n
     → part_or_none sc o ≡ slice_get (map (views.part sc) parts) n
 part_shown sc None parts n e = map_get_none (views.part sc) parts n e
 part_shown sc (Some x) parts n e = map_get_some (views.part sc) parts n x.now e
@@ -52,18 +52,18 @@ below_length [] (suc k) x e = cc
 below_length (y ∷ xs) zero x e = omega arith
 below_length (y ∷ xs) (suc k) x e = let r : k < length xs = below_length xs k x e in omega arith
 
-owned_all : (parts : List Part) → owned (map own parts) ≡ own_instances parts
+owned_all : (parts : List Part) → owned (map own_instance_of parts) ≡ own_instances parts
 owned_all [] = refl
 owned_all (part ∷ parts) = by (is_evaluation part.purpose) (owned_all parts)
   where
     by :
-        (b : Bool) → owned (map own parts) ≡ own_instances parts
-        → owned ((if b then None else Some part.instance) ∷ map own parts)
+        (b : Bool) → owned (map own_instance_of parts) ≡ own_instances parts
+        → owned ((if b then None else Some part.instance) ∷ map own_instance_of parts)
         ≡ (if b then own_instances parts else part.instance ∷ own_instances parts)
     by true e = e
     by false e = ap (λ (is : List ℕ). part.instance ∷ is) e
 
-pub owned_left : (left : List (Option ℕ)) (parts : List Part) → left ≡ map own parts → owned left ≡ own_instances parts
+pub owned_left : (left : List (Option ℕ)) (parts : List Part) → left ≡ map own_instance_of parts → owned left ≡ own_instances parts
 owned_left left parts e = ap owned e ∙ owned_all parts
 
 -- the part of another instance is one more that is newer
@@ -73,7 +73,7 @@ cut_further newer part parts i e = rw e refl
 cut_here : (newer : List Part) (part : Part) (parts : List Part) (i : ℕ) → is_part_of part i ≡ true → cut_at newer (part ∷ parts) i ≡ record { newer = newer; from = part ∷ parts }
 cut_here newer part parts i e = rw e refl
 
-own_part : (part : Part) (i : ℕ) → is_part_of part i ≡ is_this (own part) i
+own_part : (part : Part) (i : ℕ) → is_part_of part i ≡ is_this (own_instance_of part) i
 own_part part i = by (is_evaluation part.purpose)
   where
     by : (b : Bool) → (if b then false else part.instance == i) ≡ is_this (if b then None else Some part.instance) i
@@ -92,7 +92,7 @@ module _ (parts : List Part) (left : List (Option ℕ)) (i : ℕ) where
   -- the parts are gone over as far as these
   abbrev pub Seeking : Type 0
   Seeking =
-      (cut_at (take (length left) parts) (drop (length left) parts) i ≡ cut_at [] parts i) × (left ≡ map own (take (length left) parts))
+      (cut_at (take (length left) parts) (drop (length left) parts) i ≡ cut_at [] parts i) × (left ≡ map own_instance_of (take (length left) parts))
 
   pub seek_none : None ≡ slice_get parts (length left) → Seeking → AreLeft left parts i
   seek_none e s =
@@ -102,7 +102,7 @@ module _ (parts : List Part) (left : List (Option ℕ)) (i : ℕ) where
         s.1,
       )
 
-  pub seek_here : (x : Part) → Some x ≡ slice_get parts (length left) → is_this (own x) i ≡ true → Seeking → AreLeft left parts i
+  pub seek_here : (x : Part) → Some x ≡ slice_get parts (length left) → is_this (own_instance_of x) i ≡ true → Seeking → AreLeft left parts i
   seek_here x e t s =
       let begins : drop (length left) parts ≡ x ∷ drop (suc (length left)) parts = drop_more parts (length left) x e in (
         sym s.0 ∙ ap (λ (ps : List Part). cut_at (take (length left) parts) ps i) begins
@@ -112,7 +112,7 @@ module _ (parts : List Part) (left : List (Option ℕ)) (i : ℕ) where
       )
 
 module _ (parts : List Part) (left : List (Option ℕ)) (i : ℕ) where
-  pub seek_more : (x : Part) (o : Option ℕ) → Some x ≡ slice_get parts (length left) → is_this (own x) i ≡ false → o ≡ own x → Seeking parts left i → Seeking parts (left ++ o ∷ []) i
+  pub seek_more : (x : Part) (o : Option ℕ) → Some x ≡ slice_get parts (length left) → is_this (own_instance_of x) i ≡ false → o ≡ own_instance_of x → Seeking parts left i → Seeking parts (left ++ o ∷ []) i
   seek_more x o e t f s =
       let begins : drop (length left) parts ≡ x ∷ drop (suc (length left)) parts = drop_more parts (length left) x e in
       let more : take (suc (length left)) parts ≡ take (length left) parts ++ x ∷ [] = take_more parts (length left) x e in (
@@ -122,10 +122,10 @@ module _ (parts : List Part) (left : List (Option ℕ)) (i : ℕ) where
             ∙ ap (λ (ps : List Part). cut_at (take (length left) parts) ps i) (sym begins)
             ∙ s.0,
         ap (λ (p : Option ℕ). left ++ p ∷ []) f
-            ∙ ap (λ (os : List (Option ℕ)). os ++ own x ∷ []) s.1
-            ∙ sym (map_append own (take (length left) parts) x)
-            ∙ ap (map own) (sym more)
-            ∙ ap (λ (k : ℕ). map own (take k parts)) (sym (longer left o)),
+            ∙ ap (λ (os : List (Option ℕ)). os ++ own_instance_of x ∷ []) s.1
+            ∙ sym (map_append own_instance_of (take (length left) parts) x)
+            ∙ ap (map own_instance_of) (sym more)
+            ∙ ap (λ (k : ℕ). map own_instance_of (take k parts)) (sym (longer left o)),
       )
 
 pub past_none : {A : Type 0} (o : Option A) → None ≡ o → true ≡ is_nothing o

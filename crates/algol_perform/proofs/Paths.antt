@@ -3,7 +3,7 @@ use Rattle.std.proofs.Common.{arith, ◌≡◌, ◌⊎◌, inl, inr, refl, ℕ, 
 use Rattle.std.specs.Prelude.{nat_lt}
 use Rattle.std.proofs.lemmas.Bool.Decides.{nat_tests}
 use Rattle.algol_meaning.specs.World.{Instance, or_no_instance, World, instance_at, process_at}
-use Rattle.algol_meaning.specs.Critical.{NumberedInstance, newest_first, first_on_path, is_one_of, is_this}
+use Rattle.algol_meaning.specs.Critical.{NumberedInstance, newest_first, first_on_path, process_is_one_of, is_this}
 use Rattle.algol_perform.specs.Path.{critical_below, is_own, newer_own, newest_own}
 
 pub ruleset referring = append_assoc
@@ -102,21 +102,21 @@ module _ (w : World) (p : ℕ) (below : ℕ) where
   found_step :
       (newest n m r : ℕ) (ns : List ℕ)
       → ((newest < n) × (n < below) × (is_own w p n ≡ true) × (m ≡ n)) ⊎ ((m ≡ newest) × (newest < n → n < below → is_own w p n ≡ false))
-      → newest < r → m ≤ r → (m < r → (r < below) × (is_own w p r ≡ true) × (is_one_of ns r ≡ true))
-      → (r < below) × (is_own w p r ≡ true) × (((n == r) || is_one_of ns r) ≡ true)
+      → newest < r → m ≤ r → (m < r → (r < below) × (is_own w p r ≡ true) × (process_is_one_of ns r ≡ true))
+      → (r < below) × (is_own w p r ≡ true) × (((n == r) || process_is_one_of ns r) ≡ true)
   found_step newest n m r ns s l t h = by (nat_lt m r) refl s
     where
       by :
           (b : Bool) → nat_lt m r ≡ b
           → ((newest < n) × (n < below) × (is_own w p n ≡ true) × (m ≡ n)) ⊎ ((m ≡ newest) × (newest < n → n < below → is_own w p n ≡ false))
-          → (r < below) × (is_own w p r ≡ true) × (((n == r) || is_one_of ns r) ≡ true)
-      by true e s = let g = h (under m r e) in (g.0, g.1, or_right (n == r) (is_one_of ns r) g.2)
+          → (r < below) × (is_own w p r ≡ true) × (((n == r) || process_is_one_of ns r) ≡ true)
+      by true e s = let g = h (under m r e) in (g.0, g.1, or_right (n == r) (process_is_one_of ns r) g.2)
       by false e (inl (a, b, own, q)) =
           let u : r ≤ m = above m r e in
           let v : r ≡ n = omega arith in (
             omega arith,
             ap (is_own w p) v ∙ own,
-            ap (λ (k : ℕ). (n == k) || is_one_of ns k) v ∙ ap (λ (t : Bool). t || is_one_of ns n) (itself n),
+            ap (λ (k : ℕ). (n == k) || process_is_one_of ns k) v ∙ ap (λ (t : Bool). t || process_is_one_of ns n) (itself n),
           )
       by false e (inr (q, f)) = let u : r ≤ m = above m r e in absurd (omega arith)
 
@@ -124,7 +124,7 @@ module _ (w : World) (p : ℕ) (below : ℕ) where
   found :
       (newest : ℕ) (ns : List ℕ) → newest < newest_own w p below newest ns
       → (newest_own w p below newest ns < below) × (is_own w p (newest_own w p below newest ns) ≡ true)
-      × (is_one_of ns (newest_own w p below newest ns) ≡ true)
+      × (process_is_one_of ns (newest_own w p below newest ns) ≡ true)
   found newest [] l = absurd (omega arith)
   found newest (n ∷ ns) l =
       found_step newest n (newer_own w p below newest n) (newest_own w p below (newer_own w p below newest n) ns) ns (newer_so newest n) l
@@ -133,13 +133,13 @@ module _ (w : World) (p : ℕ) (below : ℕ) where
   others_step :
       (newest n m r j : ℕ) (ns : List ℕ)
       → ((newest < n) × (n < below) × (is_own w p n ≡ true) × (m ≡ n)) ⊎ ((m ≡ newest) × (newest < n → n < below → is_own w p n ≡ false))
-      → m ≤ r → r < j → j < below → (is_own w p j && is_one_of ns j) ≡ false → (is_own w p j && ((n == j) || is_one_of ns j)) ≡ false
+      → m ≤ r → r < j → j < below → (is_own w p j && process_is_one_of ns j) ≡ false → (is_own w p j && ((n == j) || process_is_one_of ns j)) ≡ false
   others_step newest n m r j ns s t l k h = by (n == j) refl s
     where
       by :
           (b : Bool) → (n == j) ≡ b
           → ((newest < n) × (n < below) × (is_own w p n ≡ true) × (m ≡ n)) ⊎ ((m ≡ newest) × (newest < n → n < below → is_own w p n ≡ false))
-          → (is_own w p j && (b || is_one_of ns j)) ≡ false
+          → (is_own w p j && (b || process_is_one_of ns j)) ≡ false
       by true e (inl (a, b, own, q)) = let v : n ≡ j = same_number n j e in absurd (omega arith)
       by true e (inr (q, f)) =
           let v : n ≡ j = same_number n j e in
@@ -148,7 +148,7 @@ module _ (w : World) (p : ℕ) (below : ℕ) where
 
   -- none of these that is its own is newer
   others :
-      (newest : ℕ) (ns : List ℕ) (j : ℕ) → newest_own w p below newest ns < j → j < below → (is_own w p j && is_one_of ns j) ≡ false
+      (newest : ℕ) (ns : List ℕ) (j : ℕ) → newest_own w p below newest ns < j → j < below → (is_own w p j && process_is_one_of ns j) ≡ false
   others newest [] j l k = never (is_own w p j)
   others newest (n ∷ ns) j l k =
       others_step newest n (newer_own w p below newest n) (newest_own w p below (newer_own w p below newest n) ns) j ns (newer_so newest n)
@@ -191,7 +191,7 @@ module _ (w : World) (wanted : List ℕ) where
       (k from : ℕ) → k < length w.instances
       → walk (suc k) from
       ≡ (if is_own w from (suc k) || is_this ((process_at w from).critical) (suc k)
-      then (if is_one_of wanted (suc k) then suc k else walk k ((instance_at w (suc k)).process)) else walk k from)
+      then (if process_is_one_of wanted (suc k) then suc k else walk k ((instance_at w (suc k)).process)) else walk k from)
   step k from l = ap (λ (ns : List NumberedInstance). first_on_path w ns from wanted) (newest_step w.instances k l)
 
   passed :
@@ -215,17 +215,17 @@ module _ (w : World) (wanted : List ℕ) where
   module _ (from : ℕ) where
     pass :
         (k : ℕ) → k < length w.instances → is_this ((process_at w from).critical) (suc k) ≡ false
-        → (is_own w from (suc k) && is_one_of wanted (suc k)) ≡ false → walk (suc k) from ≡ walk k from
+        → (is_own w from (suc k) && process_is_one_of wanted (suc k)) ≡ false → walk (suc k) from ≡ walk k from
     pass k l e f =
         step k from l
-        ∙ passed (is_own w from (suc k)) (is_this ((process_at w from).critical) (suc k)) (is_one_of wanted (suc k)) (suc k)
+        ∙ passed (is_own w from (suc k)) (is_this ((process_at w from).critical) (suc k)) (process_is_one_of wanted (suc k)) (suc k)
         (walk k ((instance_at w (suc k)).process)) (walk k from) e f
         (λ own. ap (walk k) (own_process ((instance_at w (suc k)).process) from ((instance_at w (suc k)).left) own))
 
     -- the walk down over instances that neither it stops at nor leaves the stack by
     pass_all :
         (m k n : ℕ) → n ≡ k + m → n ≤ length w.instances
-        → ((j : ℕ) → m < j → j ≤ n → (is_this ((process_at w from).critical) j ≡ false) × ((is_own w from j && is_one_of wanted j) ≡ false))
+        → ((j : ℕ) → m < j → j ≤ n → (is_this ((process_at w from).critical) j ≡ false) × ((is_own w from j && process_is_one_of wanted j) ≡ false))
         → walk n from ≡ walk m from
     pass_all m zero n e l q = let f : n ≡ m = omega arith in ap (λ (j : ℕ). walk j from) f
     pass_all m (suc k) zero e l q = absurd (omega arith)
@@ -235,21 +235,21 @@ module _ (w : World) (wanted : List ℕ) where
 
     stop_at :
         (n : ℕ) → 0 < n → n ≤ length w.instances → (is_own w from n || is_this ((process_at w from).critical) n) ≡ true
-        → is_one_of wanted n ≡ true → walk n from ≡ n
+        → process_is_one_of wanted n ≡ true → walk n from ≡ n
     stop_at zero z l e f = absurd (omega arith)
     stop_at (suc k) z l e f =
         step k from (omega arith)
-        ∙ stops (is_own w from (suc k) || is_this ((process_at w from).critical) (suc k)) (is_one_of wanted (suc k)) (suc k)
+        ∙ stops (is_own w from (suc k) || is_this ((process_at w from).critical) (suc k)) (process_is_one_of wanted (suc k)) (suc k)
         (walk k ((instance_at w (suc k)).process)) (walk k from) e f
 
     turn_at :
         (n : ℕ) → 0 < n → n ≤ length w.instances → (is_own w from n || is_this ((process_at w from).critical) n) ≡ true
-        → is_one_of wanted n ≡ false → walk n from ≡ walk (n - 1) ((instance_at w n).process)
+        → process_is_one_of wanted n ≡ false → walk n from ≡ walk (n - 1) ((instance_at w n).process)
     turn_at zero z l e f = absurd (omega arith)
     turn_at (suc k) z l e f =
         let same : k ≡ suc k - 1 = omega arith in
         step k from (omega arith)
-        ∙ turns (is_own w from (suc k) || is_this ((process_at w from).critical) (suc k)) (is_one_of wanted (suc k)) (suc k)
+        ∙ turns (is_own w from (suc k) || is_this ((process_at w from).critical) (suc k)) (process_is_one_of wanted (suc k)) (suc k)
         (walk k ((instance_at w (suc k)).process)) (walk k from) e f
         ∙ ap (λ (j : ℕ). walk j ((instance_at w (suc k)).process)) same
 
@@ -275,7 +275,7 @@ module _ (w : World) (wanted : List ℕ) where
       critical_on : 0 < c → (is_own w from c || is_this ((process_at w from).critical) c) ≡ true
       critical_on z = or_right (is_own w from c) (is_this ((process_at w from).critical) c) (critical_is ((process_at w from).critical) below c is z)
 
-      pub path_ends : newest_own w from below c wanted ≤ c → is_one_of wanted c ≡ true → walk (below - 1) from ≡ c
+      pub path_ends : newest_own w from below c wanted ≤ c → process_is_one_of wanted c ≡ true → walk (below - 1) from ≡ c
       path_ends l e = down l ∙ by (nat_lt 0 c) refl
         where
           by : (t : Bool) → nat_lt 0 c ≡ t → walk c from ≡ c
@@ -285,7 +285,7 @@ module _ (w : World) (wanted : List ℕ) where
           by false f = let u : c ≤ 0 = above 0 c f in let z : c ≡ 0 = omega arith in ap (λ (j : ℕ). walk j from) z ∙ sym z
 
       pub path_goes_on :
-          newest_own w from below c wanted ≤ c → is_one_of wanted c ≡ false
+          newest_own w from below c wanted ≤ c → process_is_one_of wanted c ≡ false
           → walk (below - 1) from ≡ walk (c - 1) ((instance_at w c).process)
       path_goes_on l e = down l ∙ by (nat_lt 0 c) refl
         where

@@ -16,7 +16,7 @@ use Rattle.algol_world.specs.SeenWorld as views
 use Rattle.algol_world.specs.Going.{going, resumed}
 use Rattle.algol_world.specs.Leaving.{is_nil}
 use Rattle.algol_effect.specs.declared.effect.Effect.TheVariants as effects
-use Rattle.algol_perform.specs.Making.{with_instance_of, part_of, with_process_of}
+use Rattle.algol_perform.specs.Making.{with_instance_of, part_of_purpose, with_process_of}
 use Rattle.algol_perform.specs.Performing.{performed, performed_by}
 use Rattle.algol_world.proofs.Deeds.{one_of_these}
 
@@ -34,7 +34,7 @@ module _ (sc : Scopes) (w : World) (p : ℕ) where
 
   abbrev grown : ℕ → ℕ → List Cell → Option Reference → World
   grown j parent cells task =
-      with_process_of (with_instance_of sc w j parent (length w.processes + 1) (map seen.cell cells)) (part_of sc w j world.started)
+      with_process_of (with_instance_of sc w j parent (length w.processes + 1) (map seen.cell cells)) (part_of_purpose sc w j world.started)
       (Some (critical_for parent cells task)) (views.task task)
 
   stays :
@@ -50,7 +50,7 @@ module _ (sc : Scopes) (w : World) (p : ℕ) where
         world =
             going
             sc
-            (with_process_of (with_instance_of sc w j parent (length w.processes + 1) (map seen.cell cells.items)) (part_of sc w j world.started)
+            (with_process_of (with_instance_of sc w j parent (length w.processes + 1) (map seen.cell cells.items)) (part_of_purpose sc w j world.started)
             (Some
             (first_on_path w (newest_first 1 w.instances []) p (parent ∷ referred_by (map seen.cell cells.items) ++ referred_by_task (views.task task))))
             (views.task task))
@@ -87,7 +87,7 @@ module _ (sc : Scopes) (w : World) (p : ℕ) where
   started_world j parent cells task n critical =
       going
       sc
-      (with_process_of (with_instance_of sc w j parent (n + 1) (map seen.cell cells.items)) (part_of sc w j world.started) (Some critical)
+      (with_process_of (with_instance_of sc w j parent (n + 1) (map seen.cell cells.items)) (part_of_purpose sc w j world.started) (Some critical)
       (views.task task))
       p
       rest.done
@@ -99,7 +99,7 @@ module _ (sc : Scopes) (w : World) (p : ℕ) where
       → after
       ≡ going
       sc
-      (with_process_of (with_instance_of sc w j parent (count + 1) (map seen.cell cells.items)) (part_of sc w j world.started) (Some critical)
+      (with_process_of (with_instance_of sc w j parent (count + 1) (map seen.cell cells.items)) (part_of_purpose sc w j world.started) (Some critical)
       (views.task task))
       p
       rest.done

@@ -11,7 +11,7 @@ use Rattle.algol_meaning.specs.Instances.{cut_at}
 use Rattle.algol_meaning.specs.Choice as choices
 use Rattle.algol_meaning.specs.Choice.{Choice}
 use Rattle.algol_world.specs.SeenWorld as views
-use Rattle.algol_world.specs.Going.{chosen}
+use Rattle.algol_world.specs.Going.{action_chosen}
 use Rattle.algol_world.specs.declared.world.Part as code
 
 abbrev pub part_or_none : Scopes → Option (Bor code.Part) → Option Part
@@ -24,8 +24,8 @@ instance_in [] = 0
 instance_in (part ∷ outer) = part.instance
 
 -- the instance that a part has for itself: the evaluation of a name has none
-abbrev pub own : Part → Option ℕ
-own part = if is_evaluation part.purpose then None else Some part.instance
+abbrev pub own_instance_of : Part → Option ℕ
+own_instance_of part = if is_evaluation part.purpose then None else Some part.instance
 
 abbrev pub own_in : code.Part → Option ℕ
 own_in part = if is_evaluation (views.purpose part.purpose) then None else Some part.instance
@@ -39,7 +39,7 @@ owned (Some i ∷ is) = i ∷ owned is
 abbrev pub AreLeft : List (Option ℕ) → List Part → ℕ → Type 0
 AreLeft left parts i =
     (cut_at [] parts i ≡ record { newer = take (length left) parts; from = drop (length left) parts })
-    × (left ≡ map own (take (length left) parts))
+    × (left ≡ map own_instance_of (take (length left) parts))
 
 -- the innermost part has this still to do; nothing where there is none
 abbrev pub redirected : List Part → Rest → List Part
@@ -52,7 +52,7 @@ going_back w p left rest = with_process w p (record (process_at w p) { todo = re
 
 module _ (sc : Scopes) (w : World) (p : ℕ) where
   abbrev pub going_by : Process → List Part → Named → ℕ → Choice
-  going_by q [] n i = chosen actions.Fault w
+  going_by q [] n i = action_chosen actions.Fault w
   going_by q (part ∷ outer) n i = choices.goes_to sc w p q part outer n i
 
   -- GO TO the label in the block of instance i
@@ -60,7 +60,7 @@ module _ (sc : Scopes) (w : World) (p : ℕ) where
   going_to n i = going_by (process_at w p) ((process_at w p).todo) n i
 
   abbrev pub making_by : Process → List Part → Named → Choice
-  making_by q [] n = chosen actions.Fault w
+  making_by q [] n = action_chosen actions.Fault w
   making_by q (part ∷ outer) n = choices.made_event sc w p q part outer n
 
   -- the making of an event

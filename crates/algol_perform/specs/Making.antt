@@ -32,8 +32,8 @@ module _ (sc : Scopes) where
       }
 
   -- the part that goes on in the next instance
-  abbrev pub part_of : World → ℕ → Purpose → Part
-  part_of w block purpose =
+  abbrev pub part_of_purpose : World → ℕ → Purpose → Part
+  part_of_purpose w block purpose =
       record { instance = length w.instances + 1; purpose = purpose; rest = settle_items sc (items_of (block_numbered sc.blocks block)) }
 
 -- one more process, with that part only

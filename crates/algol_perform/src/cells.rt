@@ -5,7 +5,7 @@ ghost use Rattle.algol_meaning.specs.Value.{initial_value};
 ghost use Rattle.algol_meaning.specs.Instances as instances;
 ghost use Rattle.algol_meaning.specs.SeenTree.{decl, decls};
 ghost use Rattle.algol_cells.specs.SeenValue.{value};
-ghost use Rattle.algol_cells.specs.Shown.{shown};
+ghost use Rattle.algol_cells.specs.Shown.{shown_cell};
 ghost use Rattle.algol_cells.specs.SeenCell as seen;
 ghost use Rattle.algol_cells.specs.SeenScope.{parameter, block};
 ghost use Rattle.algol_instances.specs.SeenInstance.{named_cells};
@@ -28,7 +28,7 @@ fn initial(kind: Kind) -> Value
 
 /// The parameter of that number, none where there are not so many.
 fn parameter_at<'a, 'p>(parameters: &'a [Parameter<'p>], number: usize) -> Option<&'a Parameter<'p>>
-    ensures { shown result ≡ slice_get parameters.now number }
+    ensures { shown_cell result ≡ slice_get parameters.now number }
 {
     parameters.get(number)
 }

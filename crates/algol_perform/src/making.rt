@@ -14,7 +14,7 @@ ghost use Rattle.algol_world.specs.SeenWorld.{world_of, process_of};
 ghost use Rattle.algol_world.specs.SeenActed.{acted_choice};
 ghost use Rattle.algol_world.specs.Leaving.{is_nil};
 ghost use Rattle.algol_effect.specs.declared.effect.Effect.TheVariants as effects;
-ghost use Rattle.algol_perform.specs.Making.{with_instance_of, part_of, with_process_of};
+ghost use Rattle.algol_perform.specs.Making.{with_instance_of, part_of_purpose, with_process_of};
 ghost use Rattle.algol_perform.specs.Performing.{performed};
 
 use crate::cells::fresh_cells;
@@ -118,7 +118,7 @@ pub fn part_in<'p>(
     number: usize,
     purpose: Purpose,
 ) -> Result<Part<'p>, AllocError>
-    ensures { IfOk result (λ x. views.part (scoped world.now.scopes) x ≡ part_of (scoped world.now.scopes) (world_of world.now) number (views.purpose purpose)) }
+    ensures { IfOk result (λ x. views.part (scoped world.now.scopes) x ≡ part_of_purpose (scoped world.now.scopes) (world_of world.now) number (views.purpose purpose)) }
 {
     let rest = rest_of(&world.scopes, alloc, number)?;
     Ok(Part {

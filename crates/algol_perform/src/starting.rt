@@ -68,7 +68,7 @@ fn referred(
 
 /// Tests that a number is one of these.
 fn is_one_of(numbers: &[usize], number: usize) -> bool
-    ensures { result ≡ critical.is_one_of numbers.now number }
+    ensures { result ≡ critical.process_is_one_of numbers.now number }
 {
     'asking: for n in numbers {
         if *n == number {

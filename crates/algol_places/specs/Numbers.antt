@@ -8,5 +8,5 @@ abbrev pub number_from : ℕ → List Spot → Spot → Option ℕ
 number_from k [] spot = None
 number_from k (p ∷ ps) spot = if same_spot p spot then Some k else number_from (k + 1) ps spot
 
-abbrev pub number_of : List Spot → Spot → Option ℕ
-number_of ps spot = number_from 0 ps spot
+abbrev pub place_number_of : List Spot → Spot → Option ℕ
+place_number_of ps spot = number_from 0 ps spot

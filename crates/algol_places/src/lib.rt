@@ -2,8 +2,8 @@
 #![tactic(auto)]
 
 ghost use Rattle.std.specs.Prelude.{◌≡◌, IfOk, drop};
-ghost use Rattle.algol_places.specs.Numbers.{number_of};
-ghost use Rattle.algol_places.specs.Numbered.{Numbers};
+ghost use Rattle.algol_places.specs.Numbers.{place_number_of};
+ghost use Rattle.algol_places.specs.Numbered.{PlaceNumbers};
 
 use algol_tree::Spot;
 use std::alloc::{AllocError, Global};
@@ -20,18 +20,18 @@ pub struct Places {
 impl Model for Places {
     ghost use Rattle.std.specs.Prelude.{List};
     ghost use Rattle.algol_tree.specs.declared.token.Spot.{Spot};
-    ghost use Rattle.algol_places.specs.Numbered.{Numbers};
+    ghost use Rattle.algol_places.specs.Numbered.{PlaceNumbers};
 
     ghost Value = { List Spot };
 
     ghost view = { λ p. p.spots.items };
 
-    ghost invariant = { λ p. Numbers p.numbers 0 p.spots.items };
+    ghost invariant = { λ p. PlaceNumbers p.numbers 0 p.spots.items };
 }
 
 /// The number of the first at each place.
 fn numbers_of(alloc: Global, spots: &[Spot]) -> Result<BTreeMap<Spot, usize>, AllocError>
-    ensures { IfOk result (λ numbers. Numbers numbers 0 spots.now) }
+    ensures { IfOk result (λ numbers. PlaceNumbers numbers 0 spots.now) }
 {
     let mut numbers = BTreeMap::new(alloc);
     for number in (0..spots.len()).rev() {
@@ -51,7 +51,7 @@ impl Places {
 
     /// The number of the first that is equal to this place, from 0; none where there is none.
     pub fn number_of(&self, spot: Spot) -> Option<usize>
-        ensures { result ≡ number_of self.now spot }
+        ensures { result ≡ place_number_of self.now spot }
     {
         self.numbers.get(&spot).copied()
     }

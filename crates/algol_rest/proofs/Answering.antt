@@ -10,7 +10,7 @@ use Rattle.algol_tree.specs.declared.tree.Named.{Named}
 use Rattle.algol_tree.specs.declared.tree.Stmt.{Stmt}
 use Rattle.algol_meaning.specs.Value as plain
 use Rattle.algol_meaning.specs.Rest.{Hole, Half, Actuals, Aim, Item, Answer, busy, wants, aims}
-use Rattle.algol_meaning.specs.Settle.{put, put_actuals, put_place}
+use Rattle.algol_meaning.specs.Settle.{answer_put, put_actuals, put_place}
 use Rattle.algol_meaning.specs.Statements.{settle_items}
 use Rattle.algol_meaning.specs.Asks.{resume, nth_stmt}
 use Rattle.algol_meaning.specs.SeenTree.{stmt, stmts}
@@ -83,7 +83,7 @@ module _ (sc : Scopes) where
 
   pub resume-tested :
       (s : PStmt) (h : Hole) (k : List Item) (a : Answer)
-      → resume sc (tested sc s (busy h) k) a ≡ tested sc s (put sc h a) k
+      → resume sc (tested sc s (busy h) k) a ≡ tested sc s (answer_put sc h a) k
   resume-tested tree.empty h k a = refl
   resume-tested (tree.label n s) h k a = refl
   resume-tested (tree.assign v e) h k a = refl
@@ -103,7 +103,7 @@ module _ (sc : Scopes) where
 
   pub resume-stepped :
       (d : plain.Value) (s : PStmt) (h : Hole) (k : List Item) (a : Answer)
-      → resume sc (stepped_by sc d s (busy h) k) a ≡ stepped_by sc d s (put sc h a) k
+      → resume sc (stepped_by sc d s (busy h) k) a ≡ stepped_by sc d s (answer_put sc h a) k
   resume-stepped d tree.empty h k a = refl
   resume-stepped d (tree.label n s) h k a = refl
   resume-stepped d (tree.assign v e) h k a = refl
@@ -122,7 +122,7 @@ module _ (sc : Scopes) where
   resume-stepped d (tree.write n spot phrases es) h k a = refl
 
   pub resume-held :
-      (w : Within) (h : Hole) (k : List Item) (a : Answer) → resume sc (held sc w (busy h) k) a ≡ held sc w (put sc h a) k
+      (w : Within) (h : Hole) (k : List Item) (a : Answer) → resume sc (held sc w (busy h) k) a ≡ held sc w (answer_put sc h a) k
   resume-held within.Evaluating h k a = refl
   resume-held (within.Storing p) h k a = refl
   resume-held (within.Testing s) h k a = resume-tested _ h k a
@@ -134,7 +134,7 @@ module _ (sc : Scopes) where
 
   pub resume-in :
       (h : Head) (w : Within) (fs : List Frame) (k : List Item) (a : Answer)
-      → resume sc (held sc w (busy (wrap sc fs (hole sc h))) k) a ≡ held sc w (refilled sc fs (put sc (hole sc h) a)) k
+      → resume sc (held sc w (busy (wrap sc fs (hole sc h))) k) a ≡ held sc w (refilled sc fs (answer_put sc (hole sc h) a)) k
   resume-in h w fs k a =
       resume-held w (wrap sc fs (hole sc h)) k a ∙ ap (λ (x : Half). held sc w x k) (put-wrap sc fs (hole sc h) a)
 

@@ -66,14 +66,14 @@ following [] = []
 following (n ∷ k) = item n (following k)
 
 -- the statement begins with an action, or with what an action needs
-abbrev pub is_action : PStmt → Bool
-is_action (tree.assign v e) = true
-is_action (tree.call_of c) = true
-is_action (tree.go_to n) = true
-is_action (tree.process c task) = true
-is_action (tree.event act e) = true
-is_action (tree.write n spot phrases es) = true
-is_action _ = false
+abbrev pub begins_action : PStmt → Bool
+begins_action (tree.assign v e) = true
+begins_action (tree.call_of c) = true
+begins_action (tree.go_to n) = true
+begins_action (tree.process c task) = true
+begins_action (tree.event act e) = true
+begins_action (tree.write n spot phrases es) = true
+begins_action _ = false
 
 -- ---- what an expression is evaluated for
 
@@ -225,10 +225,10 @@ ahead w = following w.todo
 
 module _ (sc : Scopes) where
   -- a head is found
-  abbrev pub Finds : Rest → Work → Type 0
-  Finds x w = x ≡ rest_of sc w.point.value w.frames w.todo
+  abbrev pub HeadFinds : Rest → Work → Type 0
+  HeadFinds x w = x ≡ rest_of sc w.point.value w.frames w.todo
 
   -- One silent step: either a head is found, or less is left to do, and it comes to the same.
   abbrev pub Advances : Rest → ℕ → Bool → Work → Type 0
   Advances x bound false w = (x ≡ settle_items sc (following w.todo)) × (w.frames ≡ []) × (weigh w.todo < bound)
-  Advances x bound true w = Finds x w
+  Advances x bound true w = HeadFinds x w

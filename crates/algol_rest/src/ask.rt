@@ -6,7 +6,7 @@ ghost use Rattle.algol_meaning.specs.Rest as rest;
 ghost use Rattle.algol_meaning.specs.Asks as asks;
 ghost use Rattle.algol_rest_expr.specs.SeenExpression.{hole};
 ghost use Rattle.algol_rest.specs.SeenStatement.{deed_at, last_at, target_at, rest_of};
-ghost use Rattle.algol_rest.specs.SeenRest.{asked};
+ghost use Rattle.algol_rest.specs.SeenRest.{rest_asked};
 ghost use Rattle.algol_rest_expr.specs.declared.part.Frame.{Frame};
 ghost use Rattle.algol_rest.specs.declared.statement.Next.{Next};
 
@@ -61,7 +61,7 @@ pub enum Ask<'a, 'p> {
 
 /// What the head of an expression asks for.
 fn ask_head<'a, 'p>(head: &'a Head<'p>) -> Ask<'a, 'p>
-    ensures { (sc : scoping.Scopes) → asked result ≡ asks.ask_hole (hole sc head.now) }
+    ensures { (sc : scoping.Scopes) → rest_asked result ≡ asks.ask_hole (hole sc head.now) }
 {
     match head {
         Head::Read(n) => Ask::Reads(*n),
@@ -78,7 +78,7 @@ fn ask_head<'a, 'p>(head: &'a Head<'p>) -> Ask<'a, 'p>
 impl<'p> Target<'p> {
     /// What the head of a place asks for.
     fn ask<'a>(&'a self) -> Ask<'a, 'p>
-        ensures { asked result ≡ asks.ask_aim (target_at self.now) }
+        ensures { rest_asked result ≡ asks.ask_aim (target_at self.now) }
     {
         match self {
             Target::Resolve(n) => Ask::Resolves(*n),
@@ -91,7 +91,7 @@ impl<'p> Target<'p> {
 impl<'p> Deed<'p> {
     /// What a head asks for around which no expression stands.
     fn ask<'a>(&'a self) -> Ask<'a, 'p>
-        ensures { (k : List rest.Item) → asked result ≡ asks.ask (deed_at self.now k) }
+        ensures { (k : List rest.Item) → rest_asked result ≡ asks.ask (deed_at self.now k) }
     {
         match self {
             Deed::Store(to, v) => Ask::Stores(to, *v),
@@ -111,7 +111,7 @@ impl<'p> Deed<'p> {
 impl<'p> Last<'p> {
     /// What a head asks for at which the part stays.
     fn ask<'a>(&'a self) -> Ask<'a, 'p>
-        ensures { asked result ≡ asks.ask (last_at self.now) }
+        ensures { rest_asked result ≡ asks.ask (last_at self.now) }
     {
         match self {
             Last::Over => Ask::Leaves,
@@ -126,7 +126,7 @@ impl<'p> Point<'p> {
     /// What the head of a part asks for that stands there.
     #[tactic(auto, using(crate::proofs::Asking::ask_laws))]
     pub fn ask<'a>(&'a self) -> Ask<'a, 'p>
-        ensures { (sc : scoping.Scopes) (fs : List Frame) (k : List Next) → asked result ≡ asks.ask (rest_of sc self.now fs k) }
+        ensures { (sc : scoping.Scopes) (fs : List Frame) (k : List Next) → rest_asked result ≡ asks.ask (rest_of sc self.now fs k) }
     {
         match self {
             Point::Last(last) => last.ask(),

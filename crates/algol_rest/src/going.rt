@@ -8,7 +8,7 @@ ghost use Rattle.algol_meaning.specs.Statements.{decl_items, decls_items, settle
 ghost use Rattle.algol_meaning.specs.SeenTree.{expr, stmt, decl, decls};
 ghost use Rattle.algol_cells.specs.SeenScope.{scoped};
 ghost use Rattle.algol_rest_expr.specs.SeenExpression.{refilled, half};
-ghost use Rattle.algol_rest.specs.SeenStatement.{ahead, item, again_item, Finds, Advances, is_action, held, stmt_size, again_size, decl_size, decls_size, weigh};
+ghost use Rattle.algol_rest.specs.SeenStatement.{ahead, item, again_item, HeadFinds, Advances, begins_action, held, stmt_size, again_size, decl_size, decls_size, weigh};
 ghost use Rattle.algol_rest.specs.declared.statement.Again.TheVariants as again;
 
 use crate::standing::{no_values, stand};
@@ -60,8 +60,8 @@ impl<'p> Work<'p> {
     /// A statement that begins with an action, or with what an action needs.
     fn act(&mut self, alloc: Global, scopes: &Scopes<'p>, s: &'p Stmt) -> Result<(), AllocError>
         requires empty { self.old.frames ≡ [] }
-        requires action { is_action (stmt s.now) ≡ true }
-        ensures { IfOk result (λ _. Finds (scoped scopes.now) (settle_items (scoped scopes.now) (rest.run (stmt s.now) ∷ ahead self.old)) self.new) }
+        requires action { begins_action (stmt s.now) ≡ true }
+        ensures { IfOk result (λ _. HeadFinds (scoped scopes.now) (settle_items (scoped scopes.now) (rest.run (stmt s.now) ∷ ahead self.old)) self.new) }
     {
         match s {
             Stmt::Assign(v, e) => {
@@ -109,7 +109,7 @@ impl<'p> Work<'p> {
         first: &'p Expr,
     ) -> Result<(), AllocError>
         requires { self.old.frames ≡ [] }
-        ensures { (step last : tree.PExpr) (b : tree.PStmt) → stmt s.now ≡ tree.for n.now (expr first.now) step last b → IfOk result (λ _. Finds (scoped scopes.now) (settle_items (scoped scopes.now) (rest.run (tree.for n.now (expr first.now) step last b) ∷ ahead self.old)) self.new) }
+        ensures { (step last : tree.PExpr) (b : tree.PStmt) → stmt s.now ≡ tree.for n.now (expr first.now) step last b → IfOk result (λ _. HeadFinds (scoped scopes.now) (settle_items (scoped scopes.now) (rest.run (tree.for n.now (expr first.now) step last b) ∷ ahead self.old)) self.new) }
     {
         self.todo.push(Next::Again(Again::Test, s))?;
         self.aim_alone(alloc, scopes, Sought::Aiming(Right::Expr(first)), n)
@@ -188,7 +188,7 @@ impl<'p> Work<'p> {
     /// The stepping of FOR: its control variable gets the sum of its value and the step.
     fn step(&mut self, alloc: Global, scopes: &Scopes<'p>, s: &'p Stmt) -> Result<(), AllocError>
         requires { self.old.frames ≡ [] }
-        ensures { IfOk result (λ _. Finds (scoped scopes.now) (settle_items (scoped scopes.now) (again_item again.Step (stmt s.now) ∷ ahead self.old)) self.new) }
+        ensures { IfOk result (λ _. HeadFinds (scoped scopes.now) (settle_items (scoped scopes.now) (again_item again.Step (stmt s.now) ∷ ahead self.old)) self.new) }
     {
         match s {
             Stmt::For(n, _, step, _, _) => {
@@ -270,7 +270,7 @@ impl<'p> Work<'p> {
 
     /// All that follows, up to the next head.
     pub fn go_on(&mut self, alloc: Global, scopes: &Scopes<'p>) -> Result<(), AllocError>
-        ensures { IfOk result (λ _. Finds (scoped scopes.now) (settle_items (scoped scopes.now) (ahead self.old)) self.new) }
+        ensures { IfOk result (λ _. HeadFinds (scoped scopes.now) (settle_items (scoped scopes.now) (ahead self.old)) self.new) }
     {
         self.frames.clear();
         'going: while let Some(next) = self.todo.pop() {
@@ -290,7 +290,7 @@ impl<'p> Work<'p> {
         from: Control<'p>,
         within: Within<'p>,
     ) -> Result<(), AllocError>
-        ensures { IfOk result (λ _. Finds (scoped scopes.now) (held (scoped scopes.now) within.entry (refilled (scoped scopes.now) self.old.frames (half (scoped scopes.now) from.entry)) (ahead self.old)) self.new) }
+        ensures { IfOk result (λ _. HeadFinds (scoped scopes.now) (held (scoped scopes.now) within.entry (refilled (scoped scopes.now) self.old.frames (half (scoped scopes.now) from.entry)) (ahead self.old)) self.new) }
     {
         if self.begin_from(alloc, scopes, from, within)? {
             Ok(())

@@ -8,9 +8,9 @@ ghost use Rattle.algol_meaning.specs.Statements.{settle_items, items_of, items_f
 ghost use Rattle.algol_meaning.specs.Asks as asks;
 ghost use Rattle.algol_meaning.specs.SeenTree.{expr, stmt, stmts};
 ghost use Rattle.algol_cells.specs.SeenScope.{scoped, block};
-ghost use Rattle.algol_rest_expr.specs.SeenExpression.{answered};
-ghost use Rattle.algol_rest.specs.SeenStatement.{ahead, Finds};
-ghost use Rattle.algol_rest.specs.SeenRest.{rest, asked};
+ghost use Rattle.algol_rest_expr.specs.SeenExpression.{rest_answered};
+ghost use Rattle.algol_rest.specs.SeenStatement.{ahead, HeadFinds};
+ghost use Rattle.algol_rest.specs.SeenRest.{rest, rest_asked};
 
 use crate::ask::Ask;
 use crate::copying::copy_point;
@@ -92,7 +92,7 @@ impl<'p> Rest<'p> {
 
     /// What the head asks for.
     pub fn ask<'a>(&'a self) -> Ask<'a, 'p>
-        ensures { (sc : scoping.Scopes) → asked result ≡ asks.ask (rest sc self.now) }
+        ensures { (sc : scoping.Scopes) → rest_asked result ≡ asks.ask (rest sc self.now) }
     {
         self.work.point.ask()
     }
@@ -104,7 +104,7 @@ impl<'p> Rest<'p> {
         scopes: &Scopes<'p>,
         answer: Answer<'p>,
     ) -> Result<Rest<'p>, AllocError>
-        ensures { IfOk result (λ r. rest (scoped scopes.now) r ≡ asks.resume (scoped scopes.now) (rest (scoped scopes.now) self.entry) (answered answer.entry)) }
+        ensures { IfOk result (λ r. rest (scoped scopes.now) r ≡ asks.resume (scoped scopes.now) (rest (scoped scopes.now) self.entry) (rest_answered answer.entry)) }
     {
         let Rest { mut work } = self;
         work.resume(alloc, scopes, answer)?;
@@ -170,7 +170,7 @@ impl<'p> Work<'p> {
         entered: &Block<'p>,
     ) -> Result<(), AllocError>
         requires { self.old.todo ≡ [] }
-        ensures { IfOk result (λ _. Finds (scoped scopes.now) (settle_items (scoped scopes.now) (items_of (block entered.now))) self.new) }
+        ensures { IfOk result (λ _. HeadFinds (scoped scopes.now) (settle_items (scoped scopes.now) (items_of (block entered.now))) self.new) }
     {
         self.end(entered)?;
         match entered.stmts {
@@ -190,7 +190,7 @@ impl<'p> Work<'p> {
         label: &Line,
     ) -> Result<(), AllocError>
         requires { self.old.todo ≡ [] }
-        ensures { IfOk result (λ _. Finds (scoped scopes.now) (settle_items (scoped scopes.now) (items_from (block within.now) label.now)) self.new) }
+        ensures { IfOk result (λ _. HeadFinds (scoped scopes.now) (settle_items (scoped scopes.now) (items_from (block within.now) label.now)) self.new) }
     {
         self.end(within)?;
         match within.stmts {
@@ -212,7 +212,7 @@ impl<'p> Work<'p> {
         actual: &'p Expr,
     ) -> Result<(), AllocError>
         requires { self.old.frames ≡ [] }
-        ensures { IfOk result (λ _. Finds (scoped scopes.now) (asks.evaluated_of (settling.settle (scoped scopes.now) (expr actual.now))) self.new) }
+        ensures { IfOk result (λ _. HeadFinds (scoped scopes.now) (asks.evaluated_of (settling.settle (scoped scopes.now) (expr actual.now))) self.new) }
     {
         self.go_on_from(alloc, scopes, Control::Eval(actual), Within::Evaluating)
     }
@@ -225,7 +225,7 @@ impl<'p> Work<'p> {
         actual: &'p Expr,
     ) -> Result<(), AllocError>
         requires { self.old.frames ≡ [] }
-        ensures { IfOk result (λ _. Finds (scoped scopes.now) (asks.located_of (settling.settle_actual_place (scoped scopes.now) (expr actual.now))) self.new) }
+        ensures { IfOk result (λ _. HeadFinds (scoped scopes.now) (asks.located_of (settling.settle_actual_place (scoped scopes.now) (expr actual.now))) self.new) }
     {
         match actual {
             Expr::Variable(v) => {

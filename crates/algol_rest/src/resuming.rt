@@ -12,9 +12,9 @@ ghost use Rattle.algol_meaning.specs.SeenTree.{expr, exprs, stmt, stmts};
 ghost use Rattle.algol_cells.specs.SeenValue.{value};
 ghost use Rattle.algol_cells.specs.SeenScope.{scoped};
 ghost use Rattle.algol_cells.specs.SeenCell.{cell};
-ghost use Rattle.algol_rest_expr.specs.SeenExpression.{answered, all_done, sorts_from, sorts_after, hole, wrap};
+ghost use Rattle.algol_rest_expr.specs.SeenExpression.{rest_answered, all_done, sorts_from, sorts_after, hole, wrap};
 ghost use Rattle.algol_rest.specs.SeenRest.{stmt_or_empty};
-ghost use Rattle.algol_rest.specs.SeenStatement.{ahead, Finds, role_at, sought_at, target_at, held, rest_of};
+ghost use Rattle.algol_rest.specs.SeenStatement.{ahead, HeadFinds, role_at, sought_at, target_at, held, rest_of};
 
 use crate::standing::{leave, stand};
 use crate::statement::{Deed, Next, Point, Role, Sought, Target, Within, Work};
@@ -32,7 +32,7 @@ impl<'p> Work<'p> {
         scopes: &Scopes<'p>,
         answer: Answer<'p>,
     ) -> Result<(), AllocError>
-        ensures { IfOk result (λ _. Finds (scoped scopes.now) (asks.evaluated_of (settling.half_of (answered answer.entry))) self.new) }
+        ensures { IfOk result (λ _. HeadFinds (scoped scopes.now) (asks.evaluated_of (settling.half_of (rest_answered answer.entry))) self.new) }
     {
         self.frames.clear();
         let from = filled(&answer);
@@ -58,7 +58,7 @@ impl<'p> Work<'p> {
         v: Value,
         ss: &'p [Stmt],
     ) -> Result<(), AllocError>
-        ensures { IfOk result (λ _. Finds (scoped scopes.now) (settle_items (scoped scopes.now) (rest.run (asks.nth_stmt (stmts ss.now) (nat_abs (plain.whole_of (value v)))) ∷ ahead self.old)) self.new) }
+        ensures { IfOk result (λ _. HeadFinds (scoped scopes.now) (settle_items (scoped scopes.now) (rest.run (asks.nth_stmt (stmts ss.now) (nat_abs (plain.whole_of (value v)))) ∷ ahead self.old)) self.new) }
     {
         self.push_nth(v, ss)?;
         self.go_on(alloc, scopes)
@@ -71,7 +71,7 @@ impl<'p> Work<'p> {
         scopes: &Scopes<'p>,
         answer: &Answer<'p>,
     ) -> Result<(), AllocError>
-        ensures { IfOk result (λ _. Finds (scoped scopes.now) (asks.inside_or_after (scoped scopes.now) (answered answer.now) (ahead self.old)) self.new) }
+        ensures { IfOk result (λ _. HeadFinds (scoped scopes.now) (asks.inside_or_after (scoped scopes.now) (rest_answered answer.now) (ahead self.old)) self.new) }
     {
         match answer {
             Answer::Entered => {
@@ -90,7 +90,7 @@ impl<'p> Work<'p> {
         n: &'p Named,
         answer: &Answer<'p>,
     ) -> Result<(), AllocError>
-        ensures { IfOk result (λ _. Finds (scoped scopes.now) (asks.called (scoped scopes.now) (settling.is_typed (scoped scopes.now) n.now) (answered answer.now) (ahead self.old)) self.new) }
+        ensures { IfOk result (λ _. HeadFinds (scoped scopes.now) (asks.asks_called (scoped scopes.now) (settling.is_typed (scoped scopes.now) n.now) (rest_answered answer.now) (ahead self.old)) self.new) }
     {
         match answer {
             Answer::Entered => {
@@ -118,7 +118,7 @@ impl<'p> Work<'p> {
         es: &'p [Expr],
         answer: Answer<'p>,
     ) -> Result<(), AllocError>
-        ensures { IfOk result (λ _. Finds (scoped scopes.now) (role_at role.entry n.now (settling.settle_actuals (scoped scopes.now) (exprs es.now) (sorts_after (scoped scopes.now) n.now gs.entry) (all_done gs.entry ++ rest.passed (rest.cell_of (answered answer.entry) (plain.simple (plain.number (pos 0)))) ∷ [])) (ahead self.old)) self.new) }
+        ensures { IfOk result (λ _. HeadFinds (scoped scopes.now) (role_at role.entry n.now (settling.settle_actuals (scoped scopes.now) (exprs es.now) (sorts_after (scoped scopes.now) n.now gs.entry) (all_done gs.entry ++ rest.passed (rest.cell_of_answer (rest_answered answer.entry) (plain.simple (plain.number (pos 0)))) ∷ [])) (ahead self.old)) self.new) }
     {
         self.frames.clear();
         add_given(&mut gs, Given::Passed(cell_of(answer)))?;
@@ -134,7 +134,7 @@ impl<'p> Work<'p> {
         answer: Answer<'p>,
     ) -> Result<(), AllocError>
         requires { self.old.frames ≡ [] }
-        ensures { IfOk result (λ _. Finds (scoped scopes.now) (sought_at (scoped scopes.now) sought.entry (settling.half_place_of (answered answer.entry)) (ahead self.old)) self.new) }
+        ensures { IfOk result (λ _. HeadFinds (scoped scopes.now) (sought_at (scoped scopes.now) sought.entry (settling.half_place_of (rest_answered answer.entry)) (ahead self.old)) self.new) }
     {
         match answer {
             Answer::Place(at) => self.found(alloc, scopes, sought, at),
@@ -157,7 +157,7 @@ impl<'p> Work<'p> {
         answer: Answer<'p>,
     ) -> Result<(), AllocError>
         requires { self.old.frames ≡ [] }
-        ensures { IfOk result (λ _. Finds (scoped scopes.now) (sought_at (scoped scopes.now) sought.entry (settling.indexed_of (scoped scopes.now) n.now (answered answer.entry) (exprs es.now)) (ahead self.old)) self.new) }
+        ensures { IfOk result (λ _. HeadFinds (scoped scopes.now) (sought_at (scoped scopes.now) sought.entry (settling.indexed_of (scoped scopes.now) n.now (rest_answered answer.entry) (exprs es.now)) (ahead self.old)) self.new) }
     {
         match es.split_first() {
             None => self.place(alloc, scopes, sought, answer),
@@ -177,7 +177,7 @@ impl<'p> Work<'p> {
         target: Target<'p>,
         answer: Answer<'p>,
     ) -> Result<(), AllocError>
-        ensures { IfOk result (λ _. Finds (scoped scopes.now) (sought_at (scoped scopes.now) sought.entry (settling.put_place (scoped scopes.now) (target_at target.entry) (answered answer.entry)) (ahead self.old)) self.new) }
+        ensures { IfOk result (λ _. HeadFinds (scoped scopes.now) (sought_at (scoped scopes.now) sought.entry (settling.put_place (scoped scopes.now) (target_at target.entry) (rest_answered answer.entry)) (ahead self.old)) self.new) }
     {
         self.frames.clear();
         match target {
@@ -199,7 +199,7 @@ impl<'p> Work<'p> {
         within: Within<'p>,
         answer: Answer<'p>,
     ) -> Result<(), AllocError>
-        ensures { IfOk result (λ _. Finds (scoped scopes.now) (asks.resume (scoped scopes.now) (held (scoped scopes.now) within.entry (rest.busy (wrap (scoped scopes.now) self.old.frames (hole (scoped scopes.now) head.entry))) (ahead self.old)) (answered answer.entry)) self.new) }
+        ensures { IfOk result (λ _. HeadFinds (scoped scopes.now) (asks.resume (scoped scopes.now) (held (scoped scopes.now) within.entry (rest.busy (wrap (scoped scopes.now) self.old.frames (hole (scoped scopes.now) head.entry))) (ahead self.old)) (rest_answered answer.entry)) self.new) }
     {
         match put(alloc, scopes, head, answer, &mut self.frames) {
             Ok(from) => self.go_on_from(alloc, scopes, from, within),
@@ -219,7 +219,7 @@ impl<'p> Work<'p> {
         point: Point<'p>,
         answer: Answer<'p>,
     ) -> Result<(), AllocError>
-        ensures { IfOk result (λ _. Finds (scoped scopes.now) (asks.resume (scoped scopes.now) (rest_of (scoped scopes.now) point.entry self.old.frames self.old.todo) (answered answer.entry)) self.new) }
+        ensures { IfOk result (λ _. HeadFinds (scoped scopes.now) (asks.resume (scoped scopes.now) (rest_of (scoped scopes.now) point.entry self.old.frames self.old.todo) (rest_answered answer.entry)) self.new) }
     {
         match point {
             Point::Last(last) => {
@@ -261,7 +261,7 @@ impl<'p> Work<'p> {
         scopes: &Scopes<'p>,
         answer: Answer<'p>,
     ) -> Result<(), AllocError>
-        ensures { IfOk result (λ _. Finds (scoped scopes.now) (asks.resume (scoped scopes.now) (rest_of (scoped scopes.now) self.old.point.value self.old.frames self.old.todo) (answered answer.entry)) self.new) }
+        ensures { IfOk result (λ _. HeadFinds (scoped scopes.now) (asks.resume (scoped scopes.now) (rest_of (scoped scopes.now) self.old.point.value self.old.frames self.old.todo) (rest_answered answer.entry)) self.new) }
     {
         let point = leave(&mut self.point);
         self.resume_from(alloc, scopes, point, answer)

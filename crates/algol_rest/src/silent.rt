@@ -13,8 +13,8 @@ ghost use Rattle.algol_meaning.specs.SeenTree as seen;
 ghost use Rattle.algol_tree.specs.Scopes as scoping;
 ghost use Rattle.algol_cells.specs.SeenValue.{value};
 ghost use Rattle.algol_cells.specs.SeenScope.{scoped};
-ghost use Rattle.algol_rest_expr.specs.SeenExpression.{place, all_done, sorts_from, sorts_after, refilled, half, Comes};
-ghost use Rattle.algol_rest.specs.SeenStatement.{ahead, Finds, Advances, right_side, sought_at, role_at, tested, stepped_by, held, stmt_size, stmts_size, test_size, weigh, within_size};
+ghost use Rattle.algol_rest_expr.specs.SeenExpression.{place, all_done, sorts_from, sorts_after, refilled, half, HalfComes};
+ghost use Rattle.algol_rest.specs.SeenStatement.{ahead, HeadFinds, Advances, right_side, sought_at, role_at, tested, stepped_by, held, stmt_size, stmts_size, test_size, weigh, within_size};
 
 use crate::standing::{add_value, no_values, stand};
 use crate::statement::{Again, Deed, Last, Next, Point, Right, Role, Sought, Target, Within, Work};
@@ -58,7 +58,7 @@ impl<'p> Work<'p> {
         right: Right<'p>,
     ) -> Result<Outcome<'p>, AllocError>
         requires { self.old.frames ≡ [] }
-        ensures comes { IfOk result (λ found. Comes (scoped scopes.now) (settling.settle (scoped scopes.now) (right_side right.entry)) found self.new.frames) }
+        ensures comes { IfOk result (λ found. HalfComes (scoped scopes.now) (settling.settle (scoped scopes.now) (right_side right.entry)) found self.new.frames) }
         ensures same { self.new.todo ≡ self.old.todo }
     {
         match self.right(alloc, scopes, right) {
@@ -76,7 +76,7 @@ impl<'p> Work<'p> {
         right: Right<'p>,
     ) -> Result<(), AllocError>
         requires { self.old.frames ≡ [] }
-        ensures { IfOk result (λ _. Finds (scoped scopes.now) (statements.assigned_of (place to.entry) (settling.settle (scoped scopes.now) (right_side right.entry)) (ahead self.old)) self.new) }
+        ensures { IfOk result (λ _. HeadFinds (scoped scopes.now) (statements.assigned_of (place to.entry) (settling.settle (scoped scopes.now) (right_side right.entry)) (ahead self.old)) self.new) }
     {
         match self.compute(alloc, scopes, right) {
             Ok(Outcome::Busy(head)) => {
@@ -105,7 +105,7 @@ impl<'p> Work<'p> {
         items: &'p [Expr],
     ) -> Result<(), AllocError>
         requires { self.old.frames ≡ [] }
-        ensures { IfOk result (λ _. Finds (scoped scopes.now) (statements.settle_line (scoped scopes.now) (exprs items.now) phrases.now (ahead self.old) (map value before)) self.new) }
+        ensures { IfOk result (λ _. HeadFinds (scoped scopes.now) (statements.settle_line (scoped scopes.now) (exprs items.now) phrases.now (ahead self.old) (map value before)) self.new) }
     {
         let mut vs = before;
         let mut es = items;
@@ -140,7 +140,7 @@ impl<'p> Work<'p> {
         left: &'p [Pair],
     ) -> Result<(), AllocError>
         requires { self.old.frames ≡ [] }
-        ensures { IfOk result (λ _. Finds (scoped scopes.now) (statements.settle_bounds (scoped scopes.now) (pairs left.now) kind ns.now (pairs all.now) (ahead self.old) (map value before)) self.new) }
+        ensures { IfOk result (λ _. HeadFinds (scoped scopes.now) (statements.settle_bounds (scoped scopes.now) (pairs left.now) kind ns.now (pairs all.now) (ahead self.old) (map value before)) self.new) }
     {
         let mut vs = before;
         let mut ps = left;
@@ -165,7 +165,7 @@ impl<'p> Work<'p> {
 
     /// A call whose actuals are all done.
     fn call(&mut self, role: Role<'p>, n: &'p Named, gs: List<Given<'p>>)
-        ensures { (sc : scoping.Scopes) → Finds sc (role_at role.entry n.now (rest.given (all_done gs.entry)) (ahead self.old)) self.new }
+        ensures { (sc : scoping.Scopes) → HeadFinds sc (role_at role.entry n.now (rest.given (all_done gs.entry)) (ahead self.old)) self.new }
     {
         match role {
             Role::Calls => stand(&mut self.point, Point::Enter(n, gs)),
@@ -185,7 +185,7 @@ impl<'p> Work<'p> {
         actuals: &'p [Expr],
     ) -> Result<(), AllocError>
         requires { self.old.frames ≡ [] }
-        ensures { IfOk result (λ _. Finds (scoped scopes.now) (role_at role.entry n.now (settling.settle_actuals (scoped scopes.now) (exprs actuals.now) (sorts_from (scoped scopes.now) n.now (length before.entry)) (all_done before.entry)) (ahead self.old)) self.new) }
+        ensures { IfOk result (λ _. HeadFinds (scoped scopes.now) (role_at role.entry n.now (settling.settle_actuals (scoped scopes.now) (exprs actuals.now) (sorts_from (scoped scopes.now) n.now (length before.entry)) (all_done before.entry)) (ahead self.old)) self.new) }
     {
         let mut gs = before;
         let mut es = actuals;
@@ -228,7 +228,7 @@ impl<'p> Work<'p> {
         at: Place<'p>,
     ) -> Result<(), AllocError>
         requires { self.old.frames ≡ [] }
-        ensures { IfOk result (λ _. Finds (scoped scopes.now) (sought_at (scoped scopes.now) sought.entry (rest.at (place at.entry)) (ahead self.old)) self.new) }
+        ensures { IfOk result (λ _. HeadFinds (scoped scopes.now) (sought_at (scoped scopes.now) sought.entry (rest.at (place at.entry)) (ahead self.old)) self.new) }
     {
         match sought {
             Sought::Aiming(right) => self.assign(alloc, scopes, at, right),
@@ -251,7 +251,7 @@ impl<'p> Work<'p> {
         es: &'p [Expr],
     ) -> Result<(), AllocError>
         requires { self.old.frames ≡ [] }
-        ensures { IfOk result (λ _. Finds (scoped scopes.now) (sought_at (scoped scopes.now) sought.entry (settling.aimed_of n.now ks (settling.settle (scoped scopes.now) (expr e.now)) (exprs es.now)) (ahead self.old)) self.new) }
+        ensures { IfOk result (λ _. HeadFinds (scoped scopes.now) (sought_at (scoped scopes.now) sought.entry (settling.aimed_of n.now ks (settling.settle (scoped scopes.now) (expr e.now)) (exprs es.now)) (ahead self.old)) self.new) }
     {
         match evaluate(alloc, scopes, Control::Eval(e), &mut self.frames) {
             Ok(Outcome::Busy(head)) => {
@@ -279,7 +279,7 @@ impl<'p> Work<'p> {
         n: &'p Named,
     ) -> Result<(), AllocError>
         requires { self.old.frames ≡ [] }
-        ensures { IfOk result (λ _. Finds (scoped scopes.now) (sought_at (scoped scopes.now) sought.entry (settling.settle_place (scoped scopes.now) (tree.subscripted n.now tree.none)) (ahead self.old)) self.new) }
+        ensures { IfOk result (λ _. HeadFinds (scoped scopes.now) (sought_at (scoped scopes.now) sought.entry (settling.settle_place (scoped scopes.now) (tree.subscripted n.now tree.none)) (ahead self.old)) self.new) }
     {
         if scopes.is_by_name(n) {
             stand(&mut self.point, Point::Seek(sought, Target::Resolve(n)));
@@ -299,7 +299,7 @@ impl<'p> Work<'p> {
         es: &'p [Expr],
     ) -> Result<(), AllocError>
         requires { self.old.frames ≡ [] }
-        ensures { IfOk result (λ _. Finds (scoped scopes.now) (sought_at (scoped scopes.now) sought.entry (settling.settle_place (scoped scopes.now) (tree.subscripted n.now (exprs es.now))) (ahead self.old)) self.new) }
+        ensures { IfOk result (λ _. HeadFinds (scoped scopes.now) (sought_at (scoped scopes.now) sought.entry (settling.settle_place (scoped scopes.now) (tree.subscripted n.now (exprs es.now))) (ahead self.old)) self.new) }
     {
         match es.split_first() {
             None => self.aim_alone(alloc, scopes, sought, n),

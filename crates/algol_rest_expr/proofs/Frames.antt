@@ -3,7 +3,7 @@ use Rattle.std.proofs.Common.{◌≡◌, refl, List, [], ◌∷◌}
 use Rattle.algol_tree.specs.Scopes.{Scopes}
 use Rattle.algol_meaning.specs.Rest as rest
 use Rattle.algol_meaning.specs.Rest.{Hole, busy, Answer}
-use Rattle.algol_meaning.specs.Settle.{put}
+use Rattle.algol_meaning.specs.Settle.{answer_put}
 use Rattle.algol_meaning.specs.Asks.{ask_hole}
 use Rattle.algol_meaning.specs.SeenTree.{expr, exprs}
 use Rattle.algol_cells.specs.SeenValue.{value}
@@ -23,7 +23,7 @@ module _ (sc : Scopes) where
   refilled-busy (frame.Inverted ∷ fs) h = refilled-busy fs (rest.inverted h)
   refilled-busy (frame.Condition x y ∷ fs) h = refilled-busy fs (rest.condition h (expr x.now) (expr y.now))
 
-  pub put-wrap : (fs : List Frame) (h : Hole) (a : Answer) → put sc (wrap sc fs h) a ≡ refilled sc fs (put sc h a)
+  pub put-wrap : (fs : List Frame) (h : Hole) (a : Answer) → answer_put sc (wrap sc fs h) a ≡ refilled sc fs (answer_put sc h a)
   put-wrap [] h a = refl
   put-wrap (frame.Subscript n ks es ∷ fs) h a = put-wrap fs (rest.subscript n.now ks h (exprs es.now)) a
   put-wrap (frame.Argument n gs es ∷ fs) h a =

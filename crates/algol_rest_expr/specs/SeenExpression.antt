@@ -39,18 +39,18 @@ place (places.Own n) = rest.own n.now
 place (places.There r) = rest.there (reference r)
 place (places.ElementOf r ks) = rest.element_of (reference r) ks
 
-abbrev pub answered : Answer → rest.Answer
-answered answers.Done = rest.done
-answered (answers.Value v) = rest.value (seen.value v)
-answered (answers.Cell c) = rest.cell (cell c)
-answered (answers.Place p) = rest.place (place p)
-answered answers.Entered = rest.entered
+abbrev pub rest_answered : Answer → rest.Answer
+rest_answered answers.Done = rest.done
+rest_answered (answers.Value v) = rest.value (seen.value v)
+rest_answered (answers.Cell c) = rest.cell (cell c)
+rest_answered (answers.Place p) = rest.place (place p)
+rest_answered answers.Entered = rest.entered
 
 -- ---- heads and frames
 
 -- the names of events
-abbrev pub names_of : List EventName → List Named
-names_of es = map (λ (e : EventName). e.name) es
+abbrev pub event_names_of : List EventName → List Named
+event_names_of es = map (λ (e : EventName). e.name) es
 
 abbrev pub done : Given → rest.Given
 done (givens.Valued v) = rest.valued (seen.value v)
@@ -74,7 +74,7 @@ module _ (sc : Scopes) where
   hole (head.Read n) = rest.read n.now
   hole (head.Element n ks v) = rest.element n.now ks (seen.value v)
   hole (head.Index n ks v e es) = rest.index n.now ks (seen.value v) (expr e.now) (exprs es.now)
-  hole (head.Tests test es) = rest.tests test (names_of es.now)
+  hole (head.Tests test es) = rest.tests test (event_names_of es.now)
   hole (head.Broken op v w fault) = rest.broken op (seen.value v) (seen.value w) fault
   hole (head.Enter n gs) = rest.enter n.now (all_done gs)
   hole (head.Pass n gs m es) = rest.argument n.now (rest.pass (all_done gs) m.now (sorts_after n.now gs) (exprs es.now))
@@ -161,9 +161,9 @@ module _ (sc : Scopes) where
   Moves x bound c after = (x ≡ refilled sc after (half sc c)) × (weigh_control c after < bound)
 
   -- what comes out
-  abbrev pub Comes : Half → Outcome → List Frame → Type 0
-  Comes x (outcome.Value v) after = (x ≡ val (seen.value v)) × (after ≡ [])
-  Comes x (outcome.Busy h) after = x ≡ busy (wrap sc after (hole sc h))
+  abbrev pub HalfComes : Half → Outcome → List Frame → Type 0
+  HalfComes x (outcome.Value v) after = (x ≡ val (seen.value v)) × (after ≡ [])
+  HalfComes x (outcome.Busy h) after = x ≡ busy (wrap sc after (hole sc h))
 
   -- a half with nothing around it
   abbrev pub Calculates : Half → Control → Type 0

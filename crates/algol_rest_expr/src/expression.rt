@@ -13,7 +13,7 @@ ghost use Rattle.algol_meaning.specs.Operators as operators;
 ghost use Rattle.algol_cells.specs.SeenValue.{value};
 ghost use Rattle.algol_cells.specs.SeenScope.{scoped};
 ghost use Rattle.algol_cells.specs.SeenCell.{cell};
-ghost use Rattle.algol_rest_expr.specs.SeenExpression.{answered, place, done, all_done, sorts_from, sorts_after, hole, refilled, half, Moves, Comes, Calculates, Supplies, IsSupplied, expr_size, exprs_size, variable_size, call_size, weigh_frames};
+ghost use Rattle.algol_rest_expr.specs.SeenExpression.{rest_answered, place, done, all_done, sorts_from, sorts_after, hole, refilled, half, Moves, HalfComes, Calculates, Supplies, IsSupplied, expr_size, exprs_size, variable_size, call_size, weigh_frames};
 
 use crate::around::{add_given, no_givens, no_subscripts, surround};
 use crate::part::{Answer, Control, Frame, Given, Head, Outcome, Place, Supplied, Supply};
@@ -346,7 +346,7 @@ pub fn evaluate<'p>(
     from: Control<'p>,
     frames: &mut Stack<Frame<'p>>,
 ) -> Result<Outcome<'p>, AllocError>
-    ensures { IfOk result (λ found. Comes (scoped scopes.now) (refilled (scoped scopes.now) frames.old (half (scoped scopes.now) from.entry)) found frames.new) }
+    ensures { IfOk result (λ found. HalfComes (scoped scopes.now) (refilled (scoped scopes.now) frames.old (half (scoped scopes.now) from.entry)) found frames.new) }
 {
     let mut control = from;
     'evaluating: loop {
@@ -363,7 +363,7 @@ pub fn evaluate<'p>(
 
 /// What stands in place of a head that is not among subscripts or actuals, once it has this answer.
 pub fn filled<'p>(answer: &Answer<'p>) -> Control<'p>
-    ensures { (sc : scoping.Scopes) → settling.half_of (answered answer.now) ≡ half sc result }
+    ensures { (sc : scoping.Scopes) → settling.half_of (rest_answered answer.now) ≡ half sc result }
 {
     match answer {
         Answer::Value(v) => Control::Value(*v),
@@ -374,7 +374,7 @@ pub fn filled<'p>(answer: &Answer<'p>) -> Control<'p>
 
 /// The subscripts of an element's place.
 pub fn subscripts_of<'p>(alloc: Global, answer: Answer<'p>) -> List<usize>
-    ensures { result ≡ rest.subscripts_of (answered answer.entry) }
+    ensures { result ≡ rest.subscripts_of (rest_answered answer.entry) }
 {
     match answer {
         Answer::Place(place) => subscripts_in(alloc, place),
@@ -397,7 +397,7 @@ fn subscripts_in<'p>(alloc: Global, at: Place<'p>) -> List<usize>
 
 /// The cell that is passed.
 pub fn cell_of<'p>(answer: Answer<'p>) -> Cell<'p>
-    ensures { cell result ≡ rest.cell_of (answered answer.entry) (plain.simple (plain.number (pos 0))) }
+    ensures { cell result ≡ rest.cell_of_answer (rest_answered answer.entry) (plain.simple (plain.number (pos 0))) }
 {
     match answer {
         Answer::Cell(cell) => cell,
@@ -432,7 +432,7 @@ pub fn put<'p>(
     answer: Answer<'p>,
     frames: &mut Stack<Frame<'p>>,
 ) -> Result<Control<'p>, AllocError>
-    ensures { IfOk result (λ c. refilled (scoped scopes.now) frames.old (settling.put (scoped scopes.now) (hole (scoped scopes.now) head.entry) (answered answer.entry)) ≡ refilled (scoped scopes.now) frames.new (half (scoped scopes.now) c)) }
+    ensures { IfOk result (λ c. refilled (scoped scopes.now) frames.old (settling.answer_put (scoped scopes.now) (hole (scoped scopes.now) head.entry) (rest_answered answer.entry)) ≡ refilled (scoped scopes.now) frames.new (half (scoped scopes.now) c)) }
 {
     match head {
         Head::Index(n, _, _, e, es) => {

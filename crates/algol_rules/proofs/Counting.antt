@@ -12,13 +12,13 @@ use Rattle.algol_tree.specs.declared.tree.Call as calls
 use Rattle.algol_tree.specs.declared.tree.Call.{Call}
 use Rattle.algol_tree.specs.declared.tree.Body as bodies
 use Rattle.algol_tree.specs.declared.tree.Body.{Body}
-use Rattle.algol_rules.specs.Opened.{opened, further_events}
+use Rattle.algol_rules.specs.Opened.{levels_opened, further_events}
 
-subscripted_counts : (n : Named) (es : PExprs) → counts.variable_tokens (tree.subscripted n es) ≡ opened es + counts.exprs_tokens es
+subscripted_counts : (n : Named) (es : PExprs) → counts.variable_tokens (tree.subscripted n es) ≡ levels_opened es + counts.exprs_tokens es
 subscripted_counts n none = refl
 subscripted_counts n (more e es) = omega arith
 
-called_counts : (n : Named) (es : PExprs) → counts.call_tokens (tree.called n es) ≡ opened es + counts.exprs_tokens es
+called_counts : (n : Named) (es : PExprs) → counts.call_tokens (tree.called n es) ≡ levels_opened es + counts.exprs_tokens es
 called_counts n none = refl
 called_counts n (more e es) = omega arith
 
@@ -31,10 +31,10 @@ call_is c = search (rules, calls.the_lemmas)
 body_is : (b : Body) → body b ≡ tree.body b.spot (decls b.decls) (stmts b.stmts)
 body_is b = search (rules, bodies.the_lemmas)
 
-pub variable_counts : (v : Variable) → counts.variable_tokens (variable v) ≡ opened (exprs v.subs) + counts.exprs_tokens (exprs v.subs)
+pub variable_counts : (v : Variable) → counts.variable_tokens (variable v) ≡ levels_opened (exprs v.subs) + counts.exprs_tokens (exprs v.subs)
 variable_counts v = ap counts.variable_tokens (variable_is v) ∙ subscripted_counts v.name (exprs v.subs)
 
-pub call_counts : (c : Call) → counts.call_tokens (call c) ≡ opened (exprs c.actuals) + counts.exprs_tokens (exprs c.actuals)
+pub call_counts : (c : Call) → counts.call_tokens (call c) ≡ levels_opened (exprs c.actuals) + counts.exprs_tokens (exprs c.actuals)
 call_counts c = ap counts.call_tokens (call_is c) ∙ called_counts c.name (exprs c.actuals)
 
 pub body_counts : (b : Body) → counts.body_tokens (body b) ≡ 1 + counts.decls_tokens (decls b.decls) + counts.stmts_tokens (stmts b.stmts)

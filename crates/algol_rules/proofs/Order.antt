@@ -5,7 +5,7 @@ use Rattle.algol_tree.specs.declared.refusal.Code.{Code}
 use Rattle.algol_tree.specs.declared.refusal.Code.TheVariants as codes
 use Rattle.algol_tree.specs.declared.refusal.Fault.{Fault}
 use Rattle.algol_tree.specs.Codes.{rule_number}
-use Rattle.algol_tree.specs.Accepted.{is_earlier, earlier, noted, noted_all}
+use Rattle.algol_tree.specs.Accepted.{is_earlier, earlier, fault_noted, noted_all}
 
 -- the order of two triples of numbers, the first counting most
 abbrev lex : ℕ → ℕ → ℕ → ℕ → ℕ → ℕ → Bool
@@ -120,50 +120,50 @@ either_way f g r s = cases (is_earlier g f) (is_earlier f g) refl refl
 
 -- ---- the first of many
 
-picked : (x : Bool) (h f : Fault) → is_earlier f h ≡ x → noted (Some h) f ≡ Some (if x then f else h)
+picked : (x : Bool) (h f : Fault) → is_earlier f h ≡ x → fault_noted (Some h) f ≡ Some (if x then f else h)
 picked x h f e = ap (λ z. Some (if z then f else h)) e
 
 -- Two faults are noted in either order.
-noted-swap : (first : Option Fault) (f g : Fault) → IsRule f → IsRule g → noted (noted first f) g ≡ noted (noted first g) f
+noted-swap : (first : Option Fault) (f g : Fault) → IsRule f → IsRule g → fault_noted (fault_noted first f) g ≡ fault_noted (fault_noted first g) f
 noted-swap None f g r s = ap (λ x. Some x) (either_way f g r s)
 noted-swap (Some h) f g r s = cases (is_earlier f h) (is_earlier g h) refl refl
   where
-    behind : (x : Bool) (k j : Fault) → is_earlier k h ≡ true → is_earlier j h ≡ false → is_earlier j k ≡ x → noted (Some k) j ≡ Some k
+    behind : (x : Bool) (k j : Fault) → is_earlier k h ≡ true → is_earlier j h ≡ false → is_earlier j k ≡ x → fault_noted (Some k) j ≡ Some k
     behind true k j a b e = absurd (true_not_false (sym (earlier_trans j k h e a) ∙ b))
     behind false k j a b e = picked false k j e
 
-    cases : (x y : Bool) → is_earlier f h ≡ x → is_earlier g h ≡ y → noted (noted (Some h) f) g ≡ noted (noted (Some h) g) f
+    cases : (x y : Bool) → is_earlier f h ≡ x → is_earlier g h ≡ y → fault_noted (fault_noted (Some h) f) g ≡ fault_noted (fault_noted (Some h) g) f
     cases true true a b =
-        ap (λ z. noted z g) (picked true h f a) ∙ ap (λ x. Some x) (either_way f g r s) ∙ sym (ap (λ z. noted z f) (picked true h g b))
+        ap (λ z. fault_noted z g) (picked true h f a) ∙ ap (λ x. Some x) (either_way f g r s) ∙ sym (ap (λ z. fault_noted z f) (picked true h g b))
     cases true false a b =
-        ap (λ z. noted z g) (picked true h f a) ∙ behind (is_earlier g f) f g a b refl ∙ sym (picked true h f a)
-        ∙ sym (ap (λ z. noted z f) (picked false h g b))
+        ap (λ z. fault_noted z g) (picked true h f a) ∙ behind (is_earlier g f) f g a b refl ∙ sym (picked true h f a)
+        ∙ sym (ap (λ z. fault_noted z f) (picked false h g b))
     cases false true a b =
-        ap (λ z. noted z g) (picked false h f a) ∙ picked true h g b ∙ sym (behind (is_earlier f g) g f b a refl)
-        ∙ sym (ap (λ z. noted z f) (picked true h g b))
+        ap (λ z. fault_noted z g) (picked false h f a) ∙ picked true h g b ∙ sym (behind (is_earlier f g) g f b a refl)
+        ∙ sym (ap (λ z. fault_noted z f) (picked true h g b))
     cases false false a b =
-        ap (λ z. noted z g) (picked false h f a) ∙ picked false h g b ∙ sym (picked false h f a)
-        ∙ sym (ap (λ z. noted z f) (picked false h g b))
+        ap (λ z. fault_noted z g) (picked false h f a) ∙ picked false h g b ∙ sym (picked false h f a)
+        ∙ sym (ap (λ z. fault_noted z f) (picked false h g b))
 
 abbrev pub AreRules : List Fault → Type 0
 AreRules [] = Unit {0}
 AreRules (f ∷ fs) = IsRule f × AreRules fs
 
-noted_all-noted : (first : Option Fault) (f : Fault) (fs : List Fault) → IsRule f → AreRules fs → noted_all (noted first f) fs ≡ noted (noted_all first fs) f
+noted_all-noted : (first : Option Fault) (f : Fault) (fs : List Fault) → IsRule f → AreRules fs → noted_all (fault_noted first f) fs ≡ fault_noted (noted_all first fs) f
 noted_all-noted first f [] r s = refl
 noted_all-noted first f (g ∷ fs) r s =
-    ap (λ z. noted_all z fs) (noted-swap first f g r s.0) ∙ noted_all-noted (noted first g) f fs r s.1
+    ap (λ z. noted_all z fs) (noted-swap first f g r s.0) ∙ noted_all-noted (fault_noted first g) f fs r s.1
 
 pub noted_all-append : (first : Option Fault) (fs gs : List Fault) → noted_all first (fs ++ gs) ≡ noted_all (noted_all first fs) gs
 noted_all-append first [] gs = refl
-noted_all-append first (f ∷ fs) gs = noted_all-append (noted first f) fs gs
+noted_all-append first (f ∷ fs) gs = noted_all-append (fault_noted first f) fs gs
 
 -- Two lists of faults are noted in either order.
 pub noted_all-swap : (first : Option Fault) (fs gs : List Fault) → AreRules fs → AreRules gs →
     noted_all (noted_all first fs) gs ≡ noted_all (noted_all first gs) fs
 noted_all-swap first [] gs r s = refl
 noted_all-swap first (f ∷ fs) gs r s =
-    noted_all-swap (noted first f) fs gs r.1 s ∙ ap (λ z. noted_all z fs) (noted_all-noted first f gs r.0 s)
+    noted_all-swap (fault_noted first f) fs gs r.1 s ∙ ap (λ z. noted_all z fs) (noted_all-noted first f gs r.0 s)
 
 some_stays : (f : Fault) (fs : List Fault) → noted_all (Some f) fs ≡ None → ⊥
 some_stays f [] e = cc

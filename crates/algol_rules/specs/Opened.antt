@@ -5,9 +5,9 @@ use Rattle.algol_tree.specs.declared.tree.EventName.{EventName}
 use Rattle.algol_tree.specs.Plain.{PExprs, none, more}
 use Rattle.algol_tree.specs.Counts.{event_tokens}
 
-abbrev pub opened : PExprs → ℕ
-opened none = 1
-opened (more e es) = 2
+abbrev pub levels_opened : PExprs → ℕ
+levels_opened none = 1
+levels_opened (more e es) = 2
 
 -- events, each with the comma before it
 abbrev pub further_events : List EventName → ℕ

@@ -3,7 +3,7 @@
 ghost use Rattle.std.specs.Prelude.{◌≡◌, ◌+◌, ◌-◌, ◌^◌, min, length};
 ghost use Rattle.algol_tree.specs.Counts as counts;
 ghost use Rattle.algol_tree.specs.Names.{names_of_spec};
-ghost use Rattle.algol_rules.specs.Opened.{opened, further_events};
+ghost use Rattle.algol_rules.specs.Opened.{levels_opened, further_events};
 ghost use Rattle.algol_tree.specs.Image.{expr, variable, call, exprs, pairs, stmt, stmts, decl, decls, body, program};
 
 use crate::parts::{boxed_expr, boxed_stmt, decls_in, exprs_in, stmts_in};
@@ -48,7 +48,7 @@ fn events_tokens(es: &[EventName]) -> usize
 
 /// A name with the brackets after it, but for the comma that the first expression between them has not.
 fn opening(es: &[Expr]) -> usize
-    ensures { result ≡ opened (exprs es.now) }
+    ensures { result ≡ levels_opened (exprs es.now) }
 {
     match es.split_first() {
         None => 1,

@@ -23,7 +23,7 @@ impl Faults {
 
     /// One more fault.
     pub fn note(&mut self, spot: Spot, code: Code)
-        ensures { self.new.first ≡ rules.noted self.old.first (record { spot = spot; code = code }) }
+        ensures { self.new.first ≡ rules.fault_noted self.old.first (record { spot = spot; code = code }) }
     {
         let fault = Fault { spot, code };
         match self.first {

@@ -8,10 +8,10 @@ use Rattle.algol_meaning.specs.Run.{End, end_of, may_go, after_entry, run_from}
 use Rattle.algol_cells.specs.SeenScope.{scoped}
 use Rattle.algol_cells.specs.declared.scope.Scopes as code
 use Rattle.algol_perform.proofs.Newer.{take_more}
-use Rattle.algol_run.specs.Stepping.{Step, ended, not_able, went, chosen_by, step_by, step_of}
+use Rattle.algol_run.specs.Stepping.{RunStep, ended, not_able, went, chosen_by, step_by, step_of}
 
 -- the world after a step that goes
-abbrev pub entered : Step → Option World
+abbrev pub entered : RunStep → Option World
 entered not_able = None
 entered (went c) = Some c.world
 entered (ended c) = Some c.world
@@ -41,7 +41,7 @@ run_last sc (q ∷ h) p (Some w) v e = run_last sc h p (after_entry sc w q) v e
 
 -- one entry more
 run_more :
-    (sc : Scopes) (h : List ℕ) (k p : ℕ) (w v : World) (s : Step) → Some p ≡ slice_get h k → run_from sc (take k h) (Some w) ≡ Some v
+    (sc : Scopes) (h : List ℕ) (k p : ℕ) (w v : World) (s : RunStep) → Some p ≡ slice_get h k → run_from sc (take k h) (Some w) ≡ Some v
     → s ≡ step_of sc v p → run_from sc (take (suc k) h) (Some w) ≡ entered s
 run_more sc h k p w v s at so_far e =
     ap (λ (ps : List ℕ). run_from sc ps (Some w)) (take_more h k p at) ∙ run_last sc (take k h) p (Some w) v so_far ∙ entry_is sc v p
@@ -49,7 +49,7 @@ run_more sc h k p w v s at so_far e =
 
 -- one entry more of a schedule that is gone through by its index
 pub entry_more :
-    (was now : code.Scopes) (h : List ℕ) (k i : ℕ) (w v : World) (s : Step) → now ≡ was → k ≡ i → i < length h
+    (was now : code.Scopes) (h : List ℕ) (k i : ℕ) (w v : World) (s : RunStep) → now ≡ was → k ≡ i → i < length h
     → run_from (scoped was) (take k h) (Some w) ≡ Some v → s ≡ step_of (scoped now) v (get_or h i 0)
     → run_from (scoped was) (take (k + 1) h) (Some w) ≡ entered s
 entry_more was now h k i w v s same at less so_far e =

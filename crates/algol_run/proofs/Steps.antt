@@ -7,7 +7,7 @@ use Rattle.algol_meaning.specs.Asks.{ask}
 use Rattle.b67_deeds.specs.declared.Letter.TheVariants as actions
 use Rattle.algol_meaning.specs.Choice.{Choice, choice, choice_in, choice_of}
 use Rattle.algol_meaning.specs.Run.{End, some_able, some_lives, all_waiting, end_by, end_of, finished, goes_on, may_go}
-use Rattle.algol_world.specs.Going.{chosen}
+use Rattle.algol_world.specs.Going.{action_chosen}
 use Rattle.algol_world.specs.Leaving.{is_nil}
 use Rattle.algol_effect.specs.Effects.{outer_of, choice_by}
 use Rattle.algol_effect.specs.declared.effect.Effect.{Effect}
@@ -147,11 +147,11 @@ has_part [] x e = cc
 has_part (y ∷ parts) x e = refl
 
 module _ (sc : Scopes) (w : World) (p : ℕ) where
-  pub stuck_so : None ≡ slice_get ((process_at w p).todo) 0 → chosen actions.Fault w ≡ choice sc w p
+  pub stuck_so : None ≡ slice_get ((process_at w p).todo) 0 → action_chosen actions.Fault w ≡ choice sc w p
   unfolding choice
   stuck_so e = under ((process_at w p).todo) e
     where
-      under : (parts : List Part) → None ≡ slice_get parts 0 → chosen actions.Fault w ≡ choice_in sc w p (process_at w p) parts
+      under : (parts : List Part) → None ≡ slice_get parts 0 → action_chosen actions.Fault w ≡ choice_in sc w p (process_at w p) parts
       under [] e = refl
       under (y ∷ parts) e = cc
 

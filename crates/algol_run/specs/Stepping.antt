@@ -8,29 +8,29 @@ use Rattle.algol_world.specs.SeenActed.{acted_choice}
 use Rattle.algol_run.specs.declared.stepping.Stepped.{Stepped}
 use Rattle.algol_run.specs.declared.stepping.Stepped.TheVariants as stepped
 
-pub data Step : Type 0 where
+pub data RunStep : Type 0 where
   -- the process is not able, or the world had an end
-  not_able : Step
+  not_able : RunStep
   -- the choice was done, and the world goes on
-  went : Choice → Step
+  went : Choice → RunStep
   -- the choice was done, and the world has an end
-  ended : Choice → Step
+  ended : Choice → RunStep
 
-abbrev pub chosen_by : Option End → Choice → Step
+abbrev pub chosen_by : Option End → Choice → RunStep
 chosen_by None c = went c
 chosen_by (Some e) c = ended c
 
-abbrev pub step_by : Bool → Choice → Step
+abbrev pub step_by : Bool → Choice → RunStep
 step_by may c = if may then chosen_by (end_of c.world) c else not_able
 
-abbrev pub step_of : Scopes → World → ℕ → Step
+abbrev pub step_of : Scopes → World → ℕ → RunStep
 step_of sc w p = step_by (may_go w p) (choice sc w p)
 
 -- what the code tells of a step, after which the world is that
-abbrev pub told : Stepped → World → Step
-told stepped.NotAble after = not_able
-told (stepped.Went a) after = went (acted_choice a after)
-told (stepped.Ended a) after = ended (acted_choice a after)
+abbrev pub told_step : Stepped → World → RunStep
+told_step stepped.NotAble after = not_able
+told_step (stepped.Went a) after = went (acted_choice a after)
+told_step (stepped.Ended a) after = ended (acted_choice a after)
 
 abbrev pub is_going : Stepped → Bool
 is_going (stepped.Went a) = true

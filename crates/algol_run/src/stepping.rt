@@ -6,7 +6,7 @@ ghost use Rattle.algol_meaning.specs.Choice.{choice};
 ghost use Rattle.algol_cells.specs.SeenScope.{scoped};
 ghost use Rattle.algol_world.specs.SeenWorld.{world_of, process_of};
 ghost use Rattle.algol_world.specs.SeenActed.{acted_choice};
-ghost use Rattle.algol_run.specs.Stepping.{told, step_of, is_going, is_over};
+ghost use Rattle.algol_run.specs.Stepping.{told_step, step_of, is_going, is_over};
 
 use crate::ending::{has_end, is_able, is_finished};
 use algol_perform::{part_under, perform};
@@ -56,7 +56,7 @@ pub fn step_in_place<'p>(
     alloc: Global,
     process: usize,
 ) -> Result<Stepped, AllocError>
-    ensures stepped { IfOk result (λ s. told s (world_of world.new) ≡ step_of (scoped world.old.scopes) (world_of world.old) process) }
+    ensures stepped { IfOk result (λ s. told_step s (world_of world.new) ≡ step_of (scoped world.old.scopes) (world_of world.old) process) }
     ensures still { IfOk result (λ s. is_going s ≡ false → world.new ≡ world.old) }
     ensures same { world.new.scopes ≡ world.old.scopes }
 {
@@ -80,7 +80,7 @@ pub fn step_in_place<'p>(
 ///
 /// Want of memory; then the world is as it was.
 pub fn step<'p>(world: &mut World<'p>, alloc: Global, process: usize) -> Result<Stepped, AllocError>
-    ensures stepped { IfOk result (λ s. told s (world_of world.new) ≡ step_of (scoped world.old.scopes) (world_of world.old) process) }
+    ensures stepped { IfOk result (λ s. told_step s (world_of world.new) ≡ step_of (scoped world.old.scopes) (world_of world.old) process) }
     ensures still { IfOk result (λ s. is_going s ≡ false → world.new ≡ world.old) }
     ensures same { world.new.scopes ≡ world.old.scopes }
     ensures before { OnErr result (world_of world.new ≡ world_of world.old) }

@@ -20,7 +20,7 @@ use Rattle.algol_tree.specs.Cells as cells
 use Rattle.algol_tree.specs.Cells.{cells_for, result_cells}
 use Rattle.algol_tree.specs.Couples.{known_in_heading, known_names}
 use Rattle.algol_tree.specs.Counts.{heading_tokens, stmt_tokens}
-use Rattle.algol_tree.specs.Names.{if_so, is_announced_by, is_one_of, names_here, result_names, result_names_of, twice_in_heading, unknown_in_heading}
+use Rattle.algol_tree.specs.Names.{if_so, is_announced_by, name_is_one_of, names_here, result_names, result_names_of, twice_in_heading, unknown_in_heading}
 use Rattle.algol_tree.specs.Accepted.{broken, noted_all}
 use Rattle.algol_rules.proofs.Order.{noted_all-append}
 use Rattle.algol_known.specs.declared.known.Entry.{Entry}
@@ -33,9 +33,9 @@ use Rattle.algol_scope.specs.declared.findings.Findings.{Findings}
 use Rattle.algol_scope.specs.declared.resolver.Resolver.{Resolver}
 use Rattle.algol_known.specs.Naming.{IsBare, has_name, is_typed}
 use Rattle.algol_known.specs.Looking.{is_announced, level_within, looked_up, modes_in, open_blocks, procedure_class, typed_class}
-use Rattle.algol_known.specs.Seeing.{Declares, IsClass, IsFound, Opens, Sees, begun, mode_of}
-use Rattle.algol_scope.specs.Noting.{Adds, Knows, long_segment}
-use Rattle.algol_scope.specs.Stating.{AreBefore, Settles, block_of}
+use Rattle.algol_known.specs.Seeing.{Declares, IsClass, NameIsFound, KnownOpens, Sees, block_begun, mode_of}
+use Rattle.algol_scope.specs.Noting.{FindingsAdd, Knows, long_segment}
+use Rattle.algol_scope.specs.Stating.{AreBefore, WalkSettles, stated_block_of}
 use Rattle.algol_scope.specs.Declaring.{IsAhead, IsOf, Makes, Starts, cell_of_procedure, cells_here, declared_so, faults_of_decl, known_so, no_cells, no_faults, no_uses, nothing_so, procedure_so, result_in, twice_among}
 use Rattle.algol_known.specs.Widening.{Admits, Widens, declaring, parameters_so}
 use Rattle.algol_frames.proofs.Noting.{noted-broken}
@@ -57,7 +57,7 @@ or_none false o h = ap (λ z. is_some z) (sym h)
 -- ---- faults only
 
 noted-findings : (old new : Findings) (fs : List Fault) → new.faults.first ≡ noted_all old.faults.first fs → new.cells ≡ old.cells → new.uses ≡ old.uses →
-    Adds old fs [] [] new
+    FindingsAdd old fs [] [] new
 noted-findings old new fs f c u =
     record {
       faults = f;
@@ -67,7 +67,7 @@ noted-findings old new fs f c u =
 
 pub makes-notes : (old new : Resolver) (f : List Block → Surroundings → List Fault) → new.around ≡ old.around → new.blocks ≡ old.blocks →
     new.findings.cells ≡ old.findings.cells → new.findings.uses ≡ old.findings.uses →
-    ((blocks : List Block) (a : Surroundings) (spots : List Spot) (first : List Declared) → Settles blocks old a spots first →
+    ((blocks : List Block) (a : Surroundings) (spots : List Spot) (first : List Declared) → WalkSettles blocks old a spots first →
     new.findings.faults.first ≡ noted_all old.findings.faults.first (f blocks a)) → Makes old new f no_cells no_uses nothing_so
 makes-notes old new f around same c u h =
     makes-adds old new f no_cells no_uses around same
@@ -96,18 +96,18 @@ makes-names old one two new sort c ns items same m w f b k around blocks =
 
 pub makes-cells : (old one new : Resolver) (sort : Sort) (c : classes.Class) (ns items : List Named) (held : cells.Content) → items ≡ ns →
     Makes old one (twice_among ns) no_cells (known_so (declared_so sort c ns) ns) (declared_so sort c ns) →
-    Adds one.findings [] (cells_for one.around.innermost.block held items) [] new.findings → new.around ≡ one.around → new.blocks ≡ one.blocks →
+    FindingsAdd one.findings [] (cells_for one.around.innermost.block held items) [] new.findings → new.around ≡ one.around → new.blocks ≡ one.blocks →
     Makes old new (twice_among ns) (cells_here held ns) (known_so (declared_so sort c ns) ns) (declared_so sort c ns)
 makes-cells old one new sort c ns items held same m h around blocks =
     let p = declared_so sort c ns in
-    let P : List Named → Type 0 = λ z. Adds one.findings [] (cells_for one.around.innermost.block held z) [] new.findings in
+    let P : List Named → Type 0 = λ z. FindingsAdd one.findings [] (cells_for one.around.innermost.block held z) [] new.findings in
     makes-as old new (λ blocks a. twice_among ns blocks a ++ []) (twice_among ns) (cells_here held ns) (cells_here held ns)
     (λ blocks a. known_so p ns blocks a ++ []) (known_so p ns) p (λ blocks a. append-nil (twice_among ns blocks a)) (λ blocks a. refl)
     (λ blocks a. append-nil (known_so p ns blocks a))
     (makes-then old one new (twice_among ns) no_faults no_cells (cells_here held ns) (known_so p ns) no_uses p nothing_so m
     (makes-adds one new no_faults (cells_here held ns) no_uses around blocks
     (λ blocks a spots first s.
-    let Q : ℕ → Type 0 = λ z. Adds one.findings [] (cells_for z held ns) [] new.findings in
+    let Q : ℕ → Type 0 = λ z. FindingsAdd one.findings [] (cells_for z held ns) [] new.findings in
     subst Q s.stands.sees.block (subst P same h))))
 
 -- ---- a procedure's name
@@ -153,12 +153,12 @@ makes-heading old one new h n x name entry of same called e d o p t before f b k
 -- ---- the faults of headings
 
 -- one name that the block has before
-once : (blocks : List Block) (r : Resolver) (a : Surroundings) (spots : List Spot) (first : List Declared) (n : Named) → Settles blocks r a spots first →
+once : (blocks : List Block) (r : Resolver) (a : Surroundings) (spots : List Spot) (first : List Declared) (n : Named) → WalkSettles blocks r a spots first →
     if_so (has_name r.around.innermost.typed r.around.innermost.declared r.around.innermost.parameters n.name) n.spot ≡
-    if_so (is_one_of (result_names_of (block_numbered blocks a.block) ++ names_here a) n.name) n.spot ++ []
+    if_so (name_is_one_of (result_names_of (block_numbered blocks a.block) ++ names_here a) n.name) n.spot ++ []
 once blocks r a spots first n s =
     ap (λ z. if_so z n.spot) (sym (has-told blocks r a spots first n.name s))
-    ∙ sym (append-nil (if_so (is_one_of (result_names_of (block_numbered blocks a.block) ++ names_here a) n.name) n.spot))
+    ∙ sym (append-nil (if_so (name_is_one_of (result_names_of (block_numbered blocks a.block) ++ names_here a) n.name) n.spot))
 
 four : (o f1 f2 f3 f4 : Option Fault) (us vs ts ws : List Spot) → f1 ≡ noted_all o (broken codes.UnknownName us) → f2 ≡ noted_all f1 (broken codes.UnknownName vs) →
     f3 ≡ noted_all f2 (broken codes.DeclaredTwice ts) → f4 ≡ noted_all f3 (broken codes.DeclaredTwice ws) →
@@ -180,14 +180,14 @@ forward-faults old new h later has e around blocks c u f1 f2 f3 p q r s =
     (λ bs a spots first g.
     let o : Option Fault = old.findings.faults.first in
     let us : List Spot = if_so (not (is_some (body_of h.name.name later))) h.name.spot in
-    let ts : List Spot = if_so (is_one_of (result_names_of (block_numbered bs a.block) ++ names_here a) h.name.name) h.name.spot ++ [] in
+    let ts : List Spot = if_so (name_is_one_of (result_names_of (block_numbered bs a.block) ++ names_here a) h.name.name) h.name.spot ++ [] in
     four o f1 f2 f3 new.findings.faults.first us (unknown_in_heading h) ts (twice_in_heading h)
     (p ∙ ap (λ z. noted_all o (broken codes.UnknownName (if_so (not z) h.name.spot))) e) q
     (r ∙ ap (λ z. noted_all f2 (broken codes.DeclaredTwice z)) (once bs old a spots first h.name g)) s
     ∙ ap (λ z. noted_all o (broken codes.UnknownName (us ++ unknown_in_heading h) ++ z)) (sym (append-nil (broken codes.DeclaredTwice (ts ++ twice_in_heading h)))))
 
 -- what is known under the name is the FORWARD of this heading
-announced_told : (ps : List Procedure) (h : Heading) (block other : ℕ) (e : Option Entry) (d : Option Declared) → IsFound ps e d → block ≡ other →
+announced_told : (ps : List Procedure) (h : Heading) (block other : ℕ) (e : Option Entry) (d : Option Declared) → NameIsFound ps e d → block ≡ other →
     is_announced e block h.name.spot ≡ is_announced_by other h d
 announced_told ps h block other None None f b = refl
 announced_told ps h block other (Some e) (Some d) f b =
@@ -216,7 +216,7 @@ heading-faults old new h s later around blocks c u f1 f2 f3 again p e q r t =
     announced_told old.around.procedures.items h old.around.innermost.block a.block (looked_up (open_blocks old.around) seens.All h.name.name)
     (look_up a.known h.name.name) (g.stands.sees.names h.name.name) g.stands.sees.block in
     let x : Bool = is_announced_by a.block h (look_up a.known h.name.name) in
-    let y : Bool = is_one_of (result_names_of (block_numbered bs a.block) ++ names_here a) h.name.name in
+    let y : Bool = name_is_one_of (result_names_of (block_numbered bs a.block) ++ names_here a) h.name.name in
     let ts : List Spot = if x then [] else if_so y h.name.spot ++ [] in
     let ls : List Fault = broken codes.SegmentTooLong (long_segment (record { spot = h.name.spot; tokens = heading_tokens h + stmt_tokens s })) in
     let heading : f3 ≡ noted_all o (broken codes.UnknownName (unknown_in_heading h) ++ broken codes.DeclaredTwice (ts ++ twice_in_heading h)) =
@@ -286,7 +286,7 @@ procedure-made old one two new h s later x block of m make b around blocks f u c
     (makes-then one two new no_faults no_faults no_cells (cell_of_procedure h) (known_so p (h.name ∷ [])) no_uses p nothing_so (make h (subst P (sym same) of) refl)
     (makes-adds two new no_faults (cell_of_procedure h) no_uses around blocks
     (λ bs a spots first g.
-    let Q : ℕ → Type 0 = λ z. Adds two.findings [] (cells_for z cells.procedure (h.name ∷ [])) [] new.findings in
+    let Q : ℕ → Type 0 = λ z. FindingsAdd two.findings [] (cells_for z cells.procedure (h.name ∷ [])) [] new.findings in
     subst Q g.stands.sees.block
     (cell-at two.findings new.findings two.around.innermost.block block cells.procedure content.Procedure h.name refl b f u c)))))
 
@@ -302,8 +302,8 @@ of-parameters block depth h (n ∷ ns) = (refl, of-parameters block depth h ns)
 
 -- the parameters are known in the block that has just begun
 admitted : (blocks : List Block) (one two : Resolver) (b : Surroundings) (spots : List Spot) (h : Heading) → IsBare one.around.innermost.declared →
-    Admits one.around two.around (parameters_so h) → two.blocks ≡ one.blocks → Settles blocks one b spots b.known →
-    Settles blocks two (parameters_so h b) spots (parameters_so h b).known
+    Admits one.around two.around (parameters_so h) → two.blocks ≡ one.blocks → WalkSettles blocks one b spots b.known →
+    WalkSettles blocks two (parameters_so h b) spots (parameters_so h b).known
 admitted blocks one two b spots h bare ad same s =
     let count : length two.blocks.items ≡ length one.blocks.items = (let e : two.blocks.items ≡ one.blocks.items = cc in ap (λ z. length z) e) in
     let known : ℕ → Type 0 = λ z. AreBefore z (declared_parameters b.block b.depth h ++ b.known) in
@@ -324,13 +324,13 @@ admitted blocks one two b spots h bare ad same s =
       typed = λ q. ap (λ z. is_typed z q) ad.typed ∙ s.typed q;
     }
 
-pub procedure-starts : (old one two new : Resolver) (h : Heading) (named : Bool) → Opens old.around one.around (length old.blocks.items) →
-    (result : Option (Bor (List ℕ))) → one.around.innermost.typed ≡ result → ((q : List ℕ) → is_typed result q ≡ is_one_of (result_names h) q) →
+pub procedure-starts : (old one two new : Resolver) (h : Heading) (named : Bool) → KnownOpens old.around one.around (length old.blocks.items) →
+    (result : Option (Bor (List ℕ))) → one.around.innermost.typed ≡ result → ((q : List ℕ) → is_typed result q ≡ name_is_one_of (result_names h) q) →
     named ≡ not (same_name h.name.name []) →
     one.blocks.items ≡ old.blocks.items ++ record { spot = h.name.spot; level = level_within one.around; is_procedure = named } ∷ [] →
     one.findings ≡ old.findings → Admits one.around two.around (parameters_so h) → two.findings ≡ one.findings → two.blocks ≡ one.blocks →
     ((a : Surroundings) → Sees two.around seens.All a →
-    Adds two.findings [] (result_in two.around.innermost.block h ++ cells_for two.around.innermost.block cells.parameter h.params) (known_in_heading h a) new.findings) →
+    FindingsAdd two.findings [] (result_in two.around.innermost.block h ++ cells_for two.around.innermost.block cells.parameter h.params) (known_in_heading h a) new.findings) →
     new.around ≡ two.around → new.blocks ≡ two.blocks → Starts old new h
 procedure-starts old one two new h named o result t typed e begins f ad f2 b2 enter around blocks =
     let procedures : new.around.procedures ≡ old.around.procedures = ap (λ (z : Around). z.procedures) around ∙ ad.procedures ∙ o.procedures in
@@ -341,20 +341,20 @@ procedure-starts old one two new h named o result t typed e begins f ad f2 b2 en
       comes =
           λ bs a spots first s g at is.
           let blk : Block = procedure_block h s spots in
-          let b : Surroundings = begun (number_at bs h.name.spot) a in
-          let opened : one.blocks.items ≡ old.blocks.items ++ block_of blk ∷ [] =
+          let b : Surroundings = block_begun (number_at bs h.name.spot) a in
+          let opened : one.blocks.items ≡ old.blocks.items ++ stated_block_of blk ∷ [] =
           begins
           ∙ ap (λ z. old.blocks.items ++ z ∷ [])
           (begun_as h.name.spot (level_within one.around) named blk refl (level-open old one a spots blk g.stands o.outer refl) e) in
           let settled =
-          settles-open bs old one a spots h.name.spot blk (block_of blk) g.stands o opened at is (λ q. ap (λ z. is_typed z q) t ∙ typed q) in
+          settles-open bs old one a spots h.name.spot blk (stated_block_of blk) g.stands o opened at is (λ q. ap (λ z. is_typed z q) t ∙ typed q) in
           let inside = admitted bs one two b (h.name.spot ∷ spots) h o.bare ad b2 settled in
           let same : new.blocks.items ≡ two.blocks.items = cc in
           let same2 : two.blocks.items ≡ one.blocks.items = cc in
           let A : Findings → Type 0 =
-          λ z. Adds z [] (result_cells bs h ++ cells_for (number_at bs h.name.spot) cells.parameter h.params) (known_in_heading h (inside_procedure bs h a)) new.findings in
+          λ z. FindingsAdd z [] (result_cells bs h ++ cells_for (number_at bs h.name.spot) cells.parameter h.params) (known_in_heading h (inside_procedure bs h a)) new.findings in
           let B : ℕ → Type 0 =
-          λ z. Adds two.findings [] (result_in z h ++ cells_for z cells.parameter h.params) (known_in_heading h (inside_procedure bs h a)) new.findings in (
+          λ z. FindingsAdd two.findings [] (result_in z h ++ cells_for z cells.parameter h.params) (known_in_heading h (inside_procedure bs h a)) new.findings in (
             same ∙ same2 ∙ opened,
             (
               subst A (f2 ∙ f) (subst B inside.stands.sees.block (enter (inside_procedure bs h a) inside.stands.sees)),

@@ -23,10 +23,10 @@ use Rattle.algol_tree.specs.Names.{cells_beyond, deep_actuals, deep_blocks, decl
 use Rattle.algol_tree.specs.Accepted.{broken, noted_all, scope_faults, first_fault, sites_of}
 use Rattle.algol_rules.proofs.Order.{IsRule, AreRules, noted_all-append, noted_all-swap}
 use Rattle.algol_frames.specs.declared.found.Cell.{Cell}
-use Rattle.algol_frames.specs.Framing.{beyond_from, cells_in, deep_place, places_of, procedure_place, those_in}
+use Rattle.algol_frames.specs.Framing.{beyond_from, framed_cells_in, deep_place, places_of, procedure_place, those_in}
 use Rattle.algol_scope.specs.Finding.{limit_faults}
-use Rattle.algol_scope.specs.Noting.{cell_of, faults_at, long_at, long_segment}
-use Rattle.algol_scope.specs.Stating.{AreNumbered, block_of}
+use Rattle.algol_scope.specs.Noting.{noted_cell_of, faults_at, long_at, long_segment}
+use Rattle.algol_scope.specs.Stating.{AreNumbered, stated_block_of}
 
 -- ---- lists of faults, one list after the other
 
@@ -117,44 +117,44 @@ module _ (blocks : List Block) where
 less_min : (n : ℕ) → nat_lt 31 (min n 255) ≡ nat_lt 31 n
 less_min n = grind arith
 
-level_told : (b : Block) → deep_place (block_of b) ≡ if_so (is_too_deep (level_of b)) b.spot
+level_told : (b : Block) → deep_place (stated_block_of b) ≡ if_so (is_too_deep (level_of b)) b.spot
 level_told b = ap (λ z. if_so z b.spot) (less_min (level_of b))
 
-levels_told : (bs : List Block) → flat_map deep_place (map block_of bs) ≡ deep_blocks bs
+levels_told : (bs : List Block) → flat_map deep_place (map stated_block_of bs) ≡ deep_blocks bs
 levels_told [] = refl
 levels_told (b ∷ bs) =
-    ap (λ z. z ++ flat_map deep_place (map block_of bs)) (level_told b) ∙ ap (λ z. if_so (is_too_deep (level_of b)) b.spot ++ z) (levels_told bs)
+    ap (λ z. z ++ flat_map deep_place (map stated_block_of bs)) (level_told b) ∙ ap (λ z. if_so (is_too_deep (level_of b)) b.spot ++ z) (levels_told bs)
 
-procedures_told : (bs : List Block) → flat_map procedure_place (map block_of bs) ≡ map (λ (b : Block). b.spot) (procedures bs)
+procedures_told : (bs : List Block) → flat_map procedure_place (map stated_block_of bs) ≡ map (λ (b : Block). b.spot) (procedures bs)
 procedures_told [] = refl
 procedures_told (b ∷ bs) = step (not (same_name b.name [])) (procedures_told bs)
   where
-    step : (x : Bool) → flat_map procedure_place (map block_of bs) ≡ map (λ (b : Block). b.spot) (procedures bs) →
-        if_so x b.spot ++ flat_map procedure_place (map block_of bs) ≡ map (λ (b : Block). b.spot) (if x then b ∷ procedures bs else procedures bs)
+    step : (x : Bool) → flat_map procedure_place (map stated_block_of bs) ≡ map (λ (b : Block). b.spot) (procedures bs) →
+        if_so x b.spot ++ flat_map procedure_place (map stated_block_of bs) ≡ map (λ (b : Block). b.spot) (if x then b ∷ procedures bs else procedures bs)
     step true h = ap (λ z. b.spot ∷ z) h
     step false h = h
 
-pub those_told : (cs : List cells.Cell) (n : ℕ) → those_in (map cell_of cs) n ≡ map cell_of (filter (λ (c : cells.Cell). c.block == n) cs)
+pub those_told : (cs : List cells.Cell) (n : ℕ) → those_in (map noted_cell_of cs) n ≡ map noted_cell_of (filter (λ (c : cells.Cell). c.block == n) cs)
 those_told [] n = refl
 those_told (c ∷ cs) n = step (c.block == n) (those_told cs n)
   where
-    step : (x : Bool) → those_in (map cell_of cs) n ≡ map cell_of (filter (λ (c : cells.Cell). c.block == n) cs) →
-        (if x then cell_of c ∷ those_in (map cell_of cs) n else those_in (map cell_of cs) n) ≡
-        map cell_of (if x then c ∷ filter (λ (c : cells.Cell). c.block == n) cs else filter (λ (c : cells.Cell). c.block == n) cs)
-    step true h = ap (λ z. cell_of c ∷ z) h
+    step : (x : Bool) → those_in (map noted_cell_of cs) n ≡ map noted_cell_of (filter (λ (c : cells.Cell). c.block == n) cs) →
+        (if x then noted_cell_of c ∷ those_in (map noted_cell_of cs) n else those_in (map noted_cell_of cs) n) ≡
+        map noted_cell_of (if x then c ∷ filter (λ (c : cells.Cell). c.block == n) cs else filter (λ (c : cells.Cell). c.block == n) cs)
+    step true h = ap (λ z. noted_cell_of c ∷ z) h
     step false h = h
 
-places_told : (cs : List cells.Cell) → places_of (map cell_of cs) ≡ map (λ (c : cells.Cell). c.spot) cs
+places_told : (cs : List cells.Cell) → places_of (map noted_cell_of cs) ≡ map (λ (c : cells.Cell). c.spot) cs
 places_told [] = refl
 places_told (c ∷ cs) = ap (λ z. c.spot ∷ z) (places_told cs)
 
 beyond_told : (blocks : List Block) (ss : List Site) (table : BTreeMap ℕ (Vec Cell Global)) (bs : List Block) (n : ℕ) →
-    ((q : ℕ) → cells_in table q ≡ those_in (map cell_of (flat_map (cells_at blocks) ss)) q) → AreNumbered blocks n bs →
-    beyond_from table n (map block_of bs) ≡
+    ((q : ℕ) → framed_cells_in table q ≡ those_in (map noted_cell_of (flat_map (cells_at blocks) ss)) q) → AreNumbered blocks n bs →
+    beyond_from table n (map stated_block_of bs) ≡
     flat_map (λ (b : Block). place_beyond MOST_BLOCK_CELLS (map (λ (c : cells.Cell). c.spot) (cells_of blocks ss (number_at blocks b.spot)))) bs
 beyond_told blocks ss table [] n h a = refl
 beyond_told blocks ss table (b ∷ bs) n h a =
-    let rest : List Spot = beyond_from table (n + 1) (map block_of bs) in
+    let rest : List Spot = beyond_from table (n + 1) (map stated_block_of bs) in
     ap (λ z. place_beyond MOST_BLOCK_CELLS (places_of z) ++ rest) (h n ∙ those_told (flat_map (cells_at blocks) ss) n)
     ∙ ap (λ z. place_beyond MOST_BLOCK_CELLS z ++ rest) (places_told (cells_of blocks ss n))
     ∙ ap (λ z. place_beyond MOST_BLOCK_CELLS (map (λ (c : cells.Cell). c.spot) (cells_of blocks ss z)) ++ rest) (sym a.0)
@@ -162,9 +162,9 @@ beyond_told blocks ss table (b ∷ bs) n h a =
     (beyond_told blocks ss table bs (n + 1) h a.1.1)
 
 pub limits_told : (p : PProgram) (table : BTreeMap ℕ (Vec Cell Global)) →
-    ((q : ℕ) → cells_in table q ≡ those_in (map cell_of (flat_map (cells_at (blocks_of_program p)) (sites_of p))) q) →
+    ((q : ℕ) → framed_cells_in table q ≡ those_in (map noted_cell_of (flat_map (cells_at (blocks_of_program p)) (sites_of p))) q) →
     AreNumbered (blocks_of_program p) 0 (blocks_of_program p) →
-    limit_faults p (map block_of (blocks_of_program p)) table ≡
+    limit_faults p (map stated_block_of (blocks_of_program p)) table ≡
     broken codes.TooManyLevels (deep_blocks (blocks_of_program p)) ++ (broken codes.TooManyCells (cells_beyond (blocks_of_program p) (sites_of p)) ++
     (broken codes.TooManyProcedures (procedures_beyond (blocks_of_program p)) ++ broken codes.SegmentTooLong (long_segment (program_segment p))))
 limits_told p table h a =
@@ -173,8 +173,8 @@ limits_told p table h a =
     let y = beyond_told blocks (sites_of p) table blocks 0 h a in
     let z = ap (place_beyond MOST_PROCEDURES) (procedures_told blocks) in
     let s : List Fault = broken codes.SegmentTooLong (long_segment (program_segment p)) in
-    let q : List Fault = broken codes.TooManyProcedures (place_beyond MOST_PROCEDURES (flat_map procedure_place (map block_of blocks))) in
-    let c : List Fault = broken codes.TooManyCells (beyond_from table 0 (map block_of blocks)) in
+    let q : List Fault = broken codes.TooManyProcedures (place_beyond MOST_PROCEDURES (flat_map procedure_place (map stated_block_of blocks))) in
+    let c : List Fault = broken codes.TooManyCells (beyond_from table 0 (map stated_block_of blocks)) in
     ap (λ w. broken codes.TooManyLevels w ++ (c ++ (q ++ s))) x
     ∙ ap (λ w. broken codes.TooManyLevels (deep_blocks blocks) ++ (broken codes.TooManyCells w ++ (q ++ s))) y
     ∙ ap (λ w. broken codes.TooManyLevels (deep_blocks blocks) ++ (broken codes.TooManyCells (cells_beyond blocks (sites_of p)) ++ (broken codes.TooManyProcedures w ++ s))) z

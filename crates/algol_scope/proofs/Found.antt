@@ -18,7 +18,7 @@ use Rattle.algol_tree.specs.Surroundings.{outermost}
 use Rattle.algol_tree.specs.Sites.{sites_in_body}
 use Rattle.algol_tree.specs.Cells.{cells_at}
 use Rattle.algol_tree.specs.Couples.{known_at}
-use Rattle.algol_tree.specs.Names.{is_one_of, place_beyond, program_segment, result_names_of}
+use Rattle.algol_tree.specs.Names.{name_is_one_of, place_beyond, program_segment, result_names_of}
 use Rattle.algol_tree.specs.Ascending.{IsInOrder}
 use Rattle.algol_tree.specs.Accepted.{broken, first_fault, noted_all, scope_faults, sites_of}
 use Rattle.algol_rules.proofs.Order.{first-none, noted_all-append}
@@ -33,11 +33,11 @@ use Rattle.algol_known.specs.Naming.{is_typed}
 use Rattle.algol_known.specs.Seeing as seeing
 use Rattle.algol_known.specs.Seeing.{Sees}
 use Rattle.algol_known.specs.Looking.{level_within}
-use Rattle.algol_scope.specs.Noting.{Finds, cell_of, faults_at, long_segment, use_of}
-use Rattle.algol_frames.specs.Framing.{beyond_from, cells_in, deep_place, procedure_place, those_in}
-use Rattle.algol_scope.specs.Finding.{Holds, IsNew, limit_faults}
-use Rattle.algol_scope.specs.Resolved.{IsRefused}
-use Rattle.algol_scope.specs.Stating.{AreNumbered, Fills, Settles, block_of}
+use Rattle.algol_scope.specs.Noting.{ScopeFinds, noted_cell_of, faults_at, long_segment, use_of}
+use Rattle.algol_frames.specs.Framing.{beyond_from, framed_cells_in, deep_place, procedure_place, those_in}
+use Rattle.algol_scope.specs.Finding.{WalkHolds, IsNew, limit_faults}
+use Rattle.algol_scope.specs.Resolved.{TreeIsRefused}
+use Rattle.algol_scope.specs.Stating.{AreNumbered, Fills, WalkSettles, stated_block_of}
 use Rattle.algol_scope.proofs.FirstFault.{first_in_turn, limits_told}
 use Rattle.algol_scope.proofs.Numbering.{in-order}
 
@@ -66,7 +66,7 @@ module _ (new mid done : Resolver) (spot : Spot) (ds : PDecls) (ss : PStmts) (or
   level : level_within new.around ≡ 2
   level = ap (λ z. min (length z + 2) 255) is.outer
 
-  first : mid.blocks.items ≡ block_of (outer_block b) ∷ []
+  first : mid.blocks.items ≡ stated_block_of (outer_block b) ∷ []
   first =
       begins ∙ ap (λ z. z ++ record { spot = spot; level = level_within new.around; is_procedure = false } ∷ []) is.blocks
       ∙ ap (λ z. record { spot = spot; level = z; is_procedure = false } ∷ []) level
@@ -74,11 +74,11 @@ module _ (new mid done : Resolver) (spot : Spot) (ds : PDecls) (ss : PStmts) (or
   one : length mid.blocks.items ≡ 1
   one = ap (λ z. length z) first
 
-  settled : Settles blocks mid outermost (spot ∷ []) []
+  settled : WalkSettles blocks mid outermost (spot ∷ []) []
   settled =
       let A : Around → Type 0 = λ z. Sees z seens.All outermost in
       let B : Around → Type 0 = λ z. Sees z seens.BeforeDeclarations outermost in
-      let H : Around → Type 0 = λ z. seeing.Holds z outermost in
+      let H : Around → Type 0 = λ z. seeing.KnownHolds z outermost in
       let L : ℕ → Type 0 = λ z. 0 < z in
       record {
         stands = record { sees = subst A (sym around) (is.sees seens.All); known = tt; block = subst L (sym one) (omega arith); outer = refl };
@@ -87,36 +87,36 @@ module _ (new mid done : Resolver) (spot : Spot) (ds : PDecls) (ss : PStmts) (or
         typed =
             λ q.
             ap (λ (z : Around). is_typed z.innermost.typed q) around ∙ ap (λ z. is_typed z q) is.typed
-            ∙ ap (λ z. is_one_of (result_names_of z) q) (sym numbered.1.0);
+            ∙ ap (λ z. name_is_one_of (result_names_of z) q) (sym numbered.1.0);
       }
 
-  pub found-whole : Holds done (tree.program b)
+  pub found-whole : WalkHolds done (tree.program b)
   found-whole =
       let N : ℕ → Type 0 = λ z. AreNumbered blocks z (blocks_in_body b (spot ∷ [])) in
       let come = fills.comes blocks outermost (spot ∷ []) settled (subst N (sym one) numbered.1.1) in
-      let F : Findings → Type 0 = λ z. Finds blocks z (sites_in_body blocks b outermost) done.findings in
+      let F : Findings → Type 0 = λ z. ScopeFinds blocks z (sites_in_body blocks b outermost) done.findings in
       let f = subst F findings come.finds in
       record {
         faults = f.faults ∙ ap (λ z. noted_all z (flat_map (faults_at blocks) (sites_in_body blocks b outermost))) is.faults;
-        cells = f.cells ∙ ap (λ z. z ++ map cell_of (flat_map (cells_at blocks) (sites_in_body blocks b outermost))) is.cells;
+        cells = f.cells ∙ ap (λ z. z ++ map noted_cell_of (flat_map (cells_at blocks) (sites_in_body blocks b outermost))) is.cells;
         uses = f.uses ∙ ap (λ z. z ++ map use_of (flat_map (known_at blocks) (sites_in_body blocks b outermost))) is.uses;
         blocks =
-            come.begins ∙ ap (λ z. z ++ map block_of (blocks_in_body b (spot ∷ []))) first ∙ ap (map block_of) (sym (its-blocks spot ds ss));
+            come.begins ∙ ap (λ z. z ++ map stated_block_of (blocks_in_body b (spot ∷ []))) first ∙ ap (map stated_block_of) (sym (its-blocks spot ds ss));
       }
 
 pub found-program : (new mid done : Resolver) (spot : Spot) (ds : PDecls) (ss : PStmts) (b : PBody) → b ≡ tree.body spot ds ss → IsInOrder (tree.program b) → IsNew new →
     mid.blocks.items ≡ new.blocks.items ++ record { spot = spot; level = level_within new.around; is_procedure = false } ∷ [] → mid.around ≡ new.around →
-    mid.findings ≡ new.findings → Fills mid done (λ blocks. sites_in_body blocks b) (blocks_in_body b) → Holds done (tree.program b)
+    mid.findings ≡ new.findings → Fills mid done (λ blocks. sites_in_body blocks b) (blocks_in_body b) → WalkHolds done (tree.program b)
 found-program new mid done spot ds ss b e order is begins around findings fills =
-    let P : PBody → Type 0 = λ z. Holds done (tree.program z) in
+    let P : PBody → Type 0 = λ z. WalkHolds done (tree.program z) in
     let Q : PBody → Type 0 = λ z. IsInOrder (tree.program z) in
     let R : PBody → Type 0 = λ z. Fills mid done (λ blocks. sites_in_body blocks z) (blocks_in_body z) in
     subst P (sym e) (found-whole new mid done spot ds ss (subst Q e order) is begins around findings (subst R e fills))
 
 -- ---- the first fault
 
-pub first-told : (r s : Resolver) (p : PProgram) (table : BTreeMap ℕ (Vec Cell Global)) → IsInOrder p → Holds r p →
-    ((q : ℕ) → cells_in table q ≡ those_in r.findings.cells.items q) →
+pub first-told : (r s : Resolver) (p : PProgram) (table : BTreeMap ℕ (Vec Cell Global)) → IsInOrder p → WalkHolds r p →
+    ((q : ℕ) → framed_cells_in table q ≡ those_in r.findings.cells.items q) →
     s.findings.faults.first ≡ noted_all r.findings.faults.first (limit_faults p r.blocks.items table) → s.findings.faults.first ≡ first_fault (scope_faults p)
 first-told r s p table order h cells e =
     e ∙ ap (λ z. noted_all z (limit_faults p r.blocks.items table)) h.faults
@@ -126,11 +126,11 @@ first-told r s p table order h cells e =
     ∙ first_in_turn p
 
 pub refused-first : (p : PProgram) (first : Option Fault) (r : Result (Unit {0}) Refusal) (e : Refusal) → first ≡ first_fault (scope_faults p) → r ≡ refusing first →
-    r ≡ Err e → IsRefused p e
+    r ≡ Err e → TreeIsRefused p e
 refused-first p None r e f h k = absurd (let clash : Ok tt ≡ Err e = sym h ∙ k in cc)
 refused-first p (Some g) r e f h k =
     let same : refusals.At g.spot g.code ≡ e = (let both : Err (refusals.At g.spot g.code) ≡ Err e = sym h ∙ k in cc) in
-    subst (IsRefused p) same (sym f)
+    subst (TreeIsRefused p) same (sym f)
 
 pub unrefused : (p : PProgram) (first : Option Fault) (r : Result (Unit {0}) Refusal) (u : Unit {0}) → first ≡ first_fault (scope_faults p) → r ≡ refusing first → r ≡ Ok u →
     scope_faults p ≡ []
@@ -155,9 +155,9 @@ limits-noted p blocks items table o f1 f2 f3 f4 same a b c d =
 
 -- ---- the answer
 
-pub no_refusal : {A : Type 0} (p : PProgram) (r : Result A Refusal) → IfErr r (λ e. e ≡ refusals.NoMemory) → IfErr r (IsRefused p)
+pub no_refusal : {A : Type 0} (p : PProgram) (r : Result A Refusal) → IfErr r (λ e. e ≡ refusals.NoMemory) → IfErr r (TreeIsRefused p)
 no_refusal p (Ok x) h = tt
-no_refusal p (Err e) h = subst (IsRefused p) (sym h) tt
+no_refusal p (Err e) h = subst (TreeIsRefused p) (sym h) tt
 
 pub always : {A E : Type 0} (r : Result A E) {P : Type 0} → P → IfOk r (λ x. P)
 always (Ok x) h = h

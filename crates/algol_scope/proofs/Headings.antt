@@ -12,10 +12,10 @@ use Rattle.algol_tree.specs.declared.tree.Spec.{Spec}
 use Rattle.algol_tree.specs.declared.refusal.Code.TheVariants as codes
 use Rattle.algol_tree.specs.declared.refusal.Fault.{Fault}
 use Rattle.algol_tree.specs.Sorts.{is_named_in, same_name}
-use Rattle.algol_tree.specs.Names.{if_so, is_no_parameter, is_one_of, names_of_spec, places_if, repeated}
+use Rattle.algol_tree.specs.Names.{if_so, is_no_parameter, name_is_one_of, names_of_spec, places_if, repeated}
 use Rattle.algol_tree.specs.Accepted.{broken, noted_all}
 use Rattle.algol_frames.proofs.Noting.{noted-broken}
-use Rattle.algol_known.specs.Naming.{Table, IsBare, entry_in, has_name, is_typed, or_else}
+use Rattle.algol_known.specs.Naming.{NameTable, IsBare, entry_in, has_name, is_typed, or_else}
 use Rattle.algol_known.specs.Passing.{kept}
 use Rattle.algol_known.proofs.Declaring.{same}
 
@@ -42,17 +42,17 @@ after seen (n ∷ ns) = after (n.name ∷ seen) ns
 pub repeated-append : (seen : List (List ℕ)) (xs ys : List Named) → repeated seen (xs ++ ys) ≡ repeated seen xs ++ repeated (after seen xs) ys
 repeated-append seen [] ys = refl
 repeated-append seen (x ∷ xs) ys =
-    ap (λ z. if_so (is_one_of seen x.name) x.spot ++ z) (repeated-append (x.name ∷ seen) xs ys)
-    ∙ sym (append_assoc (if_so (is_one_of seen x.name) x.spot) (repeated (x.name ∷ seen) xs) (repeated (after (x.name ∷ seen) xs) ys))
+    ap (λ z. if_so (name_is_one_of seen x.name) x.spot ++ z) (repeated-append (x.name ∷ seen) xs ys)
+    ∙ sym (append_assoc (if_so (name_is_one_of seen x.name) x.spot) (repeated (x.name ∷ seen) xs) (repeated (after (x.name ∷ seen) xs) ys))
 
 or_step : (b c : Bool) (x : Bool) → (c || (if b then true else x)) ≡ ((if b then true else c) || x)
 or_step true true x = refl
 or_step true false x = refl
 or_step false c x = refl
 
-pub after-has : (seen : List (List ℕ)) (ns : List Named) (q : List ℕ) → is_one_of (after seen ns) q ≡ (is_named_in ns q || is_one_of seen q)
+pub after-has : (seen : List (List ℕ)) (ns : List Named) (q : List ℕ) → name_is_one_of (after seen ns) q ≡ (is_named_in ns q || name_is_one_of seen q)
 after-has seen [] q = refl
-after-has seen (n ∷ ns) q = after-has (n.name ∷ seen) ns q ∙ or_step (same_name n.name q) (is_named_in ns q) (is_one_of seen q)
+after-has seen (n ∷ ns) q = after-has (n.name ∷ seen) ns q ∙ or_step (same_name n.name q) (is_named_in ns q) (name_is_one_of seen q)
 
 kept-some : (old : Option Bool) (b x : Bool) → (b || (x || is_some old)) ≡ (x || is_some (kept old b true))
 kept-some (Some y) true true = refl
@@ -65,17 +65,17 @@ kept-some None false x = refl
 -- A walk over names, with those that stand before: what is noted of the rest makes what there is of all.
 pub record Repeats (has : List ℕ → Bool) (before : List ℕ → Option Bool) (now all : Option Fault) (rest : List Named) : Type 0 where
   pub seen : List (List ℕ)
-  pub known : (q : List ℕ) → is_one_of seen q ≡ (has q || is_some (before q))
+  pub known : (q : List ℕ) → name_is_one_of seen q ≡ (has q || is_some (before q))
   pub noted : noted_all now (broken codes.DeclaredTwice (repeated seen rest)) ≡ all
 
 pub repeats-start : (has : List ℕ → Bool) (before : List ℕ → Option Bool) (first : Option Fault) (seen : List (List ℕ)) (ns : List Named) →
-    ((q : List ℕ) → is_one_of seen q ≡ (has q || is_some (before q))) →
+    ((q : List ℕ) → name_is_one_of seen q ≡ (has q || is_some (before q))) →
     Repeats has before first (noted_all first (broken codes.DeclaredTwice (repeated seen ns))) ns
 repeats-start has before first seen ns h = record { seen = seen; known = h; noted = refl }
 
 pub repeats-some : (has : List ℕ → Bool) (old new : List ℕ → Option Bool) (now next all : Option Fault) (ns rest : List Named) →
     Repeats has old now all (ns ++ rest) →
-    ((seen : List (List ℕ)) → ((q : List ℕ) → is_one_of seen q ≡ (has q || is_some (old q))) → next ≡ noted_all now (broken codes.DeclaredTwice (repeated seen ns))) →
+    ((seen : List (List ℕ)) → ((q : List ℕ) → name_is_one_of seen q ≡ (has q || is_some (old q))) → next ≡ noted_all now (broken codes.DeclaredTwice (repeated seen ns))) →
     ((q : List ℕ) → new q ≡ kept (old q) (is_named_in ns q) true) → Repeats has new next all rest
 repeats-some has old new now next all ns rest r note more =
     record {
@@ -102,8 +102,8 @@ repeats-item has old new now next all ns i n name b h it e t note more r =
     (λ seen known.
     note
     ∙ ap (λ z. noted_all now (broken codes.DeclaredTwice (if_so z n.spot)))
-    (t ∙ sym (known name) ∙ ap (λ z. is_one_of seen z) e)
-    ∙ ap (λ z. noted_all now (broken codes.DeclaredTwice z)) (sym (append-nil (if_so (is_one_of seen n.name) n.spot))))
+    (t ∙ sym (known name) ∙ ap (λ z. name_is_one_of seen z) e)
+    ∙ ap (λ z. noted_all now (broken codes.DeclaredTwice z)) (sym (append-nil (if_so (name_is_one_of seen n.name) n.spot))))
     (λ q. more q ∙ ap (λ z. kept (old q) z true) (sym (same name q) ∙ ap (λ z. same_name z q) e ∙ plain (same_name n.name q))))
   where
     plain : (c : Bool) → c ≡ (if c then true else false)
@@ -119,14 +119,14 @@ or_false : (b : Bool) → (b || false) ≡ b
 or_false true = refl
 or_false false = refl
 
-pub bare-has : (typed : Option (Bor (List ℕ))) (declared parameters : Table) (before : Option Bool) (q : List ℕ) → IsBare declared → IsBare parameters → before ≡ None →
+pub bare-has : (typed : Option (Bor (List ℕ))) (declared parameters : NameTable) (before : Option Bool) (q : List ℕ) → IsBare declared → IsBare parameters → before ≡ None →
     (has_name typed declared parameters q || is_some before) ≡ is_typed typed q
 bare-has typed declared parameters before q d p b =
     ap (λ z. (is_typed typed q || is_some (or_else z (entry_in parameters q))) || is_some before) (d q)
     ∙ ap (λ z. (is_typed typed q || is_some z) || is_some before) (p q)
     ∙ ap (λ z. (is_typed typed q || false) || is_some z) b ∙ or_false (is_typed typed q || false) ∙ or_false (is_typed typed q)
 
-pub typed-has : (name q : List ℕ) → bytes_eq name q ≡ is_one_of (name ∷ []) q
+pub typed-has : (name q : List ℕ) → bytes_eq name q ≡ name_is_one_of (name ∷ []) q
 typed-has name q = sym (same name q) ∙ plain (same_name name q)
   where
     plain : (c : Bool) → c ≡ (if c then true else false)
@@ -145,7 +145,7 @@ repeats-specs has before first ss items e h =
 
 pub repeats-spec : (has : List ℕ → Bool) (old new : List ℕ → Option Bool) (now next all : Option Fault) (ss : List Spec) (i : ℕ) (s : Spec) (ns : List Named) →
     i < length ss → s ≡ get_or ss i s → ns ≡ names_of_spec s →
-    ((seen : List (List ℕ)) → ((q : List ℕ) → is_one_of seen q ≡ (has q || is_some (old q))) → next ≡ noted_all now (broken codes.DeclaredTwice (repeated seen ns))) →
+    ((seen : List (List ℕ)) → ((q : List ℕ) → name_is_one_of seen q ≡ (has q || is_some (old q))) → next ≡ noted_all now (broken codes.DeclaredTwice (repeated seen ns))) →
     ((q : List ℕ) → new q ≡ kept (old q) (is_named_in ns q) true) → Repeats has old now all (flat_map names_of_spec (drop i ss)) →
     Repeats has new next all (flat_map names_of_spec (drop (i + 1) ss))
 repeats-spec has old new now next all ss i s ns h same e note more r =

@@ -22,9 +22,9 @@ use Rattle.algol_frames.specs.declared.found.Cell as finding
 use Rattle.algol_frames.specs.declared.found.Content.TheVariants as content
 use Rattle.algol_frames.specs.declared.found.Block as begun
 use Rattle.algol_frames.specs.declared.scopes.Couple.{Couple}
-use Rattle.algol_frames.specs.Framing.{cells_in, those_in}
-use Rattle.algol_scope.specs.Noting.{cell_of, content_of, parameters_here, use_of}
-use Rattle.algol_scope.specs.Stating.{AreNumbered, block_of}
+use Rattle.algol_frames.specs.Framing.{framed_cells_in, those_in}
+use Rattle.algol_scope.specs.Noting.{noted_cell_of, content_of, parameters_here, use_of}
+use Rattle.algol_scope.specs.Stating.{AreNumbered, stated_block_of}
 use Rattle.algol_scope.specs.Resolved.{couple, located, meaning, meant, number_among, parameters_among}
 use Rattle.algol_frames.specs.Laying.{actual_from, couple_by, couple_from, declared_by, declared_from, is_of, laid_in, laid_out, levels_of, number_from, parameters_from, rank, result_from, those_holding}
 use Rattle.algol_scope.proofs.FirstFault.{those_told}
@@ -41,27 +41,27 @@ ranked cells.procedure = refl
 ranked cells.actual = refl
 ranked cells.made = refl
 
-same-rank : (k : Content) (c : Cell) → is_of (content_of k) (cell_of c) ≡ (content_number c.content == content_number k)
+same-rank : (k : Content) (c : Cell) → is_of (content_of k) (noted_cell_of c) ≡ (content_number c.content == content_number k)
 same-rank k c = ap (λ z. z == rank (content_of k)) (ranked c.content) ∙ ap (λ z. content_number c.content == z) (ranked k)
 
-held-told : (k : Content) (cs : List Cell) → those_holding (content_of k) (map cell_of cs) ≡ map cell_of (holding k cs)
+held-told : (k : Content) (cs : List Cell) → those_holding (content_of k) (map noted_cell_of cs) ≡ map noted_cell_of (holding k cs)
 held-told k [] = refl
 held-told k (c ∷ cs) =
-    ap (λ (b : Bool). if b then cell_of c ∷ those_holding (content_of k) (map cell_of cs) else those_holding (content_of k) (map cell_of cs)) (same-rank k c)
+    ap (λ (b : Bool). if b then noted_cell_of c ∷ those_holding (content_of k) (map noted_cell_of cs) else those_holding (content_of k) (map noted_cell_of cs)) (same-rank k c)
     ∙ decide (content_number c.content == content_number k) (held-told k cs)
   where
-    decide : (b : Bool) → those_holding (content_of k) (map cell_of cs) ≡ map cell_of (holding k cs) →
-        (if b then cell_of c ∷ those_holding (content_of k) (map cell_of cs) else those_holding (content_of k) (map cell_of cs)) ≡
-        map cell_of (if b then c ∷ holding k cs else holding k cs)
-    decide true h = ap (λ z. cell_of c ∷ z) h
+    decide : (b : Bool) → those_holding (content_of k) (map noted_cell_of cs) ≡ map noted_cell_of (holding k cs) →
+        (if b then noted_cell_of c ∷ those_holding (content_of k) (map noted_cell_of cs) else those_holding (content_of k) (map noted_cell_of cs)) ≡
+        map noted_cell_of (if b then c ∷ holding k cs else holding k cs)
+    decide true h = ap (λ z. noted_cell_of c ∷ z) h
     decide false h = h
 
-both : (xs ys : List finding.Cell) (cs ds : List Cell) → xs ≡ map cell_of cs → ys ≡ map cell_of ds → xs ++ ys ≡ map cell_of (cs ++ ds)
-both xs ys cs ds e f = ap (λ z. z ++ ys) e ∙ ap (λ z. map cell_of cs ++ z) f ∙ sym (map-append cell_of cs ds)
+both : (xs ys : List finding.Cell) (cs ds : List Cell) → xs ≡ map noted_cell_of cs → ys ≡ map noted_cell_of ds → xs ++ ys ≡ map noted_cell_of (cs ++ ds)
+both xs ys cs ds e f = ap (λ z. z ++ ys) e ∙ ap (λ z. map noted_cell_of cs ++ z) f ∙ sym (map-append noted_cell_of cs ds)
 
-laid-told : (cs : List Cell) → laid_out (map cell_of cs) ≡ map cell_of (layout cs)
+laid-told : (cs : List Cell) → laid_out (map noted_cell_of cs) ≡ map noted_cell_of (layout cs)
 laid-told cs =
-    let m : List finding.Cell = map cell_of cs in
+    let m : List finding.Cell = map noted_cell_of cs in
     let p1 = both (those_holding content.Parameter m) (those_holding content.Result m) (holding cells.parameter cs) (holding cells.result cs)
     (held-told cells.parameter cs) (held-told cells.result cs) in
     let p2 = both _ (those_holding content.Variable m) _ (holding cells.variable cs) p1 (held-told cells.variable cs) in
@@ -69,12 +69,12 @@ laid-told cs =
     let p4 = both _ (those_holding content.Actual m) _ (holding cells.actual cs) p3 (held-told cells.actual cs) in
     both _ (those_holding content.Made m) _ (holding cells.made cs) p4 (held-told cells.made cs)
 
-couple-told : (level index : ℕ) (cs : List Cell) (spot : Spot) → couple (couple_from level index (map cell_of cs) spot) ≡ couple_at level (index_from index cs spot)
+couple-told : (level index : ℕ) (cs : List Cell) (spot : Spot) → couple (couple_from level index (map noted_cell_of cs) spot) ≡ couple_at level (index_from index cs spot)
 couple-told level index [] spot = refl
 couple-told level index (c ∷ cs) spot = decide (same_spot c.spot spot) (couple-told level (index + 1) cs spot)
   where
-    decide : (b : Bool) → couple (couple_from level (index + 1) (map cell_of cs) spot) ≡ couple_at level (index_from (index + 1) cs spot) →
-        couple (if b then Some (record { level = level; index = index }) else couple_from level (index + 1) (map cell_of cs) spot) ≡
+    decide : (b : Bool) → couple (couple_from level (index + 1) (map noted_cell_of cs) spot) ≡ couple_at level (index_from (index + 1) cs spot) →
+        couple (if b then Some (record { level = level; index = index }) else couple_from level (index + 1) (map noted_cell_of cs) spot) ≡
         couple_at level (if b then Some index else index_from (index + 1) cs spot)
     decide true h = refl
     decide false h = h
@@ -99,7 +99,7 @@ parameters-told [] spot = refl
 parameters-told (k ∷ ks) spot =
     ap (option_or (if same_spot k.spot spot then parameters_here k.spot k.declared else None)) (parameters-told ks spot)
 
-pub numbers-told : (n : ℕ) (bs : List Block) (spot : Spot) → number_from n (map block_of bs) spot ≡ number_among n bs spot
+pub numbers-told : (n : ℕ) (bs : List Block) (spot : Spot) → number_from n (map stated_block_of bs) spot ≡ number_among n bs spot
 numbers-told n [] spot = refl
 numbers-told n (b ∷ bs) spot = ap (option_or (if same_spot b.spot spot then Some n else None)) (numbers-told (n + 1) bs spot)
 
@@ -108,16 +108,16 @@ numbers-told n (b ∷ bs) spot = ap (option_or (if same_spot b.spot spot then So
 fits : (n : ℕ) → n ≤ 31 → min n 255 ≡ n
 fits n h = omega (arith, h)
 
-module _ (blocks : List Block) (ss : List Site) (table : BTreeMap ℕ (Vec finding.Cell Global)) (told : (q : ℕ) → cells_in table q ≡ those_in (map cell_of (flat_map (cells_at blocks) ss)) q)
+module _ (blocks : List Block) (ss : List Site) (table : BTreeMap ℕ (Vec finding.Cell Global)) (told : (q : ℕ) → framed_cells_in table q ≡ those_in (map noted_cell_of (flat_map (cells_at blocks) ss)) q)
     (deep : deep_blocks blocks ≡ []) (each : Each blocks ss) (numbered : AreNumbered blocks 0 blocks) where
   abbrev there : ℕ → Spot → Option Couple
-  there = laid_in (map block_of blocks) table
+  there = laid_in (map stated_block_of blocks) table
 
-  its-cells : (q : ℕ) → cells_in table q ≡ map cell_of (cells_of blocks ss q)
+  its-cells : (q : ℕ) → framed_cells_in table q ≡ map noted_cell_of (cells_of blocks ss q)
   its-cells q = told q ∙ those_told (flat_map (cells_at blocks) ss) q
 
   of-block : (q : ℕ) (spot : Spot) (o : Option Block) → slice_get blocks q ≡ o →
-      couple (couple_by (option_map block_of o) (map cell_of (cells_of blocks ss q)) spot) ≡ couple_in blocks ss q spot
+      couple (couple_by (option_map stated_block_of o) (map noted_cell_of (cells_of blocks ss q)) spot) ≡ couple_in blocks ss q spot
   of-block q spot None e =
       sym (ap (λ z. couple_at (level_of (block_numbered blocks q)) (index_from 2 (layout z) spot)) (no-cells blocks ss q each e))
   of-block q spot (Some b) e =
@@ -130,8 +130,8 @@ module _ (blocks : List Block) (ss : List Site) (table : BTreeMap ℕ (Vec findi
 
   pub there-told : (q : ℕ) (spot : Spot) → couple (there q spot) ≡ couple_in blocks ss q spot
   there-told q spot =
-      ap (λ z. couple (couple_by z (cells_in table q) spot)) (slice_get-map block_of blocks q)
-      ∙ ap (λ z. couple (couple_by (option_map block_of (slice_get blocks q)) z spot)) (its-cells q)
+      ap (λ z. couple (couple_by z (framed_cells_in table q) spot)) (slice_get-map stated_block_of blocks q)
+      ∙ ap (λ z. couple (couple_by (option_map stated_block_of (slice_get blocks q)) z spot)) (its-cells q)
       ∙ of-block q spot (slice_get blocks q) refl
 
   -- ---- declarations
@@ -198,13 +198,13 @@ module _ (blocks : List Block) (ss : List Site) (table : BTreeMap ℕ (Vec findi
   or-nothing (Some c) = refl
 
   results-from : (n : ℕ) (bs : List Block) (spot : Spot) → AreNumbered blocks n bs →
-      couple (result_from there n (map block_of bs) spot) ≡ couple_if (stands_among bs spot) (couple_in blocks ss (n + number_at bs spot) spot)
+      couple (result_from there n (map stated_block_of bs) spot) ≡ couple_if (stands_among bs spot) (couple_in blocks ss (n + number_at bs spot) spot)
   results-from n [] spot h = refl
   results-from n (b ∷ bs) spot h = decide (results-from (n + 1) bs spot h.1.1) (same_spot b.spot spot) refl
     where
-      decide : couple (result_from there (n + 1) (map block_of bs) spot) ≡ couple_if (stands_among bs spot) (couple_in blocks ss ((n + 1) + number_at bs spot) spot) →
+      decide : couple (result_from there (n + 1) (map stated_block_of bs) spot) ≡ couple_if (stands_among bs spot) (couple_in blocks ss ((n + 1) + number_at bs spot) spot) →
           (x : Bool) → same_spot b.spot spot ≡ x →
-          couple (option_or (if x then there n b.spot else None) (result_from there (n + 1) (map block_of bs) spot)) ≡
+          couple (option_or (if x then there n b.spot else None) (result_from there (n + 1) (map stated_block_of bs) spot)) ≡
           couple_if (if x then true else stands_among bs spot) (couple_in blocks ss (n + (if x then 0 else number_at bs spot + 1)) spot)
       decide rest false s =
           let next : (n + 1) + number_at bs spot ≡ n + (number_at bs spot + 1) = omega arith in
@@ -214,8 +214,8 @@ module _ (blocks : List Block) (ss : List Site) (table : BTreeMap ℕ (Vec findi
           let more : n < n + 1 = omega arith in
           let here : n ≡ n + 0 = omega arith in
           let none : stands_among bs spot ≡ false = none-behind n (n + 1) bs spot h.1.1 more (ap (number_at blocks) (sym same) ∙ h.0) in
-          let nothing : result_from there (n + 1) (map block_of bs) spot ≡ None =
-          none-couple (result_from there (n + 1) (map block_of bs) spot)
+          let nothing : result_from there (n + 1) (map stated_block_of bs) spot ≡ None =
+          none-couple (result_from there (n + 1) (map stated_block_of bs) spot)
           (rest ∙ ap (λ z. couple_if z (couple_in blocks ss ((n + 1) + number_at bs spot) spot)) none) in
           ap (λ z. couple (option_or (there n b.spot) z)) nothing ∙ ap couple (or-nothing (there n b.spot)) ∙ ap (λ z. couple (there n z)) same
           ∙ there-told n spot ∙ ap (λ z. couple_in blocks ss z spot) here
@@ -231,7 +231,7 @@ module _ (blocks : List Block) (ss : List Site) (table : BTreeMap ℕ (Vec findi
           let next : number_at bs spot + 1 ≡ suc (number_at bs spot) = omega arith in
           ap (slice_get (b ∷ bs)) next ∙ rest e
 
-  pub results-told : (spot : Spot) → couple (result_from there 0 (map block_of blocks) spot) ≡ couple_in blocks ss (number_at blocks spot) spot
+  pub results-told : (spot : Spot) → couple (result_from there 0 (map stated_block_of blocks) spot) ≡ couple_in blocks ss (number_at blocks spot) spot
   results-told spot = results-from 0 blocks spot numbered ∙ decide (stands_among blocks spot) refl
     where
       decide : (x : Bool) → stands_among blocks spot ≡ x →
@@ -316,14 +316,14 @@ module _ (blocks : List Block) (ss : List Site) (table : BTreeMap ℕ (Vec findi
   or-some (Some c) p h = refl
 
   pub actuals-from : (cs : List Cell) (spot : Spot) → ((c : Cell) → IsIn c cs → IsIn c all) →
-      couple (actual_from there (map cell_of cs) spot) ≡ couple_of_cells blocks ss (filter is_actual cs) spot
+      couple (actual_from there (map noted_cell_of cs) spot) ≡ couple_of_cells blocks ss (filter is_actual cs) spot
   actuals-from [] spot h = refl
   actuals-from (c ∷ cs) spot h =
-      ap (λ (x : Bool). couple (option_or (if x && same_spot c.spot spot then there c.block c.spot else None) (actual_from there (map cell_of cs) spot)))
+      ap (λ (x : Bool). couple (option_or (if x && same_spot c.spot spot then there c.block c.spot else None) (actual_from there (map noted_cell_of cs) spot)))
       (same-rank cells.actual c) ∙ decide (actuals-from cs spot (λ d k. h d (inr k))) (is_actual c) refl (same_spot c.spot spot) refl
     where
-      decide : couple (actual_from there (map cell_of cs) spot) ≡ couple_of_cells blocks ss (filter is_actual cs) spot → (x : Bool) → is_actual c ≡ x → (y : Bool) → same_spot c.spot spot ≡ y →
-          couple (option_or (if x && y then there c.block c.spot else None) (actual_from there (map cell_of cs) spot)) ≡
+      decide : couple (actual_from there (map noted_cell_of cs) spot) ≡ couple_of_cells blocks ss (filter is_actual cs) spot → (x : Bool) → is_actual c ≡ x → (y : Bool) → same_spot c.spot spot ≡ y →
+          couple (option_or (if x && y then there c.block c.spot else None) (actual_from there (map noted_cell_of cs) spot)) ≡
           couple_of_cells blocks ss (if x then c ∷ filter is_actual cs else filter is_actual cs) spot
       decide rest false a y s = rest
       decide rest true a false s =
@@ -331,20 +331,20 @@ module _ (blocks : List Block) (ss : List Site) (table : BTreeMap ℕ (Vec findi
       decide rest true a true s =
           let same : c.spot ≡ spot = spot-same c.spot spot s in
           let its : couple (there c.block c.spot) ≡ couple_in blocks ss c.block c.spot = there-told c.block c.spot in
-          or-some (there c.block c.spot) (actual_from there (map cell_of cs) spot) (λ e. has-couple c a (h c (inl refl)) (sym its ∙ e)) ∙ its
+          or-some (there c.block c.spot) (actual_from there (map noted_cell_of cs) spot) (λ e. has-couple c a (h c (inl refl)) (sym its ∙ e)) ∙ its
           ∙ ap (couple_in blocks ss c.block) same
           ∙ ap (λ (b : Bool). if b then couple_in blocks ss c.block spot else couple_of_cells blocks ss (filter is_actual cs) spot) (sym s)
 
-  pub actuals-told : (spot : Spot) → couple (actual_from there (map cell_of all) spot) ≡ couple_of_cells blocks ss (filter is_actual all) spot
+  pub actuals-told : (spot : Spot) → couple (actual_from there (map noted_cell_of all) spot) ≡ couple_of_cells blocks ss (filter is_actual all) spot
   actuals-told spot = actuals-from all spot (λ c h. h)
 
   -- ---- levels
 
-  pub levels-told : (q : ℕ) → slice_get (levels_of (map block_of blocks)) q ≡ level_if (slice_get blocks q)
+  pub levels-told : (q : ℕ) → slice_get (levels_of (map stated_block_of blocks)) q ≡ level_if (slice_get blocks q)
   levels-told q =
-      slice_get-map (λ (b : begun.Block). b.level) (map block_of blocks) q
-      ∙ ap (option_map (λ (b : begun.Block). b.level)) (slice_get-map block_of blocks q) ∙ decide (slice_get blocks q) refl
+      slice_get-map (λ (b : begun.Block). b.level) (map stated_block_of blocks) q
+      ∙ ap (option_map (λ (b : begun.Block). b.level)) (slice_get-map stated_block_of blocks q) ∙ decide (slice_get blocks q) refl
     where
-      decide : (o : Option Block) → slice_get blocks q ≡ o → option_map (λ (b : begun.Block). b.level) (option_map block_of o) ≡ level_if o
+      decide : (o : Option Block) → slice_get blocks q ≡ o → option_map (λ (b : begun.Block). b.level) (option_map stated_block_of o) ≡ level_if o
       decide None e = refl
       decide (Some b) e = ap (λ z. Some z) (fits (level_of b) (not-deep blocks q b deep e))

@@ -15,7 +15,7 @@ use Rattle.algol_tree.specs.Sorts.{same_name}
 use Rattle.algol_tree.specs.Surroundings.{body_of, heading_or}
 use Rattle.algol_known.specs.declared.around.Procedure.{Procedure}
 use Rattle.algol_scope.specs.declared.declaration.Ahead.{Ahead}
-use Rattle.algol_known.specs.Naming.{under}
+use Rattle.algol_known.specs.Naming.{sort_named}
 use Rattle.algol_known.specs.Seeing.{Extends}
 use Rattle.algol_scope.specs.Declaring.{AreAhead, HasBodies, IsAhead, IsBody, IsOf}
 use Rattle.algol_known.proofs.Declaring.{same}
@@ -31,7 +31,7 @@ body-extends ps qs (Some x) None e b = absurd b
 pub bodies-extends : (ps qs : List Procedure) (table : BTreeMap Key Ahead) (later : PDecls) → Extends ps qs → HasBodies ps table later →
     HasBodies qs table later
 bodies-extends ps qs table later e b =
-    record { bodies = λ q. body-extends ps qs (under table q) (body_of q later) e (b.bodies q) }
+    record { bodies = λ q. body-extends ps qs (sort_named table q) (body_of q later) e (b.bodies q) }
 
 chosen : (ps : List Procedure) (old new : Option Ahead) (x : Ahead) (h : Heading) (l : Option Heading) (b s : Bool) → s ≡ b → new ≡ cond b (Some x) old →
     IsOf ps x h → x.has_body ≡ true → IsBody ps old l → IsBody ps new (if s then Some h else l)
@@ -43,13 +43,13 @@ chosen ps old new x h l false true e n of has f = absurd (let clash : true ≡ f
 -- a procedure with its body comes before these declarations
 pub bodies-more : (ps qs : List Procedure) (old new : BTreeMap Key Ahead) (later : PDecls) (h : Heading) (s : PStmt) (name : List ℕ) (x : Ahead) → Extends ps qs →
     HasBodies ps old later → IsOf qs x h → x.has_body ≡ true → name ≡ h.name.name →
-    ((q : List ℕ) → under new q ≡ update bytes_eq (under old) name (Some x) q) → HasBodies qs new (tree.decls (tree.procedure h s) later)
+    ((q : List ℕ) → sort_named new q ≡ update bytes_eq (sort_named old) name (Some x) q) → HasBodies qs new (tree.decls (tree.procedure h s) later)
 bodies-more ps qs old new later h s name x e b of has n u =
     record {
       bodies =
           λ q.
-          chosen qs (under old q) (under new q) x h (body_of q later) (bytes_eq name q) (same_name h.name.name q)
-          (ap (λ z. same_name z q) (sym n) ∙ same name q) (u q) of has (body-extends ps qs (under old q) (body_of q later) e (b.bodies q));
+          chosen qs (sort_named old q) (sort_named new q) x h (body_of q later) (bytes_eq name q) (same_name h.name.name q)
+          (ap (λ z. same_name z q) (sym n) ∙ same name q) (u q) of has (body-extends ps qs (sort_named old q) (body_of q later) e (b.bodies q));
     }
 
 found_ahead : (ps : List Procedure) (h : Heading) (later : PDecls) (x y : Ahead) (o : Option Ahead) (l : Option Heading) → body_of h.name.name later ≡ l → o ≡ Some x →
@@ -62,9 +62,9 @@ found_ahead ps h later x y (Some z) None e k b = absurd b
 
 -- the body of a FORWARD is among them
 pub ahead-found : (ps : List Procedure) (table : BTreeMap Key Ahead) (h : Heading) (later : PDecls) (x : Ahead) → HasBodies ps table later →
-    under table h.name.name ≡ Some x → IsAhead ps (tree.forward h) later x
+    sort_named table h.name.name ≡ Some x → IsAhead ps (tree.forward h) later x
 ahead-found ps table h later x b k =
-    found_ahead ps h later x x (under table h.name.name) (body_of h.name.name later) refl k (b.bodies h.name.name)
+    found_ahead ps h later x x (sort_named table h.name.name) (body_of h.name.name later) refl k (b.bodies h.name.name)
 
 missing : (ps : List Procedure) (h : Heading) (x : Ahead) (o : Option Ahead) (l : Option Heading) → o ≡ None → IsBody ps o l → (qs : List Procedure) → IsOf qs x h →
     x.has_body ≡ false → IsOf qs x (heading_or h l) × (x.has_body ≡ is_some l)
@@ -74,9 +74,9 @@ missing ps h x None (Some g) k b qs of has = absurd b
 
 -- it is not
 pub ahead-missing : (ps qs : List Procedure) (table : BTreeMap Key Ahead) (h : Heading) (later : PDecls) (x : Ahead) → HasBodies ps table later →
-    under table h.name.name ≡ None → IsOf qs x h → x.has_body ≡ false → IsAhead qs (tree.forward h) later x
+    sort_named table h.name.name ≡ None → IsOf qs x h → x.has_body ≡ false → IsAhead qs (tree.forward h) later x
 ahead-missing ps qs table h later x b k of has =
-    missing ps h x (under table h.name.name) (body_of h.name.name later) k (b.bodies h.name.name) qs of has
+    missing ps h x (sort_named table h.name.name) (body_of h.name.name later) k (b.bodies h.name.name) qs of has
 
 split : {A : Type 0} (xs : List A) (i : ℕ) (x : A) → i < length xs → drop i xs ≡ get_or xs i x ∷ drop (i + 1) xs
 split xs i x h =
@@ -95,7 +95,7 @@ pub record Backwards (first now : List Procedure) (table : BTreeMap Key Ahead) (
   pub bodies : HasBodies now table (decls left)
 
 pub backwards-none : (ps : List Procedure) (table : BTreeMap Key Ahead) (ds : List Decl) (i : ℕ) (found : List Ahead) → length ds ≤ i → found ≡ [] →
-    ((q : List ℕ) → under table q ≡ None) → Backwards ps ps table (drop i ds) found
+    ((q : List ℕ) → sort_named table q ≡ None) → Backwards ps ps table (drop i ds) found
 backwards-none ps table ds i found h e bare =
     let P : List Decl → Type 0 = λ z. Backwards ps ps table z found in
     let Q : List Ahead → Type 0 = λ z. Backwards ps ps table [] z in
@@ -157,4 +157,4 @@ bodies-by ps table d p later e h = let P : PDecl → Type 0 = λ z. HasBodies ps
 pub bodies-of : (ps : List Procedure) (table : BTreeMap Key Ahead) (p : PDecl) (later : PDecls) → HasBodies ps table later →
     ((name : List ℕ) → body_of name later ≡ body_of name (tree.decls p later)) → HasBodies ps table (tree.decls p later)
 bodies-of ps table p later b h =
-    record { bodies = λ q. let P : Option Heading → Type 0 = λ z. IsBody ps (under table q) z in subst P (h q) (b.bodies q) }
+    record { bodies = λ q. let P : Option Heading → Type 0 = λ z. IsBody ps (sort_named table q) z in subst P (h q) (b.bodies q) }

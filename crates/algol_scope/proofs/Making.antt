@@ -11,16 +11,16 @@ use Rattle.algol_tree.specs.Sites.{Site, sites_in_pairs}
 use Rattle.algol_tree.specs.Cells as cells
 use Rattle.algol_tree.specs.Cells.{cells_at}
 use Rattle.algol_tree.specs.Couples.{Known, known_at}
-use Rattle.algol_tree.specs.Names.{is_one_of, names_here, result_names_of}
+use Rattle.algol_tree.specs.Names.{name_is_one_of, names_here, result_names_of}
 use Rattle.algol_known.specs.declared.known.Entry.{Entry}
 use Rattle.algol_known.specs.declared.known.Seen.TheVariants as seens
 use Rattle.algol_known.specs.declared.around.Procedure.{Procedure}
 use Rattle.algol_scope.specs.declared.findings.Findings.{Findings}
 use Rattle.algol_scope.specs.declared.resolver.Resolver.{Resolver}
 use Rattle.algol_known.specs.Naming.{has_name, is_typed, seen_under}
-use Rattle.algol_known.specs.Seeing.{Extends, IsFound, own}
-use Rattle.algol_scope.specs.Noting.{Adds, Knows, Walks, faults_at}
-use Rattle.algol_scope.specs.Stating.{AreBefore, Settles, Enters, no_blocks}
+use Rattle.algol_known.specs.Seeing.{Extends, NameIsFound, own_declared}
+use Rattle.algol_scope.specs.Noting.{FindingsAdd, Knows, ScopeWalks, faults_at}
+use Rattle.algol_scope.specs.Stating.{AreBefore, WalkSettles, WalkEnters, no_blocks}
 use Rattle.algol_scope.specs.Declaring.{Makes, decl_site, no_cells, no_faults, no_uses, nothing_so}
 use Rattle.algol_known.specs.Widening.{Widens}
 use Rattle.algol_scope.proofs.Walking.{adds-then, adds-as, adds-none}
@@ -63,8 +63,8 @@ makes-as old new f g c d u v p e h k x =
 -- only findings change
 pub makes-adds : (old new : Resolver) (f : List Block → Surroundings → List Fault) (c : List Block → Surroundings → List cells.Cell)
     (u : List Block → Surroundings → List Known) → new.around ≡ old.around → new.blocks ≡ old.blocks →
-    ((blocks : List Block) (a : Surroundings) (spots : List Spot) (first : List Declared) → Settles blocks old a spots first →
-    Adds old.findings (f blocks a) (c blocks a) (u blocks a) new.findings) → Makes old new f c u nothing_so
+    ((blocks : List Block) (a : Surroundings) (spots : List Spot) (first : List Declared) → WalkSettles blocks old a spots first →
+    FindingsAdd old.findings (f blocks a) (c blocks a) (u blocks a) new.findings) → Makes old new f c u nothing_so
 makes-adds old new f c u around same h =
     record {
       outer = (let e : new.around.outer.items ≡ old.around.outer.items = cc in e);
@@ -106,7 +106,7 @@ makes-widens old new made w o f same =
       blocks = same;
       adds =
           λ blocks a spots first s.
-          let P : Findings → Type 0 = λ z. Adds old.findings [] [] [] z in subst P (sym f) (adds-none old.findings);
+          let P : Findings → Type 0 = λ z. FindingsAdd old.findings [] [] [] z in subst P (sym f) (adds-none old.findings);
       settles =
           λ blocks a spots first s.
           let known : ℕ → Type 0 = λ z. AreBefore z (made blocks a ++ a.known) in
@@ -129,40 +129,40 @@ makes-widens old new made w o f same =
 
 -- ---- which names the block has
 
-is_one_of-append : (xs ys : List (List ℕ)) (q : List ℕ) → is_one_of (xs ++ ys) q ≡ (is_one_of xs q || is_one_of ys q)
+is_one_of-append : (xs ys : List (List ℕ)) (q : List ℕ) → name_is_one_of (xs ++ ys) q ≡ (name_is_one_of xs q || name_is_one_of ys q)
 is_one_of-append [] ys q = refl
 is_one_of-append (x ∷ xs) ys q = step (same_name x q) (is_one_of-append xs ys q)
   where
-    step : (b : Bool) → is_one_of (xs ++ ys) q ≡ (is_one_of xs q || is_one_of ys q) →
-        (if b then true else is_one_of (xs ++ ys) q) ≡ ((if b then true else is_one_of xs q) || is_one_of ys q)
+    step : (b : Bool) → name_is_one_of (xs ++ ys) q ≡ (name_is_one_of xs q || name_is_one_of ys q) →
+        (if b then true else name_is_one_of (xs ++ ys) q) ≡ ((if b then true else name_is_one_of xs q) || name_is_one_of ys q)
     step true h = refl
     step false h = h
 
-named_or_not : (ds : List Declared) (q : List ℕ) → is_one_of (map (λ (d : Declared). d.name) ds) q ≡ is_some (look_up ds q)
+named_or_not : (ds : List Declared) (q : List ℕ) → name_is_one_of (map (λ (d : Declared). d.name) ds) q ≡ is_some (look_up ds q)
 named_or_not [] q = refl
 named_or_not (d ∷ ds) q = step (same_name d.name q) (named_or_not ds q)
   where
-    step : (b : Bool) → is_one_of (map (λ (d : Declared). d.name) ds) q ≡ is_some (look_up ds q) →
-        (if b then true else is_one_of (map (λ (d : Declared). d.name) ds) q) ≡ is_some (if b then Some d else look_up ds q)
+    step : (b : Bool) → name_is_one_of (map (λ (d : Declared). d.name) ds) q ≡ is_some (look_up ds q) →
+        (if b then true else name_is_one_of (map (λ (d : Declared). d.name) ds) q) ≡ is_some (if b then Some d else look_up ds q)
     step true h = refl
     step false h = h
 
-some_found : (ps : List Procedure) (e : Option Entry) (d : Option Declared) → IsFound ps e d → is_some d ≡ is_some e
+some_found : (ps : List Procedure) (e : Option Entry) (d : Option Declared) → NameIsFound ps e d → is_some d ≡ is_some e
 some_found ps None None f = refl
 some_found ps (Some e) (Some d) f = refl
 some_found ps None (Some d) f = absurd f
 some_found ps (Some e) None f = absurd f
 
-pub has-told : (blocks : List Block) (r : Resolver) (a : Surroundings) (spots : List Spot) (first : List Declared) (q : List ℕ) → Settles blocks r a spots first →
-    is_one_of (result_names_of (block_numbered blocks a.block) ++ names_here a) q ≡
+pub has-told : (blocks : List Block) (r : Resolver) (a : Surroundings) (spots : List Spot) (first : List Declared) (q : List ℕ) → WalkSettles blocks r a spots first →
+    name_is_one_of (result_names_of (block_numbered blocks a.block) ++ names_here a) q ≡
     has_name r.around.innermost.typed r.around.innermost.declared r.around.innermost.parameters q
 has-told blocks r a spots first q s =
     let m = r.around.innermost in
     is_one_of-append (result_names_of (block_numbered blocks a.block)) (names_here a) q
-    ∙ ap (λ b. b || is_one_of (names_here a) q) (sym (s.typed q))
+    ∙ ap (λ b. b || name_is_one_of (names_here a) q) (sym (s.typed q))
     ∙ ap (λ b. is_typed m.typed q || b)
-    (named_or_not (own a) q
-    ∙ some_found r.around.procedures.items (seen_under m.declared m.parameters seens.All q) (look_up (own a) q) (s.holds.here q))
+    (named_or_not (own_declared a) q
+    ∙ some_found r.around.procedures.items (seen_under m.declared m.parameters seens.All q) (look_up (own_declared a) q) (s.holds.here q))
 
 -- ---- a declaration only, and declarations one after the other
 
@@ -171,7 +171,7 @@ pub enters-made : (old new : Resolver) (d : PDecl) (later : PDecls) (f : List Bl
     ((blocks : List Block) (a : Surroundings) → f blocks a ≡ faults_at blocks (decl_site d later a)) →
     ((blocks : List Block) (a : Surroundings) → c blocks a ≡ cells_at blocks (decl_site d later a)) →
     ((blocks : List Block) (a : Surroundings) → u blocks a ≡ known_at blocks (decl_site d later a)) → Makes old new f c u p →
-    Enters old new (λ blocks a first. decl_site d later a ∷ []) no_blocks p
+    WalkEnters old new (λ blocks a first. decl_site d later a ∷ []) no_blocks p
 enters-made old new d later f c u p e h k m =
     record {
       outer = m.outer;
@@ -194,8 +194,8 @@ enters-made old new d later f c u p e h k m =
     }
 
 pub enters-then : (old mid new : Resolver) (f g : List Block → Surroundings → List Declared → List Site) (b c : List Spot → List Block)
-    (p q : List Block → Surroundings → Surroundings) → Enters old mid f b p → Enters mid new g c q →
-    Enters old new (λ blocks a first. f blocks a first ++ g blocks (p blocks a) first) (λ spots. b spots ++ c spots) (λ blocks a. q blocks (p blocks a))
+    (p q : List Block → Surroundings → Surroundings) → WalkEnters old mid f b p → WalkEnters mid new g c q →
+    WalkEnters old new (λ blocks a first. f blocks a first ++ g blocks (p blocks a) first) (λ spots. b spots ++ c spots) (λ blocks a. q blocks (p blocks a))
 enters-then old mid new f g b c p q x y =
     record {
       outer = y.outer ∙ x.outer;
@@ -214,7 +214,7 @@ enters-then old mid new f g b c p q x y =
           y.settles blocks (p blocks a) spots first (x.settles blocks a spots first s l) (numbered-right blocks old mid (b spots) (c spots) one.begins n);
     }
 
-pub enters-none : (r : Resolver) → Enters r r (λ blocks a first. []) no_blocks nothing_so
+pub enters-none : (r : Resolver) → WalkEnters r r (λ blocks a first. []) no_blocks nothing_so
 enters-none r =
     record {
       outer = refl;
@@ -224,9 +224,9 @@ enters-none r =
     }
 
 -- bounds see what was known at the begin of the block
-pub enters-bounds : (old new : Resolver) (ps : List PPair) → Walks old.around seens.BeforeDeclarations old.findings new.findings (sites_in_pairs ps) →
+pub enters-bounds : (old new : Resolver) (ps : List PPair) → ScopeWalks old.around seens.BeforeDeclarations old.findings new.findings (sites_in_pairs ps) →
     new.around ≡ old.around → new.blocks ≡ old.blocks →
-    Enters old new (λ blocks a first. sites_in_pairs ps (record a { known = first })) no_blocks nothing_so
+    WalkEnters old new (λ blocks a first. sites_in_pairs ps (record a { known = first })) no_blocks nothing_so
 enters-bounds old new ps w around same =
     let begins : new.blocks.items ≡ old.blocks.items ++ [] =
     (let e : new.blocks.items ≡ old.blocks.items = cc in e ∙ sym (append-nil old.blocks.items)) in

@@ -13,20 +13,20 @@ use Rattle.algol_tree.specs.Sorts.{Declared, same_name}
 use Rattle.algol_tree.specs.Blocks.{Block, number_at, block_numbered, blocks_in_body, blocks_in_decls, blocks_in_stmts}
 use Rattle.algol_tree.specs.Surroundings.{Surroundings, knowing_all}
 use Rattle.algol_tree.specs.Sites.{Site, has_decls, sites_in_body, sites_in_decls, sites_in_stmts}
-use Rattle.algol_tree.specs.Names.{is_one_of, result_names_of}
+use Rattle.algol_tree.specs.Names.{name_is_one_of, result_names_of}
 use Rattle.algol_known.specs.declared.known.Seen.TheVariants as seens
 use Rattle.algol_known.specs.declared.around.Around.{Around}
 use Rattle.algol_scope.specs.declared.findings.Findings.{Findings}
 use Rattle.algol_known.specs.declared.known.Names.{Names}
-use Rattle.algol_scope.specs.Noting.{Finds}
+use Rattle.algol_scope.specs.Noting.{ScopeFinds}
 use Rattle.algol_scope.proofs.Walking.{adds-none}
 use Rattle.algol_known.specs.declared.around.Procedure.{Procedure}
 use Rattle.algol_frames.specs.declared.found.Block as begun_block
 use Rattle.algol_scope.specs.declared.resolver.Resolver.{Resolver}
 use Rattle.algol_known.specs.Naming.{is_typed}
 use Rattle.algol_known.specs.Looking.{level_within}
-use Rattle.algol_known.specs.Seeing.{Opens, Extends, begun}
-use Rattle.algol_scope.specs.Stating.{AreBefore, Stands, Settles, Comes, Visits, Enters, Fills, block_of, stmt_parts, stmt_blocks}
+use Rattle.algol_known.specs.Seeing.{KnownOpens, Extends, block_begun}
+use Rattle.algol_scope.specs.Stating.{AreBefore, WalkStands, WalkSettles, WalkComes, Visits, WalkEnters, Fills, stated_block_of, stmt_parts, stmt_blocks}
 use Rattle.algol_scope.proofs.Bodies.{body_is}
 use Rattle.algol_scope.proofs.Visiting.{before-more, comes-then, extends-then, numbered-left, numbered-right, visits-as}
 
@@ -44,14 +44,14 @@ one-more xs ys x h = ap (λ z. length z) h ∙ length-append xs (x ∷ [])
 
 -- A block that begins: the walk stands among its declarations.
 pub settles-open : (blocks : List Block) (old mid : Resolver) (a : Surroundings) (spots : List Spot) (spot : Spot) (blk : Block) (x : begun_block.Block) →
-    Stands old a spots → Opens old.around mid.around (length old.blocks.items) → mid.blocks.items ≡ old.blocks.items ++ x ∷ [] →
+    WalkStands old a spots → KnownOpens old.around mid.around (length old.blocks.items) → mid.blocks.items ≡ old.blocks.items ++ x ∷ [] →
     number_at blocks spot ≡ length old.blocks.items → block_numbered blocks (length old.blocks.items) ≡ blk →
-    ((q : List ℕ) → is_typed mid.around.innermost.typed q ≡ is_one_of (result_names_of blk) q) →
-    Settles blocks mid (begun (number_at blocks spot) a) (spot ∷ spots) a.known
+    ((q : List ℕ) → is_typed mid.around.innermost.typed q ≡ name_is_one_of (result_names_of blk) q) →
+    WalkSettles blocks mid (block_begun (number_at blocks spot) a) (spot ∷ spots) a.known
 settles-open blocks old mid a spots spot blk x s o begins at is typed =
     let n : ℕ = length old.blocks.items in
     let count : length mid.blocks.items ≡ n + 1 = one-more old.blocks.items mid.blocks.items x begins in
-    let P : ℕ → Type 0 = λ z. Settles blocks mid (begun z a) (spot ∷ spots) a.known in
+    let P : ℕ → Type 0 = λ z. WalkSettles blocks mid (block_begun z a) (spot ∷ spots) a.known in
     subst P (sym at)
     (record {
       stands =
@@ -63,11 +63,11 @@ settles-open blocks old mid a spots spot blk x s o begins at is typed =
           };
       holds = o.holds a (own-none n a.known s.known);
       bounds = o.sees seens.BeforeDeclarations a s.sees;
-      typed = λ q. typed q ∙ ap (λ (b : Block). is_one_of (result_names_of b) q) (sym is);
+      typed = λ q. typed q ∙ ap (λ (b : Block). name_is_one_of (result_names_of b) q) (sym is);
     })
 
 -- the level of a block that has just begun
-pub level-open : (old mid : Resolver) (a : Surroundings) (spots : List Spot) (blk : Block) → Stands old a spots →
+pub level-open : (old mid : Resolver) (a : Surroundings) (spots : List Spot) (blk : Block) → WalkStands old a spots →
     mid.around.outer.items ≡ old.around.outer.items ++ old.around.innermost ∷ [] → blk.outer ≡ spots → level_within mid.around ≡ min (length blk.outer + 2) 255
 level-open old mid a spots blk s o b =
     let e : length mid.around.outer.items ≡ length blk.outer =
@@ -79,7 +79,7 @@ abbrev block_with : Spot → ℕ → Bool → begun_block.Block
 block_with spot level is = record { spot = spot; level = level; is_procedure = is }
 
 pub begun_as : (spot : Spot) (level : ℕ) (is : Bool) (blk : Block) → spot ≡ blk.spot → level ≡ min (length blk.outer + 2) 255 → is ≡ not (same_name blk.name []) →
-    record { spot = spot; level = level; is_procedure = is } ≡ block_of blk
+    record { spot = spot; level = level; is_procedure = is } ≡ stated_block_of blk
 begun_as spot level is blk s l p =
     ap (λ z. block_with z level is) s ∙ ap (λ z. block_with blk.spot z is) l ∙ ap (λ z. block_with blk.spot (min (length blk.outer + 2) 255) z) p
 
@@ -123,23 +123,23 @@ pub extends-from : (ps qs rs : List Procedure) → ps ≡ qs → Extends qs rs �
 extends-from ps qs rs h x = let P : List Procedure → Type 0 = λ z. Extends z rs in subst P (sym h) x
 
 pub comes-closed : (blocks : List Block) (old ful new : Resolver) (xs : List Site) (bs : List Block) → new.findings ≡ ful.findings → new.blocks ≡ ful.blocks →
-    Comes blocks old ful xs bs → Comes blocks old new xs bs
+    WalkComes blocks old ful xs bs → WalkComes blocks old new xs bs
 comes-closed blocks old ful new xs bs f b c =
     record {
-      finds = (let P : Findings → Type 0 = λ z. Finds blocks old.findings xs z in subst P (sym f) c.finds);
+      finds = (let P : Findings → Type 0 = λ z. ScopeFinds blocks old.findings xs z in subst P (sym f) c.finds);
       begins = (let e : new.blocks.items ≡ ful.blocks.items = cc in e ∙ c.begins);
     }
 
-pub opens-comes : (blocks : List Block) (old mid : Resolver) (blk : Block) → mid.findings ≡ old.findings → mid.blocks.items ≡ old.blocks.items ++ block_of blk ∷ [] →
-    Comes blocks old mid [] (blk ∷ [])
+pub opens-comes : (blocks : List Block) (old mid : Resolver) (blk : Block) → mid.findings ≡ old.findings → mid.blocks.items ≡ old.blocks.items ++ stated_block_of blk ∷ [] →
+    WalkComes blocks old mid [] (blk ∷ [])
 opens-comes blocks old mid blk f b =
     record {
-      finds = (let P : Findings → Type 0 = λ z. Finds blocks old.findings [] z in subst P (sym f) (adds-none old.findings));
+      finds = (let P : Findings → Type 0 = λ z. ScopeFinds blocks old.findings [] z in subst P (sym f) (adds-none old.findings));
       begins = b;
     }
 
 begun_decls : (old mid ful new : Resolver) (spot : Spot) (d : Decl) (ds : List Decl) (ss : PStmts) (listed : Bool) →
-    Opens old.around mid.around (length old.blocks.items) → ((q : List ℕ) → is_typed mid.around.innermost.typed q ≡ false) →
+    KnownOpens old.around mid.around (length old.blocks.items) → ((q : List ℕ) → is_typed mid.around.innermost.typed q ≡ false) →
     mid.blocks.items ≡ old.blocks.items ++ record { spot = spot; level = level_within mid.around; is_procedure = false } ∷ [] → mid.findings ≡ old.findings →
     Fills mid ful (λ blocks. sites_in_body blocks (tree.body spot (decls (d ∷ ds)) ss)) (blocks_in_body (tree.body spot (decls (d ∷ ds)) ss)) → Closes old mid ful new →
     Visits old new (stmt_parts (tree.block (tree.body spot (decls (d ∷ ds)) ss)) listed) (stmt_blocks (tree.block (tree.body spot (decls (d ∷ ds)) ss)))
@@ -160,27 +160,27 @@ begun_decls old mid ful new spot d ds ss listed o t begins f fills closes =
           λ blocks a spots s n.
           let blk : Block =
           record { spot = spot; outer = spots; name = []; parameters = []; result = None; decls = decls (d ∷ ds); stmts = ss } in
-          let opened : mid.blocks.items ≡ old.blocks.items ++ block_of blk ∷ [] =
+          let opened : mid.blocks.items ≡ old.blocks.items ++ stated_block_of blk ∷ [] =
           begins
           ∙ ap (λ z. old.blocks.items ++ z ∷ []) (begun_as spot (level_within mid.around) false blk refl (level-open old mid a spots blk s o.outer refl) refl) in
           let settled =
-          settles-open blocks old mid a spots spot blk (block_of blk) s o opened n.0 n.1.0 t in
+          settles-open blocks old mid a spots spot blk (stated_block_of blk) s o opened n.0 n.1.0 t in
           let come =
-          fills.comes blocks (begun (number_at blocks spot) a) (spot ∷ spots) settled
+          fills.comes blocks (block_begun (number_at blocks spot) a) (spot ∷ spots) settled
           (numbered-right blocks old mid (blk ∷ []) (blocks_in_body b (spot ∷ spots)) opened n) in
           comes-closed blocks old ful new (stmt_parts (tree.block b) listed blocks a) (stmt_blocks (tree.block b) spots) closes.findings closes.blocks
           (record {
             finds =
-                (comes-then blocks old mid ful [] (sites_in_body blocks b (begun (number_at blocks spot) a)) (blk ∷ []) (blocks_in_body b (spot ∷ spots))
+                (comes-then blocks old mid ful [] (sites_in_body blocks b (block_begun (number_at blocks spot) a)) (blk ∷ []) (blocks_in_body b (spot ∷ spots))
                 (opens-comes blocks old mid blk f opened) come).finds;
             begins =
-                (comes-then blocks old mid ful [] (sites_in_body blocks b (begun (number_at blocks spot) a)) (blk ∷ []) (blocks_in_body b (spot ∷ spots))
+                (comes-then blocks old mid ful [] (sites_in_body blocks b (block_begun (number_at blocks spot) a)) (blk ∷ []) (blocks_in_body b (spot ∷ spots))
                 (opens-comes blocks old mid blk f opened) come).begins;
           });
     }
 
 by_decls : (old mid ful new : Resolver) (spot : Spot) (ds : List Decl) (ss : PStmts) (listed : Bool) → (length ds == 0) ≡ false →
-    Opens old.around mid.around (length old.blocks.items) → ((q : List ℕ) → is_typed mid.around.innermost.typed q ≡ false) →
+    KnownOpens old.around mid.around (length old.blocks.items) → ((q : List ℕ) → is_typed mid.around.innermost.typed q ≡ false) →
     mid.blocks.items ≡ old.blocks.items ++ record { spot = spot; level = level_within mid.around; is_procedure = false } ∷ [] → mid.findings ≡ old.findings →
     Fills mid ful (λ blocks. sites_in_body blocks (tree.body spot (decls ds) ss)) (blocks_in_body (tree.body spot (decls ds) ss)) → Closes old mid ful new →
     Visits old new (stmt_parts (tree.block (tree.body spot (decls ds) ss)) listed) (stmt_blocks (tree.block (tree.body spot (decls ds) ss)))
@@ -188,7 +188,7 @@ by_decls old mid ful new spot [] ss listed h o t begins f fills closes = absurd 
 by_decls old mid ful new spot (d ∷ ds) ss listed h o t begins f fills closes = begun_decls old mid ful new spot d ds ss listed o t begins f fills closes
 
 pub visits-block : (old mid ful new : Resolver) (b : Body) (n : ℕ) (listed : Bool) (answer : Bool) → n ≡ length b.decls → answer ≡ (n == 0) → answer ≡ false →
-    Opens old.around mid.around (length old.blocks.items) → mid.around.innermost.typed ≡ None →
+    KnownOpens old.around mid.around (length old.blocks.items) → mid.around.innermost.typed ≡ None →
     mid.blocks.items ≡ old.blocks.items ++ record { spot = b.spot; level = level_within mid.around; is_procedure = false } ∷ [] → mid.findings ≡ old.findings →
     Fills mid ful (λ blocks. sites_in_body blocks (body b)) (blocks_in_body (body b)) → Closes old mid ful new →
     Visits old new (stmt_parts (tree.block (body b)) listed) (stmt_blocks (tree.block (body b)))
@@ -212,13 +212,13 @@ closed old mid ful around o k give same =
 -- ---- a body: its declarations, and its statements
 
 pub fills-body : (old mid new : Resolver) (b : Body) (items : List Decl) → items ≡ b.decls → (all : List Stmt) → all ≡ b.stmts →
-    Enters old mid (λ blocks. sites_in_decls blocks (decls items)) (blocks_in_decls (decls items)) (λ blocks. knowing_all blocks (decls items)) →
+    WalkEnters old mid (λ blocks. sites_in_decls blocks (decls items)) (blocks_in_decls (decls items)) (λ blocks. knowing_all blocks (decls items)) →
     ((listed : Bool) → Visits mid new (λ blocks. sites_in_stmts blocks (stmts all) listed) (blocks_in_stmts (stmts all))) →
     Fills old new (λ blocks. sites_in_body blocks (body b)) (blocks_in_body (body b))
 fills-body old mid new b items same all whole enters u =
     let V : List Stmt → Type 0 = λ z. (listed : Bool) → Visits mid new (λ blocks. sites_in_stmts blocks (stmts z) listed) (blocks_in_stmts (stmts z)) in
     let v : V b.stmts = subst V whole u in
-    let E : List Decl → Type 0 = λ z. Enters old mid (λ blocks. sites_in_decls blocks (decls z)) (blocks_in_decls (decls z)) (λ blocks. knowing_all blocks (decls z)) in
+    let E : List Decl → Type 0 = λ z. WalkEnters old mid (λ blocks. sites_in_decls blocks (decls z)) (blocks_in_decls (decls z)) (λ blocks. knowing_all blocks (decls z)) in
     let e : E b.decls = subst E same enters in
     let P : PBody → Type 0 = λ z. Fills old new (λ blocks. sites_in_body blocks z) (blocks_in_body z) in
     let ds : PDecls = decls b.decls in

@@ -27,15 +27,15 @@ use Rattle.algol_known.specs.declared.around.Procedure.{Procedure}
 use Rattle.algol_scope.specs.declared.declaration.Ahead.{Ahead}
 use Rattle.algol_scope.specs.declared.resolver.Resolver.{Resolver}
 use Rattle.algol_known.specs.Looking.{modes_in, procedure_class}
-use Rattle.algol_known.specs.Seeing.{Extends, Keeps, mode_of}
-use Rattle.algol_scope.specs.Noting.{Finds, Walks, content_of, faults_at}
+use Rattle.algol_known.specs.Seeing.{Extends, KnownKeeps, mode_of}
+use Rattle.algol_scope.specs.Noting.{ScopeFinds, ScopeWalks, content_of, faults_at}
 use Rattle.algol_frames.specs.declared.found.Content.{Content}
 use Rattle.algol_scope.specs.declared.findings.Findings.{Findings}
 use Rattle.algol_frames.specs.declared.found.Content.TheVariants as content
 use Rattle.algol_known.specs.declared.known.Seen.TheVariants as seens
-use Rattle.algol_scope.specs.Stating.{AreNumbered, Enters, Fills, Settles, Visits, block_of, no_blocks, stmt_blocks, stmt_parts}
+use Rattle.algol_scope.specs.Stating.{AreNumbered, WalkEnters, Fills, WalkSettles, Visits, stated_block_of, no_blocks, stmt_blocks, stmt_parts}
 use Rattle.algol_scope.specs.Declaring.{AreAhead, IsAhead, IsOf, Makes, Starts, cell_of_procedure, cells_here, decl_parts, decl_site, declared_so, faults_of_decl, known_so, no_cells, no_faults, no_uses, nothing_so, procedure_so, twice_among}
-use Rattle.algol_known.specs.Widening.{StandsFor}
+use Rattle.algol_known.specs.Widening.{SortStandsFor}
 use Rattle.algol_scope.proofs.Walking.{added, adds-as, adds-none, adds-then, again}
 use Rattle.algol_scope.proofs.Visiting.{class-extends, numbered-right, settles-kept}
 use Rattle.algol_scope.proofs.Bodies.{block_is, is_block}
@@ -69,8 +69,8 @@ ahead-extends ps qs (tree.decls d ds) (x ∷ xs) e a = (is_ahead-extends ps qs d
 pub record Through (old now : Resolver) (all rest : List Decl) (left : List Ahead) : Type 0 where
   pub ahead : AreAhead now.around.procedures.items (decls rest) left
   pub goes : (last : Resolver) →
-      Enters now last (λ blocks. sites_in_decls blocks (decls rest)) (blocks_in_decls (decls rest)) (λ blocks. knowing_all blocks (decls rest)) →
-      Enters old last (λ blocks. sites_in_decls blocks (decls all)) (blocks_in_decls (decls all)) (λ blocks. knowing_all blocks (decls all))
+      WalkEnters now last (λ blocks. sites_in_decls blocks (decls rest)) (blocks_in_decls (decls rest)) (λ blocks. knowing_all blocks (decls rest)) →
+      WalkEnters old last (λ blocks. sites_in_decls blocks (decls all)) (blocks_in_decls (decls all)) (λ blocks. knowing_all blocks (decls all))
 
 pub through-start : (old now : Resolver) (ds : List Decl) (found : List Ahead) → AreAhead now.around.procedures.items (decls ds) found →
     Extends old.around.procedures.items now.around.procedures.items → now.around.innermost ≡ old.around.innermost → now.around.outer ≡ old.around.outer →
@@ -78,7 +78,7 @@ pub through-start : (old now : Resolver) (ds : List Decl) (found : List Ahead) �
 through-start old now ds found a e i o f b =
     let outer : now.around.outer.items ≡ old.around.outer.items = cc in
     let begins : now.blocks.items ≡ old.blocks.items ++ [] = (let same : now.blocks.items ≡ old.blocks.items = cc in same ∙ sym (append-nil old.blocks.items)) in
-    let first : Enters old now (λ blocks a first. []) no_blocks nothing_so =
+    let first : WalkEnters old now (λ blocks a first. []) no_blocks nothing_so =
     record {
       outer = outer;
       procedures = e;
@@ -86,7 +86,7 @@ through-start old now ds found a e i o f b =
           λ blocks a spots first s n.
           record {
             finds =
-                (let P : Findings → Type 0 = λ z. Finds blocks old.findings [] z in
+                (let P : Findings → Type 0 = λ z. ScopeFinds blocks old.findings [] z in
                 subst P (sym f) (adds-none old.findings));
             begins = begins;
           };
@@ -105,7 +105,7 @@ through-start old now ds found a e i o f b =
 pub through-item : (old now new : Resolver) (all ds : List Decl) (xs : List Ahead) (i : ℕ) (d : Decl) (x : Ahead) → i < length ds → i < length xs →
     d ≡ get_or ds i d → x ≡ get_or xs i x → Through old now all (drop i ds) (drop i xs) →
     ((later : PDecls) → IsAhead now.around.procedures.items (decl d) later x →
-    Enters now new (decl_parts (decl d) later) (blocks_in_decl (decl d)) (λ blocks. knowing blocks (decl d) later)) →
+    WalkEnters now new (decl_parts (decl d) later) (blocks_in_decl (decl d)) (λ blocks. knowing blocks (decl d) later)) →
     Through old new all (drop (i + 1) ds) (drop (i + 1) xs)
 through-item old now new all ds xs i d x h k same known l enter =
     rw add-one
@@ -127,7 +127,7 @@ through-item old now new all ds xs i d x h k same known l enter =
     })
 
 pub through-end : (old now : Resolver) (all rest : List Decl) (left : List Ahead) → rest ≡ [] → Through old now all rest left →
-    Enters old now (λ blocks. sites_in_decls blocks (decls all)) (blocks_in_decls (decls all)) (λ blocks. knowing_all blocks (decls all))
+    WalkEnters old now (λ blocks. sites_in_decls blocks (decls all)) (blocks_in_decls (decls all)) (λ blocks. knowing_all blocks (decls all))
 through-end old now all rest left h l =
     let P : List Decl → Type 0 = λ z. Through old now all z left in
     let moved : P [] = subst P h l in
@@ -137,16 +137,16 @@ through-end old now all rest left h l =
 
 -- what the walk does at declarations of one form
 abbrev pub Declares : Resolver → Resolver → PDecl → PDecls → Type 0
-Declares old new d later = Enters old new (decl_parts d later) (blocks_in_decl d) (λ blocks. knowing blocks d later)
+Declares old new d later = WalkEnters old new (decl_parts d later) (blocks_in_decl d) (λ blocks. knowing blocks d later)
 
 abbrev pub Cells : Resolver → Resolver → List Named → said.Sort → Content → Type 0
 Cells old new ns its content =
-    (sort : Sort) (c : classes.Class) (held : cells.Content) → StandsFor its sort c → content_of held ≡ content →
+    (sort : Sort) (c : classes.Class) (held : cells.Content) → SortStandsFor its sort c → content_of held ≡ content →
     Makes old new (twice_among ns) (cells_here held ns) (known_so (declared_so sort c ns) ns) (declared_so sort c ns)
 
 abbrev pub Bare : Resolver → Resolver → List Named → said.Sort → Type 0
 Bare old new ns its =
-    (sort : Sort) (c : classes.Class) → StandsFor its sort c →
+    (sort : Sort) (c : classes.Class) → SortStandsFor its sort c →
     Makes old new (twice_among ns) no_cells (known_so (declared_so sort c ns) ns) (declared_so sort c ns)
 
 pub declares-simple : (old new : Resolver) (kind : Kind) (ns : List Named) (later : PDecls) → Cells old new ns (so.Variable kind) content.Variable →
@@ -184,7 +184,7 @@ declares-tasks old new ns later m =
 
 pub declares-arrays : (old mid new : Resolver) (kind : Kind) (ns : List Named) (ps : List PPair) (count : ℕ) (later : PDecls) → count ≡ length ps →
     Cells old mid ns (so.Array kind count) content.Made →
-    Walks mid.around seens.BeforeDeclarations mid.findings new.findings (sites_in_pairs ps) → new.around ≡ mid.around → new.blocks ≡ mid.blocks →
+    ScopeWalks mid.around seens.BeforeDeclarations mid.findings new.findings (sites_in_pairs ps) → new.around ≡ mid.around → new.blocks ≡ mid.blocks →
     Declares old new (tree.arrays kind ns ps) later
 declares-arrays old mid new kind ns ps count later counted m w around same =
     let c : classes.Class = classes.array kind (length ps) in
@@ -237,10 +237,10 @@ module _ (old one two ful new : Resolver) (h : Heading) (s : PStmt) (later : PDe
   parts blocks a = here_stmt s false a ∷ inside_stmt blocks s of_procedure false a
 
   record Whole (blocks : List Block) (a : Surroundings) (spots : List Spot) : Type 0 where
-    pub finds : Finds blocks old.findings (decl_site (tree.procedure h s) later a ∷ parts blocks (inside_procedure blocks h (procedure_so h blocks a))) ful.findings
-    pub begins : ful.blocks.items ≡ one.blocks.items ++ map block_of (procedure_block h s spots ∷ inner spots)
+    pub finds : ScopeFinds blocks old.findings (decl_site (tree.procedure h s) later a ∷ parts blocks (inside_procedure blocks h (procedure_so h blocks a))) ful.findings
+    pub begins : ful.blocks.items ≡ one.blocks.items ++ map stated_block_of (procedure_block h s spots ∷ inner spots)
 
-  whole : (blocks : List Block) (a : Surroundings) (spots : List Spot) (first : List Declared) → Settles blocks old a spots first →
+  whole : (blocks : List Block) (a : Surroundings) (spots : List Spot) (first : List Declared) → WalkSettles blocks old a spots first →
       AreNumbered blocks (length old.blocks.items) (procedure_block h s spots ∷ inner spots) → Whole blocks a spots
   whole blocks a spots first g n =
       let b : Surroundings = procedure_so h blocks a in
@@ -269,10 +269,10 @@ module _ (old one two ful new : Resolver) (h : Heading) (s : PStmt) (later : PDe
             (known_in_heading h i ++ flat_map (known_at blocks) (parts blocks i)) (m.adds blocks a spots first g)
             (adds-then one.findings two.findings ful.findings [] (flat_map (faults_at blocks) (parts blocks i)) (result_cells blocks h ++ head)
             (flat_map (cells_at blocks) (parts blocks i)) (known_in_heading h i) (flat_map (known_at blocks) (parts blocks i)) start.1.0 fill.finds));
-        begins = added block_of one.blocks.items two.blocks.items ful.blocks.items (procedure_block h s spots ∷ []) (inner spots) start.0 fill.begins;
+        begins = added stated_block_of one.blocks.items two.blocks.items ful.blocks.items (procedure_block h s spots ∷ []) (inner spots) start.0 fill.begins;
       }
 
-  back : Keeps one.around new.around
+  back : KnownKeeps one.around new.around
   back =
       record {
         innermost = cl.innermost;
@@ -297,14 +297,14 @@ module _ (old one two ful new : Resolver) (h : Heading) (s : PStmt) (later : PDe
             record {
               finds =
                   (let P : Findings → Type 0 =
-                  λ z. Finds blocks old.findings (decl_parts (tree.procedure h s) later blocks a first) z in
+                  λ z. ScopeFinds blocks old.findings (decl_parts (tree.procedure h s) later blocks a first) z in
                   subst P (sym cl.findings) w.finds);
               begins =
                   (let e = cl.blocks in
                   let k = m.blocks in
                   let f : new.blocks.items ≡ ful.blocks.items = cc in
                   let j : one.blocks.items ≡ old.blocks.items = cc in
-                  f ∙ w.begins ∙ ap (λ z. z ++ map block_of (procedure_block h s spots ∷ inner spots)) j);
+                  f ∙ w.begins ∙ ap (λ z. z ++ map stated_block_of (procedure_block h s spots ∷ inner spots)) j);
             };
         settles =
             λ blocks a spots first g n.
@@ -355,8 +355,8 @@ fills-other old new s h v =
       procedures = v.keeps.procedures;
       comes =
           λ blocks a spots g n.
-          let P : List Site → Type 0 = λ z. Finds blocks old.findings (here_stmt s false a ∷ z) new.findings in
-          let Q : List Block → Type 0 = λ z. new.blocks.items ≡ old.blocks.items ++ map block_of z in
+          let P : List Site → Type 0 = λ z. ScopeFinds blocks old.findings (here_stmt s false a ∷ z) new.findings in
+          let Q : List Block → Type 0 = λ z. new.blocks.items ≡ old.blocks.items ++ map stated_block_of z in
           let R : List Block → Type 0 = λ z. AreNumbered blocks (length old.blocks.items) z in
           let one = v.comes blocks a spots g.stands (subst R (sym (blocks_other s spots h)) n) in
           record { finds = subst P (inside_other blocks s a h) one.finds; begins = subst Q (blocks_other s spots h) one.begins };

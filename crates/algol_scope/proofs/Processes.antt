@@ -9,13 +9,13 @@ use Rattle.algol_sorts.specs.declared.sort.Sort.{Sort}
 use Rattle.algol_known.specs.declared.around.Around.{Around}
 use Rattle.algol_scope.specs.declared.findings.Findings.{Findings}
 use Rattle.algol_known.specs.Seeing.{Sees, mode_of}
-use Rattle.algol_scope.specs.Noting.{Passes, Walks, at_name, process_parts, task_parts}
+use Rattle.algol_scope.specs.Noting.{ActualsPass, ScopeWalks, at_name, process_parts, task_parts}
 use Rattle.algol_scope.proofs.Walking.{finds-then}
 
 pub walks-process : (k : Around) (old one two new : Findings) (n : Named) (task : Option Named) (modes : List Sort) (es : PExprs) →
-    Walks k seens.All old one (λ a. at_name n a ∷ []) → Walks k seens.All one two (task_parts task) →
-    ((a : Surroundings) → Sees k seens.All a → modes ≡ map mode_of (formals_at a n)) → Passes k seens.All two new modes es →
-    Walks k seens.All old new (process_parts n task es)
+    ScopeWalks k seens.All old one (λ a. at_name n a ∷ []) → ScopeWalks k seens.All one two (task_parts task) →
+    ((a : Surroundings) → Sees k seens.All a → modes ≡ map mode_of (formals_at a n)) → ActualsPass k seens.All two new modes es →
+    ScopeWalks k seens.All old new (process_parts n task es)
 walks-process k old one two new n task modes es v w m p =
     record {
       finds =

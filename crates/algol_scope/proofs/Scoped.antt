@@ -25,10 +25,10 @@ use Rattle.algol_frames.specs.declared.found.Use.{Use}
 use Rattle.algol_frames.specs.declared.found.Block.{Block}
 use Rattle.algol_scope.specs.declared.resolver.Resolver.{Resolver}
 use Rattle.algol_frames.specs.declared.scopes.Scopes.{Scopes}
-use Rattle.algol_frames.specs.Framing.{cells_in, those_in}
-use Rattle.algol_scope.specs.Finding.{Holds}
-use Rattle.algol_scope.specs.Noting.{cell_of, use_of}
-use Rattle.algol_scope.specs.Stating.{block_of}
+use Rattle.algol_frames.specs.Framing.{framed_cells_in, those_in}
+use Rattle.algol_scope.specs.Finding.{WalkHolds}
+use Rattle.algol_scope.specs.Noting.{noted_cell_of, use_of}
+use Rattle.algol_scope.specs.Stating.{stated_block_of}
 use Rattle.algol_scope.specs.Resolved.{AreOf, couple, located, meaning, meaning_at, number_of_block, parameters_at}
 use Rattle.algol_frames.specs.Laying.{AreLaid, laid_in}
 use Rattle.algol_scope.proofs.FirstFault.{those_told}
@@ -72,22 +72,22 @@ within p h =
     )
 
 module _ (p : PProgram) (order : IsInOrder p) (faultless : scope_faults p ≡ []) (table : BTreeMap ℕ (Vec Cell Global))
-    (told : (q : ℕ) → cells_in table q ≡ those_in (map cell_of (flat_map (cells_at (blocks_of_program p)) (sites_of p))) q) where
+    (told : (q : ℕ) → framed_cells_in table q ≡ those_in (map noted_cell_of (flat_map (cells_at (blocks_of_program p)) (sites_of p))) q) where
   abbrev blocks : List rules.Block
   blocks = blocks_of_program p
 
-  few-in : (q : ℕ) → q < length (map block_of blocks) → length (cells_in table q) ≤ MOST_BLOCK_CELLS
+  few-in : (q : ℕ) → q < length (map stated_block_of blocks) → length (framed_cells_in table q) ≤ MOST_BLOCK_CELLS
   few-in q h = decide (slice_get blocks q) refl
     where
-      decide : (o : Option rules.Block) → slice_get blocks q ≡ o → length (cells_in table q) ≤ MOST_BLOCK_CELLS
-      decide None e = absurd (omega (arith, h, length-map blocks block_of, no-longer blocks q e))
+      decide : (o : Option rules.Block) → slice_get blocks q ≡ o → length (framed_cells_in table q) ≤ MOST_BLOCK_CELLS
+      decide None e = absurd (omega (arith, h, length-map blocks stated_block_of, no-longer blocks q e))
       decide (Some b) e =
           let few = few-cells blocks (sites_of p) q b (in-order p order) (within p faultless).1 e in
-          let its : cells_in table q ≡ map cell_of (cells_of blocks (sites_of p) q) = told q ∙ those_told (flat_map (cells_at blocks) (sites_of p)) q in
-          omega (arith, few, ap (λ z. length z) its, length-map (cells_of blocks (sites_of p) q) cell_of)
+          let its : framed_cells_in table q ≡ map noted_cell_of (cells_of blocks (sites_of p) q) = told q ∙ those_told (flat_map (cells_at blocks) (sites_of p)) q in
+          omega (arith, few, ap (λ z. length z) its, length-map (cells_of blocks (sites_of p) q) noted_cell_of)
 
   are-of : (s : Scopes) →
-      AreLaid (map block_of blocks) table (map cell_of (flat_map (cells_at blocks) (sites_of p))) (map use_of (flat_map (known_at blocks) (sites_of p))) s →
+      AreLaid (map stated_block_of blocks) table (map noted_cell_of (flat_map (cells_at blocks) (sites_of p))) (map use_of (flat_map (known_at blocks) (sites_of p))) s →
       AreOf p s
   unfolding declaration_at meaning_at result_at actual_at level_of_block parameters_at number_of_block
   are-of s l =
@@ -103,7 +103,7 @@ module _ (p : PProgram) (order : IsInOrder p) (faultless : scope_faults p ≡ []
         meanings =
             λ spot.
             ap meaning (l.declarations spot)
-            ∙ meanings-told (laid_in (map block_of blocks) table) (flat_map (known_at blocks) (sites_of p)) spot;
+            ∙ meanings-told (laid_in (map stated_block_of blocks) table) (flat_map (known_at blocks) (sites_of p)) spot;
         results = λ spot. ap couple (l.results spot) ∙ results-told blocks (sites_of p) table told deep each numbered spot;
         actuals = λ spot. ap couple (l.actuals spot) ∙ actuals-told blocks (sites_of p) table told deep each numbered spot;
         levels = λ q. ap (λ z. slice_get z q) l.levels ∙ levels-told blocks (sites_of p) table told deep each numbered q;
@@ -111,33 +111,33 @@ module _ (p : PProgram) (order : IsInOrder p) (faultless : scope_faults p ≡ []
         numbers = λ spot. l.numbers spot ∙ numbers-told 0 blocks spot;
       }
 
-told-in : (r : Resolver) (p : PProgram) (table : BTreeMap ℕ (Vec Cell Global)) → Holds r p → ((q : ℕ) → cells_in table q ≡ those_in r.findings.cells.items q) →
-    (q : ℕ) → cells_in table q ≡ those_in (map cell_of (flat_map (cells_at (blocks_of_program p)) (sites_of p))) q
+told-in : (r : Resolver) (p : PProgram) (table : BTreeMap ℕ (Vec Cell Global)) → WalkHolds r p → ((q : ℕ) → framed_cells_in table q ≡ those_in r.findings.cells.items q) →
+    (q : ℕ) → framed_cells_in table q ≡ those_in (map noted_cell_of (flat_map (cells_at (blocks_of_program p)) (sites_of p))) q
 told-in r p table h told q = told q ∙ ap (λ z. those_in z q) h.cells
 
-pub few : (p : PProgram) (r s : Resolver) (table : BTreeMap ℕ (Vec Cell Global)) → IsInOrder p → Holds r p → scope_faults p ≡ [] →
-    ((q : ℕ) → cells_in table q ≡ those_in r.findings.cells.items q) → s.blocks ≡ r.blocks → (q : ℕ) → q < length s.blocks.items →
-    length (cells_in table q) ≤ MOST_BLOCK_CELLS
+pub few : (p : PProgram) (r s : Resolver) (table : BTreeMap ℕ (Vec Cell Global)) → IsInOrder p → WalkHolds r p → scope_faults p ≡ [] →
+    ((q : ℕ) → framed_cells_in table q ≡ those_in r.findings.cells.items q) → s.blocks ≡ r.blocks → (q : ℕ) → q < length s.blocks.items →
+    length (framed_cells_in table q) ≤ MOST_BLOCK_CELLS
 few p r s table order h faultless told same q l =
-    let its : s.blocks.items ≡ map block_of (blocks_of_program p) = (let e : s.blocks.items ≡ r.blocks.items = cc in e ∙ h.blocks) in
+    let its : s.blocks.items ≡ map stated_block_of (blocks_of_program p) = (let e : s.blocks.items ≡ r.blocks.items = cc in e ∙ h.blocks) in
     few-in p order faultless table (told-in r p table h told) q (omega (arith, l, ap (λ z. length z) its))
 
-pub are : (p : PProgram) (r s : Resolver) (table : BTreeMap ℕ (Vec Cell Global)) (scopes : Scopes) → IsInOrder p → Holds r p → scope_faults p ≡ [] →
-    ((q : ℕ) → cells_in table q ≡ those_in r.findings.cells.items q) → s.blocks ≡ r.blocks → s.findings.cells ≡ r.findings.cells →
+pub are : (p : PProgram) (r s : Resolver) (table : BTreeMap ℕ (Vec Cell Global)) (scopes : Scopes) → IsInOrder p → WalkHolds r p → scope_faults p ≡ [] →
+    ((q : ℕ) → framed_cells_in table q ≡ those_in r.findings.cells.items q) → s.blocks ≡ r.blocks → s.findings.cells ≡ r.findings.cells →
     s.findings.uses ≡ r.findings.uses → AreLaid s.blocks.items table s.findings.cells.items s.findings.uses.items scopes → AreOf p scopes
 are p r s table scopes order h faultless told b c u l =
-    let blocks : s.blocks.items ≡ map block_of (blocks_of_program p) = (let e : s.blocks.items ≡ r.blocks.items = cc in e ∙ h.blocks) in
-    let cells : s.findings.cells.items ≡ map cell_of (flat_map (cells_at (blocks_of_program p)) (sites_of p)) =
+    let blocks : s.blocks.items ≡ map stated_block_of (blocks_of_program p) = (let e : s.blocks.items ≡ r.blocks.items = cc in e ∙ h.blocks) in
+    let cells : s.findings.cells.items ≡ map noted_cell_of (flat_map (cells_at (blocks_of_program p)) (sites_of p)) =
     (let e : s.findings.cells.items ≡ r.findings.cells.items = cc in e ∙ h.cells) in
     let uses : s.findings.uses.items ≡ map use_of (flat_map (known_at (blocks_of_program p)) (sites_of p)) =
     (let e : s.findings.uses.items ≡ r.findings.uses.items = cc in e ∙ h.uses) in
     let P : List Block → Type 0 = λ z. AreLaid z table s.findings.cells.items s.findings.uses.items scopes in
-    let Q : List Cell → Type 0 = λ z. AreLaid (map block_of (blocks_of_program p)) table z s.findings.uses.items scopes in
-    let R : List Use → Type 0 = λ z. AreLaid (map block_of (blocks_of_program p)) table (map cell_of (flat_map (cells_at (blocks_of_program p)) (sites_of p))) z scopes in
+    let Q : List Cell → Type 0 = λ z. AreLaid (map stated_block_of (blocks_of_program p)) table z s.findings.uses.items scopes in
+    let R : List Use → Type 0 = λ z. AreLaid (map stated_block_of (blocks_of_program p)) table (map noted_cell_of (flat_map (cells_at (blocks_of_program p)) (sites_of p))) z scopes in
     are-of p order faultless table (told-in r p table h told) scopes (subst R uses (subst Q cells (subst P blocks l)))
 
-pub are-all : (p : PProgram) (r s : Resolver) (table : BTreeMap ℕ (Vec Cell Global)) (result : Result Scopes Refusal) → IsInOrder p → Holds r p →
-    scope_faults p ≡ [] → ((q : ℕ) → cells_in table q ≡ those_in r.findings.cells.items q) → s.blocks ≡ r.blocks → s.findings.cells ≡ r.findings.cells →
+pub are-all : (p : PProgram) (r s : Resolver) (table : BTreeMap ℕ (Vec Cell Global)) (result : Result Scopes Refusal) → IsInOrder p → WalkHolds r p →
+    scope_faults p ≡ [] → ((q : ℕ) → framed_cells_in table q ≡ those_in r.findings.cells.items q) → s.blocks ≡ r.blocks → s.findings.cells ≡ r.findings.cells →
     s.findings.uses ≡ r.findings.uses → IfOk result (AreLaid s.blocks.items table s.findings.cells.items s.findings.uses.items) → IfOk result (AreOf p)
 are-all p r s table (Ok scopes) order h faultless told b c u l = are p r s table scopes order h faultless told b c u l
 are-all p r s table (Err e) order h faultless told b c u l = tt

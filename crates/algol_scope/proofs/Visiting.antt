@@ -22,9 +22,9 @@ use Rattle.algol_known.specs.declared.around.Procedure.{Procedure}
 use Rattle.algol_scope.specs.declared.resolver.Resolver.{Resolver}
 use Rattle.algol_known.specs.Naming.{seen_under, is_typed}
 use Rattle.algol_known.specs.Looking.{looked_up, open_blocks, modes_in, modes_of}
-use Rattle.algol_known.specs.Seeing.{Sees, Holds, Keeps, Extends, IsClass, IsEntry, IsFound, IsNumber, own}
-use Rattle.algol_scope.specs.Noting.{Walks, faults_at}
-use Rattle.algol_scope.specs.Stating.{AreBefore, AreNumbered, Stands, Settles, Comes, Visits, block_of, no_blocks}
+use Rattle.algol_known.specs.Seeing.{Sees, KnownHolds, KnownKeeps, Extends, IsClass, IsEntry, NameIsFound, IsProcedureNumber, own_declared}
+use Rattle.algol_scope.specs.Noting.{ScopeWalks, faults_at}
+use Rattle.algol_scope.specs.Stating.{AreBefore, AreNumbered, WalkStands, WalkSettles, WalkComes, Visits, stated_block_of, no_blocks}
 use Rattle.algol_scope.proofs.Walking.{added, finds-then, again, adds-none}
 
 -- ---- more procedures
@@ -53,18 +53,18 @@ class-extends ps qs c d x i =
       within = still c.sort c.procedure i.within;
     }
   where
-    same-modes : (s : Sort) (n : ℕ) → IsNumber ps s n → modes_in qs (record { sort = s; procedure = n }) ≡ modes_in ps (record { sort = s; procedure = n })
+    same-modes : (s : Sort) (n : ℕ) → IsProcedureNumber ps s n → modes_in qs (record { sort = s; procedure = n }) ≡ modes_in ps (record { sort = s; procedure = n })
     same-modes (sort.Procedure k) n w = ap modes_of (x.same n w)
     same-modes _ n w = refl
 
-    still : (s : Sort) (n : ℕ) → IsNumber ps s n → IsNumber qs s n
+    still : (s : Sort) (n : ℕ) → IsProcedureNumber ps s n → IsProcedureNumber qs s n
     still (sort.Procedure k) n w = less-le n (length ps) (length qs) w x.longer
     still _ n w = tt
 
 pub entry-extends : (ps qs : List Procedure) (e : Entry) (d : Declared) → Extends ps qs → IsEntry ps e d → IsEntry qs e d
 entry-extends ps qs e d x i = record { spot = i.spot; block = i.block; level = i.level; class = class-extends ps qs e.class d.class x i.class; sort = i.sort }
 
-found-extends : (ps qs : List Procedure) (e : Option Entry) (d : Option Declared) → Extends ps qs → IsFound ps e d → IsFound qs e d
+found-extends : (ps qs : List Procedure) (e : Option Entry) (d : Option Declared) → Extends ps qs → NameIsFound ps e d → NameIsFound qs e d
 found-extends ps qs None None x i = tt
 found-extends ps qs (Some e) (Some d) x i = entry-extends ps qs e d x i
 found-extends ps qs None (Some d) x i = absurd i
@@ -77,33 +77,33 @@ same_lookup : (k m : Around) (seen : Seen) (q : List ℕ) → m.innermost ≡ k.
 same_lookup k m seen q i o =
     ap (λ (z : Names). looked_up (z ∷ reverse m.outer.items) seen q) i ∙ ap (λ (z : List Names). looked_up (k.innermost ∷ reverse z) seen q) o
 
-pub sees-kept : (k m : Around) (seen : Seen) (a : Surroundings) → Keeps k m → Sees k seen a → Sees m seen a
+pub sees-kept : (k m : Around) (seen : Seen) (a : Surroundings) → KnownKeeps k m → Sees k seen a → Sees m seen a
 sees-kept k m seen a keeps s =
     record {
       block = ap (λ (z : Names). z.block) keeps.innermost ∙ s.block;
       depth = ap (λ (z : List Names). length z) keeps.outer ∙ s.depth;
       names =
           λ q.
-          let P : Option Entry → Type 0 = λ z. IsFound m.procedures.items z (look_up a.known q) in
+          let P : Option Entry → Type 0 = λ z. NameIsFound m.procedures.items z (look_up a.known q) in
           subst P (sym (same_lookup k m seen q keeps.innermost keeps.outer))
           (found-extends k.procedures.items m.procedures.items (looked_up (open_blocks k) seen q) (look_up a.known q) keeps.procedures (s.names q));
     }
 
-pub holds-kept : (k m : Around) (a : Surroundings) → Keeps k m → Holds k a → Holds m a
+pub holds-kept : (k m : Around) (a : Surroundings) → KnownKeeps k m → KnownHolds k a → KnownHolds m a
 holds-kept k m a keeps h =
     record {
       here =
           λ q.
-          let P : Names → Type 0 = λ z. IsFound m.procedures.items (seen_under z.declared z.parameters seens.All q) (look_up (own a) q) in
+          let P : Names → Type 0 = λ z. NameIsFound m.procedures.items (seen_under z.declared z.parameters seens.All q) (look_up (own_declared a) q) in
           subst P (sym keeps.innermost)
-          (found-extends k.procedures.items m.procedures.items (seen_under k.innermost.declared k.innermost.parameters seens.All q) (look_up (own a) q)
+          (found-extends k.procedures.items m.procedures.items (seen_under k.innermost.declared k.innermost.parameters seens.All q) (look_up (own_declared a) q)
           keeps.procedures (h.here q));
     }
 
-pub keeps-none : (k : Around) → Keeps k k
+pub keeps-none : (k : Around) → KnownKeeps k k
 keeps-none k = record { innermost = refl; outer = refl; procedures = extends-none k.procedures.items }
 
-pub keeps-then : (k m n : Around) → Keeps k m → Keeps m n → Keeps k n
+pub keeps-then : (k m n : Around) → KnownKeeps k m → KnownKeeps m n → KnownKeeps k n
 keeps-then k m n x y =
     record {
       innermost = y.innermost ∙ x.innermost;
@@ -111,8 +111,8 @@ keeps-then k m n x y =
       procedures = extends-then k.procedures.items m.procedures.items n.procedures.items x.procedures y.procedures;
     }
 
-pub keeps-same : (k m : Around) → m ≡ k → Keeps k m
-keeps-same k m h = let P : Around → Type 0 = λ z. Keeps k z in subst P (sym h) (keeps-none k)
+pub keeps-same : (k m : Around) → m ≡ k → KnownKeeps k m
+keeps-same k m h = let P : Around → Type 0 = λ z. KnownKeeps k z in subst P (sym h) (keeps-none k)
 
 -- ---- where the walk stands
 
@@ -123,13 +123,13 @@ before-more m n (d ∷ ds) h b = (less-le d.block m n b.0 h, before-more m n ds 
 plus-le : (m n l : ℕ) → n ≡ m + l → m ≤ n
 plus-le m n l h = omega (arith, h)
 
-pub count-begins : (old new : Resolver) (inner : List Block) → new.blocks.items ≡ old.blocks.items ++ map block_of inner →
+pub count-begins : (old new : Resolver) (inner : List Block) → new.blocks.items ≡ old.blocks.items ++ map stated_block_of inner →
     length new.blocks.items ≡ length old.blocks.items + length inner
 count-begins old new inner h =
-    ap (λ z. length z) h ∙ length-append old.blocks.items (map block_of inner) ∙ ap (λ z. length old.blocks.items + z) (length-map inner block_of)
+    ap (λ z. length z) h ∙ length-append old.blocks.items (map stated_block_of inner) ∙ ap (λ z. length old.blocks.items + z) (length-map inner stated_block_of)
 
-pub stands-kept : (old new : Resolver) (a : Surroundings) (spots : List Spot) (inner : List Block) → Keeps old.around new.around →
-    new.blocks.items ≡ old.blocks.items ++ map block_of inner → Stands old a spots → Stands new a spots
+pub stands-kept : (old new : Resolver) (a : Surroundings) (spots : List Spot) (inner : List Block) → KnownKeeps old.around new.around →
+    new.blocks.items ≡ old.blocks.items ++ map stated_block_of inner → WalkStands old a spots → WalkStands new a spots
 stands-kept old new a spots inner keeps begins s =
     let more : length old.blocks.items ≤ length new.blocks.items =
     plus-le (length old.blocks.items) (length new.blocks.items) (length inner) (count-begins old new inner begins) in
@@ -141,8 +141,8 @@ stands-kept old new a spots inner keeps begins s =
     }
 
 pub settles-kept : (blocks : List Block) (old new : Resolver) (a : Surroundings) (spots : List Spot) (first : List Declared) (inner : List Block) →
-    Keeps old.around new.around → new.blocks.items ≡ old.blocks.items ++ map block_of inner → Settles blocks old a spots first →
-    Settles blocks new a spots first
+    KnownKeeps old.around new.around → new.blocks.items ≡ old.blocks.items ++ map stated_block_of inner → WalkSettles blocks old a spots first →
+    WalkSettles blocks new a spots first
 settles-kept blocks old new a spots first inner keeps begins s =
     record {
       stands = stands-kept old new a spots inner keeps begins s.stands;
@@ -165,7 +165,7 @@ numbered-on blocks n (x ∷ xs) ys h =
     let e : n + 1 + length xs ≡ n + length (x ∷ xs) = omega arith in
     let P : ℕ → Type 0 = λ z. AreNumbered blocks z ys in subst P e (numbered-on blocks (n + 1) xs ys h.1.1)
 
-pub numbered-right : (blocks : List Block) (old new : Resolver) (xs ys : List Block) → new.blocks.items ≡ old.blocks.items ++ map block_of xs →
+pub numbered-right : (blocks : List Block) (old new : Resolver) (xs ys : List Block) → new.blocks.items ≡ old.blocks.items ++ map stated_block_of xs →
     AreNumbered blocks (length old.blocks.items) (xs ++ ys) → AreNumbered blocks (length new.blocks.items) ys
 numbered-right blocks old new xs ys begins h =
     let P : ℕ → Type 0 = λ z. AreNumbered blocks z ys in
@@ -173,12 +173,12 @@ numbered-right blocks old new xs ys begins h =
 
 -- ---- parts one after another
 
-pub comes-then : (blocks : List Block) (old mid new : Resolver) (xs ys : List Site) (bs cs : List Block) → Comes blocks old mid xs bs →
-    Comes blocks mid new ys cs → Comes blocks old new (xs ++ ys) (bs ++ cs)
+pub comes-then : (blocks : List Block) (old mid new : Resolver) (xs ys : List Site) (bs cs : List Block) → WalkComes blocks old mid xs bs →
+    WalkComes blocks mid new ys cs → WalkComes blocks old new (xs ++ ys) (bs ++ cs)
 comes-then blocks old mid new xs ys bs cs c d =
     record {
       finds = finds-then blocks old.findings mid.findings new.findings xs ys c.finds d.finds;
-      begins = added block_of old.blocks.items mid.blocks.items new.blocks.items bs cs c.begins d.begins;
+      begins = added stated_block_of old.blocks.items mid.blocks.items new.blocks.items bs cs c.begins d.begins;
     }
 
 pub visits-then : (old mid new : Resolver) (f g : List Block → Surroundings → List Site) (b c : List Spot → List Block) → Visits old mid f b → Visits mid new g c →
@@ -216,12 +216,12 @@ visits-as old new f g b c p q r same v =
           let one = v.comes blocks a spots s (subst P (sym (same spots)) n) in
           record {
             finds = again blocks old.findings new.findings (f blocks a) (g blocks a) (p blocks a) (q blocks a) (r blocks a) one.finds;
-            begins = one.begins ∙ ap (λ z. old.blocks.items ++ map block_of z) (same spots);
+            begins = one.begins ∙ ap (λ z. old.blocks.items ++ map stated_block_of z) (same spots);
           };
     }
 
 -- what is found by what is known around
-pub visits-walk : (old new : Resolver) (f : Surroundings → List Site) → Walks old.around seens.All old.findings new.findings f → new.around ≡ old.around →
+pub visits-walk : (old new : Resolver) (f : Surroundings → List Site) → ScopeWalks old.around seens.All old.findings new.findings f → new.around ≡ old.around →
     new.blocks ≡ old.blocks → Visits old new (λ blocks. f) no_blocks
 visits-walk old new f w around same =
     record {

@@ -23,7 +23,7 @@ use Rattle.algol_known.specs.declared.known.Seen.{Seen}
 use Rattle.algol_known.specs.declared.around.Around.{Around}
 use Rattle.algol_known.proofs.Plain.{expr_variable, call_is, expr_two, expr_if}
 use Rattle.algol_scope.specs.declared.findings.Findings.{Findings}
-use Rattle.algol_scope.specs.Noting.{Finds, Walks, at_name, faults_at}
+use Rattle.algol_scope.specs.Noting.{ScopeFinds, ScopeWalks, at_name, faults_at}
 use Rattle.algol_scope.proofs.Walking.{Leads, Follows, again, adds-none, finds-then, follows-step, leads-end, walks-of}
 
 -- ---- what waits, the next one last
@@ -71,7 +71,7 @@ module _ (k : Around) (seen : Seen) (old : Findings) where
   at_first e rs h = record {
     leads = λ blocks a s new f.
         let same : left_over e rs a ≡ sites (expr e) a = ap (λ z. sites (expr e) a ++ waiting_parts z a) h ∙ append-nil (sites (expr e) a) in
-        let P : List Site → Type 0 = λ z. Finds blocks old z new in
+        let P : List Site → Type 0 = λ z. ScopeFinds blocks old z new in
         subst P same f;
   }
 
@@ -138,7 +138,7 @@ module _ (k : Around) (seen : Seen) (old : Findings) where
 
     -- the last part of an IF, after the others
     pub goes_last : (one two : Findings) (rs : List (Bor Expr)) (e u v w : Expr) (c x y : Box Expr Global) (spot : Spot) → e ≡ expression.If c x y spot → u ≡ c.value →
-        v ≡ x.value → w ≡ y.value → Walks k seen now one (sites (expr u)) → Walks k seen one two (sites (expr v)) → Stands now (expr e) rs → Stands two (expr w) rs
+        v ≡ x.value → w ≡ y.value → ScopeWalks k seen now one (sites (expr u)) → ScopeWalks k seen one two (sites (expr v)) → Stands now (expr e) rs → Stands two (expr w) rs
     goes_last one two rs e u v w c x y spot h i j m walked passed l =
         let P : PExpr → Type 0 = λ z. Stands now z rs in
         let moved : P (tree.if (expr u) (expr v) (expr w) spot) = subst P (expr_if e c x y spot u v w h i j m) l in
@@ -155,14 +155,14 @@ module _ (k : Around) (seen : Seen) (old : Findings) where
         }
 
     -- an expression of which nothing is left
-    pub comes_back_as : (new last : Findings) (rs : List (Bor Expr)) (e : Expr) → Walks k seen now new (sites (expr e)) → Stands now (expr e) rs → last ≡ new →
+    pub comes_back_as : (new last : Findings) (rs : List (Bor Expr)) (e : Expr) → ScopeWalks k seen now new (sites (expr e)) → Stands now (expr e) rs → last ≡ new →
         Follows k seen old last all (waiting_parts rs)
     comes_back_as new last rs e w l is =
         let P : Findings → Type 0 = λ z. Follows k seen old z all (waiting_parts rs) in
         subst P (sym is) (follows-step k seen old now new all (sites (expr e)) (waiting_parts rs) l w)
 
     -- the one that waits least
-    pub taken_up : (new : Findings) (rs qs : List (Bor Expr)) (r : Bor Expr) → rs ≡ qs ++ r ∷ [] → Walks k seen now new (sites (expr r.now)) →
+    pub taken_up : (new : Findings) (rs qs : List (Bor Expr)) (r : Bor Expr) → rs ≡ qs ++ r ∷ [] → ScopeWalks k seen now new (sites (expr r.now)) →
         Follows k seen old now all (waiting_parts rs) → Follows k seen old new all (waiting_parts qs)
     taken_up new rs qs r is w l =
         let moved : Stands now (expr r.now) qs = record {
@@ -172,7 +172,7 @@ module _ (k : Around) (seen : Seen) (old : Findings) where
         } in
         follows-step k seen old now new all (sites (expr r.now)) (waiting_parts qs) moved w
 
-    pub none_waits : (rs : List (Bor Expr)) → rs ≡ [] → Follows k seen old now all (waiting_parts rs) → Walks k seen old now all
+    pub none_waits : (rs : List (Bor Expr)) → rs ≡ [] → Follows k seen old now all (waiting_parts rs) → ScopeWalks k seen old now all
     none_waits rs is l = record {
       finds = λ blocks a s.
           let P : List (Bor Expr) → Type 0 = λ z. Leads blocks old (all a) now (waiting_parts z a) in
@@ -188,30 +188,30 @@ none_left (r ∷ rs) h = absurd (omega (arith, h))
 module _ (k : Around) (seen : Seen) (old : Findings) where
   walks_none : (e : Expr) (p : PExpr) → expr e ≡ p → ((blocks : List Block) (a : Surroundings) →
       ([] ≡ flat_map (faults_at blocks) (sites p a)) × (([] ≡ flat_map (cells_at blocks) (sites p a)) × ([] ≡ flat_map (known_at blocks) (sites p a)))) →
-      Walks k seen old old (sites (expr e))
+      ScopeWalks k seen old old (sites (expr e))
   walks_none e p h same = walks-of k seen old old (expr e) p h (record {
     finds = λ blocks a s. let eq = same blocks a in again blocks old old [] (sites p a) eq.0 eq.1.0 eq.1.1 (adds-none old);
   })
 
-  pub walks_number : (e : Expr) (z : ℤ) (spot : Spot) → e ≡ expression.Number z spot → Walks k seen old old (sites (expr e))
+  pub walks_number : (e : Expr) (z : ℤ) (spot : Spot) → e ≡ expression.Number z spot → ScopeWalks k seen old old (sites (expr e))
   walks_number e z spot h =
       let image : expr (expression.Number z spot) ≡ tree.number z spot = search (rules, expressions.the_lemmas) in
       walks_none e (tree.number z spot) (ap expr h ∙ image) (λ blocks a. (refl, (refl, refl)))
 
-  pub walks_truth : (e : Expr) (b : Bool) (spot : Spot) → e ≡ expression.Truth b spot → Walks k seen old old (sites (expr e))
+  pub walks_truth : (e : Expr) (b : Bool) (spot : Spot) → e ≡ expression.Truth b spot → ScopeWalks k seen old old (sites (expr e))
   walks_truth e b spot h =
       let image : expr (expression.Truth b spot) ≡ tree.truth b spot = search (rules, expressions.the_lemmas) in
       walks_none e (tree.truth b spot) (ap expr h ∙ image) (λ blocks a. (refl, (refl, refl)))
 
   pub walks_variable : (new : Findings) (e : Expr) (v : Variable) → e ≡ expression.Variable v →
-      Walks k seen old new (λ a. at_name v.name a ∷ inside_list (exprs v.subs) a) → Walks k seen old new (sites (expr e))
+      ScopeWalks k seen old new (λ a. at_name v.name a ∷ inside_list (exprs v.subs) a) → ScopeWalks k seen old new (sites (expr e))
   walks_variable new e v h w = walks-of k seen old new (expr e) (tree.variable (tree.subscripted v.name (exprs v.subs))) (expr_variable e v h) (record {
     finds = λ blocks a s.
         again blocks old new (at_name v.name a ∷ inside_list (exprs v.subs) a) (sites (tree.variable (tree.subscripted v.name (exprs v.subs))) a) refl refl refl (w.finds blocks a s);
   })
 
   pub walks_called : (new : Findings) (e : Expr) (d : Call) → e ≡ expression.Call d →
-      Walks k seen old new (λ a. at_name d.name a ∷ inside_actuals (exprs d.actuals) (formals_at a d.name) a) → Walks k seen old new (sites (expr e))
+      ScopeWalks k seen old new (λ a. at_name d.name a ∷ inside_actuals (exprs d.actuals) (formals_at a d.name) a) → ScopeWalks k seen old new (sites (expr e))
   walks_called new e d h w =
       let image : expr (expression.Call d) ≡ tree.call (call d) = search (rules, expressions.the_lemmas) in
       walks-of k seen old new (expr e) (tree.call (tree.called d.name (exprs d.actuals))) (ap expr h ∙ image ∙ ap (λ z. tree.call z) (call_is d)) (record {

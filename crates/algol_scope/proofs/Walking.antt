@@ -38,7 +38,7 @@ use Rattle.algol_known.specs.declared.around.Around.{Around}
 use Rattle.algol_tree.proofs.Alone.{named_alone}
 use Rattle.algol_scope.specs.declared.findings.Findings.{Findings}
 use Rattle.algol_known.specs.Seeing.{Sees, mode_of, mode_given}
-use Rattle.algol_scope.specs.Noting.{Adds, Finds, Walks, Passes, at_events, at_name, faults_at, cell_of, task_parts, use_of}
+use Rattle.algol_scope.specs.Noting.{FindingsAdd, ScopeFinds, ScopeWalks, ActualsPass, at_events, at_name, faults_at, noted_cell_of, task_parts, use_of}
 
 -- ---- parts one after another
 
@@ -49,28 +49,28 @@ pub added : {A B : Type 0} (f : A → B) (old mid new : List B) (xs ys : List A)
 added f old mid new xs ys h k =
     k ∙ ap (λ z. z ++ map f ys) h ∙ append_assoc old (map f xs) (map f ys) ∙ ap (λ z. old ++ z) (sym (map-append f xs ys))
 
-pub adds-then : (old mid new : Findings) (fs gs : List Fault) (cs ds : List cells.Cell) (us vs : List Known) → Adds old fs cs us mid → Adds mid gs ds vs new →
-    Adds old (fs ++ gs) (cs ++ ds) (us ++ vs) new
+pub adds-then : (old mid new : Findings) (fs gs : List Fault) (cs ds : List cells.Cell) (us vs : List Known) → FindingsAdd old fs cs us mid → FindingsAdd mid gs ds vs new →
+    FindingsAdd old (fs ++ gs) (cs ++ ds) (us ++ vs) new
 adds-then old mid new fs gs cs ds us vs a b =
     record {
       faults = b.faults ∙ noted_append old.faults.first mid.faults.first fs gs a.faults;
-      cells = added cell_of old.cells.items mid.cells.items new.cells.items cs ds a.cells b.cells;
+      cells = added noted_cell_of old.cells.items mid.cells.items new.cells.items cs ds a.cells b.cells;
       uses = added use_of old.uses.items mid.uses.items new.uses.items us vs a.uses b.uses;
     }
 
-pub adds-as : (old new : Findings) (fs gs : List Fault) (cs ds : List cells.Cell) (us vs : List Known) → fs ≡ gs → cs ≡ ds → us ≡ vs → Adds old fs cs us new →
-    Adds old gs ds vs new
+pub adds-as : (old new : Findings) (fs gs : List Fault) (cs ds : List cells.Cell) (us vs : List Known) → fs ≡ gs → cs ≡ ds → us ≡ vs → FindingsAdd old fs cs us new →
+    FindingsAdd old gs ds vs new
 adds-as old new fs gs cs ds us vs f c u a =
     record {
       faults = a.faults ∙ ap (λ z. noted_all old.faults.first z) f;
-      cells = a.cells ∙ ap (λ z. old.cells.items ++ map cell_of z) c;
+      cells = a.cells ∙ ap (λ z. old.cells.items ++ map noted_cell_of z) c;
       uses = a.uses ∙ ap (λ z. old.uses.items ++ map use_of z) u;
     }
 
-pub adds-none : (old : Findings) → Adds old [] [] [] old
+pub adds-none : (old : Findings) → FindingsAdd old [] [] [] old
 adds-none old = record { faults = refl; cells = sym (append-nil old.cells.items); uses = sym (append-nil old.uses.items) }
 
-pub finds-then : (blocks : List Block) (old mid new : Findings) (xs ys : List Site) → Finds blocks old xs mid → Finds blocks mid ys new → Finds blocks old (xs ++ ys) new
+pub finds-then : (blocks : List Block) (old mid new : Findings) (xs ys : List Site) → ScopeFinds blocks old xs mid → ScopeFinds blocks mid ys new → ScopeFinds blocks old (xs ++ ys) new
 finds-then blocks old mid new xs ys f g =
     adds-as old new (flat_map (faults_at blocks) xs ++ flat_map (faults_at blocks) ys) (flat_map (faults_at blocks) (xs ++ ys))
     (flat_map (cells_at blocks) xs ++ flat_map (cells_at blocks) ys) (flat_map (cells_at blocks) (xs ++ ys))
@@ -80,27 +80,27 @@ finds-then blocks old mid new xs ys f g =
     (flat_map (known_at blocks) xs) (flat_map (known_at blocks) ys) f g)
 
 pub again : (blocks : List Block) (old new : Findings) (xs ys : List Site) → flat_map (faults_at blocks) xs ≡ flat_map (faults_at blocks) ys →
-    flat_map (cells_at blocks) xs ≡ flat_map (cells_at blocks) ys → flat_map (known_at blocks) xs ≡ flat_map (known_at blocks) ys → Finds blocks old xs new →
-    Finds blocks old ys new
+    flat_map (cells_at blocks) xs ≡ flat_map (cells_at blocks) ys → flat_map (known_at blocks) xs ≡ flat_map (known_at blocks) ys → ScopeFinds blocks old xs new →
+    ScopeFinds blocks old ys new
 again blocks old new xs ys f c u h =
     adds-as old new (flat_map (faults_at blocks) xs) (flat_map (faults_at blocks) ys) (flat_map (cells_at blocks) xs) (flat_map (cells_at blocks) ys)
     (flat_map (known_at blocks) xs) (flat_map (known_at blocks) ys) f c u h
 
 pub walks-then : (k : Around) (seen : Seen) (old mid new : Findings) (f g : Surroundings → List Site) →
-    Walks k seen old mid f → Walks k seen mid new g → Walks k seen old new (λ a. f a ++ g a)
+    ScopeWalks k seen old mid f → ScopeWalks k seen mid new g → ScopeWalks k seen old new (λ a. f a ++ g a)
 walks-then k seen old mid new f g v w =
     record { finds = λ blocks a s. finds-then blocks old mid new (f a) (g a) (v.finds blocks a s) (w.finds blocks a s) }
 
 -- ---- a walk that has come so far: with what there is at the rest it finds what there is at all parts
 
 abbrev pub Leads : List Block → Findings → List Site → Findings → List Site → Type 0
-Leads blocks old all now rest = (new : Findings) → Finds blocks now rest new → Finds blocks old all new
+Leads blocks old all now rest = (new : Findings) → ScopeFinds blocks now rest new → ScopeFinds blocks old all new
 
-pub leads-step : (blocks : List Block) (old now new : Findings) (all xs ys : List Site) → Leads blocks old all now (xs ++ ys) → Finds blocks now xs new →
+pub leads-step : (blocks : List Block) (old now new : Findings) (all xs ys : List Site) → Leads blocks old all now (xs ++ ys) → ScopeFinds blocks now xs new →
     Leads blocks old all new ys
 leads-step blocks old now new all xs ys l f = λ last g. l last (finds-then blocks now new last xs ys f g)
 
-pub leads-end : (blocks : List Block) (old now : Findings) (all : List Site) → Leads blocks old all now [] → Finds blocks old all now
+pub leads-end : (blocks : List Block) (old now : Findings) (all : List Site) → Leads blocks old all now [] → ScopeFinds blocks old all now
 leads-end blocks old now all l = l now (adds-none now)
 
 -- ---- a list of expressions
@@ -109,12 +109,12 @@ pub record Follows (k : Around) (seen : Seen) (old now : Findings) (all rest : S
   pub leads : (blocks : List Block) (a : Surroundings) → Sees k seen a → Leads blocks old (all a) now (rest a)
 
 pub follows-step : (k : Around) (seen : Seen) (old now new : Findings) (all f g : Surroundings → List Site) →
-    Follows k seen old now all (λ a. f a ++ g a) → Walks k seen now new f → Follows k seen old new all g
+    Follows k seen old now all (λ a. f a ++ g a) → ScopeWalks k seen now new f → Follows k seen old new all g
 follows-step k seen old now new all f g l w =
     record { leads = λ blocks a s. leads-step blocks old now new (all a) (f a) (g a) (l.leads blocks a s) (w.finds blocks a s) }
 
 pub follows-item : (k : Around) (seen : Seen) (old now new : Findings) (all : Surroundings → List Site) (es : List Expr) (i : ℕ) (e : Expr) → i < length es →
-    e ≡ get_or es i e → Follows k seen old now all (inside_list (exprs (drop i es))) → Walks k seen now new (sites (expr e)) →
+    e ≡ get_or es i e → Follows k seen old now all (inside_list (exprs (drop i es))) → ScopeWalks k seen now new (sites (expr e)) →
     Follows k seen old new all (inside_list (exprs (drop (i + 1) es)))
 follows-item k seen old now new all es i e h same l w =
     rw add-one
@@ -126,7 +126,7 @@ follows-item k seen old now new all es i e h same l w =
     w)
 
 pub follows-end : (k : Around) (seen : Seen) (old now : Findings) (all : Surroundings → List Site) (es : List Expr) → es ≡ [] →
-    Follows k seen old now all (inside_list (exprs es)) → Walks k seen old now all
+    Follows k seen old now all (inside_list (exprs es)) → ScopeWalks k seen old now all
 follows-end k seen old now all es h l =
     record {
       finds =
@@ -138,7 +138,7 @@ follows-end k seen old now all es h l =
 -- ---- the bounds of an array
 
 pub bounds-end : (k : Around) (seen : Seen) (old now : Findings) (all : Surroundings → List Site) (ps : List Pair) → ps ≡ [] →
-    Follows k seen old now all (sites_in_pairs (pairs ps)) → Walks k seen old now all
+    Follows k seen old now all (sites_in_pairs (pairs ps)) → ScopeWalks k seen old now all
 bounds-end k seen old now all ps h l =
     record {
       finds =
@@ -148,7 +148,7 @@ bounds-end k seen old now all ps h l =
     }
 
 pub follows-bound : (k : Around) (seen : Seen) (old now new : Findings) (all : Surroundings → List Site) (ps : List Pair) (i : ℕ) (p : Pair) → i < length ps →
-    p ≡ get_or ps i p → Follows k seen old now all (sites_in_pairs (pairs (drop i ps))) → Walks k seen now new (sites (expr p.high)) →
+    p ≡ get_or ps i p → Follows k seen old now all (sites_in_pairs (pairs (drop i ps))) → ScopeWalks k seen now new (sites (expr p.high)) →
     Follows k seen old new all (sites_in_pairs (pairs (drop (i + 1) ps)))
 follows-bound k seen old now new all ps i p h same l w =
     rw add-one
@@ -228,8 +228,8 @@ leads-split blocks old now all e es fs a l =
 pub passing-item : (k : Around) (seen : Seen) (old now mid new : Findings) (modes : List Sort) (all : PExprs) (es : List Expr) (i : ℕ) (e : Expr) (mode : Option Sort) →
     i < length es → e ≡ get_or es i e → mode ≡ slice_get modes i → Passing k seen old now modes all i (exprs (drop i es)) →
     ((blocks : List Block) (a : Surroundings) (f : Option Formal) → Sees k seen a → mode ≡ mode_given f →
-    Finds blocks now (record { part = site.actual (expr e) f; around = a } ∷ []) mid) →
-    Walks k seen mid new (sites (expr e)) → Passing k seen old new modes all (i + 1) (exprs (drop (i + 1) es))
+    ScopeFinds blocks now (record { part = site.actual (expr e) f; around = a } ∷ []) mid) →
+    ScopeWalks k seen mid new (sites (expr e)) → Passing k seen old new modes all (i + 1) (exprs (drop (i + 1) es))
 passing-item k seen old now mid new modes all es i e mode h same m l f w =
     rw add-one
     (record {
@@ -253,7 +253,7 @@ passing-item k seen old now mid new modes all es i e mode h same m l f w =
     })
 
 pub passing-end : (k : Around) (seen : Seen) (old now : Findings) (modes : List Sort) (all : PExprs) (i : ℕ) (es : List Expr) → es ≡ [] →
-    Passing k seen old now modes all i (exprs es) → Passes k seen old now modes all
+    Passing k seen old now modes all i (exprs es) → ActualsPass k seen old now modes all
 passing-end k seen old now modes all i es h l =
     record {
       finds =
@@ -274,7 +274,7 @@ if_ok (Ok x) f h = f x h
 if_ok (Err e) f h = tt
 
 pub walks-asked : (k : Around) (seen : Seen) (old new : Findings) (t : EventTest) (e : EventName) (spot : Spot) →
-    Walks k seen old new (λ a. at_name e.name a ∷ []) → Walks k seen old new (sites (tree.tested t (e ∷ []) spot))
+    ScopeWalks k seen old new (λ a. at_name e.name a ∷ []) → ScopeWalks k seen old new (sites (tree.tested t (e ∷ []) spot))
 walks-asked k seen old new t e spot w =
     record {
       finds =
@@ -285,7 +285,7 @@ walks-asked k seen old new t e spot w =
 -- ---- the events of a wait for several
 
 pub follows-event : (k : Around) (seen : Seen) (old now new : Findings) (all : Surroundings → List Site) (es : List EventName) (i : ℕ) (e : EventName) → i < length es →
-    e ≡ get_or es i e → Follows k seen old now all (at_events (drop i es)) → Walks k seen now new (λ a. at_name e.name a ∷ []) →
+    e ≡ get_or es i e → Follows k seen old now all (at_events (drop i es)) → ScopeWalks k seen now new (λ a. at_name e.name a ∷ []) →
     Follows k seen old new all (at_events (drop (i + 1) es))
 follows-event k seen old now new all es i e h same l w =
     rw add-one
@@ -297,7 +297,7 @@ follows-event k seen old now new all es i e h same l w =
     w)
 
 pub events-end : (k : Around) (seen : Seen) (old now : Findings) (all : Surroundings → List Site) (es : List EventName) → es ≡ [] →
-    Follows k seen old now all (at_events es) → Walks k seen old now all
+    Follows k seen old now all (at_events es) → ScopeWalks k seen old now all
 events-end k seen old now all es h l =
     record {
       finds =
@@ -332,8 +332,8 @@ module _ (blocks : List Block) (a : Surroundings) where
       let p : List Known = known_by e.name.spot (declared_as a e.name) in
       ap (λ xs. xs ++ flat_map (known_at blocks) (at_events es a)) (append-nil p) ∙ ap (λ ys. p ++ ys) (known-there es)
 
-pub walks-waited : (k : Around) (seen : Seen) (old new : Findings) (es : List EventName) (spot : Spot) → Walks k seen old new (at_events es) →
-    Walks k seen old new (sites (tree.tested test.WaitAny es spot))
+pub walks-waited : (k : Around) (seen : Seen) (old new : Findings) (es : List EventName) (spot : Spot) → ScopeWalks k seen old new (at_events es) →
+    ScopeWalks k seen old new (sites (tree.tested test.WaitAny es spot))
 walks-waited k seen old new es spot w =
     record {
       finds =
@@ -343,8 +343,8 @@ walks-waited k seen old new es spot w =
           (w.finds blocks a s);
     }
 
-pub walks-two : (k : Around) (seen : Seen) (old mid new : Findings) (op : Op) (x y : PExpr) → Walks k seen old mid (sites x) →
-    Walks k seen mid new (sites y) → Walks k seen old new (sites (tree.two op x y))
+pub walks-two : (k : Around) (seen : Seen) (old mid new : Findings) (op : Op) (x y : PExpr) → ScopeWalks k seen old mid (sites x) →
+    ScopeWalks k seen mid new (sites y) → ScopeWalks k seen old new (sites (tree.two op x y))
 walks-two k seen old mid new op x y v w =
     record {
       finds =
@@ -353,8 +353,8 @@ walks-two k seen old mid new op x y v w =
           ((walks-then k seen old mid new (sites x) (sites y) v w).finds blocks a s);
     }
 
-pub walks-if : (k : Around) (seen : Seen) (old one two new : Findings) (x y z : PExpr) (spot : Spot) → Walks k seen old one (sites x) →
-    Walks k seen one two (sites y) → Walks k seen two new (sites z) → Walks k seen old new (sites (tree.if x y z spot))
+pub walks-if : (k : Around) (seen : Seen) (old one two new : Findings) (x y z : PExpr) (spot : Spot) → ScopeWalks k seen old one (sites x) →
+    ScopeWalks k seen one two (sites y) → ScopeWalks k seen two new (sites z) → ScopeWalks k seen old new (sites (tree.if x y z spot))
 walks-if k seen old one two new x y z spot u v w =
     record {
       finds =
@@ -365,8 +365,8 @@ walks-if k seen old one two new x y z spot u v w =
     }
 
 pub walks-call : (k : Around) (seen : Seen) (old mid new : Findings) (n : Named) (modes : List Sort) (es : PExprs) →
-    Walks k seen old mid (λ a. at_name n a ∷ []) → ((a : Surroundings) → Sees k seen a → modes ≡ map mode_of (formals_at a n)) →
-    Passes k seen mid new modes es → Walks k seen old new (λ a. at_name n a ∷ inside_actuals es (formals_at a n) a)
+    ScopeWalks k seen old mid (λ a. at_name n a ∷ []) → ((a : Surroundings) → Sees k seen a → modes ≡ map mode_of (formals_at a n)) →
+    ActualsPass k seen mid new modes es → ScopeWalks k seen old new (λ a. at_name n a ∷ inside_actuals es (formals_at a n) a)
 walks-call k seen old mid new n modes es v m w =
     record {
       finds =
@@ -375,9 +375,9 @@ walks-call k seen old mid new n modes es v m w =
           (w.finds blocks a (formals_at a n) s (m a s));
     }
 
-pub walks-of : (k : Around) (seen : Seen) (old new : Findings) (e f : PExpr) → e ≡ f → Walks k seen old new (sites f) → Walks k seen old new (sites e)
-walks-of k seen old new e f h w = let P : PExpr → Type 0 = λ z. Walks k seen old new (sites z) in subst P (sym h) w
+pub walks-of : (k : Around) (seen : Seen) (old new : Findings) (e f : PExpr) → e ≡ f → ScopeWalks k seen old new (sites f) → ScopeWalks k seen old new (sites e)
+walks-of k seen old new e f h w = let P : PExpr → Type 0 = λ z. ScopeWalks k seen old new (sites z) in subst P (sym h) w
 
-pub walks-task : (k : Around) (old new : Findings) (task : Option Named) (n : Named) → task ≡ Some n → Walks k seens.All old new (λ a. at_name n a ∷ []) →
-    Walks k seens.All old new (task_parts task)
-walks-task k old new task n h w = let P : Option Named → Type 0 = λ z. Walks k seens.All old new (task_parts z) in subst P (sym h) w
+pub walks-task : (k : Around) (old new : Findings) (task : Option Named) (n : Named) → task ≡ Some n → ScopeWalks k seens.All old new (λ a. at_name n a ∷ []) →
+    ScopeWalks k seens.All old new (task_parts task)
+walks-task k old new task n h w = let P : Option Named → Type 0 = λ z. ScopeWalks k seens.All old new (task_parts z) in subst P (sym h) w

@@ -27,9 +27,9 @@ use Rattle.algol_scope.specs.declared.resolver.Resolver.{Resolver}
 use Rattle.algol_known.specs.Looking.{procedure_class}
 use Rattle.algol_known.specs.Seeing.{IsClass}
 use Rattle.algol_known.specs.Widening.{declaring}
-use Rattle.algol_known.specs.Naming.{under}
-use Rattle.algol_scope.specs.Noting.{Adds, faults_at}
-use Rattle.algol_scope.specs.Stating.{Settles, block_of}
+use Rattle.algol_known.specs.Naming.{sort_named}
+use Rattle.algol_scope.specs.Noting.{FindingsAdd, faults_at}
+use Rattle.algol_scope.specs.Stating.{WalkSettles, stated_block_of}
 
 -- ---- what stands ahead
 
@@ -58,10 +58,10 @@ pub record Makes (old new : Resolver) (faults : List rules.Block → Surrounding
   pub outer : new.around.outer.items ≡ old.around.outer.items
   pub procedures : new.around.procedures ≡ old.around.procedures
   pub blocks : new.blocks ≡ old.blocks
-  pub adds : (blocks : List rules.Block) (a : Surroundings) (spots : List Spot) (first : List Declared) → Settles blocks old a spots first →
-      Adds old.findings (faults blocks a) (cs blocks a) (uses blocks a) new.findings
-  pub settles : (blocks : List rules.Block) (a : Surroundings) (spots : List Spot) (first : List Declared) → Settles blocks old a spots first →
-      Settles blocks new (after blocks a) spots first
+  pub adds : (blocks : List rules.Block) (a : Surroundings) (spots : List Spot) (first : List Declared) → WalkSettles blocks old a spots first →
+      FindingsAdd old.findings (faults blocks a) (cs blocks a) (uses blocks a) new.findings
+  pub settles : (blocks : List rules.Block) (a : Surroundings) (spots : List Spot) (first : List Declared) → WalkSettles blocks old a spots first →
+      WalkSettles blocks new (after blocks a) spots first
 
 -- the names that the block has before are declared twice
 abbrev pub twice_among : List Named → List rules.Block → Surroundings → List Fault
@@ -102,7 +102,7 @@ IsBody ps _ _ = ⊥
 
 -- the table has the procedures with a body among these declarations
 pub record HasBodies (ps : List Procedure) (table : BTreeMap Key Ahead) (later : PDecls) : Type 0 where
-  pub bodies : (name : List ℕ) → IsBody ps (under table name) (body_of name later)
+  pub bodies : (name : List ℕ) → IsBody ps (sort_named table name) (body_of name later)
 
 -- ---- procedures
 
@@ -125,12 +125,12 @@ result_in block h = if is_some h.kind then cells_for block cells.result (h.name 
 pub record Starts (old new : Resolver) (h : Heading) : Type 0 where
   pub outer : new.around.outer.items ≡ old.around.outer.items ++ old.around.innermost ∷ []
   pub procedures : new.around.procedures ≡ old.around.procedures
-  pub comes : (blocks : List rules.Block) (a : Surroundings) (spots : List Spot) (first : List Declared) (s : PStmt) → Settles blocks old a spots first →
+  pub comes : (blocks : List rules.Block) (a : Surroundings) (spots : List Spot) (first : List Declared) (s : PStmt) → WalkSettles blocks old a spots first →
       number_at blocks h.name.spot ≡ length old.blocks.items → block_numbered blocks (length old.blocks.items) ≡ procedure_block h s spots →
-      (new.blocks.items ≡ old.blocks.items ++ block_of (procedure_block h s spots) ∷ []) ×
-      (Adds old.findings [] (result_cells blocks h ++ cells_for (number_at blocks h.name.spot) cells.parameter h.params)
+      (new.blocks.items ≡ old.blocks.items ++ stated_block_of (procedure_block h s spots) ∷ []) ×
+      (FindingsAdd old.findings [] (result_cells blocks h ++ cells_for (number_at blocks h.name.spot) cells.parameter h.params)
       (known_in_heading h (inside_procedure blocks h a)) new.findings ×
-      Settles blocks new (inside_procedure blocks h a) (h.name.spot ∷ spots) (inside_procedure blocks h a).known)
+      WalkSettles blocks new (inside_procedure blocks h a) (h.name.spot ∷ spots) (inside_procedure blocks h a).known)
 
 -- a declaration, and what is in it
 abbrev pub decl_parts : PDecl → PDecls → List rules.Block → Surroundings → List Declared → List Site

@@ -21,20 +21,20 @@ use Rattle.algol_frames.specs.declared.found.Cell.{Cell}
 use Rattle.algol_frames.specs.declared.found.Block.{Block}
 use Rattle.algol_scope.specs.declared.resolver.Resolver.{Resolver}
 use Rattle.algol_frames.specs.Framing.{beyond_from, deep_place, procedure_place}
-use Rattle.algol_scope.specs.Noting.{cell_of, faults_at, long_segment, use_of}
-use Rattle.algol_scope.specs.Stating.{block_of}
+use Rattle.algol_scope.specs.Noting.{noted_cell_of, faults_at, long_segment, use_of}
+use Rattle.algol_scope.specs.Stating.{stated_block_of}
 
 -- The walk has found what there is in the whole program.
-pub record Holds (r : Resolver) (p : PProgram) : Type 0 where
+pub record WalkHolds (r : Resolver) (p : PProgram) : Type 0 where
   pub faults : r.findings.faults.first ≡ noted_all None (flat_map (faults_at (blocks_of_program p)) (sites_of p))
-  pub cells : r.findings.cells.items ≡ map cell_of (flat_map (cells_at (blocks_of_program p)) (sites_of p))
+  pub cells : r.findings.cells.items ≡ map noted_cell_of (flat_map (cells_at (blocks_of_program p)) (sites_of p))
   pub uses : r.findings.uses.items ≡ map use_of (flat_map (known_at (blocks_of_program p)) (sites_of p))
-  pub blocks : r.blocks.items ≡ map block_of (blocks_of_program p)
+  pub blocks : r.blocks.items ≡ map stated_block_of (blocks_of_program p)
 
 -- Before the outer block nothing is known, and nothing is found.
 pub record IsNew (r : Resolver) : Type 0 where
   pub sees : (seen : Seen) → Sees r.around seen outermost
-  pub holds : names.Holds r.around outermost
+  pub holds : names.KnownHolds r.around outermost
   pub typed : r.around.innermost.typed ≡ None
   pub outer : r.around.outer.items ≡ []
   pub faults : r.findings.faults.first ≡ None

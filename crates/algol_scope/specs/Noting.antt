@@ -53,8 +53,8 @@ content_of cells.procedure = content.Procedure
 content_of cells.actual = content.Actual
 content_of cells.made = content.Made
 
-abbrev pub cell_of : cells.Cell → Cell
-cell_of c = record { block = c.block; spot = c.spot; content = content_of c.content }
+abbrev pub noted_cell_of : cells.Cell → Cell
+noted_cell_of c = record { block = c.block; spot = c.spot; content = content_of c.content }
 
 -- what the parameters are declared as, of what is a procedure
 abbrev pub parameters_by : Class → Option (List Sort)
@@ -77,24 +77,24 @@ use_of k =
     }
 
 -- These faults are noted, and these cells and names are added.
-pub record Adds (old : Findings) (fs : List Fault) (cs : List cells.Cell) (us : List Known) (new : Findings) : Type 0 where
+pub record FindingsAdd (old : Findings) (fs : List Fault) (cs : List cells.Cell) (us : List Known) (new : Findings) : Type 0 where
   pub faults : new.faults.first ≡ noted_all old.faults.first fs
-  pub cells : new.cells.items ≡ old.cells.items ++ map cell_of cs
+  pub cells : new.cells.items ≡ old.cells.items ++ map noted_cell_of cs
   pub uses : new.uses.items ≡ old.uses.items ++ map use_of us
 
 -- What there is at these parts is found.
-abbrev pub Finds : List Block → Findings → List Site → Findings → Type 0
-Finds blocks old parts new =
-    Adds old (flat_map (faults_at blocks) parts) (flat_map (cells_at blocks) parts) (flat_map (known_at blocks) parts) new
+abbrev pub ScopeFinds : List Block → Findings → List Site → Findings → Type 0
+ScopeFinds blocks old parts new =
+    FindingsAdd old (flat_map (faults_at blocks) parts) (flat_map (cells_at blocks) parts) (flat_map (known_at blocks) parts) new
 
 -- The walk finds what there is at parts that stand in these surroundings.
-pub record Walks (k : Around) (seen : Seen) (old new : Findings) (parts : Surroundings → List Site) : Type 0 where
-  pub finds : (blocks : List Block) (a : Surroundings) → Sees k seen a → Finds blocks old (parts a) new
+pub record ScopeWalks (k : Around) (seen : Seen) (old new : Findings) (parts : Surroundings → List Site) : Type 0 where
+  pub finds : (blocks : List Block) (a : Surroundings) → Sees k seen a → ScopeFinds blocks old (parts a) new
 
 -- The same of actuals, for such parameters.
-pub record Passes (k : Around) (seen : Seen) (old new : Findings) (modes : List Sort) (es : PExprs) : Type 0 where
+pub record ActualsPass (k : Around) (seen : Seen) (old new : Findings) (modes : List Sort) (es : PExprs) : Type 0 where
   pub finds : (blocks : List Block) (a : Surroundings) (fs : List Formal) → Sees k seen a → modes ≡ map mode_of fs →
-      Finds blocks old (inside_actuals es fs a) new
+      ScopeFinds blocks old (inside_actuals es fs a) new
 
 -- a name where it is used
 abbrev pub at_name : Named → Surroundings → Site
@@ -106,7 +106,7 @@ at_events es a = map (λ (e : EventName). at_name e.name a) es
 
 -- Names are added that are known there.
 pub record Knows (k : Around) (old new : Findings) (names : Surroundings → List Known) : Type 0 where
-  pub knows : (a : Surroundings) → Sees k seens.All a → Adds old [] [] (names a) new
+  pub knows : (a : Surroundings) → Sees k seens.All a → FindingsAdd old [] [] (names a) new
 
 -- ---- PROCESS
 

@@ -18,7 +18,7 @@ use Rattle.algol_frames.specs.declared.scopes.Couple.{Couple}
 use Rattle.algol_frames.specs.declared.scopes.Declared.{Declared}
 use Rattle.algol_frames.specs.declared.scopes.Scopes.{Scopes}
 use Rattle.algol_scope.specs.Noting.{parameters_here}
-pub use Rattle.algol_frames.specs.Answers.{declaration_of, actual_of, result_of, level_in, number_of, parameters_of}
+pub use Rattle.algol_frames.specs.Answers.{declaration_of, actual_of, result_couple_of, level_in, block_number_of, parameters_of}
 
 abbrev pub couple : Option Couple → Option cells.Couple
 couple None = None
@@ -62,17 +62,17 @@ unfoldable pub number_of_block : PProgram → Spot → Option ℕ
 number_of_block p spot = number_among 0 (blocks_of_program p) spot
 
 -- The tree is refused by the first rule of names and limits that it breaks.
-abbrev pub IsRefused : PProgram → Refusal → Type 0
-IsRefused p (refusals.At spot code) = first_fault (scope_faults p) ≡ Some (record { spot = spot; code = code })
-IsRefused p refusals.NoMemory = Unit {0}
+abbrev pub TreeIsRefused : PProgram → Refusal → Type 0
+TreeIsRefused p (refusals.At spot code) = first_fault (scope_faults p) ≡ Some (record { spot = spot; code = code })
+TreeIsRefused p refusals.NoMemory = Unit {0}
 
 -- The tree breaks no rule of names and limits, and these are its scopes.
 pub record AreOf (p : PProgram) (s : Scopes) : Type 0 where
   pub unbroken : scope_faults p ≡ []
   pub declarations : (spot : Spot) → located (declaration_of s spot) ≡ declaration_at p spot
   pub meanings : (spot : Spot) → meaning (declaration_of s spot) ≡ meaning_at p spot
-  pub results : (spot : Spot) → couple (result_of s spot) ≡ result_at p spot
+  pub results : (spot : Spot) → couple (result_couple_of s spot) ≡ result_at p spot
   pub actuals : (spot : Spot) → couple (actual_of s spot) ≡ actual_at p spot
   pub levels : (block : ℕ) → level_in s block ≡ level_of_block p block
   pub parameters : (spot : Spot) → parameters_of s spot ≡ parameters_at p spot
-  pub numbers : (spot : Spot) → number_of s spot ≡ number_of_block p spot
+  pub numbers : (spot : Spot) → block_number_of s spot ≡ number_of_block p spot

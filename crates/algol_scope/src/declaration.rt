@@ -19,14 +19,14 @@ ghost use Rattle.algol_tree.specs.Accepted.{broken, noted_all};
 ghost use Rattle.algol_known.specs.declared.known.Seen.TheVariants as seens;
 ghost use Rattle.algol_tree.specs.Counts.{heading_tokens, stmt_tokens};
 ghost use Rattle.algol_scope.specs.Declaring.{result_in, AreAhead, HasBodies, IsAhead, IsOf, Makes, Starts, cell_of_procedure, cells_here, decl_parts, declared_so, faults_of_decl, known_so, no_cells, no_faults, no_uses, nothing_so, procedure_so, twice_among};
-ghost use Rattle.algol_known.specs.Widening.{Admits, StandsFor, Widens, declaring, parameters_so};
+ghost use Rattle.algol_known.specs.Widening.{Admits, SortStandsFor, Widens, declaring, parameters_so};
 ghost use Rattle.algol_known.specs.Looking.{is_announced, looked_up, modes_in, open_blocks, procedure_class};
-ghost use Rattle.algol_known.specs.Naming.{has_name, under};
+ghost use Rattle.algol_known.specs.Naming.{has_name, sort_named};
 ghost use Rattle.std.specs.Map.{update};
 ghost use Rattle.std.specs.Str.{bytes_eq};
-ghost use Rattle.algol_scope.specs.Noting.{Adds, Knows, content_of, long_segment};
+ghost use Rattle.algol_scope.specs.Noting.{FindingsAdd, Knows, content_of, long_segment};
 ghost use Rattle.algol_known.specs.Seeing.{Extends, IsClass, Sees, mode_of};
-ghost use Rattle.algol_scope.specs.Stating.{Enters, no_blocks};
+ghost use Rattle.algol_scope.specs.Stating.{WalkEnters, no_blocks};
 
 use crate::findings::Findings;
 use crate::heading::{is_named, note_repeated, result_name, twice_in_heading, unknown_in_heading};
@@ -54,7 +54,7 @@ type Bodies<'p> = BTreeMap<Key<'p>, Ahead>;
 
 /// One more procedure with its body.
 fn remember<'p>(bodies: &mut Bodies<'p>, name: &'p [u8], ahead: Ahead) -> Result<(), AllocError>
-    ensures { OnOk result ((q : List ℕ) → under bodies.new q ≡ update bytes_eq (under bodies.old) name.now (Some ahead) q) }
+    ensures { OnOk result ((q : List ℕ) → sort_named bodies.new q ≡ update bytes_eq (sort_named bodies.old) name.now (Some ahead) q) }
 {
     bodies.insert(Key::of(name), ahead)?;
     Ok(())
@@ -62,7 +62,7 @@ fn remember<'p>(bodies: &mut Bodies<'p>, name: &'p [u8], ahead: Ahead) -> Result
 
 /// The procedure with its body of this name.
 fn found_body<'p>(bodies: &Bodies<'p>, name: &'p [u8]) -> Option<Ahead>
-    ensures { result ≡ under bodies.now name.now }
+    ensures { result ≡ sort_named bodies.now name.now }
 {
     found(bodies, name).copied()
 }
@@ -77,7 +77,7 @@ fn reversed(mut found: Vec<Ahead>) -> Vec<Ahead>
 
 /// No procedures.
 fn no_bodies<'p>(alloc: Global) -> Bodies<'p>
-    ensures { (q : List ℕ) → under result q ≡ None }
+    ensures { (q : List ℕ) → sort_named result q ≡ None }
 {
     BTreeMap::new(alloc)
 }
@@ -100,7 +100,7 @@ impl Findings {
         content: Content,
         around: &Around<'p>,
     ) -> Result<(), AllocError>
-        ensures { OnOk result ((held : cells.Content) → content_of held ≡ content → Adds self.old [] (cells_for around.now.innermost.block held ns.now) [] self.new) }
+        ensures { OnOk result ((held : cells.Content) → content_of held ≡ content → FindingsAdd self.old [] (cells_for around.now.innermost.block held ns.now) [] self.new) }
     {
         'names: for n in ns {
             self.cells.push(Cell {
@@ -140,7 +140,7 @@ impl Findings {
 
     /// The cell of the result of a typed procedure, whose block is the innermost.
     fn result_cell<'p>(&mut self, h: &'p Heading, around: &Around<'p>) -> Result<(), AllocError>
-        ensures { OnOk result (Adds self.old [] (result_in around.now.innermost.block h.now) [] self.new) }
+        ensures { OnOk result (FindingsAdd self.old [] (result_in around.now.innermost.block h.now) [] self.new) }
     {
         if h.kind.is_some() {
             self.cells.push(Cell {
@@ -154,7 +154,7 @@ impl Findings {
 
     /// The result and the parameters of a procedure, whose block is the innermost.
     fn enter_heading<'p>(&mut self, h: &'p Heading, around: &Around<'p>) -> Result<(), AllocError>
-        ensures { OnOk result ((a : Surroundings) → Sees around.now seens.All a → Adds self.old [] (result_in around.now.innermost.block h.now ++ cells_for around.now.innermost.block cells.parameter h.now.params) (known_in_heading h.now a) self.new) }
+        ensures { OnOk result ((a : Surroundings) → Sees around.now seens.All a → FindingsAdd self.old [] (result_in around.now.innermost.block h.now ++ cells_for around.now.innermost.block cells.parameter h.now.params) (known_in_heading h.now a) self.new) }
     {
         self.known_in_heading(h, around)?;
         self.result_cell(h, around)?;
@@ -271,7 +271,7 @@ impl<'p> Resolver<'p> {
 
     /// The innermost block declares the names, without cells.
     fn names(&mut self, ns: &'p List<Named>, sort: Sort) -> Result<(), AllocError>
-        ensures { OnOk result ((s : plain.Sort) (c : classes.Class) → StandsFor sort s c → Makes self.old self.new (twice_among ns.now) no_cells (known_so (declared_so s c ns.now) ns.now) (declared_so s c ns.now)) }
+        ensures { OnOk result ((s : plain.Sort) (c : classes.Class) → SortStandsFor sort s c → Makes self.old self.new (twice_among ns.now) no_cells (known_so (declared_so s c ns.now) ns.now) (declared_so s c ns.now)) }
     {
         let ns = ns.items().as_slice();
         self.note_here(ns)?;
@@ -281,7 +281,7 @@ impl<'p> Resolver<'p> {
 
     /// The innermost block declares the names, each with a cell.
     fn cells(&mut self, ns: &'p List<Named>, sort: Sort, content: Content) -> Result<(), AllocError>
-        ensures { OnOk result ((s : plain.Sort) (c : classes.Class) (held : cells.Content) → StandsFor sort s c → content_of held ≡ content → Makes self.old self.new (twice_among ns.now) (cells_here held ns.now) (known_so (declared_so s c ns.now) ns.now) (declared_so s c ns.now)) }
+        ensures { OnOk result ((s : plain.Sort) (c : classes.Class) (held : cells.Content) → SortStandsFor sort s c → content_of held ≡ content → Makes self.old self.new (twice_among ns.now) (cells_here held ns.now) (known_so (declared_so s c ns.now) ns.now) (declared_so s c ns.now)) }
     {
         self.names(ns, sort)?;
         self.findings
@@ -290,35 +290,35 @@ impl<'p> Resolver<'p> {
 
     /// Simple variables.
     pub fn simple(&mut self, kind: Kind, ns: &'p List<Named>) -> Result<(), AllocError>
-        ensures { OnOk result ((later : PDecls) → Enters self.old self.new (decl_parts (tree.simple kind ns.now) later) no_blocks (λ blocks. knowing blocks (tree.simple kind ns.now) later)) }
+        ensures { OnOk result ((later : PDecls) → WalkEnters self.old self.new (decl_parts (tree.simple kind ns.now) later) no_blocks (λ blocks. knowing blocks (tree.simple kind ns.now) later)) }
     {
         self.cells(ns, Sort::Variable(kind), Content::Variable)
     }
 
     /// Files.
     pub fn files(&mut self, ns: &'p List<Named>) -> Result<(), AllocError>
-        ensures { OnOk result ((later : PDecls) → Enters self.old self.new (decl_parts (tree.files ns.now) later) no_blocks (λ blocks. knowing blocks (tree.files ns.now) later)) }
+        ensures { OnOk result ((later : PDecls) → WalkEnters self.old self.new (decl_parts (tree.files ns.now) later) no_blocks (λ blocks. knowing blocks (tree.files ns.now) later)) }
     {
         self.names(ns, Sort::File)
     }
 
     /// Events.
     pub fn events(&mut self, ns: &'p List<Named>) -> Result<(), AllocError>
-        ensures { OnOk result ((later : PDecls) → Enters self.old self.new (decl_parts (tree.events ns.now) later) no_blocks (λ blocks. knowing blocks (tree.events ns.now) later)) }
+        ensures { OnOk result ((later : PDecls) → WalkEnters self.old self.new (decl_parts (tree.events ns.now) later) no_blocks (λ blocks. knowing blocks (tree.events ns.now) later)) }
     {
         self.cells(ns, Sort::Event, Content::Made)
     }
 
     /// Tasks.
     pub fn tasks(&mut self, ns: &'p List<Named>) -> Result<(), AllocError>
-        ensures { OnOk result ((later : PDecls) → Enters self.old self.new (decl_parts (tree.tasks ns.now) later) no_blocks (λ blocks. knowing blocks (tree.tasks ns.now) later)) }
+        ensures { OnOk result ((later : PDecls) → WalkEnters self.old self.new (decl_parts (tree.tasks ns.now) later) no_blocks (λ blocks. knowing blocks (tree.tasks ns.now) later)) }
     {
         self.cells(ns, Sort::Task, Content::Made)
     }
 
     /// Labels.
     pub fn labels(&mut self, ns: &'p List<Named>) -> Result<(), AllocError>
-        ensures { OnOk result ((later : PDecls) → Enters self.old self.new (decl_parts (tree.labels ns.now) later) no_blocks (λ blocks. knowing blocks (tree.labels ns.now) later)) }
+        ensures { OnOk result ((later : PDecls) → WalkEnters self.old self.new (decl_parts (tree.labels ns.now) later) no_blocks (λ blocks. knowing blocks (tree.labels ns.now) later)) }
     {
         self.names(ns, Sort::Label)
     }
@@ -330,7 +330,7 @@ impl<'p> Resolver<'p> {
         ns: &'p List<Named>,
         pairs: &'p List<Pair>,
     ) -> Result<(), AllocError>
-        ensures { OnOk result ((later : PDecls) → Enters self.old self.new (decl_parts (tree.arrays kind ns.now (image.pairs pairs.now)) later) no_blocks (λ blocks. knowing blocks (tree.arrays kind ns.now (image.pairs pairs.now)) later)) }
+        ensures { OnOk result ((later : PDecls) → WalkEnters self.old self.new (decl_parts (tree.arrays kind ns.now (image.pairs pairs.now)) later) no_blocks (λ blocks. knowing blocks (tree.arrays kind ns.now (image.pairs pairs.now)) later)) }
     {
         let subscripts = pairs.items().as_slice().len();
         self.cells(ns, Sort::Array(kind, subscripts), Content::Made)?;
@@ -366,7 +366,7 @@ impl<'p> Resolver<'p> {
     }
 
     pub fn forward(&mut self, h: &'p Heading, ahead: Ahead) -> Result<(), AllocError>
-        ensures { OnOk result ((later : PDecls) → IsAhead self.old.around.procedures.items (tree.forward h.now) later ahead → Enters self.old self.new (decl_parts (tree.forward h.now) later) no_blocks (λ blocks. knowing blocks (tree.forward h.now) later)) }
+        ensures { OnOk result ((later : PDecls) → IsAhead self.old.around.procedures.items (tree.forward h.now) later ahead → WalkEnters self.old self.new (decl_parts (tree.forward h.now) later) no_blocks (λ blocks. knowing blocks (tree.forward h.now) later)) }
     {
         self.check_forward(h, ahead.has_body)?;
         self.declare_heading(&h.name, ahead)

@@ -11,7 +11,7 @@ ghost use Rattle.algol_known.specs.declared.known.Seen.{Seen};
 ghost use Rattle.algol_known.specs.declared.known.Seen.TheVariants as seens;
 ghost use Rattle.algol_tree.specs.Sorts.{Declared};
 ghost use Rattle.algol_known.specs.Seeing.{Sees, IsClass, IsEntry, mode_given};
-ghost use Rattle.algol_scope.specs.Noting.{Finds, Knows, Walks, Passes, at_events, at_name, parameters_here, process_parts, task_parts};
+ghost use Rattle.algol_scope.specs.Noting.{ScopeFinds, Knows, ScopeWalks, ActualsPass, at_events, at_name, parameters_here, process_parts, task_parts};
 ghost use Rattle.algol_tree.specs.Couples.{known_names};
 
 use crate::findings::Findings;
@@ -59,7 +59,7 @@ impl Findings {
         around: &Around<'p>,
         seen: Seen,
     ) -> Result<Class, AllocError>
-        ensures walks { OnOk result (Walks around.now seen self.old self.new (λ a. at_name n.now a ∷ [])) }
+        ensures walks { OnOk result (ScopeWalks around.now seen self.old self.new (λ a. at_name n.now a ∷ [])) }
         ensures class { IfOk result (λ class. (a : Surroundings) → Sees around.now seen a → IsClass around.now.procedures.items class (class_of a n.now)) }
     {
         match around.find(n.name.bytes(), seen) {
@@ -85,7 +85,7 @@ impl Findings {
         around: &Around<'p>,
         seen: Seen,
     ) -> Result<(), AllocError>
-        ensures { OnOk result (Walks around.now seen self.old self.new (at_events events.now)) }
+        ensures { OnOk result (ScopeWalks around.now seen self.old self.new (at_events events.now)) }
     {
         'events: for event in events.items() {
             self.name(&event.name, around, seen)?;
@@ -112,7 +112,7 @@ impl Findings {
         around: &Around<'p>,
         seen: Seen,
     ) -> Result<(), AllocError>
-        ensures { OnOk result ((blocks : List Block) (a : Surroundings) (f : Option Formal) → Sees around.now seen a → mode ≡ mode_given f → Finds blocks self.old (record { part = actual (expr e.now) f; around = a } ∷ []) self.new) }
+        ensures { OnOk result ((blocks : List Block) (a : Surroundings) (f : Option Formal) → Sees around.now seen a → mode ≡ mode_given f → ScopeFinds blocks self.old (record { part = actual (expr e.now) f; around = a } ∷ []) self.new) }
     {
         if !around.has_cell(e, mode, seen) {
             return Ok(());
@@ -137,7 +137,7 @@ impl Findings {
         around: &Around<'p>,
         seen: Seen,
     ) -> Result<(), AllocError>
-        ensures { OnOk result (Passes around.now seen self.old self.new modes.now (exprs es.now)) }
+        ensures { OnOk result (ActualsPass around.now seen self.old self.new modes.now (exprs es.now)) }
     {
         'actuals: for (at, e) in es.items().iter().enumerate() {
             self.actual(e, modes.get(at).copied(), around, seen)?;
@@ -153,7 +153,7 @@ impl Findings {
         around: &Around<'p>,
         seen: Seen,
     ) -> Result<(), AllocError>
-        ensures { OnOk result (Walks around.now seen self.old self.new (λ a. at_name c.now.name a ∷ inside_actuals (exprs c.now.actuals) (formals_at a c.now.name) a)) }
+        ensures { OnOk result (ScopeWalks around.now seen self.old self.new (λ a. at_name c.now.name a ∷ inside_actuals (exprs c.now.actuals) (formals_at a c.now.name) a)) }
     {
         let class = self.name(&c.name, around, seen)?;
         self.actuals(&c.actuals, around.modes(class), around, seen)
@@ -166,7 +166,7 @@ impl Findings {
         around: &Around<'p>,
         seen: Seen,
     ) -> Result<(), AllocError>
-        ensures { OnOk result (Walks around.now seen self.old self.new (λ a. at_name v.now.name a ∷ inside_list (exprs v.now.subs) a)) }
+        ensures { OnOk result (ScopeWalks around.now seen self.old self.new (λ a. at_name v.now.name a ∷ inside_list (exprs v.now.subs) a)) }
     {
         self.name(&v.name, around, seen)?;
         self.list(&v.subs, around, seen)
@@ -179,7 +179,7 @@ impl Findings {
         around: &Around<'p>,
         seen: Seen,
     ) -> Result<(), AllocError>
-        ensures { OnOk result (Walks around.now seen self.old self.new (inside_list (exprs es.now))) }
+        ensures { OnOk result (ScopeWalks around.now seen self.old self.new (inside_list (exprs es.now))) }
     {
         'expressions: for e in es.items() {
             self.expr(e, around, seen)?;
@@ -196,7 +196,7 @@ impl Findings {
         around: &Around<'p>,
         seen: Seen,
     ) -> Result<(), AllocError>
-        ensures { OnOk result (Walks around.now seen self.old self.new (sites (expr e.now))) }
+        ensures { OnOk result (ScopeWalks around.now seen self.old self.new (sites (expr e.now))) }
     {
         let mut waiting = Vec::new(*self.cells.allocator());
         let mut at = e;
@@ -251,7 +251,7 @@ impl Findings {
 
     /// The name of a task, where there is one.
     fn task<'p>(&mut self, task: &'p Option<Named>, around: &Around<'p>) -> Result<(), AllocError>
-        ensures { OnOk result (Walks around.now seens.All self.old self.new (task_parts task.now)) }
+        ensures { OnOk result (ScopeWalks around.now seens.All self.old self.new (task_parts task.now)) }
     {
         match task {
             None => Ok(()),
@@ -269,7 +269,7 @@ impl Findings {
         task: &'p Option<Named>,
         around: &Around<'p>,
     ) -> Result<(), AllocError>
-        ensures { OnOk result (Walks around.now seens.All self.old self.new (process_parts c.now.name task.now (exprs c.now.actuals))) }
+        ensures { OnOk result (ScopeWalks around.now seens.All self.old self.new (process_parts c.now.name task.now (exprs c.now.actuals))) }
     {
         let class = self.name(&c.name, around, Seen::All)?;
         self.task(task, around)?;
@@ -278,7 +278,7 @@ impl Findings {
 
     /// A bound sees what is known before the declarations of its block.
     pub fn bounds<'p>(&mut self, ps: &'p List<Pair>, around: &Around<'p>) -> Result<(), AllocError>
-        ensures { OnOk result (Walks around.now seens.BeforeDeclarations self.old self.new (sites_in_pairs (pairs ps.now))) }
+        ensures { OnOk result (ScopeWalks around.now seens.BeforeDeclarations self.old self.new (sites_in_pairs (pairs ps.now))) }
     {
         'pairs: for pair in ps.items() {
             self.expr(&pair.high, around, Seen::BeforeDeclarations)?;

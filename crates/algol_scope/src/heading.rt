@@ -4,9 +4,9 @@ ghost use Rattle.std.specs.Prelude.{◌≡◌, ℕ, OnOk, List, [], false, true,
 ghost use Rattle.algol_tree.specs.declared.refusal.Code.TheVariants as codes;
 ghost use Rattle.algol_tree.specs.declared.tree.Heading.{Heading};
 ghost use Rattle.algol_tree.specs.Sorts.{is_named_in, same_name};
-ghost use Rattle.algol_tree.specs.Names.{if_so, is_no_parameter, is_one_of, places_if, repeated, result_names, specified, twice_in_heading, unknown_in_heading};
+ghost use Rattle.algol_tree.specs.Names.{if_so, is_no_parameter, name_is_one_of, places_if, repeated, result_names, specified, twice_in_heading, unknown_in_heading};
 ghost use Rattle.algol_tree.specs.Accepted.{broken, noted_all};
-ghost use Rattle.algol_known.specs.Naming.{has_name, is_typed, under};
+ghost use Rattle.algol_known.specs.Naming.{has_name, is_typed, sort_named};
 ghost use Rattle.algol_known.specs.Passing.{kept, said};
 
 use algol_frames::note_if;
@@ -17,7 +17,7 @@ use std::alloc::{AllocError, Global};
 
 /// The name of a typed procedure, which its result has.
 pub fn result_name(h: &Heading) -> Option<&[u8]>
-    ensures { (q : List ℕ) → is_typed result q ≡ is_one_of (result_names h.now) q }
+    ensures { (q : List ℕ) → is_typed result q ≡ name_is_one_of (result_names h.now) q }
 {
     match h.kind {
         None => None,
@@ -34,7 +34,7 @@ pub fn is_named(h: &Heading) -> bool
 
 /// Notes which of the names are no parameters.
 fn note_unknown<'p>(params: &Said<'p>, ns: &'p [Named], faults: &mut Faults)
-    ensures { (h : Heading) → ((q : List ℕ) → said (under params.now q) false ≡ is_named_in h.params q) → faults.new.first ≡ noted_all faults.old.first (broken codes.UnknownName (places_if (is_no_parameter h) ns.now)) }
+    ensures { (h : Heading) → ((q : List ℕ) → said (sort_named params.now q) false ≡ is_named_in h.params q) → faults.new.first ≡ noted_all faults.old.first (broken codes.UnknownName (places_if (is_no_parameter h) ns.now)) }
 {
     'names: for n in ns {
         note_if(
@@ -48,7 +48,7 @@ fn note_unknown<'p>(params: &Said<'p>, ns: &'p [Named], faults: &mut Faults)
 
 /// Notes the names of specifications that are no parameters.
 fn note_unspecified<'p>(params: &Said<'p>, h: &'p Heading, faults: &mut Faults)
-    requires { (q : List ℕ) → said (under params.now q) false ≡ is_named_in h.now.params q }
+    requires { (q : List ℕ) → said (sort_named params.now q) false ≡ is_named_in h.now.params q }
     ensures { faults.new.first ≡ noted_all faults.old.first (broken codes.UnknownName (places_if (is_no_parameter h.now) (specified h.now))) }
 {
     'specs: for spec in h.specs.items() {
@@ -73,8 +73,8 @@ pub fn note_repeated<'p>(
     ns: &'p [Named],
     faults: &mut Faults,
 ) -> Result<(), AllocError>
-    ensures noted { OnOk result ((seen : List (List ℕ)) → ((q : List ℕ) → is_one_of seen q ≡ (has_name names.now.typed names.now.declared names.now.parameters q || is_some (under before.old q))) → faults.new.first ≡ noted_all faults.old.first (broken codes.DeclaredTwice (repeated seen ns.now))) }
-    ensures before { OnOk result ((q : List ℕ) → under before.new q ≡ kept (under before.old q) (is_named_in ns.now q) true) }
+    ensures noted { OnOk result ((seen : List (List ℕ)) → ((q : List ℕ) → name_is_one_of seen q ≡ (has_name names.now.typed names.now.declared names.now.parameters q || is_some (sort_named before.old q))) → faults.new.first ≡ noted_all faults.old.first (broken codes.DeclaredTwice (repeated seen ns.now))) }
+    ensures before { OnOk result ((q : List ℕ) → sort_named before.new q ≡ kept (sort_named before.old q) (is_named_in ns.now q) true) }
 {
     'names: for n in ns {
         let name = n.name.bytes();

@@ -11,7 +11,7 @@ ghost use Rattle.algol_tree.specs.Sites.{here_stmt, inside_list, inside_actuals,
 ghost use Rattle.algol_scope.specs.Finding.{IsNew};
 ghost use Rattle.algol_known.specs.Looking.{level_within};
 ghost use Rattle.algol_scope.specs.Noting.{at_name};
-ghost use Rattle.algol_known.specs.Seeing.{Opens};
+ghost use Rattle.algol_known.specs.Seeing.{KnownOpens};
 ghost use Rattle.algol_scope.specs.Stating.{Visits, no_blocks, stmt_parts};
 
 use crate::findings::Findings;
@@ -64,7 +64,7 @@ impl<'p> Resolver<'p> {
         typed: Option<&'p [u8]>,
         is_procedure: bool,
     ) -> Result<(), AllocError>
-        ensures opens { OnOk result (Opens self.old.around self.new.around (length self.old.blocks.items)) }
+        ensures opens { OnOk result (KnownOpens self.old.around self.new.around (length self.old.blocks.items)) }
         ensures typed { OnOk result (self.new.around.innermost.typed ≡ typed.entry) }
         ensures begins { OnOk result (self.new.blocks.items ≡ self.old.blocks.items ++ record { spot = spot; level = level_within self.new.around; is_procedure = is_procedure } ∷ []) }
         ensures findings { self.new.findings ≡ self.old.findings }

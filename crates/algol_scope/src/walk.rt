@@ -9,7 +9,7 @@ ghost use Rattle.algol_tree.specs.Image.{expr, stmt, stmts, decl, decls, body, b
 ghost use Rattle.algol_tree.specs.Sites.{here_stmt, inside_stmt, sites, sites_in_body, sites_in_decls, sites_in_stmts};
 ghost use Rattle.algol_tree.specs.Surroundings.{inside_begin, knowing, knowing_all};
 ghost use Rattle.algol_scope.specs.Declaring.{IsAhead, decl_parts};
-ghost use Rattle.algol_scope.specs.Stating.{Enters, Fills, Visits, stmt_blocks, stmt_parts};
+ghost use Rattle.algol_scope.specs.Stating.{WalkEnters, Fills, Visits, stmt_blocks, stmt_parts};
 
 use crate::declaration::Ahead;
 use crate::resolver::Resolver;
@@ -130,7 +130,7 @@ impl<'p> Resolver<'p> {
 
     #[cycle(statements)]
     fn decls(&mut self, ds: &'p [Decl]) -> Result<(), AllocError>
-        ensures { OnOk result (Enters self.old self.new (λ blocks. sites_in_decls blocks (decls ds.now)) (blocks_in_decls (decls ds.now)) (λ blocks. knowing_all blocks (decls ds.now))) }
+        ensures { OnOk result (WalkEnters self.old self.new (λ blocks. sites_in_decls blocks (decls ds.now)) (blocks_in_decls (decls ds.now)) (λ blocks. knowing_all blocks (decls ds.now))) }
     {
         let ahead = self.look_ahead(ds)?;
         'declarations: for at in 0..ds.len() {
@@ -141,7 +141,7 @@ impl<'p> Resolver<'p> {
 
     #[cycle(statements)]
     fn decl(&mut self, d: &'p Decl, ahead: Ahead) -> Result<(), AllocError>
-        ensures { OnOk result ((later : PDecls) → IsAhead self.old.around.procedures.items (decl d.now) later ahead → Enters self.old self.new (decl_parts (decl d.now) later) (blocks_in_decl (decl d.now)) (λ blocks. knowing blocks (decl d.now) later)) }
+        ensures { OnOk result ((later : PDecls) → IsAhead self.old.around.procedures.items (decl d.now) later ahead → WalkEnters self.old self.new (decl_parts (decl d.now) later) (blocks_in_decl (decl d.now)) (λ blocks. knowing blocks (decl d.now) later)) }
     {
         match d {
             Decl::Simple(kind, ns) => self.simple(*kind, ns),
@@ -157,7 +157,7 @@ impl<'p> Resolver<'p> {
 
     #[cycle(statements)]
     fn procedure(&mut self, h: &'p Heading, s: &'p Stmt, ahead: Ahead) -> Result<(), AllocError>
-        ensures { OnOk result ((later : PDecls) → IsAhead self.old.around.procedures.items (tree.procedure h.now (stmt s.now)) later ahead → Enters self.old self.new (decl_parts (tree.procedure h.now (stmt s.now)) later) (blocks_in_decl (tree.procedure h.now (stmt s.now))) (λ blocks. knowing blocks (tree.procedure h.now (stmt s.now)) later)) }
+        ensures { OnOk result ((later : PDecls) → IsAhead self.old.around.procedures.items (tree.procedure h.now (stmt s.now)) later ahead → WalkEnters self.old self.new (decl_parts (tree.procedure h.now (stmt s.now)) later) (blocks_in_decl (tree.procedure h.now (stmt s.now))) (λ blocks. knowing blocks (tree.procedure h.now (stmt s.now)) later)) }
     {
         self.declare_procedure(h, s, ahead)?;
         self.begin_procedure(h, ahead)?;

@@ -8,11 +8,11 @@ ghost use Rattle.algol_tree.specs.Names.{program_segment};
 ghost use Rattle.algol_tree.specs.declared.TheConstants.{MOST_BLOCK_CELLS};
 ghost use Rattle.algol_tree.specs.declared.refusal.Code.TheVariants as codes;
 ghost use Rattle.algol_tree.specs.declared.refusal.Refusal.TheVariants as refusals;
-ghost use Rattle.algol_scope.specs.Finding.{Holds, IsNew, limit_faults};
-ghost use Rattle.algol_frames.specs.Framing.{cells_in};
+ghost use Rattle.algol_scope.specs.Finding.{WalkHolds, IsNew, limit_faults};
+ghost use Rattle.algol_frames.specs.Framing.{framed_cells_in};
 ghost use Rattle.algol_frames.specs.Laying.{AreLaid};
 ghost use Rattle.algol_scope.specs.Noting.{long_segment};
-ghost use Rattle.algol_scope.specs.Resolved.{AreOf, IsRefused};
+ghost use Rattle.algol_scope.specs.Resolved.{AreOf, TreeIsRefused};
 
 use crate::resolver::Resolver;
 use algol_frames::{
@@ -26,7 +26,7 @@ use std::alloc::{AllocError, Global};
 /// What is found in a whole program.
 fn found_in<'p>(alloc: Global, program: &'p Program) -> Result<Resolver<'p>, AllocError>
     requires { IsInOrder (image.program program.now) }
-    ensures { IfOk result (λ found. Holds found (image.program program.now)) }
+    ensures { IfOk result (λ found. WalkHolds found (image.program program.now)) }
 {
     let mut resolver = Resolver::new(alloc);
     match walk(program, &mut resolver) {
@@ -42,7 +42,7 @@ fn found_in<'p>(alloc: Global, program: &'p Program) -> Result<Resolver<'p>, All
 fn walk<'p>(program: &'p Program, resolver: &mut Resolver<'p>) -> Result<(), AllocError>
     requires order { IsInOrder (image.program program.now) }
     requires fresh { IsNew resolver.old }
-    ensures { OnOk result (Holds resolver.new (image.program program.now)) }
+    ensures { OnOk result (WalkHolds resolver.new (image.program program.now)) }
 {
     resolver.begun(program.body.spot, false)?;
     resolver.body(&program.body)
@@ -88,7 +88,7 @@ fn note_limits(
 /// lowest number; or want of memory.
 pub fn resolve(alloc: Global, program: &Program) -> Result<Scopes, Refusal>
     requires { IsInOrder (image.program program.now) }
-    ensures refused { IfErr result (IsRefused (image.program program.now)) }
+    ensures refused { IfErr result (TreeIsRefused (image.program program.now)) }
     ensures are { IfOk result (AreOf (image.program program.now)) }
 {
     let mut found = found_in(alloc, program)?;
@@ -100,8 +100,8 @@ pub fn resolve(alloc: Global, program: &Program) -> Result<Scopes, Refusal>
 /// The scopes of a program that the walk has gone over, or its refusal.
 fn scopes_found(alloc: Global, program: &Program, found: &mut Resolver) -> Result<Scopes, Refusal>
     requires order { IsInOrder (image.program program.now) }
-    requires found { Holds found.old (image.program program.now) }
-    ensures refused { IfErr result (IsRefused (image.program program.now)) }
+    requires found { WalkHolds found.old (image.program program.now) }
+    ensures refused { IfErr result (TreeIsRefused (image.program program.now)) }
     ensures are { IfOk result (AreOf (image.program program.now)) }
 {
     let cells = by_block(alloc, found.findings.cells.as_slice())?;
@@ -114,7 +114,7 @@ fn scopes_found(alloc: Global, program: &Program, found: &mut Resolver) -> Resul
 
 /// The scopes that the walk found, of blocks with these cells.
 fn scopes_of(alloc: Global, found: &Resolver, cells: &Cells) -> Result<Scopes, Refusal>
-    requires { (q : ℕ) → q < length found.now.blocks.items → length (cells_in cells.now q) ≤ MOST_BLOCK_CELLS }
+    requires { (q : ℕ) → q < length found.now.blocks.items → length (framed_cells_in cells.now q) ≤ MOST_BLOCK_CELLS }
     ensures memory { IfErr result (λ refusal. refusal ≡ refusals.NoMemory) }
     ensures laid { IfOk result (AreLaid found.now.blocks.items cells.now found.now.findings.cells.items found.now.findings.uses.items) }
 {

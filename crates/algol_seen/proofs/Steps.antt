@@ -4,13 +4,13 @@ use Rattle.algol_tree.specs.Scopes.{Scopes}
 use Rattle.algol_meaning.specs.World.{World, process_at}
 use Rattle.algol_meaning.specs.Choice.{Choice, choice}
 use Rattle.algol_meaning.specs.Run.{End, end_of, may_go}
-use Rattle.algol_run.specs.Stepping.{Step, ended, not_able, went, chosen_by, step_by, step_of, told, is_kept}
+use Rattle.algol_run.specs.Stepping.{RunStep, ended, not_able, went, chosen_by, step_by, step_of, told_step, is_kept}
 use Rattle.algol_run.specs.declared.stepping.Stepped.{Stepped}
 use Rattle.algol_run.specs.declared.stepping.Stepped.TheVariants as stepped
 use Rattle.b67_race.specs.Entries.{Signal, Access, Done}
 use Rattle.algol_seen.specs.Accesses.{access_in, acting_in, signal_after, next_access, next_signal, done_of}
 use Rattle.algol_seen.specs.Seen as seen
-use Rattle.algol_seen.specs.Seen.{told_done, SeenStep, IsSeen}
+use Rattle.algol_seen.specs.Seen.{told_done, SeenStep, ProcessIsSeen}
 use Rattle.algol_seen.specs.declared.seen.Seen.{Seen}
 
 pub never : {A : Type 0} → true ≡ false → A
@@ -21,16 +21,16 @@ never e = absurd (no e)
 
 -- ---- a step that goes, and one that does not
 
-abbrev pub is_step : Step → Bool
+abbrev pub is_step : RunStep → Bool
 is_step not_able = false
 is_step (went c) = true
 is_step (ended c) = true
 
-abbrev pub has_ended : Step → Bool
+abbrev pub has_ended : RunStep → Bool
 has_ended (ended c) = true
 has_ended s = false
 
-abbrev pub chosen_in : Choice → Step → Choice
+abbrev pub chosen_in : Choice → RunStep → Choice
 chosen_in d not_able = d
 chosen_in d (went c) = c
 chosen_in d (ended c) = c
@@ -48,8 +48,8 @@ chosen_is d None c = refl
 chosen_is d (Some e) c = refl
 
 -- a process that may not go stays, and the world with it
-pub stays_so : (sc : Scopes) (v after : World) (p : ℕ) (s : Stepped) → told s after ≡ step_of sc v p → s ≡ stepped.NotAble → after ≡ v → SeenStep sc v p after None
-stays_so sc v after p s e is same = (by (may_go v p) (sym (ap (λ (t : Stepped). is_step (told t after)) is) ∙ ap is_step e), same)
+pub stays_so : (sc : Scopes) (v after : World) (p : ℕ) (s : Stepped) → told_step s after ≡ step_of sc v p → s ≡ stepped.NotAble → after ≡ v → SeenStep sc v p after None
+stays_so sc v after p s e is same = (by (may_go v p) (sym (ap (λ (t : Stepped). is_step (told_step t after)) is) ∙ ap is_step e), same)
   where
     by : (may : Bool) → false ≡ is_step (step_by may (choice sc v p)) → may ≡ false
     by false f = refl
@@ -80,10 +80,10 @@ module _
       (started ∙ ap (λ (c : Choice). c.started) same)
 
   -- a step that goes on, or after which the world has an end
-  pub goes_so : (t : Step) → t ≡ step_of sc v p → is_step t ≡ true → chosen_in x t ≡ x → s.ended ≡ has_ended t → IsSeen sc v p x.world s
+  pub goes_so : (t : RunStep) → t ≡ step_of sc v p → is_step t ≡ true → chosen_in x t ≡ x → s.ended ≡ has_ended t → ProcessIsSeen sc v p x.world s
   goes_so t e some is end = by (may_go v p) refl e
     where
-      by : (may : Bool) → may_go v p ≡ may → t ≡ step_by may (choice sc v p) → IsSeen sc v p x.world s
+      by : (may : Bool) → may_go v p ≡ may → t ≡ step_by may (choice sc v p) → ProcessIsSeen sc v p x.world s
       by false m f = never (sym some ∙ ap is_step f)
       by true m f =
           record {

@@ -15,7 +15,7 @@ use Rattle.algol_tree.specs.Scopes.{Scopes, use_of}
 use Rattle.algol_meaning.specs.Value.{Value, whole_of, Reference, ArrayCell, Cell, simple, event, array, named, reference}
 use Rattle.algol_meaning.specs.declared.TheConstants.{MOST_STARTED}
 use Rattle.algol_meaning.specs.Rest.{Place, own, there, element_of, Given, Answer, done}
-use Rattle.algol_meaning.specs.Settle.{block_of, settle_actual_place}
+use Rattle.algol_meaning.specs.Settle.{block_of_sort, settle_actual_place}
 use Rattle.algol_meaning.specs.World.{name_place, Part, Process, World, add_cells, cell_at, by_cell, followed, array_in, process_at, instance_at}
 use Rattle.algol_meaning.specs.Arrays.{subscript_place, new_arrays, has_wrong_size, has_no_room, bounds_of}
 use Rattle.algol_meaning.specs.Critical.{some_depends, some_depends_on_any, is_evaluation, own_instances}
@@ -30,8 +30,8 @@ use Rattle.algol_laws.specs.Kept.{stored_by, stored_in, stored_cells}
 use Rattle.algol_laws.specs.Reading.{read_by, read_in, read_cells}
 use Rattle.b67_race.specs.Entries.{Signal, nothing, goes_by, Access}
 use Rattle.algol_seen.specs.Accesses as accesses
-use Rattle.algol_seen.specs.Accesses.{whole, access_by, access_in, acting_by, acting_in, signal_of, first_signal, gone_by, several_signal, signal_after, next_access, next_signal, goes_if, takes_if, frees_if}
-use Rattle.algol_seen.specs.Laws.{holder, IsOneOf, letter_by, is_of_whole, IsSignal, EachAccessIsTold, EachSignalIsTold}
+use Rattle.algol_seen.specs.Accesses.{whole_cell, access_by, access_in, acting_by, acting_in, signal_of, first_signal, gone_by, several_signal, signal_after, next_access, next_signal, goes_if, takes_if, frees_if}
+use Rattle.algol_seen.specs.Laws.{holder, IsOneOf, letter_by_access, is_of_whole, IsSignal, EachAccessIsTold, EachSignalIsTold}
 use Rattle.algol_seen.proofs.Steps.{never}
 
 abbrev is_cause : Letter → Bool
@@ -53,13 +53,13 @@ either false c d x y = y
 abbrev Told : Option Access → Letter → List Reference → List Reference → Type 0
 Told None l stored read = is_of_whole l ≡ false
 Told (Some a) l stored read =
-    (l ≡ letter_by a.storing a.cell.at) × (stored ≡ (if a.storing then holder a.cell ∷ [] else [])) × (a.storing ≡ false → IsOneOf read (holder a.cell))
+    (l ≡ letter_by_access a.storing a.cell.at) × (stored ≡ (if a.storing then holder a.cell ∷ [] else [])) × (a.storing ≡ false → IsOneOf read (holder a.cell))
 
-read_told : (r : Reference) (m : Option ℕ) (before : Reference) → Told (accesses.element_at r m false) letter.ElementRead [] (before ∷ r ∷ [])
+read_told : (r : Reference) (m : Option ℕ) (before : Reference) → Told (accesses.access_at_element r m false) letter.ElementRead [] (before ∷ r ∷ [])
 read_told r None before = refl
 read_told r (Some k) before = (refl, refl, λ e. inr (inl refl))
 
-stored_told : (r : Reference) (m : Option ℕ) → Told (accesses.element_at r m true) letter.ElementStore (r ∷ []) []
+stored_told : (r : Reference) (m : Option ℕ) → Told (accesses.access_at_element r m true) letter.ElementStore (r ∷ []) []
 stored_told r None = refl
 stored_told r (Some k) = (refl, refl, λ e. never e)
 
@@ -74,13 +74,13 @@ module _ (sc : Scopes) (w : World) (p : ℕ) (q : Process) (part : Part) (outer 
   element_told : (a : ArrayCell) (r : Reference) (ks : List ℕ) (o : Option ℕ) (before : Reference) →
       Told (accesses.element_read a r ks o) (choices.element_read_at sc w p q part outer a ks o).action [] (before ∷ r ∷ [])
   element_told a r ks None before = refl
-  element_told a r ks (Some k) before = read_told r (accesses.number_in a (ks ++ k ∷ [])) before
+  element_told a r ks (Some k) before = read_told r (accesses.element_number_in a (ks ++ k ∷ [])) before
 
   place_told : (x : Place) (v : Value) →
       Told (accesses.stored_at sc w part.instance x) (choices.stored sc w p q part outer x v).action (stored_by sc w p q part outer (asks.stores x v)) []
   place_told (own n) v = (refl, refl, λ e. never e)
   place_told (there r) v = (refl, refl, λ e. never e)
-  place_told (element_of r ks) v = stored_told r (accesses.number_in (array_in (cell_at w r)) ks)
+  place_told (element_of r ks) v = stored_told r (accesses.element_number_in (array_in (cell_at w r)) ks)
 
   -- ---- the other choices
 
@@ -106,7 +106,7 @@ module _ (sc : Scopes) (w : World) (p : ℕ) (q : Process) (part : Part) (outer 
   left_or_ended_plain a [] = record { of_whole = refl; of_cause = refl }
   left_or_ended_plain a (next ∷ parts) = record { of_whole = refl; of_cause = refl }
 
-  left_plain : (a : Answer) → Plain (choices.left sc w p q part outer a).action
+  left_plain : (a : Answer) → Plain (choices.left_choice sc w p q part outer a).action
   left_plain a =
       either (is_evaluation part.purpose) (choices.left_with sc w p q part outer w a outer)
       (if some_depends w.processes part.instance then choices.fails sc w p q part outer fault.CriticalBlockExit else choices.left_or_ended sc w p q part outer a outer)
@@ -138,7 +138,7 @@ module _ (sc : Scopes) (w : World) (p : ℕ) (q : Process) (part : Part) (outer 
   started_plain : (n : Named) (gs : List Given) (task : Option Named) → Plain (choice_of sc w p q part outer (asks.starts n gs task)).action
   started_plain n gs task =
       either (nat_lt MOST_STARTED (length w.processes)) (choices.fails sc w p q part outer fault.ProcessLimit)
-      (choices.starts sc w p q part outer (block_of ((use_of sc n).sort)) (choices.home sc w p q part outer n) (choices.given_cells sc w p q part outer gs)
+      (choices.starts sc w p q part outer (block_of_sort ((use_of sc n).sort)) (choices.home sc w p q part outer n) (choices.given_cells sc w p q part outer gs)
       (choices.task_of sc w p q part outer task))
       (record { of_whole = refl; of_cause = refl }) (record { of_whole = refl; of_cause = refl })
 
@@ -288,7 +288,7 @@ module _ (w : World) where
   gone_told [] = λ e. cc
   gone_told (r ∷ rs) = by (event_at w r).happened refl (gone_told rs)
     where
-      by : (b : Bool) → (event_at w r).happened ≡ b → IsSignal w letter.WaitAny (gone_by w rs) → IsSignal w letter.WaitAny (if b then goes_by (whole r) else gone_by w rs)
+      by : (b : Bool) → (event_at w r).happened ≡ b → IsSignal w letter.WaitAny (gone_by w rs) → IsSignal w letter.WaitAny (if b then goes_by (whole_cell r) else gone_by w rs)
       by true e later = (inr refl, e)
       by false e later = later
 
@@ -350,7 +350,7 @@ module _ (sc : Scopes) (w : World) (p : ℕ) (q : Process) (part : Part) (outer 
       let c = cell_at w (here sc w p q part outer n) in
       after_nothing w (choices.resolved_of sc w p q part outer n c).action o (resolved_plain sc w p q part outer n c).of_cause
   signal_told (asks.reads_result name) = λ e. cc
-  signal_told (asks.leaves a) = after_nothing w (choices.left sc w p q part outer a).action o (left_plain sc w p q part outer a).of_cause
+  signal_told (asks.leaves a) = after_nothing w (choices.left_choice sc w p q part outer a).action o (left_plain sc w p q part outer a).of_cause
   signal_told (asks.stores x v) = after_nothing w (choices.stored sc w p q part outer x v).action o (stored_cause x v)
   signal_told (asks.selects v ss) = after_nothing w (choice_of sc w p q part outer (asks.selects v ss)).action o (selected_plain sc w p q part outer v ss).of_cause
   signal_told asks.turns = λ e. cc

@@ -21,55 +21,55 @@ use Rattle.b67_race.specs.Entries.{CellName, Signal, nothing, sets, goes_by, fre
 
 -- ---- cells
 
-abbrev pub whole : Reference → CellName
-whole r = record { instance = r.instance; name = r.name; at = None }
+abbrev pub whole_cell : Reference → CellName
+whole_cell r = record { instance = r.instance; name = r.name; at = None }
 
 -- the number of an element that is there
 abbrev pub if_there : {A : Type 0} → Option A → ℕ → Option ℕ
 if_there None n = None
 if_there (Some x) n = Some n
 
-abbrev pub number_in : ArrayCell → List ℕ → Option ℕ
-number_in a ks = if_there (slice_get a.elements (flat 0 a.bounds ks)) (flat 0 a.bounds ks)
+abbrev pub element_number_in : ArrayCell → List ℕ → Option ℕ
+element_number_in a ks = if_there (slice_get a.elements (flat 0 a.bounds ks)) (flat 0 a.bounds ks)
 
-abbrev pub element_at : Reference → Option ℕ → Bool → Option Access
-element_at r None storing = None
-element_at r (Some n) storing = Some (record { cell = record { instance = r.instance; name = r.name; at = Some n }; storing = storing })
+abbrev pub access_at_element : Reference → Option ℕ → Bool → Option Access
+access_at_element r None storing = None
+access_at_element r (Some n) storing = Some (record { cell = record { instance = r.instance; name = r.name; at = Some n }; storing = storing })
 
-abbrev pub reading : Reference → Option Access
-reading r = Some (record { cell = whole r; storing = false })
+abbrev pub access_reading : Reference → Option Access
+access_reading r = Some (record { cell = whole_cell r; storing = false })
 
 abbrev pub storing : Reference → Option Access
-storing r = Some (record { cell = whole r; storing = true })
+storing r = Some (record { cell = whole_cell r; storing = true })
 
 -- the cell that the reading of a name reads: a Reference is followed, and what a parameter by name stands for is evaluated first
 abbrev pub read_of : Reference → Cell → Option Access
 read_of r (named c) = None
-read_of r (reference s) = reading s
-read_of r c = reading r
+read_of r (reference s) = access_reading s
+read_of r c = access_reading r
 
 -- the element that is read with its last subscript, none where that is outside
 abbrev pub element_read : ArrayCell → Reference → List ℕ → Option ℕ → Option Access
 element_read a r ks None = None
-element_read a r ks (Some k) = element_at r (number_in a (ks ++ k ∷ [])) false
+element_read a r ks (Some k) = access_at_element r (element_number_in a (ks ++ k ∷ [])) false
 
 -- ---- events
 
 abbrev pub goes_if : Bool → Reference → Signal
-goes_if happened r = if happened then goes_by (whole r) else nothing
+goes_if happened r = if happened then goes_by (whole_cell r) else nothing
 
 abbrev pub takes_if : Bool → Reference → Signal
-takes_if available r = if available then takes (whole r) else nothing
+takes_if available r = if available then takes (whole_cell r) else nothing
 
 -- LIBERATE of an event that is not available and that nobody waits to procure
 abbrev pub frees_if : Bool → List ℕ → Reference → Signal
 frees_if true procurers r = nothing
-frees_if false [] r = frees (whole r)
+frees_if false [] r = frees (whole_cell r)
 frees_if false (p ∷ ps) r = nothing
 
 -- what is done with an event in this state, where one is named; of a wait for several it is the row of each
 abbrev pub signal_of : EventDeed → Reference → EventState → Signal
-signal_of (acts act.Cause) r e = sets (whole r)
+signal_of (acts act.Cause) r e = sets (whole_cell r)
 signal_of (acts act.CauseAndReset) r e = nothing
 signal_of (acts act.Reset) r e = nothing
 signal_of (acts act.Wait) r e = goes_if e.happened r
@@ -87,7 +87,7 @@ first_signal w x (r ∷ rs) = signal_of x r (event_at w r)
 -- a wait for several events goes by the first that has happened
 abbrev pub gone_by : World → List Reference → Signal
 gone_by w [] = nothing
-gone_by w (r ∷ rs) = if answers test.WaitAny (event_at w r) then goes_by (whole r) else gone_by w rs
+gone_by w (r ∷ rs) = if answers test.WaitAny (event_at w r) then goes_by (whole_cell r) else gone_by w rs
 
 -- who was released goes on, whatever the events are: the entry that released it is before this one in any case
 abbrev pub several_signal : World → ℕ → List Reference → Signal
@@ -100,7 +100,7 @@ module _ (sc : Scopes) (w : World) (at : ℕ) where
   abbrev pub stored_at : Place → Option Access
   stored_at (own n) = storing (here_in sc w at n)
   stored_at (there r) = storing r
-  stored_at (element_of r ks) = element_at r (number_in (array_in (cell_at w r)) ks) true
+  stored_at (element_of r ks) = access_at_element r (element_number_in (array_in (cell_at w r)) ks) true
 
   -- the cell that the action reads or stores
   abbrev pub access_by : Ask → Option Access
@@ -108,7 +108,7 @@ module _ (sc : Scopes) (w : World) (at : ℕ) where
   access_by (asks.reads_element n ks v) =
       element_read (array_in (cell_at w (followed w (here_in sc w at n)))) (followed w (here_in sc w at n)) ks
       (subscript_place ((use_of sc n).sort) (array_in (cell_at w (followed w (here_in sc w at n)))) ks (whole_of v))
-  access_by (asks.reads_result name) = reading (record { instance = at; name = name })
+  access_by (asks.reads_result name) = access_reading (record { instance = at; name = name })
   access_by (asks.stores x v) = stored_at x
   access_by _ = None
 
@@ -130,7 +130,7 @@ acting_in sc w woken (part ∷ outer) = acting_by sc w part.instance woken (ask 
 
 -- the end of a process with a task sets the task's event; else it is what a deed does
 abbrev pub signal_after : Letter → Option Reference → Signal → Signal
-signal_after letter.End (Some r) s = sets (whole r)
+signal_after letter.End (Some r) s = sets (whole_cell r)
 signal_after l o s = s
 
 -- the cell that the next action of a process reads or stores

@@ -23,16 +23,16 @@ IsOneOf (s ∷ rs) r = (s ≡ r) ⊎ IsOneOf rs r
 -- ---- accesses
 
 -- the letter of an action that stores or reads, a whole cell or an element
-abbrev pub letter_by : Bool → Option ℕ → Letter
-letter_by true None = letter.Store
-letter_by true (Some n) = letter.ElementStore
-letter_by false None = letter.Read
-letter_by false (Some n) = letter.ElementRead
+abbrev pub letter_by_access : Bool → Option ℕ → Letter
+letter_by_access true None = letter.Store
+letter_by_access true (Some n) = letter.ElementStore
+letter_by_access false None = letter.Read
+letter_by_access false (Some n) = letter.ElementRead
 
 -- The letter says so; a cell that is stored, or whose element is, is the only one that the action may change, and an action that reads changes
 -- none; and a cell that is read is one of those on which the action depends.
 pub record IsAccess (sc : Scopes) (w : World) (p : ℕ) (a : Access) : Type 0 where
-  pub letter : (choice sc w p).action ≡ letter_by a.storing a.cell.at
+  pub letter : (choice sc w p).action ≡ letter_by_access a.storing a.cell.at
   pub stored : stored_cells sc w p ≡ (if a.storing then holder a.cell ∷ [] else [])
   pub read : a.storing ≡ false → IsOneOf (read_cells sc w p) (holder a.cell)
 

@@ -34,7 +34,7 @@ abbrev pub told_done : ℕ → Seen → Done
 told_done p s = record { process = p; access = access s.access; signal = signal s.signal; released = s.released; started = s.started }
 
 -- What is told of a process that goes: its action, what it did, and whether the world has an end then.
-pub record IsSeen (sc : Scopes) (w : World) (p : ℕ) (after : World) (s : Seen) : Type 0 where
+pub record ProcessIsSeen (sc : Scopes) (w : World) (p : ℕ) (after : World) (s : Seen) : Type 0 where
   pub may : may_go w p ≡ true
   pub world : after ≡ (choice sc w p).world
   pub done : told_done p s ≡ done_of sc w p
@@ -44,4 +44,4 @@ pub record IsSeen (sc : Scopes) (w : World) (p : ℕ) (after : World) (s : Seen)
 -- What is told of a step: nothing exactly where the process may not go, and then the world is as it was.
 abbrev pub SeenStep : Scopes → World → ℕ → World → Option Seen → Type 0
 SeenStep sc w p after None = (may_go w p ≡ false) × (after ≡ w)
-SeenStep sc w p after (Some s) = IsSeen sc w p after s
+SeenStep sc w p after (Some s) = ProcessIsSeen sc w p after s

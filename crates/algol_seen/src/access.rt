@@ -9,7 +9,7 @@ ghost use Rattle.algol_cells.specs.SeenCell.{reference};
 ghost use Rattle.algol_cells.specs.SeenScope.{scoped};
 ghost use Rattle.algol_cells.specs.SeenValue.{value};
 ghost use Rattle.algol_rest_expr.specs.SeenExpression.{place};
-ghost use Rattle.algol_rest.specs.SeenRest.{rest, asked};
+ghost use Rattle.algol_rest.specs.SeenRest.{rest, rest_asked};
 ghost use Rattle.algol_instances.specs.SeenArray.{capped};
 ghost use Rattle.algol_instances.specs.SeenInstance.{cell_or_none};
 ghost use Rattle.algol_world.specs.SeenWorld.{world_of};
@@ -49,7 +49,7 @@ pub fn followed<'p>(world: &World<'p>, r: Reference<'p>) -> Reference<'p>
 
 /// A cell that is read.
 fn reading<'p>(r: Reference<'p>) -> Option<Access<'p>>
-    ensures { told.access result ≡ accesses.reading (reference r.entry) }
+    ensures { told.access result ≡ accesses.access_reading (reference r.entry) }
 {
     Some(Access {
         cell: whole(r),
@@ -69,7 +69,7 @@ fn storing<'p>(r: Reference<'p>) -> Option<Access<'p>>
 
 /// An element by its number from 1, none for 0.
 fn element<'p>(r: Reference<'p>, number: usize, storing: bool) -> Option<Access<'p>>
-    ensures { told.access result ≡ accesses.element_at (reference r.entry) (at_of number) storing }
+    ensures { told.access result ≡ accesses.access_at_element (reference r.entry) (at_of number) storing }
 {
     if number == 0 {
         return None;
@@ -156,7 +156,7 @@ fn there(array: &ArrayCell, number: usize) -> usize
 
 /// The number, from 1, of an element of a cell with these subscripts, 0 where it is not there.
 fn number_in(cell: Option<&Cell<'_>>, subscripts: &[usize]) -> usize
-    ensures { at_of result ≡ accesses.number_in (plain.array_in (cell_or_none cell.entry)) subscripts.now }
+    ensures { at_of result ≡ accesses.element_number_in (plain.array_in (cell_or_none cell.entry)) subscripts.now }
 {
     match cell {
         Some(Cell::Array(array)) => there(array, flat(0, array.bounds.items(), subscripts)),
@@ -166,7 +166,7 @@ fn number_in(cell: Option<&Cell<'_>>, subscripts: &[usize]) -> usize
 
 /// The same with one subscript more.
 fn number_with(cell: Option<&Cell<'_>>, subscripts: &[usize], last: usize) -> usize
-    ensures { at_of result ≡ accesses.number_in (plain.array_in (cell_or_none cell.entry)) (subscripts.now ++ last ∷ []) }
+    ensures { at_of result ≡ accesses.element_number_in (plain.array_in (cell_or_none cell.entry)) (subscripts.now ++ last ∷ []) }
 {
     match cell {
         Some(Cell::Array(array)) => {
@@ -213,7 +213,7 @@ fn stored_at<'p>(world: &World<'p>, part: &Part<'p>, to: &Place<'p>) -> Option<A
 
 /// The cell that a head reads or stores which asks for this.
 fn access_by<'p>(world: &World<'p>, part: &Part<'p>, ask: &Ask<'_, 'p>) -> Option<Access<'p>>
-    ensures { told.access result ≡ accesses.access_by (scoped world.now.scopes) (world_of world.now) part.now.instance (asked ask.now) }
+    ensures { told.access result ≡ accesses.access_by (scoped world.now.scopes) (world_of world.now) part.now.instance (rest_asked ask.now) }
 {
     match ask {
         Ask::Reads(n) => read_of(world, here(world, part, *n)),

@@ -2,7 +2,7 @@
 
 ghost use Rattle.std.specs.Prelude.{◌≡◌};
 ghost use Rattle.algol_cells.specs.SeenCell.{reference};
-ghost use Rattle.algol_seen.specs.Accesses.{whole};
+ghost use Rattle.algol_seen.specs.Accesses.{whole_cell};
 ghost use Rattle.algol_seen.specs.Seen.{cell_name};
 
 use algol_cells::Reference;
@@ -39,7 +39,7 @@ pub enum Signal<'p> {
 
 /// A cell that is no element.
 pub fn whole<'p>(r: Reference<'p>) -> CellName<'p>
-    ensures { cell_name result ≡ whole (reference r.entry) }
+    ensures { cell_name result ≡ whole_cell (reference r.entry) }
 {
     CellName {
         instance: r.instance,

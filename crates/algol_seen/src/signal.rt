@@ -7,8 +7,8 @@ ghost use Rattle.algol_meaning.specs.World as plain;
 ghost use Rattle.algol_meaning.specs.Asks as asks;
 ghost use Rattle.algol_cells.specs.SeenCell.{reference};
 ghost use Rattle.algol_cells.specs.SeenScope.{scoped};
-ghost use Rattle.algol_rest_expr.specs.SeenExpression.{names_of};
-ghost use Rattle.algol_rest.specs.SeenRest.{asked, rest};
+ghost use Rattle.algol_rest_expr.specs.SeenExpression.{event_names_of};
+ghost use Rattle.algol_rest.specs.SeenRest.{rest_asked, rest};
 ghost use Rattle.algol_instances.specs.SeenInstance.{cell_or_none};
 ghost use Rattle.algol_world.specs.SeenWorld as views;
 ghost use Rattle.algol_world.specs.SeenWorld.{world_of};
@@ -69,7 +69,7 @@ fn signal_in<'p>(act: EventAct, r: Reference<'p>, cell: Option<&Cell<'p>>) -> Si
 
 /// FIX of the first of these events takes it, where it is available.
 fn fixed_by<'p>(world: &World<'p>, part: &Part<'p>, es: &'p [EventName]) -> Signal<'p>
-    ensures { told.signal result ≡ accesses.first_signal (world_of world.now) (tests test.Fix) (followed_in (scoped world.now.scopes) (world_of world.now) part.now.instance (names_of es.now)) }
+    ensures { told.signal result ≡ accesses.first_signal (world_of world.now) (tests test.Fix) (followed_in (scoped world.now.scopes) (world_of world.now) part.now.instance (event_names_of es.now)) }
 {
     match es.split_first() {
         None => Signal::Nothing,
@@ -86,7 +86,7 @@ fn fixed_by<'p>(world: &World<'p>, part: &Part<'p>, es: &'p [EventName]) -> Sign
 
 /// A wait for several events goes by the first that has happened.
 fn gone_by<'p>(world: &World<'p>, part: &Part<'p>, es: &'p [EventName]) -> Signal<'p>
-    ensures { told.signal result ≡ accesses.gone_by (world_of world.now) (followed_in (scoped world.now.scopes) (world_of world.now) part.now.instance (names_of es.now)) }
+    ensures { told.signal result ≡ accesses.gone_by (world_of world.now) (followed_in (scoped world.now.scopes) (world_of world.now) part.now.instance (event_names_of es.now)) }
 {
     match es.split_first() {
         None => Signal::Nothing,
@@ -109,7 +109,7 @@ fn tested_by<'p>(
     test: EventTest,
     es: &'p [EventName],
 ) -> Signal<'p>
-    ensures { told.signal result ≡ accesses.acting_by (scoped world.now.scopes) (world_of world.now) part.now.instance woken (asks.event_deed (tests test) (names_of es.now)) }
+    ensures { told.signal result ≡ accesses.acting_by (scoped world.now.scopes) (world_of world.now) part.now.instance woken (asks.event_deed (tests test) (event_names_of es.now)) }
 {
     match test {
         EventTest::Happened | EventTest::Available => Signal::Nothing,
@@ -128,7 +128,7 @@ fn tested_by<'p>(
 
 /// What a head does with an event which asks for this.
 fn acting_by<'p>(world: &World<'p>, part: &Part<'p>, woken: usize, ask: &Ask<'_, 'p>) -> Signal<'p>
-    ensures { told.signal result ≡ accesses.acting_by (scoped world.now.scopes) (world_of world.now) part.now.instance woken (asked ask.now) }
+    ensures { told.signal result ≡ accesses.acting_by (scoped world.now.scopes) (world_of world.now) part.now.instance woken (rest_asked ask.now) }
 {
     match ask {
         Ask::Acts(act, n) => {

@@ -11,7 +11,7 @@ use Rattle.algol_tree.specs.declared.tree.Expr.{Expr}
 use Rattle.algol_tree.specs.Plain as tree
 use Rattle.algol_tree.specs.Plain.{PExpr, PExprs, name_alone}
 use Rattle.algol_tree.specs.Image.{expr, exprs}
-use Rattle.algol_tree.specs.Accepted.{noted, noted_all}
+use Rattle.algol_tree.specs.Accepted.{fault_noted, noted_all}
 use Rattle.algol_tree.specs.Cells.{first_spot}
 use Rattle.algol_tree.specs.Classes as rules'
 use Rattle.algol_tree.specs.Classes.{Class, is_event, is_unspecified, same_kind}
@@ -27,7 +27,7 @@ use Rattle.algol_sites.specs.declared.wanted.Wanted.{Wanted}
 use Rattle.algol_sites.specs.declared.wanted.Wanted.TheVariants as wanted
 use Rattle.algol_sites.specs.Seen.{classes_of, formal_as, formal_for, value_of}
 use Rattle.algol_sites.specs.Seeing.{TellsEach, TellsIn}
-use Rattle.algol_sites.specs.Noting.{broken, broken_if, mistyped, mistyped_for, mistyped_list, noted_at, noted_in}
+use Rattle.algol_sites.specs.Noting.{rule_broken, broken_if, mistyped, mistyped_for, mistyped_list, noted_at, noted_in}
 use Rattle.algol_sites.specs.Wanting.{is_met, unfit}
 use Rattle.algol_sites.specs.Expressing.{is_alone, misplaced, misplaced_by, misplaced_if, noted_actual, reference_of}
 use Rattle.algol_sites.proofs.Notes.{noted_all-append, noted_along-append}
@@ -168,7 +168,7 @@ wrong_reference_by (Some n) test e a = if_so (not (test (class_of a n)) && not (
 wrong_reference_by None test e a = first_spot e ∷ []
 
 misplaced_same : (o : Option Named) (w : Wanted) (test : Class → Bool) (e : PExpr) (f : Option Fault) (a : Surroundings) → ((c : Class) → is_met w c ≡ test c) →
-    noted_all f (misplaced_by o w e a) ≡ noted_all f (broken codes.WrongType (wrong_reference_by o test e a))
+    noted_all f (misplaced_by o w e a) ≡ noted_all f (rule_broken codes.WrongType (wrong_reference_by o test e a))
 misplaced_same (Some n) w test e f a h =
     ap (λ b. noted_all f (broken_if codes.WrongType (not b && not (is_unspecified (class_of a n))) n.spot)) (h (class_of a n))
 misplaced_same None w test e f a h = refl
@@ -223,9 +223,9 @@ pub numbers_end : (es : List Expr) (i : ℕ) (a : Surroundings) (f g : Option Fa
 numbers_end es i a f g e h = sym (ap (λ xs. noted_all f (mistyped_list (exprs xs) a)) e) ∙ h
 
 pub misplaced_none : (w : Wanted) (e : PExpr) (a : Surroundings) (f g : Option Fault) (spot : Spot) → name_alone e ≡ None → spot ≡ first_spot e →
-    g ≡ noted f (record { spot = spot; code = codes.WrongType }) → g ≡ noted_all f (misplaced w e a)
+    g ≡ fault_noted f (record { spot = spot; code = codes.WrongType }) → g ≡ noted_all f (misplaced w e a)
 misplaced_none w e a f g spot n p q =
-    q ∙ ap (λ x. noted f (record { spot = x; code = codes.WrongType })) p ∙ ap (λ o. noted_all f (misplaced_by o w e a)) (sym n)
+    q ∙ ap (λ x. fault_noted f (record { spot = x; code = codes.WrongType })) p ∙ ap (λ o. noted_all f (misplaced_by o w e a)) (sym n)
 
 pub misplaced_some : (w : Wanted) (e : PExpr) (a : Surroundings) (n : Named) → name_alone e ≡ Some n → misplaced w e a ≡ unfit w codes.WrongType n a
 misplaced_some w e a n is = ap (λ o. misplaced_by o w e a) is

@@ -9,7 +9,7 @@ use Rattle.algol_tree.specs.Blocks.{blocks_of_program}
 use Rattle.algol_tree.specs.Labels.{bad_labels}
 use Rattle.algol_tree.specs.Accepted.{noted_all, check_faults, first_fault, sites_of}
 use Rattle.algol_sites.specs.declared.label.Standing.{Standing}
-use Rattle.algol_sites.specs.Noting.{broken, noted_along}
+use Rattle.algol_sites.specs.Noting.{rule_broken, noted_along}
 use Rattle.algol_sites.specs.Labelling.{standing_as, standings_at, labels_at, bad_in}
 use Rattle.algol_sites.proofs.Labelled.{labels_told}
 use Rattle.algol_sites.proofs.Whole.{first_in_turn}
@@ -19,4 +19,4 @@ pub checked : (p : PProgram) (f g : Option Fault) (all : List Standing) (spots :
     g ≡ first_fault (check_faults p)
 checked p f g all spots e s l q =
     q ∙ ap (noted_all f) (labels_told (sites_of p) all spots s l)
-    ∙ ap (λ o. noted_all o (broken codes.BadLabel (bad_labels (sites_of p)))) e ∙ sym (first_in_turn p)
+    ∙ ap (λ o. noted_all o (rule_broken codes.BadLabel (bad_labels (sites_of p)))) e ∙ sym (first_in_turn p)

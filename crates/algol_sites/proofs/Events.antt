@@ -5,14 +5,14 @@ use Rattle.algol_tree.specs.declared.tree.EventName.{EventName}
 use Rattle.algol_tree.specs.Accepted.{noted_all}
 use Rattle.algol_tree.specs.Surroundings.{Surroundings}
 use Rattle.algol_frames.specs.declared.scopes.Scopes.{Scopes}
-use Rattle.algol_told.specs.Telling.{Tells}
+use Rattle.algol_told.specs.Telling.{ScopesTell}
 use Rattle.algol_sites.specs.Seeing.{TellsEvents}
 use Rattle.algol_sites.specs.Wanting.{unfit_event, unfit_events}
 use Rattle.algol_sites.proofs.Actuals.{split}
 use Rattle.algol_sites.proofs.Notes.{noted_all-append}
 
 pub each_event : (s : Scopes) (a : Surroundings) (es : List EventName) (i : ℕ) (e : EventName) → i < length es → e ≡ get_or es i e → TellsEvents s a (drop i es) →
-    Tells s a e.name × TellsEvents s a (drop (i + 1) es)
+    ScopesTell s a e.name × TellsEvents s a (drop (i + 1) es)
 each_event s a es i e h p t = let P : List EventName → Type 0 = TellsEvents s a in subst P (split es i e h p) t
 
 pub events_step : (es : List EventName) (i : ℕ) (e : EventName) (a : Surroundings) (f g : Option Fault) → i < length es → e ≡ get_or es i e →

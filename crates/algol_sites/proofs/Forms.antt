@@ -20,7 +20,7 @@ use Rattle.algol_tree.specs.Surroundings.{Surroundings, class_of}
 use Rattle.algol_tree.specs.Types.{result_type, type_of}
 use Rattle.algol_sorts.specs.declared.sort.Sort.{Sort}
 use Rattle.algol_frames.specs.declared.scopes.Scopes.{Scopes}
-use Rattle.algol_told.specs.Telling.{Tells}
+use Rattle.algol_told.specs.Telling.{ScopesTell}
 use Rattle.algol_sites.specs.Noting.{type_by}
 use Rattle.algol_sites.specs.Seen.{class_seen, sort_there}
 use Rattle.algol_sites.specs.Seeing.{TellsEach, TellsEvents, TellsIn}
@@ -65,13 +65,13 @@ module _ (s : Scopes) (a : Surroundings) (e : Expr) (t : TellsIn s a (expr e)) w
   abbrev P : PExpr → Type 0
   P = TellsIn s a
 
-  pub told_variable : (v : Variable) → e ≡ expressions.Variable v → Tells s a v.name × TellsEach s a (exprs v.subs)
+  pub told_variable : (v : Variable) → e ≡ expressions.Variable v → ScopesTell s a v.name × TellsEach s a (exprs v.subs)
   told_variable v is = subst P (ap expr is ∙ variable_image v) t
 
-  pub told_call : (c : Call) → e ≡ expressions.Call c → Tells s a c.name × TellsEach s a (exprs c.actuals)
+  pub told_call : (c : Call) → e ≡ expressions.Call c → ScopesTell s a c.name × TellsEach s a (exprs c.actuals)
   told_call c is = subst P (ap expr is ∙ call_image c) t
 
-  pub told_asked : (y : EventTest) (x : EventName) (spot : Spot) → expr e ≡ tree.tested y (x ∷ []) spot → Tells s a x.name
+  pub told_asked : (y : EventTest) (x : EventName) (spot : Spot) → expr e ≡ tree.tested y (x ∷ []) spot → ScopesTell s a x.name
   told_asked y x spot is = (subst P is t).0
 
   pub told_waited : (es : List EventName) (spot : Spot) → e ≡ expressions.WaitAny es spot → TellsEvents s a es

@@ -18,14 +18,14 @@ use Rattle.algol_tree.specs.Blocks.{Block}
 use Rattle.algol_tree.specs.Surroundings.{Surroundings, body_of}
 use Rattle.algol_tree.specs.Sites as site
 use Rattle.algol_tree.specs.Accepted.{noted_all}
-use Rattle.algol_sites.specs.Noting.{broken, broken_if, noted_at}
+use Rattle.algol_sites.specs.Noting.{rule_broken, broken_if, noted_at}
 use Rattle.algol_sites.specs.Headings.{faulty, missing, referring, is_reference, unlike}
 use Rattle.algol_sites.proofs.Parts.{broken_pair}
 
 abbrev spots_where : (Named → Bool) → List Named → List Spot
 spots_where test ns = flat_map (λ (n : Named). if_so (test n) n.spot) ns
 
-faulty_told : (test : Named → Bool) (ns : List Named) → faulty test ns ≡ broken codes.WrongType (spots_where test ns)
+faulty_told : (test : Named → Bool) (ns : List Named) → faulty test ns ≡ rule_broken codes.WrongType (spots_where test ns)
 faulty_told test [] = refl
 faulty_told test (n ∷ ns) =
     ap (λ fs. broken_if codes.WrongType (test n) n.spot ++ fs) (faulty_told test ns)
@@ -39,10 +39,10 @@ refers_in h n = is_reference (class_in h.specs n.name)
 
 heading_told : (h : Heading) (f : Option Fault) →
     noted_all (noted_all f (missing h.specs h.params)) (referring h.specs h.values) ≡
-    noted_all f (broken codes.WrongType (spots_where (unspecified_in h) h.params ++ spots_where (refers_in h) h.values))
+    noted_all f (rule_broken codes.WrongType (spots_where (unspecified_in h) h.params ++ spots_where (refers_in h) h.values))
 heading_told h f =
     ap (λ fs. noted_all (noted_all f fs) (referring h.specs h.values)) (faulty_told (unspecified_in h) h.params)
-    ∙ ap (noted_all (noted_all f (broken codes.WrongType (spots_where (unspecified_in h) h.params)))) (faulty_told (refers_in h) h.values)
+    ∙ ap (noted_all (noted_all f (rule_broken codes.WrongType (spots_where (unspecified_in h) h.params)))) (faulty_told (refers_in h) h.values)
     ∙ sym (broken_pair f (spots_where (unspecified_in h) h.params) (spots_where (refers_in h) h.values))
 
 pub procedure_noted : (blocks : List Block) (a : Surroundings) (h : Heading) (s : PStmt) (later : PDecls) (f g : Option Fault) →
@@ -54,7 +54,7 @@ abbrev unlike_spots : Heading → Option Heading → List Spot
 unlike_spots h None = []
 unlike_spots h (Some g) = if_so (not (same_heading h g)) g.name.spot
 
-unlike_told : (h : Heading) (o : Option Heading) → unlike h o ≡ broken codes.WrongType (unlike_spots h o)
+unlike_told : (h : Heading) (o : Option Heading) → unlike h o ≡ rule_broken codes.WrongType (unlike_spots h o)
 unlike_told h None = refl
 unlike_told h (Some g) = refl
 
@@ -64,6 +64,6 @@ pub forward_noted : (blocks : List Block) (a : Surroundings) (h : Heading) (o : 
 forward_noted blocks a h o later f g k b e q =
     let wrong = spots_where (unspecified_in h) h.params ++ spots_where (refers_in h) h.values in
     q ∙ ap (λ x. noted_all x (unlike h o)) (e ∙ heading_told h f)
-    ∙ ap (noted_all (noted_all f (broken codes.WrongType wrong))) (unlike_told h o)
+    ∙ ap (noted_all (noted_all f (rule_broken codes.WrongType wrong))) (unlike_told h o)
     ∙ sym (broken_pair f wrong (unlike_spots h o))
-    ∙ ap (λ (x : Option Heading). noted_all f (broken codes.WrongType (wrong ++ unlike_spots h x))) (sym b)
+    ∙ ap (λ (x : Option Heading). noted_all f (rule_broken codes.WrongType (wrong ++ unlike_spots h x))) (sym b)

@@ -11,8 +11,8 @@ use Rattle.algol_tree.specs.Labels as rules'
 use Rattle.algol_tree.specs.Labels.{bad_labels}
 use Rattle.algol_tree.specs.Sites.{Site}
 use Rattle.algol_sites.specs.declared.label.Standing.{Standing}
-use Rattle.algol_sites.specs.Noting.{broken, broken_if}
-use Rattle.algol_sites.specs.Labelling.{standing_as, standings_at, labels_at, those_of, away, again, bad_at, bad_in}
+use Rattle.algol_sites.specs.Noting.{rule_broken, broken_if}
+use Rattle.algol_sites.specs.Labelling.{standing_as, standings_at, labels_at, those_of, away, label_again, bad_at, bad_in}
 
 abbrev is_of : Spot → rules'.Standing → Bool
 is_of spot t = same_spot t.declared spot
@@ -44,40 +44,40 @@ filtered : (ss : List Standing) (spot : Spot) → map standing_as (those_of ss s
 filtered [] spot = refl
 filtered (s ∷ ss) spot = chosen (same_spot s.declared spot) s (those_of ss spot) (filter (is_of spot) (map standing_as ss)) (filtered ss spot)
 
-one_away : (b : Bool) (t : rules'.Standing) (ts : List rules'.Standing) (fs : List Fault) → fs ≡ broken codes.BadLabel (map spot_of ts) →
-    broken_if codes.BadLabel b t.spot ++ fs ≡ broken codes.BadLabel (map spot_of (cond b (t ∷ ts) ts))
+one_away : (b : Bool) (t : rules'.Standing) (ts : List rules'.Standing) (fs : List Fault) → fs ≡ rule_broken codes.BadLabel (map spot_of ts) →
+    broken_if codes.BadLabel b t.spot ++ fs ≡ rule_broken codes.BadLabel (map spot_of (cond b (t ∷ ts) ts))
 one_away true t ts fs h = ap (λ gs. as_fault t.spot ∷ gs) h
 one_away false t ts fs h = h
 
-away_told : (ss : List Standing) → away ss ≡ broken codes.BadLabel (map spot_of (filter is_away (map standing_as ss)))
+away_told : (ss : List Standing) → away ss ≡ rule_broken codes.BadLabel (map spot_of (filter is_away (map standing_as ss)))
 away_told [] = refl
 away_told (s ∷ ss) = one_away (not s.at_home) (standing_as s) (filter is_away (map standing_as ss)) (away ss) (away_told ss)
 
-again_told : (ss : List Standing) → again ss ≡ broken codes.BadLabel (map spot_of (map standing_as ss))
+again_told : (ss : List Standing) → label_again ss ≡ rule_broken codes.BadLabel (map spot_of (map standing_as ss))
 again_told [] = refl
 again_told (s ∷ ss) = ap (λ fs. as_fault s.spot ∷ fs) (again_told ss)
 
-at_told : (spot : Spot) (ss : List Standing) → bad_at spot ss ≡ broken codes.BadLabel (bad_standings spot (map standing_as ss))
+at_told : (spot : Spot) (ss : List Standing) → bad_at spot ss ≡ rule_broken codes.BadLabel (bad_standings spot (map standing_as ss))
 at_told spot [] = refl
 at_told spot (s ∷ ss) =
-    ap (λ fs. fs ++ again ss) (away_told (s ∷ ss))
-    ∙ ap (λ fs. broken codes.BadLabel (map spot_of (filter is_away (map standing_as (s ∷ ss)))) ++ fs) (again_told ss)
+    ap (λ fs. fs ++ label_again ss) (away_told (s ∷ ss))
+    ∙ ap (λ fs. rule_broken codes.BadLabel (map spot_of (filter is_away (map standing_as (s ∷ ss)))) ++ fs) (again_told ss)
     ∙ sym (map-append as_fault (map spot_of (filter is_away (map standing_as (s ∷ ss)))) (map spot_of (map standing_as ss)))
 
 -- ---- all labels
 
-in_told : (all : List Standing) (spots : List Spot) → bad_in all spots ≡ broken codes.BadLabel (flat_map (bad_label (map standing_as all)) spots)
+in_told : (all : List Standing) (spots : List Spot) → bad_in all spots ≡ rule_broken codes.BadLabel (flat_map (bad_label (map standing_as all)) spots)
 in_told all [] = refl
 in_told all (spot ∷ spots) =
-    ap (λ fs. fs ++ bad_in all spots) (at_told spot (those_of all spot) ∙ ap (λ ts. broken codes.BadLabel (bad_standings spot ts)) (filtered all spot))
-    ∙ ap (λ fs. broken codes.BadLabel (bad_label (map standing_as all) spot) ++ fs) (in_told all spots)
+    ap (λ fs. fs ++ bad_in all spots) (at_told spot (those_of all spot) ∙ ap (λ ts. rule_broken codes.BadLabel (bad_standings spot ts)) (filtered all spot))
+    ∙ ap (λ fs. rule_broken codes.BadLabel (bad_label (map standing_as all) spot) ++ fs) (in_told all spots)
     ∙ sym (map-append as_fault (bad_label (map standing_as all) spot) (flat_map (bad_label (map standing_as all)) spots))
 
 pub labels_told : (xs : List Site) (all : List Standing) (spots : List Spot) → map standing_as all ≡ flat_map standings_at xs → spots ≡ flat_map labels_at xs →
-    bad_in all spots ≡ broken codes.BadLabel (bad_labels xs)
+    bad_in all spots ≡ rule_broken codes.BadLabel (bad_labels xs)
 labels_told xs all spots p q =
-    in_told all spots ∙ ap (λ ts. broken codes.BadLabel (flat_map (bad_label ts) spots)) p
-    ∙ ap (λ zs. broken codes.BadLabel (flat_map (bad_label (flat_map standings_at xs)) zs)) q
+    in_told all spots ∙ ap (λ ts. rule_broken codes.BadLabel (flat_map (bad_label ts) spots)) p
+    ∙ ap (λ zs. rule_broken codes.BadLabel (flat_map (bad_label (flat_map standings_at xs)) zs)) q
 
 -- ---- the standings of each label, gathered one after the other
 

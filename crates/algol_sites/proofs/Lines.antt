@@ -9,7 +9,7 @@ use Rattle.algol_tree.specs.Spelling.{is_digit, is_number, value_of, value_after
 use Rattle.algol_tree.specs.Phrases as rules'
 use Rattle.algol_sites.specs.declared.line.Phrase.{Phrase}
 use Rattle.algol_sites.specs.declared.line.Phrase.TheVariants as phrase
-use Rattle.algol_sites.specs.Lining.{capped, number_in, phrase_seen, lettered, columns_seen, items_seen, is_none_seen, items_in, any_bad}
+use Rattle.algol_sites.specs.Lining.{capped, line_number_in, phrase_seen, lettered, columns_seen, items_seen, is_none_seen, items_in, any_bad}
 
 -- ---- phrases
 
@@ -45,15 +45,15 @@ word_at : (letter v : ℕ) (b : Bool) →
 word_at letter v true = at_value letter v
 word_at letter v false = refl
 
-word_seen : (letter : ℕ) (digits : List ℕ) → phrase_seen (rules'.phrase_of (texts.Word (letter ∷ digits))) ≡ lettered_by letter (number_in digits)
+word_seen : (letter : ℕ) (digits : List ℕ) → phrase_seen (rules'.phrase_of (texts.Word (letter ∷ digits))) ≡ lettered_by letter (line_number_in digits)
 word_seen letter digits = word_at letter (value_of digits) (is_number digits)
 
-pub word_none : (word : List ℕ) (letter : ℕ) (digits : List ℕ) → word ≡ letter ∷ digits → None ≡ number_in digits →
+pub word_none : (word : List ℕ) (letter : ℕ) (digits : List ℕ) → word ≡ letter ∷ digits → None ≡ line_number_in digits →
     phrase.NoPhrase ≡ phrase_seen (rules'.phrase_of (texts.Word word))
 word_none word letter digits e f =
     ap (lettered_by letter) f ∙ sym (word_seen letter digits) ∙ sym (ap (λ w. phrase_seen (rules'.phrase_of (texts.Word w))) e)
 
-pub word_some : (word : List ℕ) (letter : ℕ) (digits : List ℕ) (w : ℕ) (p : Phrase) → word ≡ letter ∷ digits → Some w ≡ number_in digits → p ≡ lettered letter w →
+pub word_some : (word : List ℕ) (letter : ℕ) (digits : List ℕ) (w : ℕ) (p : Phrase) → word ≡ letter ∷ digits → Some w ≡ line_number_in digits → p ≡ lettered letter w →
     p ≡ phrase_seen (rules'.phrase_of (texts.Word word))
 word_some word letter digits w p e f h =
     h ∙ ap (lettered_by letter) f ∙ sym (word_seen letter digits) ∙ sym (ap (λ w. phrase_seen (rules'.phrase_of (texts.Word w))) e)

@@ -7,7 +7,7 @@ use Rattle.algol_tree.specs.Plain as tree
 use Rattle.algol_tree.specs.Blocks.{Block, number_at, around}
 use Rattle.algol_tree.specs.Surroundings.{Surroundings}
 use Rattle.algol_sites.specs.declared.place.Place.{Place}
-use Rattle.algol_sites.specs.Placing.{AreBlocks, IsBlock, IsFound, IsPlaced, outer_of}
+use Rattle.algol_sites.specs.Placing.{AreBlocks, IsBlock, BlockIsFound, SiteIsPlaced, outer_of}
 
 within : (xs : List Block) (k : ℕ) (x : Block) → slice_get xs k ≡ Some x → k < length xs
 within [] k x e = absurd (let clash : None ≡ Some x = e in cc)
@@ -30,8 +30,8 @@ block_or None =
 numbers_of : (blocks : List Block) (i : ℕ) → around blocks i ≡ map (number_at blocks) (block_or (slice_get blocks i)).outer
 numbers_of blocks i = refl
 
-placed : (blocks : List Block) (b : Block) (c : Surroundings) (place : Place) → IsFound blocks b → b.spot ≡ place.block → b.outer ≡ reverse place.around.items →
-    AreBlocks blocks (reverse place.around.items) → c.block ≡ number_at blocks place.block → IsPlaced blocks place c
+placed : (blocks : List Block) (b : Block) (c : Surroundings) (place : Place) → BlockIsFound blocks b → b.spot ≡ place.block → b.outer ≡ reverse place.around.items →
+    AreBlocks blocks (reverse place.around.items) → c.block ≡ number_at blocks place.block → SiteIsPlaced blocks place c
 placed blocks b c place f s o h n =
     let found : slice_get blocks c.block ≡ Some b = ap (slice_get blocks) (n ∙ ap (number_at blocks) (sym s)) ∙ f in
     record {
@@ -41,15 +41,15 @@ placed blocks b c place f s o h n =
       are_blocks = (let P : Spot → Type 0 = IsBlock blocks in subst P s (within blocks (number_at blocks b.spot) b f), h);
     }
 
-pub begins : (blocks : List Block) (b : Block) (c : Surroundings) (place : Place) → place.around.items ≡ [] → IsFound blocks b → b.spot ≡ place.block → b.outer ≡ [] →
-    c.block ≡ number_at blocks place.block → IsPlaced blocks place c
+pub begins : (blocks : List Block) (b : Block) (c : Surroundings) (place : Place) → place.around.items ≡ [] → BlockIsFound blocks b → b.spot ≡ place.block → b.outer ≡ [] →
+    c.block ≡ number_at blocks place.block → SiteIsPlaced blocks place c
 begins blocks b c place e f s o n =
     let none : reverse place.around.items ≡ [] = ap reverse e in
     let P : List Spot → Type 0 = AreBlocks blocks in
     placed blocks b c place f s (o ∙ sym none) (subst P (sym none) tt) n
 
-pub opens : (blocks : List Block) (b : Block) (a c : Surroundings) (old new : Place) → new.around.items ≡ old.around.items ++ old.block ∷ [] → IsPlaced blocks old a → IsFound blocks b →
-    b.spot ≡ new.block → b.outer ≡ outer_of old → c.block ≡ number_at blocks new.block → IsPlaced blocks new c
+pub opens : (blocks : List Block) (b : Block) (a c : Surroundings) (old new : Place) → new.around.items ≡ old.around.items ++ old.block ∷ [] → SiteIsPlaced blocks old a → BlockIsFound blocks b →
+    b.spot ≡ new.block → b.outer ≡ outer_of old → c.block ≡ number_at blocks new.block → SiteIsPlaced blocks new c
 opens blocks b a c old new e p f s o n =
     let more : reverse new.around.items ≡ old.block ∷ reverse old.around.items = ap reverse e ∙ reverse-append old.around.items (old.block ∷ []) in
     let P : List Spot → Type 0 = AreBlocks blocks in

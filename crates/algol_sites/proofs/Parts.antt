@@ -30,7 +30,7 @@ use Rattle.algol_tree.specs.Surroundings.{Surroundings, class_of, formals_at}
 use Rattle.algol_tree.specs.Sites as site
 use Rattle.algol_tree.specs.Accepted.{noted_all}
 use Rattle.algol_sites.specs.declared.wanted.Wanted.TheVariants as wanted
-use Rattle.algol_sites.specs.Noting.{broken, broken_if, noted_in, mistyped, mistyped_for, mistyped_list, differs}
+use Rattle.algol_sites.specs.Noting.{rule_broken, broken_if, noted_in, mistyped, mistyped_for, mistyped_list, differs}
 use Rattle.algol_sites.specs.Wanting.{event_wanted, is_met, unfit, unfit_event, unfit_events}
 use Rattle.algol_sites.specs.Expressing.{miscounted_subscripts, noted_name, noted_element, noted_here, noted_call}
 use Rattle.algol_sites.proofs.Notes.{noted_all-append, noted_along-append}
@@ -41,7 +41,7 @@ abbrev pub wrong_numbers : PExprs → Surroundings → List Spot
 wrong_numbers tree.none a = []
 wrong_numbers (tree.more e es) a = if_so (differs kinds.Number (type_of e a)) (first_spot e) ++ wrong_numbers es a
 
-pub mistyped-list : (es : PExprs) (a : Surroundings) → broken codes.WrongType (wrong_numbers es a) ≡ mistyped_list es a
+pub mistyped-list : (es : PExprs) (a : Surroundings) → rule_broken codes.WrongType (wrong_numbers es a) ≡ mistyped_list es a
 mistyped-list tree.none a = refl
 mistyped-list (tree.more e es) a =
     map-append (λ (spot : Spot). record { spot = spot; code = codes.WrongType }) (if_so (differs kinds.Number (type_of e a)) (first_spot e)) (wrong_numbers es a)
@@ -58,11 +58,11 @@ counted (e ∷ es) = ap (λ n. 1 + n) (counted es) ∙ omega arith
 -- ---- variables
 
 element_noted : (first : Option Fault) (n : Named) (es : PExprs) (a : Surroundings) →
-    noted_all first (broken codes.WrongType (if_so (not (is_array (class_of a n)) && not (is_unspecified (class_of a n))) n.spot ++ wrong_numbers es a)) ≡
+    noted_all first (rule_broken codes.WrongType (if_so (not (is_array (class_of a n)) && not (is_unspecified (class_of a n))) n.spot ++ wrong_numbers es a)) ≡
     noted_all (noted_all first (unfit wanted.Array codes.WrongType n a)) (mistyped_list es a)
 element_noted first n es a =
     ap (noted_all first) (map-append (λ (spot : Spot). record { spot = spot; code = codes.WrongType }) (if_so (not (is_array (class_of a n)) && not (is_unspecified (class_of a n))) n.spot) (wrong_numbers es a))
-    ∙ noted_all-append first (unfit wanted.Array codes.WrongType n a) (broken codes.WrongType (wrong_numbers es a))
+    ∙ noted_all-append first (unfit wanted.Array codes.WrongType n a) (rule_broken codes.WrongType (wrong_numbers es a))
     ∙ ap (noted_all (noted_all first (unfit wanted.Array codes.WrongType n a))) (mistyped-list es a)
 
 pub here_element : (first : Option Fault) (n : Named) (e : PExpr) (es : PExprs) (a : Surroundings) →
@@ -106,10 +106,10 @@ pub if_image : (c x y : Box Expr Global) (spot : Spot) → expr (expressions.If 
 if_image c x y spot = search (rules, expressions.the_lemmas)
 
 pub broken_pair : (first : Option Fault) (xs ys : List Spot) →
-    noted_all first (broken codes.WrongType (xs ++ ys)) ≡ noted_all (noted_all first (broken codes.WrongType xs)) (broken codes.WrongType ys)
+    noted_all first (rule_broken codes.WrongType (xs ++ ys)) ≡ noted_all (noted_all first (rule_broken codes.WrongType xs)) (rule_broken codes.WrongType ys)
 broken_pair first xs ys =
     ap (noted_all first) (map-append (λ (spot : Spot). record { spot = spot; code = codes.WrongType }) xs ys)
-    ∙ noted_all-append first (broken codes.WrongType xs) (broken codes.WrongType ys)
+    ∙ noted_all-append first (rule_broken codes.WrongType xs) (rule_broken codes.WrongType ys)
 
 abbrev pub differing : Kind → PExpr → Surroundings → List Spot
 differing k e a = if_so (differs k (type_of e a)) (first_spot e)
@@ -118,7 +118,7 @@ abbrev pub differing_for : Option Kind → PExpr → Surroundings → List Spot
 differing_for None e a = []
 differing_for (Some k) e a = differing k e a
 
-pub differing_noted : (k : Option Kind) (e : PExpr) (a : Surroundings) → broken codes.WrongType (differing_for k e a) ≡ mistyped_for k e a
+pub differing_noted : (k : Option Kind) (e : PExpr) (a : Surroundings) → rule_broken codes.WrongType (differing_for k e a) ≡ mistyped_for k e a
 differing_noted None e a = refl
 differing_noted (Some k) e a = refl
 
@@ -153,16 +153,16 @@ if_noted e c x y spot a f0 f1 f2 f3 f4 f5 is p q r s u =
     ∙ sym (ap (λ z. noted_in f0 (site.sites z a)) (ap expr is ∙ if_image c x y spot))
 
 pub event_told : (t : Bool) (n : Named) (c : Class) →
-    broken codes.WrongType (if t then if_so (not (is_task c) && not (is_unspecified c)) n.spot else if_so (not (is_event c) && not (is_unspecified c)) n.spot) ≡
+    rule_broken codes.WrongType (if t then if_so (not (is_task c) && not (is_unspecified c)) n.spot else if_so (not (is_event c) && not (is_unspecified c)) n.spot) ≡
     broken_if codes.WrongType (not (is_met (event_wanted t) c) && not (is_unspecified c)) n.spot
 event_told true n c = refl
 event_told false n c = refl
 
 -- .. and where it is the only one of a list
 pub only_event_told : (t : Bool) (n : Named) (c : Class) →
-    broken codes.WrongType ((if t then if_so (not (is_task c) && not (is_unspecified c)) n.spot else if_so (not (is_event c) && not (is_unspecified c)) n.spot) ++ []) ≡
+    rule_broken codes.WrongType ((if t then if_so (not (is_task c) && not (is_unspecified c)) n.spot else if_so (not (is_event c) && not (is_unspecified c)) n.spot) ++ []) ≡
     broken_if codes.WrongType (not (is_met (event_wanted t) c) && not (is_unspecified c)) n.spot
-only_event_told t n c = ap (broken codes.WrongType) (append-nil _) ∙ event_told t n c
+only_event_told t n c = ap (rule_broken codes.WrongType) (append-nil _) ∙ event_told t n c
 
 -- .. and of each one of a list
 abbrev misnamed : EventName → Surroundings → List Spot
@@ -170,11 +170,11 @@ misnamed e a =
     if e.task then if_so (not (is_task (class_of a e.name)) && not (is_unspecified (class_of a e.name))) e.name.spot
     else if_so (not (is_event (class_of a e.name)) && not (is_unspecified (class_of a e.name))) e.name.spot
 
-pub events_told : (es : List EventName) (a : Surroundings) → broken codes.WrongType (flat_map (λ (e : EventName). misnamed e a) es) ≡ unfit_events es a
+pub events_told : (es : List EventName) (a : Surroundings) → rule_broken codes.WrongType (flat_map (λ (e : EventName). misnamed e a) es) ≡ unfit_events es a
 events_told [] a = refl
 events_told (e ∷ es) a =
     map-append _ (misnamed e a) (flat_map (λ (x : EventName). misnamed x a) es)
-    ∙ ap (λ xs. xs ++ broken codes.WrongType (flat_map (λ (x : EventName). misnamed x a) es)) (event_told e.task e.name (class_of a e.name))
+    ∙ ap (λ xs. xs ++ rule_broken codes.WrongType (flat_map (λ (x : EventName). misnamed x a) es)) (event_told e.task e.name (class_of a e.name))
     ∙ ap (λ ys. unfit_event e a ++ ys) (events_told es a)
 
 -- ---- the same for what is equal

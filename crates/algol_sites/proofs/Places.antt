@@ -7,7 +7,7 @@ use Rattle.algol_tree.specs.declared.token.Spot.{Spot}
 use Rattle.algol_tree.specs.declared.refusal.Fault.{Fault}
 use Rattle.algol_tree.specs.Accepted.{noted_all}
 use Rattle.algol_sites.specs.declared.label.Standing.{Standing}
-use Rattle.algol_sites.specs.Labelling.{places_in, those_of, away, again, bad_at, bad_in}
+use Rattle.algol_sites.specs.Labelling.{places_in, those_of, away, label_again, bad_at, bad_in}
 use Rattle.algol_sites.proofs.Notes.{noted_all-append}
 
 dropped : {A : Type 0} (xs : List A) (i : ℕ) → length xs ≤ i → drop i xs ≡ []
@@ -18,10 +18,10 @@ dropped (x ∷ xs) (suc i) h = dropped xs i (omega arith)
 
 -- all places of a label were looked at
 pub standings_done : (spot : Spot) (ss : List Standing) (s : Standing) (rest : List Standing) (i : ℕ) (f g h : Option Fault) → ss ≡ s ∷ rest → g ≡ noted_all f (away ss) →
-    length rest ≤ i → noted_all h (again (drop i rest)) ≡ noted_all g (again rest) → h ≡ noted_all f (bad_at spot ss)
+    length rest ≤ i → noted_all h (label_again (drop i rest)) ≡ noted_all g (label_again rest) → h ≡ noted_all f (bad_at spot ss)
 standings_done spot ss s rest i f g h e p l q =
-    sym (ap (λ xs. noted_all h (again xs)) (dropped rest i l)) ∙ q ∙ ap (λ o. noted_all o (again rest)) (p ∙ ap (λ xs. noted_all f (away xs)) e)
-    ∙ sym (noted_all-append f (away (s ∷ rest)) (again rest)) ∙ sym (ap (λ xs. noted_all f (bad_at spot xs)) e)
+    sym (ap (λ xs. noted_all h (label_again xs)) (dropped rest i l)) ∙ q ∙ ap (λ o. noted_all o (label_again rest)) (p ∙ ap (λ xs. noted_all f (away xs)) e)
+    ∙ sym (noted_all-append f (away (s ∷ rest)) (label_again rest)) ∙ sym (ap (λ xs. noted_all f (bad_at spot xs)) e)
 
 -- one more label
 pub labels_step : (all : List Standing) (ls : List Spot) (i : ℕ) (d : Spot) (table : BTreeMap Spot (Vec Standing Global)) (f g : Option Fault) → i < length ls →

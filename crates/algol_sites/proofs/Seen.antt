@@ -21,7 +21,7 @@ use Rattle.algol_sorts.specs.declared.sort.Sort.TheVariants as sort
 use Rattle.algol_sorts.specs.Sorts.{parameter_of, sort_by, sort_of}
 use Rattle.algol_frames.specs.declared.scopes.Scopes.{Scopes}
 use Rattle.algol_frames.specs.Answers.{parameters_of}
-use Rattle.algol_told.specs.Telling.{Tells}
+use Rattle.algol_told.specs.Telling.{ScopesTell}
 use Rattle.algol_sites.specs.declared.wanted.Wanted.{Wanted}
 use Rattle.algol_sites.specs.declared.wanted.Wanted.TheVariants as wanted
 use Rattle.algol_sites.specs.Assigning.{can_take, is_within, takes}
@@ -137,7 +137,7 @@ parameters_seen h (n ∷ ns) =
 
 -- ---- under a place
 
-module _ (s : Scopes) (a : Surroundings) (n : Named) (t : Tells s a n) where
+module _ (s : Scopes) (a : Surroundings) (n : Named) (t : ScopesTell s a n) where
   sort_is : sort_there s n.spot ≡ sort_of t.declared
   sort_is = ap sort_or t.answers ∙ t.sort
 

@@ -13,7 +13,7 @@ use Rattle.algol_tree.specs.declared.refusal.Code.TheVariants as codes
 use Rattle.algol_sorts.specs.declared.sort.Sort.{Sort}
 use Rattle.algol_sorts.specs.declared.heading.Specified.{Specified}
 use Rattle.algol_sorts.specs.Sorts.{parameter_by}
-use Rattle.algol_sorts.specs.Specified.{SaysAll, told}
+use Rattle.algol_sorts.specs.Specified.{SaysAll, told_sort}
 use Rattle.algol_sites.specs.Seen.{class_seen}
 use Rattle.algol_sites.specs.Headings.{faulty, is_reference}
 use Rattle.algol_sites.specs.Noting.{broken_if}
@@ -50,15 +50,15 @@ faulty_step test ns i n b f g h e p q =
     ∙ sym (ap (λ xs. noted_all f (faulty test xs)) (split ns i n h e))
 
 -- what is told of a name is what the specifications say
-sort_seen : (specified : Specified) (h : Heading) (s : Sort) (name bytes : List ℕ) → SaysAll specified h → s ≡ told specified bytes → bytes ≡ name →
+sort_seen : (specified : Specified) (h : Heading) (s : Sort) (name bytes : List ℕ) → SaysAll specified h → s ≡ told_sort specified bytes → bytes ≡ name →
     class_seen s ≡ class_in h.specs name
 sort_seen specified h s name bytes says e p =
-    ap class_seen (e ∙ ap (told specified) p ∙ says name) ∙ formal_seen h.specs name (is_named_in h.values name)
+    ap class_seen (e ∙ ap (told_sort specified) p ∙ says name) ∙ formal_seen h.specs name (is_named_in h.values name)
 
-pub missing_told : (specified : Specified) (h : Heading) (s : Sort) (name bytes : List ℕ) (b : Bool) → SaysAll specified h → s ≡ told specified bytes → bytes ≡ name →
+pub missing_told : (specified : Specified) (h : Heading) (s : Sort) (name bytes : List ℕ) (b : Bool) → SaysAll specified h → s ≡ told_sort specified bytes → bytes ≡ name →
     b ≡ is_unspecified (class_seen s) → b ≡ is_unspecified (class_in h.specs name)
 missing_told specified h s name bytes b says e p q = q ∙ ap is_unspecified (sort_seen specified h s name bytes says e p)
 
-pub referring_told : (specified : Specified) (h : Heading) (s : Sort) (name bytes : List ℕ) (b : Bool) → SaysAll specified h → s ≡ told specified bytes → bytes ≡ name →
+pub referring_told : (specified : Specified) (h : Heading) (s : Sort) (name bytes : List ℕ) (b : Bool) → SaysAll specified h → s ≡ told_sort specified bytes → bytes ≡ name →
     b ≡ is_reference (class_seen s) → b ≡ is_reference (class_in h.specs name)
 referring_told specified h s name bytes b says e p q = q ∙ ap is_reference (sort_seen specified h s name bytes says e p)

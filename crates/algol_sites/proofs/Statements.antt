@@ -30,11 +30,11 @@ use Rattle.algol_tree.specs.Accepted.{noted_all}
 use Rattle.algol_sites.specs.declared.place.Place.{Place}
 use Rattle.algol_sites.specs.declared.wanted.Wanted.TheVariants as wanted
 use Rattle.algol_sites.specs.Assigning.{can_take}
-use Rattle.algol_sites.specs.Placing.{IsPlaced}
+use Rattle.algol_sites.specs.Placing.{SiteIsPlaced}
 use Rattle.algol_frames.specs.declared.scopes.Scopes.{Scopes}
-use Rattle.algol_told.specs.Telling.{Tells, TellsAll}
+use Rattle.algol_told.specs.Telling.{ScopesTell, TellsAll}
 use Rattle.algol_sites.specs.Seeing.{Notes, NotesAt, TellsEach, TellsIn, TellsTask, stmt_parts, for_site}
-use Rattle.algol_sites.specs.Noting.{broken, broken_if, mistyped, mistyped_for, mistyped_list, noted_at, noted_along, noted_in}
+use Rattle.algol_sites.specs.Noting.{rule_broken, broken_if, mistyped, mistyped_for, mistyped_list, noted_at, noted_along, noted_in}
 use Rattle.algol_sites.specs.Wanting.{is_met, unfit, unfit_event}
 use Rattle.algol_sites.specs.Lining.{noted_line}
 use Rattle.algol_sites.specs.Expressing.{miscounted_actuals, miscounted_subscripts, noted_call}
@@ -95,7 +95,7 @@ module _ (blocks : List Block) (a : Surroundings) where
 
   name_told : (t : Bool) (n : Named) (e : PExpr) (f : Option Fault) →
       noted_name_side f t n e a ≡
-      noted_all (noted_all f (broken codes.WrongType (differing_for (left_type t (read_type (class_of a n))) e a))) (broken codes.NotAssignable (if_so (not t) n.spot))
+      noted_all (noted_all f (rule_broken codes.WrongType (differing_for (left_type t (read_type (class_of a n))) e a))) (rule_broken codes.NotAssignable (if_so (not t) n.spot))
   name_told true n e f = ap (noted_all f) (sym (differing_noted (read_type (class_of a n)) e a))
   name_told false n e f = refl
 
@@ -106,12 +106,12 @@ module _ (blocks : List Block) (a : Surroundings) where
       let es = tree.more x xs in
       let wrong = if_so (not (is_met wanted.Array c) && not (is_unspecified c)) n.spot in
       ap (λ o. noted_all o (miscounted_subscripts n (count_of es) a))
-      (ap (λ fs. noted_all (noted_all (noted_all f (broken codes.WrongType wrong)) fs) (mistyped_for (element_type c) e a)) (sym (mistyped-list es a))
-      ∙ ap (noted_all (noted_all (noted_all f (broken codes.WrongType wrong)) (broken codes.WrongType (wrong_numbers es a)))) (sym (differing_noted (element_type c) e a))
+      (ap (λ fs. noted_all (noted_all (noted_all f (rule_broken codes.WrongType wrong)) fs) (mistyped_for (element_type c) e a)) (sym (mistyped-list es a))
+      ∙ ap (noted_all (noted_all (noted_all f (rule_broken codes.WrongType wrong)) (rule_broken codes.WrongType (wrong_numbers es a)))) (sym (differing_noted (element_type c) e a))
       ∙ sym (broken_pair f (wrong ++ wrong_numbers es a) (differing_for (element_type c) e a)
-      ∙ ap (λ o. noted_all o (broken codes.WrongType (differing_for (element_type c) e a))) (broken_pair f wrong (wrong_numbers es a))))
+      ∙ ap (λ o. noted_all o (rule_broken codes.WrongType (differing_for (element_type c) e a))) (broken_pair f wrong (wrong_numbers es a))))
 
-  left_here : (place : Place) → IsPlaced blocks place a → (n : Named) (es : List Expr) (e : PExpr) (listed : Bool) (f : Option Fault) →
+  left_here : (place : Place) → SiteIsPlaced blocks place a → (n : Named) (es : List Expr) (e : PExpr) (listed : Bool) (f : Option Fault) →
       noted_left f (can_take place.block place.around.items) (tree.subscripted n (exprs es)) (length es) e a ≡
       noted_at blocks f (own (tree.assign (tree.subscripted n (exprs es)) e) listed)
   left_here place p n [] e listed f =
@@ -139,7 +139,7 @@ module _ (blocks : List Block) (a : Surroundings) where
   wrong_control (class.simple kinds.Truth) v = v.spot ∷ []
   wrong_control _ v = []
 
-  control_told : (c : Class) (v : Named) → broken_if codes.WrongType (is_truth c) v.spot ≡ broken codes.WrongType (wrong_control c v)
+  control_told : (c : Class) (v : Named) → broken_if codes.WrongType (is_truth c) v.spot ≡ rule_broken codes.WrongType (wrong_control c v)
   control_told (class.simple kinds.Number) v = refl
   control_told (class.simple kinds.Truth) v = refl
   control_told (class.array k n) v = refl
@@ -169,7 +169,7 @@ call_is c = search (rules, calls.the_lemmas)
 
 module _ (s : Scopes) where
   pub assign_notes : (place : Place) (v : Variable) (e : Expr) (listed : Bool) (f g h k : Option Fault) →
-      ((a : Surroundings) → Tells s a v.name → TellsEach s a (exprs v.subs) → TellsIn s a (expr e) →
+      ((a : Surroundings) → ScopesTell s a v.name → TellsEach s a (exprs v.subs) → TellsIn s a (expr e) →
       g ≡ noted_left f (can_take place.block place.around.items) (variable v) (length v.subs) (expr e) a) →
       ((a : Surroundings) → TellsEach s a (exprs v.subs) → h ≡ noted_in g (inside_list (exprs v.subs) a)) →
       ((a : Surroundings) → TellsIn s a (expr e) → k ≡ noted_in h (sites (expr e) a)) →
@@ -192,8 +192,8 @@ module _ (s : Scopes) where
       }
 
   pub call_notes : (c : Call) (listed : Bool) (f g h : Option Fault) →
-      ((a : Surroundings) → Tells s a c.name → g ≡ noted_call f wanted.Procedure c.name (length c.actuals) a) →
-      ((a : Surroundings) → Tells s a c.name → TellsEach s a (exprs c.actuals) → h ≡ noted_in g (inside_actuals (exprs c.actuals) (formals_at a c.name) a)) →
+      ((a : Surroundings) → ScopesTell s a c.name → g ≡ noted_call f wanted.Procedure c.name (length c.actuals) a) →
+      ((a : Surroundings) → ScopesTell s a c.name → TellsEach s a (exprs c.actuals) → h ≡ noted_in g (inside_actuals (exprs c.actuals) (formals_at a c.name) a)) →
       Notes s f h (stmt_parts (tree.call_of (call c)) listed)
   call_notes c listed f g h p q =
       record {
@@ -206,8 +206,8 @@ module _ (s : Scopes) where
       }
 
   pub process_notes : (c : Call) (task : Option Named) (listed : Bool) (f g h : Option Fault) →
-      ((a : Surroundings) → Tells s a c.name → TellsTask s a task → g ≡ noted_process f c.name task (length c.actuals) a) →
-      ((a : Surroundings) → Tells s a c.name → TellsEach s a (exprs c.actuals) → h ≡ noted_in g (inside_actuals (exprs c.actuals) (formals_at a c.name) a)) →
+      ((a : Surroundings) → ScopesTell s a c.name → TellsTask s a task → g ≡ noted_process f c.name task (length c.actuals) a) →
+      ((a : Surroundings) → ScopesTell s a c.name → TellsEach s a (exprs c.actuals) → h ≡ noted_in g (inside_actuals (exprs c.actuals) (formals_at a c.name) a)) →
       Notes s f h (stmt_parts (tree.process (call c) task) listed)
   process_notes c task listed f g h p q =
       record {
@@ -221,15 +221,15 @@ module _ (s : Scopes) where
       }
 
   pub go_to_notes : (n : Named) (listed : Bool) (f g : Option Fault) →
-      ((a : Surroundings) → Tells s a n → g ≡ noted_all f (unfit wanted.Label codes.WrongType n a)) → Notes s f g (stmt_parts (tree.go_to n) listed)
+      ((a : Surroundings) → ScopesTell s a n → g ≡ noted_all f (unfit wanted.Label codes.WrongType n a)) → Notes s f g (stmt_parts (tree.go_to n) listed)
   go_to_notes n listed f g p = record { notes = λ blocks a t. p a t.0.0 }
 
   pub event_notes : (act : EventAct) (e : EventName) (listed : Bool) (f g : Option Fault) →
-      ((a : Surroundings) → Tells s a e.name → g ≡ noted_all f (unfit_event e a)) → Notes s f g (stmt_parts (tree.event act e) listed)
+      ((a : Surroundings) → ScopesTell s a e.name → g ≡ noted_all f (unfit_event e a)) → Notes s f g (stmt_parts (tree.event act e) listed)
   event_notes act e listed f g p = record { notes = λ blocks a t. p a t.0.0 ∙ event_here blocks a act e listed f }
 
   pub write_notes : (n : Named) (spot : Spot) (ps : List PhraseText) (es : List Expr) (listed : Bool) (f g h i j : Option Fault) →
-      ((a : Surroundings) → Tells s a n → g ≡ noted_all f (unfit wanted.File codes.WrongType n a)) →
+      ((a : Surroundings) → ScopesTell s a n → g ≡ noted_all f (unfit wanted.File codes.WrongType n a)) →
       ((a : Surroundings) → TellsEach s a (exprs es) → h ≡ noted_all g (mistyped_list (exprs es) a)) → i ≡ noted_line h ps (length es) spot →
       ((a : Surroundings) → TellsEach s a (exprs es) → j ≡ noted_in i (inside_list (exprs es) a)) →
       Notes s f j (stmt_parts (tree.write n spot ps (exprs es)) listed)
@@ -251,10 +251,10 @@ module _ (s : Scopes) where
       expression_on blocks a e g h (q a told) ∙ ap (λ o. noted_along blocks o (sites e a)) (p a told)
 
   pub counting_notes : (v : Named) (x y l : PExpr) (f g h i j : Option Fault) →
-      ((a : Surroundings) → Tells s a v → TellsIn s a x → TellsIn s a y → TellsIn s a l → g ≡ noted_control f v x y l a) →
+      ((a : Surroundings) → ScopesTell s a v → TellsIn s a x → TellsIn s a y → TellsIn s a l → g ≡ noted_control f v x y l a) →
       ((a : Surroundings) → TellsIn s a x → h ≡ noted_in g (sites x a)) → ((a : Surroundings) → TellsIn s a y → i ≡ noted_in h (sites y a)) →
       ((a : Surroundings) → TellsIn s a l → j ≡ noted_in i (sites l a)) →
-      (blocks : List Block) (a : Surroundings) (body : PStmt) (listed : Bool) → Tells s a v → TellsAll s (sites x a ++ sites y a ++ sites l a) →
+      (blocks : List Block) (a : Surroundings) (body : PStmt) (listed : Bool) → ScopesTell s a v → TellsAll s (sites x a ++ sites y a ++ sites l a) →
       j ≡ noted_along blocks (noted_at blocks f (for_site v x y l body listed a)) (sites x a ++ sites y a ++ sites l a)
   counting_notes v x y l f g h i j p q r u blocks a body listed name t =
       let o = noted_at blocks f (for_site v x y l body listed a) in

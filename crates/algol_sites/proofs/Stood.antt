@@ -8,28 +8,28 @@ use Rattle.algol_tree.specs.Blocks.{Block, number_at}
 use Rattle.algol_tree.specs.Surroundings.{Surroundings, declared_as}
 use Rattle.algol_frames.specs.declared.scopes.Declared as found
 use Rattle.algol_frames.specs.declared.scopes.Scopes.{Scopes}
-use Rattle.algol_frames.specs.Answers.{declaration_of, number_of}
-use Rattle.algol_told.specs.Telling.{Tells}
+use Rattle.algol_frames.specs.Answers.{declaration_of, block_number_of}
+use Rattle.algol_told.specs.Telling.{ScopesTell}
 use Rattle.algol_told.proofs.Told.{number-there}
 use Rattle.algol_sites.specs.declared.place.Place.{Place}
 use Rattle.algol_sites.specs.Labelling.{standing_of}
-use Rattle.algol_sites.specs.Placing.{IsPlaced, Numbers, is_number}
+use Rattle.algol_sites.specs.Placing.{SiteIsPlaced, BlockNumbers, is_number}
 
 even : (i j : ℕ) → (i == j) ≡ (j == i)
 even i j = grind arith
 
-module _ (s : Scopes) (a : Surroundings) (n : Named) (t : Tells s a n) (listed : Bool) where
+module _ (s : Scopes) (a : Surroundings) (n : Named) (t : ScopesTell s a n) (listed : Bool) where
   pub none_stands : None ≡ declaration_of s n.spot → [] ≡ standing_of n listed a (declared_as a n)
   none_stands e = absurd (let clash : None ≡ Some t.told = e ∙ t.answers in cc)
 
   -- the number of the block of the place
-  here : (blocks : List Block) (place : Place) → Numbers s blocks → IsPlaced blocks place a → number_of s place.block ≡ Some a.block
+  here : (blocks : List Block) (place : Place) → BlockNumbers s blocks → SiteIsPlaced blocks place a → block_number_of s place.block ≡ Some a.block
   here blocks place numbers p =
       let plain : 0 + number_at blocks place.block ≡ number_at blocks place.block = omega arith in
       numbers place.block ∙ number-there 0 blocks place.block p.are_blocks.0 ∙ ap (λ z. Some z) (plain ∙ sym p.number)
 
-  pub some_stands : (blocks : List Block) (place : Place) (home : Bool) (d : found.Declared) → Numbers s blocks → IsPlaced blocks place a →
-      Some d ≡ declaration_of s n.spot → home ≡ (listed && is_number (number_of s place.block) d.block) →
+  pub some_stands : (blocks : List Block) (place : Place) (home : Bool) (d : found.Declared) → BlockNumbers s blocks → SiteIsPlaced blocks place a →
+      Some d ≡ declaration_of s n.spot → home ≡ (listed && is_number (block_number_of s place.block) d.block) →
       (record { declared = d.spot; spot = n.spot; at_home = home } ∷ []) ≡ standing_of n listed a (declared_as a n)
   some_stands blocks place home d numbers p e h =
       let S : Spot → Bool → List rules'.Standing = λ z b. record { declared = z; spot = n.spot; at_home = b } ∷ [] in

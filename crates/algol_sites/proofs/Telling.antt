@@ -10,7 +10,7 @@ use Rattle.algol_tree.specs.Surroundings.{Surroundings, formals_at}
 use Rattle.algol_tree.specs.Sites.{Site, actual_part_by, first_formal, here, inside_actuals, inside_expr, inside_list, name_part, other_formals, sites, wants_value}
 use Rattle.algol_tree.proofs.Alone.{named_alone}
 use Rattle.algol_frames.specs.declared.scopes.Scopes.{Scopes}
-use Rattle.algol_told.specs.Telling.{Tells, TellsAll, TellsAt}
+use Rattle.algol_told.specs.Telling.{ScopesTell, TellsAll, TellsAt}
 use Rattle.algol_told.proofs.Lists.{all-left, all-right}
 use Rattle.algol_sites.specs.Seeing.{TellsEach, TellsIn, TellsTask}
 
@@ -62,10 +62,10 @@ module _ (s : Scopes) (a : Surroundings) where
       actuals_told es (other_formals fs) (last_told s (inside_expr e a) (inside_actuals es (other_formals fs) a) t.1.1),
     )
 
-  pub task_told : (task : Option Named) → AllByRecursion (Tells s a) (if_named task) → TellsTask s a task
+  pub task_told : (task : Option Named) → AllByRecursion (ScopesTell s a) (if_named task) → TellsTask s a task
   task_told None t = tt
   task_told (Some n) t = t.0
 
   -- a name by itself
-  pub alone_told : (e : PExpr) (n : Named) → name_alone e ≡ Some n → TellsIn s a e → Tells s a n
+  pub alone_told : (e : PExpr) (n : Named) → name_alone e ≡ Some n → TellsIn s a e → ScopesTell s a n
   alone_told e n is t = (subst (TellsIn s a) (named_alone e n is) t).0

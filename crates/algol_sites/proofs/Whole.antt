@@ -14,7 +14,7 @@ use Rattle.algol_tree.specs.Counted.{wrong_counts, bad_lists, wide_lines}
 use Rattle.algol_tree.specs.Labels.{bad_labels}
 use Rattle.algol_tree.specs.Accepted.{noted_all, check_faults, first_fault, sites_of}
 use Rattle.algol_rules.proofs.Order.{IsRule, AreRules, noted_all-swap}
-use Rattle.algol_sites.specs.Noting.{broken, noted_at, noted_along}
+use Rattle.algol_sites.specs.Noting.{rule_broken, noted_at, noted_along}
 use Rattle.algol_sites.proofs.Notes.{noted_all-append}
 
 -- ---- lists of faults, one list after the other
@@ -55,14 +55,14 @@ apart first (fs ∷ fss) (gs ∷ gss) r s =
 
 -- ---- the rules of one part, and of many
 
-broken_rules : (code : Code) (spots : List Spot) → ((spot : Spot) → IsRule (record { spot = spot; code = code })) → AreRules (broken code spots)
+broken_rules : (code : Code) (spots : List Spot) → ((spot : Spot) → IsRule (record { spot = spot; code = code })) → AreRules (rule_broken code spots)
 broken_rules code [] r = tt
 broken_rules code (spot ∷ spots) r = (r spot, broken_rules code spots r)
 
 abbrev by_rule : List Spot → List Spot → List Spot → List Spot → List Spot → List (List Fault)
 by_rule types counts places lists lines =
-    broken codes.WrongType types ∷ broken codes.WrongCount counts ∷ broken codes.NotAssignable places ∷ broken codes.WriteList lists
-    ∷ broken codes.LineTooWide lines ∷ []
+    rule_broken codes.WrongType types ∷ rule_broken codes.WrongCount counts ∷ rule_broken codes.NotAssignable places ∷ rule_broken codes.WriteList lists
+    ∷ rule_broken codes.LineTooWide lines ∷ []
 
 by_rule_rules : (a b c d e : List Spot) → AllRules (by_rule a b c d e)
 by_rule_rules a b c d e = (
@@ -85,7 +85,7 @@ module _ (blocks : List Block) where
       by_rule (flat_map (wrong_types blocks) xs) (flat_map wrong_counts xs) (flat_map (not_assignable blocks) xs) (flat_map bad_lists xs)
       (flat_map wide_lines xs)
 
-  broken_append : (code : Code) (xs ys : List Spot) → broken code (xs ++ ys) ≡ broken code xs ++ broken code ys
+  broken_append : (code : Code) (xs ys : List Spot) → rule_broken code (xs ++ ys) ≡ rule_broken code xs ++ rule_broken code ys
   broken_append code xs ys = map-append (λ (spot : Spot). record { spot = spot; code = code }) xs ys
 
   by_one_more : (x : Site) (xs : List Site) → by_all (x ∷ xs) ≡ joined (by_part x) (by_all xs)
@@ -117,21 +117,21 @@ in_turn first a b c d e g =
     ∙ ap (λ o. noted_all o d) (noted_all-append first (a ++ b) c ∙ ap (λ o. noted_all o c) (noted_all-append first a b))))
 
 pub first_in_turn : (p : PProgram) →
-    first_fault (check_faults p) ≡ noted_all (noted_along (blocks_of_program p) None (sites_of p)) (broken codes.BadLabel (bad_labels (sites_of p)))
+    first_fault (check_faults p) ≡ noted_all (noted_along (blocks_of_program p) None (sites_of p)) (rule_broken codes.BadLabel (bad_labels (sites_of p)))
 unfolding check_faults
 first_in_turn p =
     let blocks = blocks_of_program p in
     let xs = sites_of p in
-    in_turn None (broken codes.WrongType (flat_map (wrong_types blocks) xs)) (broken codes.WrongCount (flat_map wrong_counts xs))
-    (broken codes.NotAssignable (flat_map (not_assignable blocks) xs)) (broken codes.WriteList (flat_map bad_lists xs)) (broken codes.LineTooWide (flat_map wide_lines xs))
-    (broken codes.BadLabel (bad_labels xs))
-    ∙ ap (λ o. noted_all o (broken codes.BadLabel (bad_labels xs))) (along blocks None xs)
+    in_turn None (rule_broken codes.WrongType (flat_map (wrong_types blocks) xs)) (rule_broken codes.WrongCount (flat_map wrong_counts xs))
+    (rule_broken codes.NotAssignable (flat_map (not_assignable blocks) xs)) (rule_broken codes.WriteList (flat_map bad_lists xs)) (rule_broken codes.LineTooWide (flat_map wide_lines xs))
+    (rule_broken codes.BadLabel (bad_labels xs))
+    ∙ ap (λ o. noted_all o (rule_broken codes.BadLabel (bad_labels xs))) (along blocks None xs)
 
 -- wrong types are noted before or after parts
 pub noted_later : (blocks : List Block) (first : Option Fault) (spots : List Spot) (xs : List Site) →
-    noted_along blocks (noted_all first (broken codes.WrongType spots)) xs ≡ noted_all (noted_along blocks first xs) (broken codes.WrongType spots)
+    noted_along blocks (noted_all first (rule_broken codes.WrongType spots)) xs ≡ noted_all (noted_along blocks first xs) (rule_broken codes.WrongType spots)
 noted_later blocks first spots xs =
-    let wrong = broken codes.WrongType spots in
+    let wrong = rule_broken codes.WrongType spots in
     sym (along blocks (noted_all first wrong) xs)
     ∙ swapped first wrong (by_all blocks xs) (broken_rules codes.WrongType spots (λ spot. refl))
     (by_rule_rules (flat_map (wrong_types blocks) xs) (flat_map wrong_counts xs) (flat_map (not_assignable blocks) xs) (flat_map bad_lists xs) (flat_map wide_lines xs))

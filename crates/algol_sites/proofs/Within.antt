@@ -11,7 +11,7 @@ use Rattle.algol_tree.specs.Blocks.{Block, same_spot, number_at, around}
 use Rattle.algol_tree.specs.Surroundings.{Surroundings}
 use Rattle.algol_sites.specs.declared.place.Place.{Place}
 use Rattle.algol_sites.specs.Assigning.{is_within, can_take}
-use Rattle.algol_sites.specs.Placing.{AreBlocks, IsPlaced}
+use Rattle.algol_sites.specs.Placing.{AreBlocks, SiteIsPlaced}
 
 -- ---- places are the same where their numbers are
 
@@ -50,7 +50,7 @@ module _ (blocks : List Block) where
   abbrev is_around : Heading → Surroundings → Bool
   is_around h a = list_any (λ (i : ℕ). i == number_at blocks h.name.spot) (a.block ∷ around blocks a.block)
 
-  within_told : (place : Place) (a : Surroundings) (h : Heading) → IsPlaced blocks place a → is_within place.block place.around.items h.name.spot ≡ is_around h a
+  within_told : (place : Place) (a : Surroundings) (h : Heading) → SiteIsPlaced blocks place a → is_within place.block place.around.items h.name.spot ≡ is_around h a
   within_told place a h p =
       let n = number_at blocks h.name.spot in
       ap (λ b. same_spot place.block h.name.spot || b)
@@ -66,7 +66,7 @@ module _ (blocks : List Block) where
   is_assignable class.unknown a = true
   is_assignable _ a = false
 
-  pub taken_told : (place : Place) (a : Surroundings) (c : Class) → IsPlaced blocks place a → can_take place.block place.around.items c ≡ is_assignable c a
+  pub taken_told : (place : Place) (a : Surroundings) (c : Class) → SiteIsPlaced blocks place a → can_take place.block place.around.items c ≡ is_assignable c a
   taken_told place a (class.simple k) p = refl
   taken_told place a (class.array k n) p = refl
   taken_told place a class.event p = refl

@@ -14,7 +14,7 @@ use Rattle.algol_tree.specs.Sites.{Site}
 use Rattle.algol_sorts.specs.declared.sort.Sort.{Sort}
 use Rattle.algol_sites.specs.declared.wanted.Wanted.{Wanted}
 use Rattle.algol_sites.specs.declared.wanted.Wanted.TheVariants as wanted
-use Rattle.algol_sites.specs.Noting.{broken, broken_if, noted_at, mistyped_list}
+use Rattle.algol_sites.specs.Noting.{rule_broken, broken_if, noted_at, mistyped_list}
 use Rattle.algol_sites.specs.Wanting.{is_met, unfit}
 use Rattle.algol_sites.specs.Seen.{class_seen, formal_for, value_of}
 
@@ -52,7 +52,7 @@ noted_here first e a = noted_at [] first (record { part = site.expression e; aro
 -- something else than the name by itself of what is wanted
 abbrev pub misplaced_by : Option Named → Wanted → PExpr → Surroundings → List Fault
 misplaced_by (Some n) w e a = unfit w codes.WrongType n a
-misplaced_by None w e a = broken codes.WrongType (first_spot e ∷ [])
+misplaced_by None w e a = rule_broken codes.WrongType (first_spot e ∷ [])
 
 abbrev pub misplaced : Wanted → PExpr → Surroundings → List Fault
 misplaced w e a = misplaced_by (name_alone e) w e a

@@ -21,8 +21,8 @@ use Rattle.algol_sites.specs.declared.label.Standing.{Standing}
 use Rattle.algol_sites.specs.Noting.{broken_if}
 
 -- the order of places that a table has
-abbrev pub order : Spot → Spot → Ordering
-order a b = ordering_then (nat_cmp a.line b.line) (nat_cmp a.column b.column)
+abbrev pub label_order : Spot → Spot → Ordering
+label_order a b = ordering_then (nat_cmp a.line b.line) (nat_cmp a.column b.column)
 
 abbrev pub items_or : Option (Vec Standing Global) → List Standing
 items_or None = []
@@ -30,7 +30,7 @@ items_or (Some v) = v.items
 
 -- the places of the label that is declared there
 abbrev pub places_in : BTreeMap Spot (Vec Standing Global) → Spot → List Standing
-places_in table spot = items_or (get_by (order spot) table)
+places_in table spot = items_or (get_by (label_order spot) table)
 
 abbrev pub those_of : List Standing → Spot → List Standing
 those_of [] spot = []
@@ -42,14 +42,14 @@ away [] = []
 away (s ∷ ss) = broken_if codes.BadLabel (not s.at_home) s.spot ++ away ss
 
 -- where it stands again
-abbrev pub again : List Standing → List Fault
-again [] = []
-again (s ∷ ss) = record { spot = s.spot; code = codes.BadLabel } ∷ again ss
+abbrev pub label_again : List Standing → List Fault
+label_again [] = []
+label_again (s ∷ ss) = record { spot = s.spot; code = codes.BadLabel } ∷ label_again ss
 
 -- where the label is bad that is declared there and stands so
 abbrev pub bad_at : Spot → List Standing → List Fault
 bad_at spot [] = record { spot = spot; code = codes.BadLabel } ∷ []
-bad_at spot (s ∷ ss) = away (s ∷ ss) ++ again ss
+bad_at spot (s ∷ ss) = away (s ∷ ss) ++ label_again ss
 
 abbrev pub bad_in : List Standing → List Spot → List Fault
 bad_in all [] = []

@@ -17,8 +17,8 @@ use Rattle.algol_sites.specs.Noting.{broken_if}
 abbrev pub capped : ℕ → ℕ
 capped n = min n (2 ^ 64 - 1)
 
-abbrev pub number_in : List ℕ → Option ℕ
-number_in digits = if is_number digits then Some (capped (value_of digits)) else None
+abbrev pub line_number_in : List ℕ → Option ℕ
+line_number_in digits = if is_number digits then Some (capped (value_of digits)) else None
 
 abbrev pub phrase_seen : rules.Phrase → Phrase
 phrase_seen (rules.text w) = phrase.Text (capped w)

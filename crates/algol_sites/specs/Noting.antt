@@ -19,12 +19,12 @@ use Rattle.algol_tree.specs.Checks.{wrong_types, not_assignable}
 use Rattle.algol_tree.specs.Counted.{wrong_counts, bad_lists, wide_lines}
 use Rattle.algol_tree.specs.Accepted.{noted_all}
 
-abbrev pub broken : Code → List Spot → List Fault
-broken code spots = map (λ (spot : Spot). record { spot = spot; code = code }) spots
+abbrev pub rule_broken : Code → List Spot → List Fault
+rule_broken code spots = map (λ (spot : Spot). record { spot = spot; code = code }) spots
 
 -- a fault where the answer is yes
 abbrev pub broken_if : Code → Bool → Spot → List Fault
-broken_if code answer spot = broken code (if_so answer spot)
+broken_if code answer spot = rule_broken code (if_so answer spot)
 
 -- The first fault after those of one part were noted too, but for labels.
 abbrev pub noted_at : List Block → Option Fault → Site → Option Fault
@@ -32,10 +32,10 @@ noted_at blocks first x =
     noted_all
     (noted_all
     (noted_all
-    (noted_all (noted_all first (broken codes.WrongType (wrong_types blocks x))) (broken codes.WrongCount (wrong_counts x)))
-    (broken codes.NotAssignable (not_assignable blocks x)))
-    (broken codes.WriteList (bad_lists x)))
-    (broken codes.LineTooWide (wide_lines x))
+    (noted_all (noted_all first (rule_broken codes.WrongType (wrong_types blocks x))) (rule_broken codes.WrongCount (wrong_counts x)))
+    (rule_broken codes.NotAssignable (not_assignable blocks x)))
+    (rule_broken codes.WriteList (bad_lists x)))
+    (rule_broken codes.LineTooWide (wide_lines x))
 
 -- the same for many parts, one after the other
 abbrev pub noted_along : List Block → Option Fault → List Site → Option Fault

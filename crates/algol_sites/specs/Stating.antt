@@ -12,14 +12,14 @@ use Rattle.algol_tree.specs.Types.{read_type, element_type}
 use Rattle.algol_tree.specs.Surroundings.{Surroundings, class_of}
 use Rattle.algol_tree.specs.Accepted.{noted_all}
 use Rattle.algol_sites.specs.declared.wanted.Wanted.TheVariants as wanted
-use Rattle.algol_sites.specs.Noting.{broken, broken_if, mistyped, mistyped_for, mistyped_list}
+use Rattle.algol_sites.specs.Noting.{rule_broken, broken_if, mistyped, mistyped_for, mistyped_list}
 use Rattle.algol_sites.specs.Wanting.{unfit}
 use Rattle.algol_sites.specs.Expressing.{miscounted_subscripts, miscounted_actuals}
 
 -- after a name without subscripts on the left, which can be assigned to or not
 abbrev pub noted_name_side : Option Fault → Bool → Named → PExpr → Surroundings → Option Fault
 noted_name_side first true n e a = noted_all first (mistyped_for (read_type (class_of a n)) e a)
-noted_name_side first false n e a = noted_all first (broken codes.NotAssignable (n.spot ∷ []))
+noted_name_side first false n e a = noted_all first (rule_broken codes.NotAssignable (n.spot ∷ []))
 
 -- after an element on the left
 abbrev pub noted_element_side : Option Fault → Named → PExprs → ℕ → PExpr → Surroundings → Option Fault

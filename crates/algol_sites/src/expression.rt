@@ -7,7 +7,7 @@ ghost use Rattle.algol_tree.specs.Plain as tree;
 ghost use Rattle.algol_tree.specs.Sites as sites;
 ghost use Rattle.algol_tree.specs.Surroundings as around;
 ghost use Rattle.algol_tree.specs.Surroundings.{Surroundings};
-ghost use Rattle.algol_told.specs.Telling.{Tells};
+ghost use Rattle.algol_told.specs.Telling.{ScopesTell};
 ghost use Rattle.algol_sites.specs.declared.wanted.Wanted.TheVariants as wants;
 ghost use Rattle.algol_sites.specs.Seen.{class_seen, others_taken, value_of};
 ghost use Rattle.algol_sites.specs.Seeing.{TellsEach, TellsIn};
@@ -39,7 +39,7 @@ fn has_others(sort: Sort, count: usize) -> bool
 
 /// Notes where an array has another number of subscripts.
 pub fn count_subscripts(scopes: &Scopes, name: &Named, count: usize, faults: &mut Faults)
-    ensures { (a : Surroundings) → Tells scopes.now a name.now → faults.new.first ≡ noted_all faults.old.first (miscounted_subscripts name.now count a) }
+    ensures { (a : Surroundings) → ScopesTell scopes.now a name.now → faults.new.first ≡ noted_all faults.old.first (miscounted_subscripts name.now count a) }
 {
     note_if(
         has_others(sort_at(scopes, name), count),
@@ -61,7 +61,7 @@ fn takes_others(sort: Sort, parameters: usize, count: usize) -> bool
 
 /// Notes where a procedure takes another number of actuals.
 pub fn count_actuals(scopes: &Scopes, name: &Named, count: usize, faults: &mut Faults)
-    ensures { (a : Surroundings) → Tells scopes.now a name.now → faults.new.first ≡ noted_all faults.old.first (miscounted_actuals name.now count a) }
+    ensures { (a : Surroundings) → ScopesTell scopes.now a name.now → faults.new.first ≡ noted_all faults.old.first (miscounted_actuals name.now count a) }
 {
     let parameters = parameters_at(scopes, name).len();
     note_if(
@@ -86,7 +86,7 @@ fn takes_some(sort: Sort, parameters: usize) -> bool
 
 /// A name by itself that is read: the name of a typed procedure is a call without actuals.
 fn read_name(scopes: &Scopes, name: &Named, faults: &mut Faults)
-    ensures { (a : Surroundings) → Tells scopes.now a name.now → faults.new.first ≡ noted_name faults.old.first name.now a }
+    ensures { (a : Surroundings) → ScopesTell scopes.now a name.now → faults.new.first ≡ noted_name faults.old.first name.now a }
 {
     let sort = sort_at(scopes, name);
     note_if(
@@ -106,7 +106,7 @@ fn read_name(scopes: &Scopes, name: &Named, faults: &mut Faults)
 
 /// An array's name with its subscripts, without what is in these.
 pub fn element(scopes: &Scopes, name: &Named, subs: &[Expr], faults: &mut Faults)
-    ensures { (a : Surroundings) → Tells scopes.now a name.now → TellsEach scopes.now a (exprs subs.now) → faults.new.first ≡ noted_element faults.old.first name.now (exprs subs.now) (length subs.now) a }
+    ensures { (a : Surroundings) → ScopesTell scopes.now a name.now → TellsEach scopes.now a (exprs subs.now) → faults.new.first ≡ noted_element faults.old.first name.now (exprs subs.now) (length subs.now) a }
 {
     want_name(scopes, name, Wanted::Array, Code::WrongType, faults);
     want_numbers(scopes, subs, faults);
@@ -115,7 +115,7 @@ pub fn element(scopes: &Scopes, name: &Named, subs: &[Expr], faults: &mut Faults
 
 /// A variable that is read, without what is in its subscripts.
 fn read_variable(scopes: &Scopes, v: &Variable, faults: &mut Faults)
-    ensures { (a : Surroundings) → Tells scopes.now a v.now.name → TellsEach scopes.now a (exprs v.now.subs) → faults.new.first ≡ noted_here faults.old.first (tree.variable (variable v.now)) a }
+    ensures { (a : Surroundings) → ScopesTell scopes.now a v.now.name → TellsEach scopes.now a (exprs v.now.subs) → faults.new.first ≡ noted_here faults.old.first (tree.variable (variable v.now)) a }
 {
     let subs = exprs_in(&v.subs);
     match subs.split_first() {
@@ -219,7 +219,7 @@ fn formal_at(formals: &[Sort], at: usize) -> Option<Sort>
 /// The actuals of a call.
 #[cycle(expressions)]
 pub fn actuals(scopes: &Scopes, c: &Call, faults: &mut Faults)
-    ensures { (a : Surroundings) → Tells scopes.now a c.now.name → TellsEach scopes.now a (exprs c.now.actuals) → faults.new.first ≡ noted_in faults.old.first (sites.inside_actuals (exprs c.now.actuals) (around.formals_at a c.now.name) a) }
+    ensures { (a : Surroundings) → ScopesTell scopes.now a c.now.name → TellsEach scopes.now a (exprs c.now.actuals) → faults.new.first ≡ noted_in faults.old.first (sites.inside_actuals (exprs c.now.actuals) (around.formals_at a c.now.name) a) }
 {
     let formals = parameters_at(scopes, &c.name);
     let given = exprs_in(&c.actuals);
@@ -234,7 +234,7 @@ pub fn actuals(scopes: &Scopes, c: &Call, faults: &mut Faults)
 
 /// A call of what is wanted, without what is in its actuals.
 pub fn called(scopes: &Scopes, c: &Call, wanted: Wanted, faults: &mut Faults)
-    ensures { (a : Surroundings) → Tells scopes.now a c.now.name → faults.new.first ≡ noted_call faults.old.first wanted c.now.name (length c.now.actuals) a }
+    ensures { (a : Surroundings) → ScopesTell scopes.now a c.now.name → faults.new.first ≡ noted_call faults.old.first wanted c.now.name (length c.now.actuals) a }
 {
     want_name(scopes, &c.name, wanted, Code::WrongType, faults);
     count_actuals(scopes, &c.name, exprs_in(&c.actuals).len(), faults);

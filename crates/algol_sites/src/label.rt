@@ -7,9 +7,9 @@ ghost use Rattle.algol_tree.specs.Blocks.{Block, same_spot};
 ghost use Rattle.algol_tree.specs.Plain.{PStmt};
 ghost use Rattle.algol_tree.specs.Surroundings.{Surroundings};
 ghost use Rattle.algol_sites.specs.Labelling.{away, bad_at, bad_in, label_site, places_in, standings_at, standings_of, those_of};
-ghost use Rattle.algol_frames.specs.Answers.{number_of};
-ghost use Rattle.algol_told.specs.Telling.{Tells};
-ghost use Rattle.algol_sites.specs.Placing.{IsPlaced, Numbers, is_number};
+ghost use Rattle.algol_frames.specs.Answers.{block_number_of};
+ghost use Rattle.algol_told.specs.Telling.{ScopesTell};
+ghost use Rattle.algol_sites.specs.Placing.{SiteIsPlaced, BlockNumbers, is_number};
 
 use crate::place::Place;
 use crate::wanted::note_if;
@@ -39,14 +39,14 @@ fn is_number(number: Option<usize>, block: usize) -> bool
 
 /// Whether a label in that place, which the block with this number declares, is in the list of statements of that block.
 fn is_home(listed: bool, scopes: &Scopes, place: &Place, block: usize) -> bool
-    ensures { result ≡ (listed && is_number (number_of scopes.now place.now.block) block) }
+    ensures { result ≡ (listed && is_number (block_number_of scopes.now place.now.block) block) }
 {
     listed && is_number(scopes.number(place.block), block)
 }
 
 /// A label before a statement, which is in the list of statements of its block or is not; none where its name is not declared.
 pub fn standing_at(scopes: &Scopes, place: &Place, name: &Named, listed: bool) -> Option<Standing>
-    ensures { (blocks : List Block) (a : Surroundings) (s : PStmt) → Tells scopes.now a name.now → Numbers scopes.now blocks → IsPlaced blocks place.now a → standings_of result ≡ standings_at (label_site name.now s listed a) }
+    ensures { (blocks : List Block) (a : Surroundings) (s : PStmt) → ScopesTell scopes.now a name.now → BlockNumbers scopes.now blocks → SiteIsPlaced blocks place.now a → standings_of result ≡ standings_at (label_site name.now s listed a) }
 {
     match scopes.declaration(name.spot) {
         None => None,

@@ -5,7 +5,7 @@ ghost use Rattle.algol_tree.specs.Accepted.{noted_all};
 ghost use Rattle.algol_tree.specs.Spelling.{is_digit};
 ghost use Rattle.algol_tree.specs.Phrases as rules;
 ghost use Rattle.algol_tree.specs.declared.tree.PhraseText.TheVariants as texts;
-ghost use Rattle.algol_sites.specs.Lining.{columns_seen, is_none_seen, items_seen, items_in, lettered, noted_line, number_in, phrase_seen};
+ghost use Rattle.algol_sites.specs.Lining.{columns_seen, is_none_seen, items_seen, items_in, lettered, noted_line, line_number_in, phrase_seen};
 
 use algol_rules::Faults;
 use algol_tree::{Code, MOST_LINE_WIDTH, PhraseText, Spot};
@@ -31,7 +31,7 @@ fn digit_of(byte: u8) -> Option<usize>
 
 /// The number of decimal digits, at most the greatest number; none where one is no digit, or there are none.
 fn number_of(digits: &[u8]) -> Option<usize>
-    ensures { result ≡ number_in digits.now }
+    ensures { result ≡ line_number_in digits.now }
 {
     let mut number: usize = 0;
     'digits: for byte in digits {

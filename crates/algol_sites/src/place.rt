@@ -4,7 +4,7 @@ ghost use Rattle.std.specs.Prelude.{◌≡◌, [], ◌∷◌, ◌++◌, List, On
 ghost use Rattle.algol_tree.specs.Blocks.{Block, number_at};
 ghost use Rattle.algol_tree.specs.Surroundings.{Surroundings};
 ghost use Rattle.algol_sites.specs.Assigning.{is_within, takes};
-ghost use Rattle.algol_sites.specs.Placing.{IsFound, IsPlaced, outer_of};
+ghost use Rattle.algol_sites.specs.Placing.{BlockIsFound, SiteIsPlaced, outer_of};
 
 use algol_sorts::Sort;
 use algol_tree::Spot;
@@ -23,7 +23,7 @@ impl Place {
     pub fn outermost(alloc: Global, begin: Spot) -> Place
         ensures block { result.block ≡ begin }
         ensures around { result.around.items ≡ [] }
-        ensures placed { (blocks : List Block) (b : Block) (a : Surroundings) → IsFound blocks b → b.spot ≡ begin → b.outer ≡ [] → a.block ≡ number_at blocks begin → IsPlaced blocks result a }
+        ensures placed { (blocks : List Block) (b : Block) (a : Surroundings) → BlockIsFound blocks b → b.spot ≡ begin → b.outer ≡ [] → a.block ≡ number_at blocks begin → SiteIsPlaced blocks result a }
     {
         Place {
             block: begin,
@@ -35,7 +35,7 @@ impl Place {
     pub fn open(&mut self, spot: Spot) -> Result<(), AllocError>
         ensures block { OnOk result (self.new.block ≡ spot) }
         ensures around { OnOk result (self.new.around.items ≡ self.old.around.items ++ self.old.block ∷ []) }
-        ensures placed { OnOk result ((blocks : List Block) (b : Block) (a c : Surroundings) → IsPlaced blocks self.old a → IsFound blocks b → b.spot ≡ spot → b.outer ≡ outer_of self.old → c.block ≡ number_at blocks spot → IsPlaced blocks self.new c) }
+        ensures placed { OnOk result ((blocks : List Block) (b : Block) (a c : Surroundings) → SiteIsPlaced blocks self.old a → BlockIsFound blocks b → b.spot ≡ spot → b.outer ≡ outer_of self.old → c.block ≡ number_at blocks spot → SiteIsPlaced blocks self.new c) }
     {
         self.around.push(self.block)?;
         self.block = spot;

@@ -11,7 +11,7 @@ ghost use Rattle.algol_tree.specs.Blocks.{Block};
 ghost use Rattle.algol_tree.specs.Sites as sites;
 ghost use Rattle.algol_tree.specs.Surroundings as rules;
 ghost use Rattle.algol_tree.specs.Surroundings.{Surroundings};
-ghost use Rattle.algol_told.specs.Telling.{Tells, TellsAll};
+ghost use Rattle.algol_told.specs.Telling.{ScopesTell, TellsAll};
 ghost use Rattle.algol_sites.specs.Assigning.{can_take};
 ghost use Rattle.algol_sites.specs.Noting.{broken_if, mistyped, noted_along, noted_at};
 ghost use Rattle.algol_sites.specs.Seen.{class_seen};
@@ -40,7 +40,7 @@ fn kind_if(answer: bool, kind: Option<Kind>) -> Option<Kind>
 
 /// A name without subscripts on the left, and the type of its value.
 fn name_side(scopes: &Scopes, place: &Place, name: &Named, value: &Expr, faults: &mut Faults)
-    ensures { (a : Surroundings) → Tells scopes.now a name.now → TellsIn scopes.now a (expr value.now) → faults.new.first ≡ noted_name_side faults.old.first (can_take place.now.block place.now.around.items (rules.class_of a name.now)) name.now (expr value.now) a }
+    ensures { (a : Surroundings) → ScopesTell scopes.now a name.now → TellsIn scopes.now a (expr value.now) → faults.new.first ≡ noted_name_side faults.old.first (can_take place.now.block place.now.around.items (rules.class_of a name.now)) name.now (expr value.now) a }
 {
     let (sort, declared) = told_at(scopes, name);
     let is_taken = place.is_assignable(sort, declared);
@@ -50,7 +50,7 @@ fn name_side(scopes: &Scopes, place: &Place, name: &Named, value: &Expr, faults:
 
 /// An element on the left, and the type of its value, without what is in its subscripts.
 fn element_side(scopes: &Scopes, name: &Named, subs: &[Expr], value: &Expr, faults: &mut Faults)
-    ensures { (a : Surroundings) → Tells scopes.now a name.now → TellsEach scopes.now a (exprs subs.now) → TellsIn scopes.now a (expr value.now) → faults.new.first ≡ noted_element_side faults.old.first name.now (exprs subs.now) (length subs.now) (expr value.now) a }
+    ensures { (a : Surroundings) → ScopesTell scopes.now a name.now → TellsEach scopes.now a (exprs subs.now) → TellsIn scopes.now a (expr value.now) → faults.new.first ≡ noted_element_side faults.old.first name.now (exprs subs.now) (length subs.now) (expr value.now) a }
 {
     want_name(scopes, name, Wanted::Array, Code::WrongType, faults);
     want_numbers(scopes, subs, faults);
@@ -60,7 +60,7 @@ fn element_side(scopes: &Scopes, name: &Named, subs: &[Expr], value: &Expr, faul
 
 /// A left side, and the type of its value, without what is in its subscripts.
 fn left_side(scopes: &Scopes, place: &Place, v: &Variable, value: &Expr, faults: &mut Faults)
-    ensures { (a : Surroundings) → Tells scopes.now a v.now.name → TellsEach scopes.now a (exprs v.now.subs) → TellsIn scopes.now a (expr value.now) → faults.new.first ≡ noted_left faults.old.first (can_take place.now.block place.now.around.items) (variable v.now) (length v.now.subs) (expr value.now) a }
+    ensures { (a : Surroundings) → ScopesTell scopes.now a v.now.name → TellsEach scopes.now a (exprs v.now.subs) → TellsIn scopes.now a (expr value.now) → faults.new.first ≡ noted_left faults.old.first (can_take place.now.block place.now.around.items) (variable v.now) (length v.now.subs) (expr value.now) a }
 {
     let subs = exprs_in(&v.subs);
     match subs.split_first() {
@@ -112,7 +112,7 @@ fn want_task(scopes: &Scopes, task: &Option<Named>, faults: &mut Faults)
 
 /// A process that is started, without what is in its actuals.
 fn started(scopes: &Scopes, c: &Call, task: &Option<Named>, faults: &mut Faults)
-    ensures { (a : Surroundings) → Tells scopes.now a c.now.name → TellsTask scopes.now a task.now → faults.new.first ≡ noted_process faults.old.first c.now.name task.now (length c.now.actuals) a }
+    ensures { (a : Surroundings) → ScopesTell scopes.now a c.now.name → TellsTask scopes.now a task.now → faults.new.first ≡ noted_process faults.old.first c.now.name task.now (length c.now.actuals) a }
 {
     want_name(scopes, &c.name, Wanted::Untyped, Code::WrongType, faults);
     want_task(scopes, task, faults);
@@ -164,7 +164,7 @@ fn is_truth(sort: Sort) -> bool
 
 /// The control variable of FOR, its first value, the step and the limit, without what is in them.
 fn control(scopes: &Scopes, v: &Named, x: &Expr, step: &Expr, last: &Expr, faults: &mut Faults)
-    ensures { (a : Surroundings) → Tells scopes.now a v.now → TellsIn scopes.now a (expr x.now) → TellsIn scopes.now a (expr step.now) → TellsIn scopes.now a (expr last.now) → faults.new.first ≡ noted_control faults.old.first v.now (expr x.now) (expr step.now) (expr last.now) a }
+    ensures { (a : Surroundings) → ScopesTell scopes.now a v.now → TellsIn scopes.now a (expr x.now) → TellsIn scopes.now a (expr step.now) → TellsIn scopes.now a (expr last.now) → faults.new.first ≡ noted_control faults.old.first v.now (expr x.now) (expr step.now) (expr last.now) a }
 {
     note_if(
         is_truth(sort_at(scopes, v)),
@@ -180,7 +180,7 @@ fn control(scopes: &Scopes, v: &Named, x: &Expr, step: &Expr, last: &Expr, fault
 
 /// FOR, without its statement.
 pub fn counting(scopes: &Scopes, v: &Named, x: &Expr, step: &Expr, last: &Expr, faults: &mut Faults)
-    ensures { (blocks : List Block) (a : Surroundings) (s : PStmt) (listed : Bool) → Tells scopes.now a v.now → TellsAll scopes.now (sites.sites (expr x.now) a ++ sites.sites (expr step.now) a ++ sites.sites (expr last.now) a) → faults.new.first ≡ noted_along blocks (noted_at blocks faults.old.first (for_site v.now (expr x.now) (expr step.now) (expr last.now) s listed a)) (sites.sites (expr x.now) a ++ sites.sites (expr step.now) a ++ sites.sites (expr last.now) a) }
+    ensures { (blocks : List Block) (a : Surroundings) (s : PStmt) (listed : Bool) → ScopesTell scopes.now a v.now → TellsAll scopes.now (sites.sites (expr x.now) a ++ sites.sites (expr step.now) a ++ sites.sites (expr last.now) a) → faults.new.first ≡ noted_along blocks (noted_at blocks faults.old.first (for_site v.now (expr x.now) (expr step.now) (expr last.now) s listed a)) (sites.sites (expr x.now) a ++ sites.sites (expr step.now) a ++ sites.sites (expr last.now) a) }
 {
     control(scopes, v, x, step, last, faults);
     expression(scopes, x, faults);

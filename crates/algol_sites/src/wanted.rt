@@ -6,7 +6,7 @@ ghost use Rattle.algol_tree.specs.declared.refusal.Code.TheVariants as codes;
 ghost use Rattle.algol_tree.specs.Accepted.{noted_all};
 ghost use Rattle.algol_tree.specs.Classes.{is_unspecified};
 ghost use Rattle.algol_tree.specs.Surroundings.{Surroundings};
-ghost use Rattle.algol_told.specs.Telling.{Tells};
+ghost use Rattle.algol_told.specs.Telling.{ScopesTell};
 ghost use Rattle.algol_sites.specs.Noting.{broken_if};
 ghost use Rattle.algol_sites.specs.Seen.{class_seen};
 ghost use Rattle.algol_sites.specs.Wanting as rules;
@@ -92,7 +92,7 @@ pub fn is_unfit(wanted: Wanted, sort: Sort) -> bool
 
 /// Notes the rule where the name is known and is not what is wanted.
 pub fn want_name(scopes: &Scopes, name: &Named, wanted: Wanted, code: Code, faults: &mut Faults)
-    ensures { (a : Surroundings) → Tells scopes.now a name.now → faults.new.first ≡ noted_all faults.old.first (unfit wanted code name.now a) }
+    ensures { (a : Surroundings) → ScopesTell scopes.now a name.now → faults.new.first ≡ noted_all faults.old.first (unfit wanted code name.now a) }
 {
     note_if(
         is_unfit(wanted, sort_at(scopes, name)),
@@ -111,7 +111,7 @@ fn event_wanted(is_task: bool) -> Wanted
 
 /// Notes where an event's name is none, or a task's name is no task.
 pub fn want_event(scopes: &Scopes, event: &EventName, faults: &mut Faults)
-    ensures { (a : Surroundings) → Tells scopes.now a event.now.name → faults.new.first ≡ noted_all faults.old.first (unfit_event event.now a) }
+    ensures { (a : Surroundings) → ScopesTell scopes.now a event.now.name → faults.new.first ≡ noted_all faults.old.first (unfit_event event.now a) }
 {
     want_name(
         scopes,

@@ -13,7 +13,7 @@ use Rattle.std.specs.BTreeMap.{BTreeMap}
 use Rattle.std.proofs.lemmas.Map.Text.{is_eq-slice_cmp}
 use Rattle.std.proofs.lemmas.Slice.Eq.{bytes_eq-Decides}
 use Rattle.algol_sorts.specs.declared.key.Key.{Key}
-use Rattle.algol_sorts.specs.Tables.{end_of, under}
+use Rattle.algol_sorts.specs.Tables.{end_of, sort_named}
 
 ties : (o p : Ordering) → is_eq (ordering_then o p) ≡ (is_eq o && is_eq p)
 ties Less p = refl
@@ -43,12 +43,12 @@ key_cmp x y = ordering_then (nat_cmp x.end y.end) (slice_cmp nat_cmp x.bytes.now
 
 -- what a table has under each name after a change under one
 pub updates_key : {X : Type 0} (name : Bor (List ℕ)) (key : Key) (old new : BTreeMap Key X) (w : Option X) → key ≡ record { end = end_of name.now; bytes = name } →
-    tree.UpdatesBy key_cmp (key_cmp key) old new w → (q : List ℕ) → under new q ≡ cond (bytes_eq name.now q) w (under old q)
+    tree.UpdatesBy key_cmp (key_cmp key) old new w → (q : List ℕ) → sort_named new q ≡ cond (bytes_eq name.now q) w (sort_named old q)
 updates_key name key old new w e u q =
     let this : Key = record { end = end_of q; bytes = record { ref_ptr = name.ref_ptr; now = q } } in
-    u.0 this ∙ ap (λ (k : Key). cond (is_eq (key_cmp k this)) w (under old q)) e ∙ ap (λ b. cond b w (under old q)) (same_key name.now q)
+    u.0 this ∙ ap (λ (k : Key). cond (is_eq (key_cmp k this)) w (sort_named old q)) e ∙ ap (λ b. cond b w (sort_named old q)) (same_key name.now q)
 
 -- what a table has under a key is what it has under its name
 pub key_found : {X : Type 0} (name : Bor (List ℕ)) (key : Key) (table : BTreeMap Key X) → key ≡ record { end = end_of name.now; bytes = name } →
-    tree.get key_cmp table key ≡ under table name.now
+    tree.get key_cmp table key ≡ sort_named table name.now
 key_found name key table e = ap (λ (k : Key). tree.get key_cmp table k) e

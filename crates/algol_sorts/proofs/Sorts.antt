@@ -7,7 +7,7 @@ use Rattle.algol_tree.specs.Classes as class
 use Rattle.algol_tree.specs.Classes.{Class}
 use Rattle.algol_tree.specs.Sorts as plain
 use Rattle.algol_tree.specs.Sorts.{class_in, is_named_in, simple_sort, sort_in}
-use Rattle.algol_sorts.specs.Sorts.{is_by_name, is_simple, parameter_by, sort_by}
+use Rattle.algol_sorts.specs.Sorts.{sort_is_by_name, sort_is_simple, parameter_by, sort_by}
 
 -- a parameter is declared as what a call sees of it
 pub parameter-declared : (ss : List Spec) (value : Bool) (name : List ℕ) → parameter_by (class_in ss name) value ≡ sort_by (class_in ss name) (sort_in ss value name)
@@ -36,18 +36,18 @@ parameter-declared (specs.Arrays kind ns lows ∷ ss) value name = decide (is_na
     decide false h = h
 
 -- a parameter is simple where its class is, and by name where it is not by value too
-pub parameter-simple : (c : Class) (value : Bool) → is_simple (parameter_by c value) ≡ class.is_simple c
+pub parameter-simple : (c : Class) (value : Bool) → sort_is_simple (parameter_by c value) ≡ class.is_simple c
 parameter-simple (class.simple kind) true = refl
 parameter-simple (class.simple kind) false = refl
 parameter-simple _ value = refl
 
-pub parameter-by-name : (c : Class) (value : Bool) → is_by_name (parameter_by c value) ≡ (class.is_simple c && not value)
+pub parameter-by-name : (c : Class) (value : Bool) → sort_is_by_name (parameter_by c value) ≡ (class.is_simple c && not value)
 parameter-by-name (class.simple kind) true = refl
 parameter-by-name (class.simple kind) false = refl
 parameter-by-name _ value = refl
 
 -- a name is simple where its class is
-pub sort-simple : (c : Class) (s : plain.Sort) → is_simple (sort_by c s) ≡ class.is_simple c
+pub sort-simple : (c : Class) (s : plain.Sort) → sort_is_simple (sort_by c s) ≡ class.is_simple c
 sort-simple (class.simple kind) plain.by_name = refl
 sort-simple (class.simple kind) _ = refl
 sort-simple (class.array kind subscripts) (plain.formal_array lows) = refl

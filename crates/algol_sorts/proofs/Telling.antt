@@ -15,7 +15,7 @@ use Rattle.algol_sorts.specs.declared.sort.Sort.{Sort}
 use Rattle.algol_sorts.specs.declared.heading.Specified.{Specified}
 use Rattle.algol_sorts.specs.Sorts.{parameter_by}
 use Rattle.algol_sorts.specs.declared.key.Key.{Key}
-use Rattle.algol_sorts.specs.Tables.{Table, end_of, under}
+use Rattle.algol_sorts.specs.Tables.{SortTable, end_of, sort_named}
 use Rattle.algol_sorts.specs.Specified.{AreNamed, SaysAll, Specifies, or_unspecified, sort_in, sort_under, specified_as, valued}
 use Rattle.algol_sorts.proofs.Keys.{key_cmp, updates_key}
 
@@ -26,23 +26,23 @@ straight (x ∷ xs) [] = refl
 straight (x ∷ xs) (y ∷ ys) = ap (λ b. (x == y) && b) (straight xs ys)
 
 -- a table after one more name
-put : (name : Bor (List ℕ)) (key : Key) (old new : Table) (s : Sort) → key ≡ record { end = end_of name.now; bytes = name } →
+put : (name : Bor (List ℕ)) (key : Key) (old new : SortTable) (s : Sort) → key ≡ record { end = end_of name.now; bytes = name } →
     tree.UpdatesBy key_cmp (key_cmp key) old new (Some s) → (q : List ℕ) →
     sort_under new q ≡ (if same_name name.now q then s else sort_under old q)
 put name key old new s k u q =
-    ap or_unspecified (updates_key name key old new (Some s) k u q) ∙ chosen (bytes_eq name.now q) s (under old q)
+    ap or_unspecified (updates_key name key old new (Some s) k u q) ∙ chosen (bytes_eq name.now q) s (sort_named old q)
     ∙ ap (λ b. if b then s else sort_under old q) (straight name.now q)
   where
     chosen : (b : Bool) (s : Sort) (o : Option Sort) → or_unspecified (cond b (Some s) o) ≡ (if b then s else or_unspecified o)
     chosen true s o = refl
     chosen false s o = refl
 
-put-name : (name : Bor (List ℕ)) (key : Key) (old new : Table) (s : Sort) → key ≡ record { end = end_of name.now; bytes = name } →
+put-name : (name : Bor (List ℕ)) (key : Key) (old new : SortTable) (s : Sort) → key ≡ record { end = end_of name.now; bytes = name } →
     tree.UpdatesBy key_cmp (key_cmp key) old new (Some s) → (q : List ℕ) →
-    is_some (under new q) ≡ (if same_name name.now q then true else is_some (under old q))
+    is_some (sort_named new q) ≡ (if same_name name.now q then true else is_some (sort_named old q))
 put-name name key old new s k u q =
-    ap (λ o. is_some o) (updates_key name key old new (Some s) k u q) ∙ chosen (bytes_eq name.now q) s (under old q)
-    ∙ ap (λ b. if b then true else is_some (under old q)) (straight name.now q)
+    ap (λ o. is_some o) (updates_key name key old new (Some s) k u q) ∙ chosen (bytes_eq name.now q) s (sort_named old q)
+    ∙ ap (λ b. if b then true else is_some (sort_named old q)) (straight name.now q)
   where
     chosen : (b : Bool) (s : Sort) (o : Option Sort) → is_some (cond b (Some s) o) ≡ (if b then true else is_some o)
     chosen true s o = refl
@@ -61,7 +61,7 @@ split xs i x h e =
     let next : suc i ≡ i + 1 = omega arith in
     drop-cons xs i x h ∙ ap (λ y. y ∷ drop (suc i) xs) (sym e) ∙ ap (λ n. x ∷ drop n xs) next
 
-pub name-step : (ns : List Named) (i : ℕ) (n : Named) (name : Bor (List ℕ)) (key : Key) (old new : Table) (s t : Sort) → i < length ns → n ≡ get_or ns i n →
+pub name-step : (ns : List Named) (i : ℕ) (n : Named) (name : Bor (List ℕ)) (key : Key) (old new : SortTable) (s t : Sort) → i < length ns → n ≡ get_or ns i n →
     name.now ≡ n.name → s ≡ t → key ≡ record { end = end_of name.now; bytes = name } →
     tree.UpdatesBy key_cmp (key_cmp key) old new (Some s) → (q : List ℕ) →
     (if is_named_in (drop (i + 1) ns) q then t else sort_under new q) ≡ (if is_named_in (drop i ns) q then t else sort_under old q)
@@ -71,19 +71,19 @@ name-step ns i n name key old new s t h e p same k u q =
     ∙ ap (λ (w : List ℕ). if (if same_name w q then true else is_named_in (drop (i + 1) ns) q) then t else sort_under old q) p
     ∙ sym (ap (λ xs. if is_named_in xs q then t else sort_under old q) (split ns i n h e))
 
-pub value-step : (ns : List Named) (i : ℕ) (n : Named) (name : Bor (List ℕ)) (key : Key) (old new : Table) (s : Sort) → i < length ns → n ≡ get_or ns i n →
+pub value-step : (ns : List Named) (i : ℕ) (n : Named) (name : Bor (List ℕ)) (key : Key) (old new : SortTable) (s : Sort) → i < length ns → n ≡ get_or ns i n →
     name.now ≡ n.name → key ≡ record { end = end_of name.now; bytes = name } →
     tree.UpdatesBy key_cmp (key_cmp key) old new (Some s) → (q : List ℕ) →
-    (if is_named_in (drop (i + 1) ns) q then true else is_some (under new q)) ≡ (if is_named_in (drop i ns) q then true else is_some (under old q))
+    (if is_named_in (drop (i + 1) ns) q then true else is_some (sort_named new q)) ≡ (if is_named_in (drop i ns) q then true else is_some (sort_named old q))
 value-step ns i n name key old new s h e p k u q =
     ap (λ x. if is_named_in (drop (i + 1) ns) q then true else x) (put-name name key old new s k u q)
-    ∙ joined (same_name name.now q) (is_named_in (drop (i + 1) ns) q) true (is_some (under old q))
-    ∙ ap (λ (w : List ℕ). if (if same_name w q then true else is_named_in (drop (i + 1) ns) q) then true else is_some (under old q)) p
-    ∙ sym (ap (λ xs. if is_named_in xs q then true else is_some (under old q)) (split ns i n h e))
+    ∙ joined (same_name name.now q) (is_named_in (drop (i + 1) ns) q) true (is_some (sort_named old q))
+    ∙ ap (λ (w : List ℕ). if (if same_name w q then true else is_named_in (drop (i + 1) ns) q) then true else is_some (sort_named old q)) p
+    ∙ sym (ap (λ xs. if is_named_in xs q then true else is_some (sort_named old q)) (split ns i n h e))
 
-pub values-end : (table : Table) (left ns : List Named) (q : List ℕ) → left ≡ [] →
-    (if is_named_in left q then true else is_some (under table q)) ≡ is_named_in ns q → is_some (under table q) ≡ is_named_in ns q
-values-end table left ns q e h = ap (λ xs. if is_named_in xs q then true else is_some (under table q)) (sym e) ∙ h
+pub values-end : (table : SortTable) (left ns : List Named) (q : List ℕ) → left ≡ [] →
+    (if is_named_in left q then true else is_some (sort_named table q)) ≡ is_named_in ns q → is_some (sort_named table q) ≡ is_named_in ns q
+values-end table left ns q e h = ap (λ xs. if is_named_in xs q then true else is_some (sort_named table q)) (sym e) ∙ h
 
 -- ---- what the first specification says
 

@@ -48,14 +48,14 @@ abbrev pub parameter_of : Formal → Sort
 parameter_of f = parameter_by f.class f.by_value
 
 -- Tests on sorts.
-abbrev pub is_simple : Sort → Bool
-is_simple (sort.Variable kind) = true
-is_simple (sort.ByName kind) = true
-is_simple _ = false
+abbrev pub sort_is_simple : Sort → Bool
+sort_is_simple (sort.Variable kind) = true
+sort_is_simple (sort.ByName kind) = true
+sort_is_simple _ = false
 
-abbrev pub is_by_name : Sort → Bool
-is_by_name (sort.ByName kind) = true
-is_by_name _ = false
+abbrev pub sort_is_by_name : Sort → Bool
+sort_is_by_name (sort.ByName kind) = true
+sort_is_by_name _ = false
 
 -- a parameter that VALUE names
 abbrev pub by_value : Sort → Sort

@@ -9,7 +9,7 @@ use Rattle.algol_sorts.specs.declared.sort.Sort.{Sort}
 use Rattle.algol_sorts.specs.declared.sort.Sort.TheVariants as sort
 use Rattle.algol_sorts.specs.declared.heading.Specified.{Specified}
 use Rattle.algol_sorts.specs.Sorts.{by_value, parameter_by}
-use Rattle.algol_sorts.specs.Tables.{Table, under}
+use Rattle.algol_sorts.specs.Tables.{SortTable, sort_named}
 
 -- what a specification says of a parameter that is not by value
 abbrev pub specified_as : Spec → Sort
@@ -23,8 +23,8 @@ or_unspecified None = sort.Unspecified
 or_unspecified (Some s) = s
 
 -- what the name is specified as by the table
-abbrev pub sort_under : Table → List ℕ → Sort
-sort_under table name = or_unspecified (under table name)
+abbrev pub sort_under : SortTable → List ℕ → Sort
+sort_under table name = or_unspecified (sort_named table name)
 
 -- the first of the specifications that names it decides
 abbrev pub sort_in : List Spec → List ℕ → Sort
@@ -32,19 +32,19 @@ sort_in [] name = sort.Unspecified
 sort_in (s ∷ ss) name = if specified_by s name then specified_as s else sort_in ss name
 
 -- the table says of each name what these specifications say
-abbrev pub Specifies : Table → List Spec → Type 0
+abbrev pub Specifies : SortTable → List Spec → Type 0
 Specifies table ss = (name : List ℕ) → sort_under table name ≡ sort_in ss name
 
 -- the table has these names
-abbrev pub AreNamed : Table → List Named → Type 0
-AreNamed table ns = (name : List ℕ) → is_some (under table name) ≡ is_named_in ns name
+abbrev pub AreNamed : SortTable → List Named → Type 0
+AreNamed table ns = (name : List ℕ) → is_some (sort_named table name) ≡ is_named_in ns name
 
 abbrev pub valued : Bool → Sort → Sort
 valued value s = if value then by_value s else s
 
 -- what is said of the name
-abbrev pub told : Specified → List ℕ → Sort
-told s name = valued (is_some (under s.values name)) (sort_under s.sorts name)
+abbrev pub told_sort : Specified → List ℕ → Sort
+told_sort s name = valued (is_some (sort_named s.values name)) (sort_under s.sorts name)
 
 -- what the parameter of that name is, by the definitions
 abbrev pub parameter_in : Heading → List ℕ → Sort
@@ -52,4 +52,4 @@ parameter_in h name = parameter_by (class_in h.specs name) (is_named_in h.values
 
 -- what is said of each name is what the heading says
 abbrev pub SaysAll : Specified → Heading → Type 0
-SaysAll s h = (name : List ℕ) → told s name ≡ parameter_in h name
+SaysAll s h = (name : List ℕ) → told_sort s name ≡ parameter_in h name

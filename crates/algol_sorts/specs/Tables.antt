@@ -16,9 +16,9 @@ abbrev pub end_of : List ℕ → ℕ
 end_of name = end_after 0 name
 
 -- what a table has under a name
-abbrev pub under : {X : Type 0} → BTreeMap Key X → List ℕ → Option X
-under table name = get_by (λ k. ordering_then (nat_cmp (end_of name) k.end) (slice_cmp nat_cmp name k.bytes.now)) table
+abbrev pub sort_named : {X : Type 0} → BTreeMap Key X → List ℕ → Option X
+sort_named table name = get_by (λ k. ordering_then (nat_cmp (end_of name) k.end) (slice_cmp nat_cmp name k.bytes.now)) table
 
 -- sorts by names
-abbrev pub Table : Type 0
-Table = BTreeMap Key Sort
+abbrev pub SortTable : Type 0
+SortTable = BTreeMap Key Sort

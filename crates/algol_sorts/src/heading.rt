@@ -2,7 +2,7 @@
 
 ghost use Rattle.std.specs.Prelude.{◌≡◌, ℕ, List, OnOk, IfOk, if◌then◌else◌};
 ghost use Rattle.algol_tree.specs.Sorts.{specified_by};
-ghost use Rattle.algol_sorts.specs.Specified.{AreNamed, SaysAll, Specifies, sort_under, specified_as, told};
+ghost use Rattle.algol_sorts.specs.Specified.{AreNamed, SaysAll, Specifies, sort_under, specified_as, told_sort};
 
 use crate::key::{Key, found};
 use crate::sort::Sort;
@@ -86,7 +86,7 @@ impl<'p> Specified<'p> {
 
     /// What the parameter of that name is declared as.
     pub fn sort(&self, name: &'p [u8]) -> Sort
-        ensures { result ≡ told self.now name.now }
+        ensures { result ≡ told_sort self.now name.now }
     {
         let said = self.said(name);
         if found(&self.values, name).is_some() {

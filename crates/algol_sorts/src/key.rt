@@ -1,7 +1,7 @@
 //! Names as keys of tables.
 
 ghost use Rattle.std.specs.Prelude.{◌≡◌, option_copied};
-ghost use Rattle.algol_sorts.specs.Tables.{end_of, under};
+ghost use Rattle.algol_sorts.specs.Tables.{end_of, sort_named};
 
 use std::collections::BTreeMap;
 
@@ -37,7 +37,7 @@ impl<'p> Key<'p> {
 
 /// What a table has under a name.
 pub fn found<'a, 'p, X>(table: &'a BTreeMap<Key<'p>, X>, name: &'p [u8]) -> Option<&'a X>
-    ensures { option_copied result ≡ under table.now name.now }
+    ensures { option_copied result ≡ sort_named table.now name.now }
 {
     table.get(&Key::of(name))
 }

@@ -1,7 +1,7 @@
 //! What a name is declared as.
 
 ghost use Rattle.std.specs.Prelude.{◌≡◌};
-ghost use Rattle.algol_sorts.specs.Sorts.{by_value, is_by_name, is_simple};
+ghost use Rattle.algol_sorts.specs.Sorts.{by_value, sort_is_by_name, sort_is_simple};
 
 use algol_tree::Kind;
 
@@ -31,7 +31,7 @@ pub enum Sort {
 impl Sort {
     /// Whether it is a simple variable or a simple parameter.
     pub fn is_simple(self) -> bool
-        ensures { result ≡ is_simple self }
+        ensures { result ≡ sort_is_simple self }
     {
         match self {
             Sort::Variable(_) => true,
@@ -42,7 +42,7 @@ impl Sort {
 
     /// Whether it is a simple parameter by name.
     pub fn is_by_name(self) -> bool
-        ensures { result ≡ is_by_name self }
+        ensures { result ≡ sort_is_by_name self }
     {
         match self {
             Sort::ByName(_) => true,

@@ -5,13 +5,13 @@ use Rattle.algol_meaning.specs.Rest.{Item, Rest, Answer, done, value, cell, plac
 use Rattle.algol_meaning.specs.Statements.{settle_items}
 use Rattle.algol_meaning.specs.Asks as asks
 use Rattle.algol_meaning.specs.Asks.{Ask, nothing, ask, resume}
-use Rattle.algol_laws.specs.Heads.{is_action}
+use Rattle.algol_laws.specs.Heads.{asks_action}
 use Rattle.algol_laws.proofs.Heads.{is_answer, is_place, items_act, resume_acts}
 use Rattle.algol_laws.proofs.Standing.{asks_place, awaiting_asks}
 use Rattle.algol_standing.proofs.Asking.{Suits}
 
-pub acting : (x : Ask) → is_action x ≡ true → x ≡ nothing → ⊥
-acting x e f = let g : false ≡ true = subst (λ y. is_action y ≡ true) f e in cc
+pub acting : (x : Ask) → asks_action x ≡ true → x ≡ nothing → ⊥
+acting x e f = let g : false ≡ true = subst (λ y. asks_action y ≡ true) f e in cc
 
 none_enters : (x : Ask) → Suits x entered → ⊥
 none_enters asks.nothing s = s

@@ -8,11 +8,11 @@ use Rattle.algol_meaning.specs.Value.{Reference, NameCell, event}
 use Rattle.b67_deeds.specs.Events.{EventState}
 use Rattle.algol_meaning.specs.World.{Instance, or_no_instance, Part, Process, lives, World, instance_at, cell_at}
 use Rattle.algol_meaning.specs.Critical.{own_instances}
-use Rattle.algol_paths.specs.Blocks.{IsSeen, IsSeenAround}
+use Rattle.algol_paths.specs.Blocks.{BlockIsSeen, IsSeenAround}
 use Rattle.algol_paths.specs.Texts.{InExpr, InRest}
 use Rattle.algol_paths.specs.Laws.{KeepsToText}
-use Rattle.algol_standing.specs.Skeleton.{Evaluation, IsEvaluated, Stack, Home, IsIn, NextIn, Owned, SkeletonOk}
-use Rattle.algol_standing.specs.Worlds.{home_of, held_by, stack_of, skeleton, IsStanding, IsOnPath, IsOwn, IsPlaced, outermost, inside, AreListed, IsNameAmong, IsNoBlock, KeepsActual, PartOk, ProcessOk, InstanceOk, IsSound}
+use Rattle.algol_standing.specs.Skeleton.{Evaluation, IsEvaluated, Stack, Home, IsInSkeleton, NextIn, Owned, SkeletonOk}
+use Rattle.algol_standing.specs.Worlds.{home_of, held_by, stack_of, skeleton, IsStanding, IsOnPath, IsOwn, PartIsPlaced, outermost, inside, WaitersAreListed, IsNameAmong, IsNoBlock, KeepsActual, PartOk, ProcessOk, InstanceOk, IsSound}
 use Rattle.algol_standing.proofs.Growth.{Grows, stands_up, path_up}
 use Rattle.algol_standing.proofs.Pairs.{map_back, map_forth, map_length, AllPairs, numbered_back, numbered_forth, pairs_length, stack_back}
 
@@ -22,7 +22,7 @@ pub record InstanceAlike (x y : Instance) : Type 0 where
   pub parent : y.parent ≡ x.parent
   pub process : y.process ≡ x.process
   pub left : y.left ≡ x.left
-  pub refs : (r : ℕ) → IsIn (home_of y).refs r → IsIn (home_of x).refs r
+  pub refs : (r : ℕ) → IsInSkeleton (home_of y).refs r → IsInSkeleton (home_of x).refs r
   pub names : (n : NameCell) → IsNameAmong y.cells n → IsNameAmong x.cells n
 
 -- A process, which was x, is y: it has the same instances.
@@ -68,7 +68,7 @@ grown_by w v f (suc k) z e =
     record {
       stack = stack_of n.0;
       is = map_forth stack_of v.processes k n.0 n.1;
-      inside = λ b i. subst (λ o. IsIn o b) (sym n.2) (subst (λ (s : Stack). IsIn s.own b) m.2 i);
+      inside = λ b i. subst (λ o. IsInSkeleton o b) (sym n.2) (subst (λ (s : Stack). IsInSkeleton s.own b) m.2 i);
       next = λ a b i.
           subst (λ c. NextIn c (own_instances (n.0).todo) a b) (sym n.3)
           (subst (λ o. NextIn (m.0).critical o a b) (sym n.2) (subst (λ (s : Stack). NextIn s.critical s.own a b) m.2 i));
@@ -123,12 +123,12 @@ module _ (w v : World) (instances : AllPairs InstanceAlike w.instances v.instanc
           (home_of n.0, map_forth home_of v.instances k n.0 n.1, n.2.process ∙ ap (λ (g : Home). g.process) (sym m.2))
 
   -- what an instance refers to, it referred to
-  referred : (i : ℕ) (h : Home) (r : ℕ) → slice_get (skeleton v).homes i ≡ Some h → IsIn h.refs r → (g : Home) × (slice_get (skeleton w).homes i ≡ Some g) × IsIn g.refs r
+  referred : (i : ℕ) (h : Home) (r : ℕ) → slice_get (skeleton v).homes i ≡ Some h → IsInSkeleton h.refs r → (g : Home) × (slice_get (skeleton w).homes i ≡ Some g) × IsInSkeleton g.refs r
   referred zero h r e n = (h, e, n)
   referred (suc k) h r e n =
       let m = map_back home_of v.instances k h e in
       let o = numbered_back InstanceAlike w.instances v.instances (suc k) m.0 instances m.1 in
-      (home_of o.0, map_forth home_of w.instances k o.0 o.1, o.2.refs r (subst (λ (g : Home). IsIn g.refs r) m.2 n))
+      (home_of o.0, map_forth home_of w.instances k o.0 o.1, o.2.refs r (subst (λ (g : Home). IsInSkeleton g.refs r) m.2 n))
 
   same_length : length (skeleton v).homes ≡ length (skeleton w).homes
   same_length = ap suc (map_length home_of v.instances ∙ pairs_length InstanceAlike w.instances v.instances instances ∙ sym (map_length home_of w.instances))
@@ -136,7 +136,7 @@ module _ (w v : World) (instances : AllPairs InstanceAlike w.instances v.instanc
   -- what parts hold lies on the path
   abbrev pub HoldsOnPath : Type 0
   HoldsOnPath =
-      (k : ℕ) (q : Process) (e : Evaluation) → numbered v.processes k ≡ Some q → IsEvaluated (held_by q.todo) e → IsIn (own_instances q.todo) e.over × IsOnPath w e.over e.within
+      (k : ℕ) (q : Process) (e : Evaluation) → numbered v.processes k ≡ Some q → IsEvaluated (held_by q.todo) e → IsInSkeleton (own_instances q.todo) e.over × IsOnPath w e.over e.within
 
   -- each stack was one, with the same instances
   was : (k : ℕ) (z : Stack) → slice_get (skeleton v).stacks k ≡ Some z → (s : Stack) × (slice_get (skeleton w).stacks k ≡ Some s) × (z.own ≡ s.own) × (z.critical ≡ s.critical) × (z.live ≡ s.live)
@@ -162,15 +162,15 @@ module _ (w v : World) (instances : AllPairs InstanceAlike w.instances v.instanc
         holds = λ k z c e live cr. let s = was k z e in stands_on c (ok.holds k s.0 c s.1 (sym s.4 ∙ live) (sym s.3 ∙ cr));
       }
     where
-      evaluates : (k : ℕ) (z : Stack) (e : Evaluation) → slice_get (skeleton v).stacks k ≡ Some z → IsEvaluated z.evaluations e → IsIn z.own e.over × IsOnPath v e.over e.within
+      evaluates : (k : ℕ) (z : Stack) (e : Evaluation) → slice_get (skeleton v).stacks k ≡ Some z → IsEvaluated z.evaluations e → IsInSkeleton z.own e.over × IsOnPath v e.over e.within
       evaluates k z e g n = by (stack_back v k z g)
         where
           by : ((z.own ≡ []) × (z.evaluations ≡ []) × (z.live ≡ false)) ⊎ ((q : Process) × (numbered v.processes k ≡ Some q) × (z ≡ stack_of q)) →
-              IsIn z.own e.over × IsOnPath v e.over e.within
+              IsInSkeleton z.own e.over × IsOnPath v e.over e.within
           by (◌⊎◌.inl f) = absurd (subst (λ es. IsEvaluated es e) f.1 n)
           by (◌⊎◌.inr f) =
               let o = held k f.0 e f.1 (subst (λ (s : Stack). IsEvaluated s.evaluations e) f.2 n) in
-              (subst (λ (s : Stack). IsIn s.own e.over) (sym f.2) o.0, path_on e.over e.within o.1)
+              (subst (λ (s : Stack). IsInSkeleton s.own e.over) (sym f.2) o.0, path_on e.over e.within o.1)
 
   -- ---- texts, places in texts, actuals
 
@@ -178,7 +178,7 @@ module _ (w v : World) (instances : AllPairs InstanceAlike w.instances v.instanc
     actual_too : (n : NameCell) → KeepsActual sc Whole w n → KeepsActual sc Whole v n
     actual_too n k =
         record {
-          seen = subst (λ j. InExpr (IsSeen sc j) n.actual) (sym (block_same n.instance)) k.seen;
+          seen = subst (λ j. InExpr (BlockIsSeen sc j) n.actual) (sym (block_same n.instance)) k.seen;
           narrow = by k.narrow;
         }
       where
@@ -210,7 +210,7 @@ module _ (w v : World) (instances : AllPairs InstanceAlike w.instances v.instanc
           few = k.few;
         }
 
-    placed_too : (x y : Instance) → InstanceAlike x y → IsPlaced sc w x → IsPlaced sc v y
+    placed_too : (x y : Instance) → InstanceAlike x y → PartIsPlaced sc w x → PartIsPlaced sc v y
     placed_too x y f (outermost e a) = outermost (f.parent ∙ e) (ap (λ j. around sc.blocks j) f.block ∙ a)
     placed_too x y f (inside e a) = inside (subst (λ p. 1 ≤ p) (sym f.parent) e) (ap (λ j. around sc.blocks j) f.block ∙ a ∙ sym outer)
       where
@@ -231,7 +231,7 @@ module _ (w v : World) (instances : AllPairs InstanceAlike w.instances v.instanc
         }
 
     pub alike_ok : IsSound sc Whole w → ((k : ℕ) (q : Process) → numbered v.processes k ≡ Some q → ProcessOk sc Whole w q) → HoldsOnPath →
-        ((r : Reference) (e : EventState) → IsStanding w r.instance → cell_at v r ≡ event e → AreListed v r e) → IsSound sc Whole v
+        ((r : Reference) (e : EventState) → IsStanding w r.instance → cell_at v r ≡ event e → WaitersAreListed v r e) → IsSound sc Whole v
     alike_ok ok each held listed =
         record {
           skeleton_ok = skeleton_alike ok.skeleton_ok held;

@@ -2,7 +2,7 @@
 use Rattle.std.proofs.Common.{◌≡◌, [], ◌∷◌, true, refl, sym, ◌∙◌}
 use Rattle.algol_meaning.specs.Value.{Reference}
 use Rattle.algol_meaning.specs.World.{State, able, waits_for, procures, waits_any, ended, lives}
-use Rattle.algol_meaning.specs.Events.{is_among, list_in}
+use Rattle.algol_meaning.specs.Events.{reference_is_among, list_in}
 use Rattle.algol_standing.specs.Worlds.{Awaits, IsAwaited}
 use Rattle.algol_standing.proofs.EventCells.{same_self, among_first}
 
@@ -35,7 +35,7 @@ awaits_lives (procures t) r n = absurd n
 awaits_lives ended r n = absurd n
 
 -- two events: both are of its list
-pub awaits_two : (s : State) (r t : Reference) → (r ≡ t → ⊥) → Awaits s r → Awaits s t → is_among (list_in s) t ≡ true
+pub awaits_two : (s : State) (r t : Reference) → (r ≡ t → ⊥) → Awaits s r → Awaits s t → reference_is_among (list_in s) t ≡ true
 awaits_two (waits_for u) r t other m n = absurd (other (sym m ∙ n))
 awaits_two (waits_any rs) r t other m n = n
 awaits_two able r t other m n = absurd m

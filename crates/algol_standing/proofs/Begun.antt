@@ -9,11 +9,11 @@ use Rattle.algol_meaning.specs.Rest.{Item}
 use Rattle.algol_meaning.specs.World.{Instance, or_no_instance, instance_at, cell_in, cell_at, Part, Process, State, able, procures, ended, or_no_process, process_at, lives, World}
 use Rattle.algol_meaning.specs.Critical.{referred_by, referred_by_task}
 use Rattle.algol_meaning.specs.Choice.{next_process}
-use Rattle.algol_paths.specs.Blocks.{IsSeen, IsSeenAround, IsInner}
+use Rattle.algol_paths.specs.Blocks.{BlockIsSeen, IsSeenAround, IsInner}
 use Rattle.algol_paths.specs.Laws.{KeepsToText}
 use Rattle.algol_paths.proofs.Statements.{declared_keeps}
-use Rattle.algol_standing.specs.Skeleton.{IsIn, SkeletonOk}
-use Rattle.algol_standing.specs.Worlds.{held_in_rest, newest_own, stack_of, skeleton, IsStanding, IsOnPath, IsOwn, IsAmong, inside, Awaits, AreListed, IsWhole, PartOk, ProcessOk, InstanceOk, IsSound}
+use Rattle.algol_standing.specs.Skeleton.{IsInSkeleton, SkeletonOk}
+use Rattle.algol_standing.specs.Worlds.{held_in_rest, newest_own, stack_of, skeleton, IsStanding, IsOnPath, IsOwn, IsAmongParts, inside, Awaits, WaitersAreListed, IsWholeInstance, PartOk, ProcessOk, InstanceOk, IsSound}
 use Rattle.algol_calls.specs.Texts.{KeepToTexts}
 use Rattle.algol_standing.proofs.Calls.{IsNoEvent}
 use Rattle.algol_standing.proofs.Awaiting.{awaits_ended}
@@ -37,11 +37,11 @@ ended_procures r e = cc
 some_inner : {a b : ℕ} → Some a ≡ Some b → a ≡ b
 some_inner e = cc
 
-module _ (sc : Scopes) (texts : KeepToTexts sc) (w : World) (ok : IsSound sc IsWhole w) (p : ℕ) (q : Process) (part : Part) (outer : List Part) (is : numbered w.processes p ≡ Some q)
+module _ (sc : Scopes) (texts : KeepToTexts sc) (w : World) (ok : IsSound sc IsWholeInstance w) (p : ℕ) (q : Process) (part : Part) (outer : List Part) (is : numbered w.processes p ≡ Some q)
     (todo : q.todo ≡ part ∷ outer) (able_is : q.state ≡ able) (j parent : ℕ) (cells : List Cell) (task : Option Reference) (known : j < length sc.blocks)
     (around_is : around sc.blocks j ≡ (instance_at w parent).block ∷ around sc.blocks ((instance_at w parent).block)) (parent_some : 1 ≤ parent)
-    (parent_path : IsOnPath w (newest_own (part ∷ outer)) parent) (parent_whole : IsWhole w parent) (cells_held : AreAll (CellOk sc IsWhole w ok (newest_own (part ∷ outer))) cells)
-    (no_events : AreAll IsNoEvent cells) (task_path : (x : ℕ) → IsIn (referred_by_task task) x → IsOnPath w (newest_own (part ∷ outer)) x) where
+    (parent_path : IsOnPath w (newest_own (part ∷ outer)) parent) (parent_whole : IsWholeInstance w parent) (cells_held : AreAll (CellOk sc IsWholeInstance w ok (newest_own (part ∷ outer))) cells)
+    (no_events : AreAll IsNoEvent cells) (task_path : (x : ℕ) → IsInSkeleton (referred_by_task task) x → IsOnPath w (newest_own (part ∷ outer)) x) where
   abbrev top : ℕ
   top = stacked.top sc texts w ok p q part outer is todo able_is j parent cells task known around_is parent_some parent_path parent_whole cells_held no_events task_path
 
@@ -84,7 +84,7 @@ module _ (sc : Scopes) (texts : KeepToTexts sc) (w : World) (ok : IsSound sc IsW
   critical_stands : IsStanding w critical
   critical_stands = stacked.critical_stands sc texts w ok p q part outer is todo able_is j parent cells task known around_is parent_some parent_path parent_whole cells_held no_events task_path
 
-  leads : (x : ℕ) → IsIn wanted x → IsOnPath w top x → IsOnPath w critical x
+  leads : (x : ℕ) → IsInSkeleton wanted x → IsOnPath w top x → IsOnPath w critical x
   leads = stacked.leads sc texts w ok p q part outer is todo able_is j parent cells task known around_is parent_some parent_path parent_whole cells_held no_events task_path
 
   v_ok : SkeletonOk (skeleton v)
@@ -114,15 +114,15 @@ module _ (sc : Scopes) (texts : KeepToTexts sc) (w : World) (ok : IsSound sc IsW
   blocks : (i : ℕ) → i < length (skeleton w).homes → (instance_at v i).block ≡ (instance_at w i).block
   blocks = stacked.blocks sc texts w ok p q part outer is todo able_is j parent cells task known around_is parent_some parent_path parent_whole cells_held no_events task_path
 
-  whole : (i : ℕ) → IsStanding v i → IsWhole w i → IsWhole v i
+  whole : (i : ℕ) → IsStanding v i → IsWholeInstance w i → IsWholeInstance v i
   whole = stacked.whole sc texts w ok p q part outer is todo able_is j parent cells task known around_is parent_some parent_path parent_whole cells_held no_events task_path
 
   -- ---- processes
 
-  inner_ok : PartOk sc IsWhole v inner
+  inner_ok : PartOk sc IsWholeInstance v inner
   inner_ok =
       record {
-        text = subst (λ k. KeepsToText sc k inner.rest) (sym block_is) (declared_keeps (IsSeen sc j) (IsInner sc j) (IsSeenAround sc j) sc items (texts j known));
+        text = subst (λ k. KeepsToText sc k inner.rest) (sym block_is) (declared_keeps (BlockIsSeen sc j) (IsInner sc j) (IsSeenAround sc j) sc items (texts j known));
         narrow = λ e. false_true e;
         names = λ m n. absurd (plain_names (held_in_rest inner.rest) m (items_hold IsPlain simple_plain false sc items).0 n);
       }
@@ -130,7 +130,7 @@ module _ (sc : Scopes) (texts : KeepToTexts sc) (w : World) (ok : IsSound sc IsW
       block_is : (instance_at v number).block ≡ j
       block_is = ap (λ o. (or_no_instance o).block) new_at
 
-  starter_ok : ProcessOk sc IsWhole v starter
+  starter_ok : ProcessOk sc IsWholeInstance v starter
   starter_ok =
       record {
         parts = parts;
@@ -140,16 +140,16 @@ module _ (sc : Scopes) (texts : KeepToTexts sc) (w : World) (ok : IsSound sc IsW
         few = (omega (arith), omega (arith));
       }
     where
-      parts : (x : Part) → IsAmong (inner ∷ []) x → PartOk sc IsWhole v x
-      parts x (◌⊎◌.inl e) = subst (λ y. PartOk sc IsWhole v y) e inner_ok
+      parts : (x : Part) → IsAmongParts (inner ∷ []) x → PartOk sc IsWholeInstance v x
+      parts x (◌⊎◌.inl e) = subst (λ y. PartOk sc IsWholeInstance v y) e inner_ok
       parts x (◌⊎◌.inr n) = absurd n
 
-  process_then : (k : ℕ) (y : Process) → numbered v.processes k ≡ Some y → ProcessOk sc IsWhole v y
+  process_then : (k : ℕ) (y : Process) → numbered v.processes k ≡ Some y → ProcessOk sc IsWholeInstance v y
   process_then k y e = by (numbered_last w.processes starter k y e)
     where
-      by : (numbered w.processes k ≡ Some y) ⊎ ((k ≡ suc (length w.processes)) × (y ≡ starter)) → ProcessOk sc IsWhole v y
+      by : (numbered w.processes k ≡ Some y) ⊎ ((k ≡ suc (length w.processes)) × (y ≡ starter)) → ProcessOk sc IsWholeInstance v y
       by (◌⊎◌.inl f) = unmoved_kept sc w v ok v_ok paths blocks whole k y y f e (unmoved_self y)
-      by (◌⊎◌.inr f) = subst (λ z. ProcessOk sc IsWhole v z) (sym f.1) starter_ok
+      by (◌⊎◌.inr f) = subst (λ z. ProcessOk sc IsWholeInstance v z) (sym f.1) starter_ok
 
   older_then : (k c : ℕ) (y : Process) → numbered v.processes k ≡ Some y → lives y.state ≡ true → y.critical ≡ Some c → (i : ℕ) → IsOwn y.todo i → c < i
   older_then k c y e live cr i n = by (numbered_last w.processes starter k y e)
@@ -194,7 +194,7 @@ module _ (sc : Scopes) (texts : KeepToTexts sc) (w : World) (ok : IsSound sc IsW
     where
       by : ((critical_stands.stack.own ≡ []) × (critical_stands.stack.evaluations ≡ []) × (critical_stands.stack.live ≡ false)) ⊎
           ((y : Process) × (numbered w.processes critical_stands.number ≡ Some y) × (critical_stands.stack ≡ stack_of y)) → critical_stands.number ≤ length w.processes
-      by (◌⊎◌.inl f) = absurd (subst (λ xs. IsIn xs critical) f.0 critical_stands.inside)
+      by (◌⊎◌.inl f) = absurd (subst (λ xs. IsInSkeleton xs critical) f.0 critical_stands.inside)
       by (◌⊎◌.inr f) = numbered_small w.processes critical_stands.number f.0 f.1
 
   criticals_then : (k c : ℕ) (y : Process) → numbered v.processes k ≡ Some y → y.critical ≡ Some c → c ≤ length w.instances
@@ -217,7 +217,7 @@ module _ (sc : Scopes) (texts : KeepToTexts sc) (w : World) (ok : IsSound sc IsW
   tasks_then : (k c : ℕ) (y : Process) (r : Reference) → numbered v.processes k ≡ Some y → lives y.state ≡ true → y.critical ≡ Some c → y.task ≡ Some r → IsOnPath v c r.instance
   tasks_then k c y r e live cr t = by (numbered_last w.processes starter k y e)
     where
-      of_task : (o : Option Reference) → o ≡ Some r → IsIn (referred_by_task o) r.instance
+      of_task : (o : Option Reference) → o ≡ Some r → IsInSkeleton (referred_by_task o) r.instance
       of_task None f = cc
       of_task (Some s) f = ◌⊎◌.inl (ap (λ (x : Reference). x.instance) (same f))
         where
@@ -240,7 +240,7 @@ module _ (sc : Scopes) (texts : KeepToTexts sc) (w : World) (ok : IsSound sc IsW
   parent_stands : IsStanding w parent
   parent_stands = stands_path (skeleton w) ok.skeleton_ok top parent top_here parent_path
 
-  new_ok : InstanceOk sc IsWhole v number new
+  new_ok : InstanceOk sc IsWholeInstance v number new
   new_ok =
       record {
         left = (λ e. new_stands, λ st. refl);
@@ -249,14 +249,14 @@ module _ (sc : Scopes) (texts : KeepToTexts sc) (w : World) (ok : IsSound sc IsW
         whole = λ st h. whole parent (stands_on parent parent_stands) parent_whole;
         actuals = λ m st n.
             let k = fresh_names (block_numbered sc.blocks j) cells m n in
-            let s = stands_path (skeleton w) ok.skeleton_ok top m.instance top_here (all_refs sc IsWhole w ok top cells cells_held m.instance (name_held cells m k)) in
-            actual_kept sc w v ok v_ok paths blocks whole m (s, stands_on m.instance s) (all_names sc IsWhole w ok top cells cells_held m k);
+            let s = stands_path (skeleton w) ok.skeleton_ok top m.instance top_here (all_refs sc IsWholeInstance w ok top cells cells_held m.instance (name_held cells m k)) in
+            actual_kept sc w v ok v_ok paths blocks whole m (s, stands_on m.instance s) (all_names sc IsWholeInstance w ok top cells cells_held m k);
       }
 
-  instance_then : (i : ℕ) (y : Instance) → numbered v.instances i ≡ Some y → InstanceOk sc IsWhole v i y
+  instance_then : (i : ℕ) (y : Instance) → numbered v.instances i ≡ Some y → InstanceOk sc IsWholeInstance v i y
   instance_then i y e = by (numbered_last w.instances new i y e)
     where
-      old : numbered w.instances i ≡ Some y → InstanceOk sc IsWhole v i y
+      old : numbered w.instances i ≡ Some y → InstanceOk sc IsWholeInstance v i y
       old f =
           instance_kept sc w v ok v_ok paths blocks whole i y y f refl refl refl
           (λ g. stands_on i ((ok.instances i y f).left.0 g), λ st. (ok.instances i y f).left.1 (still st)) still
@@ -268,9 +268,9 @@ module _ (sc : Scopes) (texts : KeepToTexts sc) (w : World) (ok : IsSound sc IsW
               which (◌⊎◌.inl s) = s
               which (◌⊎◌.inr g) = absurd (let h = numbered_small w.instances i y f in omega (arith, g, h))
 
-      by : (numbered w.instances i ≡ Some y) ⊎ ((i ≡ suc (length w.instances)) × (y ≡ new)) → InstanceOk sc IsWhole v i y
+      by : (numbered w.instances i ≡ Some y) ⊎ ((i ≡ suc (length w.instances)) × (y ≡ new)) → InstanceOk sc IsWholeInstance v i y
       by (◌⊎◌.inl f) = old f
-      by (◌⊎◌.inr f) = subst (λ k. InstanceOk sc IsWhole v k y) (number_next ∙ sym f.0) (subst (λ z. InstanceOk sc IsWhole v number z) (sym f.1) new_ok)
+      by (◌⊎◌.inr f) = subst (λ k. InstanceOk sc IsWholeInstance v k y) (number_next ∙ sym f.0) (subst (λ z. InstanceOk sc IsWholeInstance v number z) (sym f.1) new_ok)
 
   -- ---- events
 
@@ -281,7 +281,7 @@ module _ (sc : Scopes) (texts : KeepToTexts sc) (w : World) (ok : IsSound sc IsW
       by None f = absurd (other (ap (λ o. (or_no_process o).state) (sym f) ∙ e))
       by (Some y) f = ap (λ o. (or_no_process o).state) (process_before k y f ∙ sym f) ∙ e
 
-  listed_before : (r : Reference) (e : EventState) → AreListed w r e → AreListed v r e
+  listed_before : (r : Reference) (e : EventState) → WaitersAreListed w r e → WaitersAreListed v r e
   listed_before r e l =
       record {
         waiters = λ k n.
@@ -291,10 +291,10 @@ module _ (sc : Scopes) (texts : KeepToTexts sc) (w : World) (ok : IsSound sc IsW
         once_waiting = l.once_waiting;
       }
 
-  listed_then : (r : Reference) (e : EventState) → IsStanding v r.instance → cell_at v r ≡ event e → AreListed v r e
+  listed_then : (r : Reference) (e : EventState) → IsStanding v r.instance → cell_at v r ≡ event e → WaitersAreListed v r e
   listed_then r e st f = by (stood r.instance st)
     where
-      by : IsStanding w r.instance ⊎ (r.instance ≡ number) → AreListed v r e
+      by : IsStanding w r.instance ⊎ (r.instance ≡ number) → WaitersAreListed v r e
       by (◌⊎◌.inl s) =
           let small = stands_small (skeleton w) ok.skeleton_ok r.instance s in
           let same = old_at r.instance (let n = number_is in omega (arith, small, n)) in
@@ -303,7 +303,7 @@ module _ (sc : Scopes) (texts : KeepToTexts sc) (w : World) (ok : IsSound sc IsW
           absurd (fresh_no_event (block_numbered sc.blocks j) cells no_events r.name e
           (ap (λ o. cell_in ((or_no_instance o).cells) r.name) (sym new_at) ∙ (ap (λ i. cell_in ((instance_at v i).cells) r.name) (sym g) ∙ f)))
 
-  pub started_ok : IsSound sc IsWhole v
+  pub started_ok : IsSound sc IsWholeInstance v
   started_ok =
       record {
         skeleton_ok = v_ok;

@@ -7,11 +7,11 @@ use Rattle.algol_tree.specs.Scopes.{Scopes}
 use Rattle.algol_meaning.specs.Value.{Reference, NameCell, Cell, simple, event, array, named, reference}
 use Rattle.algol_meaning.specs.World.{NamedCell, Instance, instance_at, Part, Process, State, able, waits_for, procures, waits_any, ended, lives, World}
 use Rattle.algol_meaning.specs.Critical.{referred_in, referred_by}
-use Rattle.algol_paths.specs.Blocks.{IsSeen, IsSeenAround}
+use Rattle.algol_paths.specs.Blocks.{BlockIsSeen, IsSeenAround}
 use Rattle.algol_paths.specs.Texts.{InExpr, InRest}
 use Rattle.algol_paths.specs.Laws.{KeepsToText}
-use Rattle.algol_standing.specs.Skeleton.{IsIn, SkeletonOk}
-use Rattle.algol_standing.specs.Worlds.{parent_in, referred_in_cells, home_of, held_in_rest, newest_own, stack_of, skeleton, IsStanding, IsOnPath, IsAmong, IsPlaced, outermost, inside, IsAwaited, IsNameIn, IsNameAmong, IsNameHeld, IsNoBlock, HasHead, IsWhole, KeepsActual, PartOk, ProcessOk, InstanceOk, IsSound}
+use Rattle.algol_standing.specs.Skeleton.{IsInSkeleton, SkeletonOk}
+use Rattle.algol_standing.specs.Worlds.{parent_in, referred_in_cells, home_of, held_in_rest, newest_own, stack_of, skeleton, IsStanding, IsOnPath, IsAmongParts, PartIsPlaced, outermost, inside, IsAwaited, IsNameIn, IsNameAmong, IsNameHeld, IsNoBlock, HasHead, IsWholeInstance, KeepsActual, PartOk, ProcessOk, InstanceOk, IsSound}
 use Rattle.algol_standing.proofs.Standing.{stands_path, stands_small}
 use Rattle.algol_standing.proofs.Pairs.{home_forth, stack_forth}
 use Rattle.algol_standing.proofs.Seen.{in_front, in_back, parent_among}
@@ -20,19 +20,19 @@ use Rattle.algol_standing.proofs.Unmoved.{Unmoved, unmoved_ok}
 
 -- ---- a name refers to its instance
 
-name_in : (c : Cell) (n : NameCell) → IsNameIn c n → IsIn (referred_in c) n.instance
+name_in : (c : Cell) (n : NameCell) → IsNameIn c n → IsInSkeleton (referred_in c) n.instance
 name_in (named m) n e = ◌⊎◌.inl (ap (λ (k : NameCell). k.instance) e)
 name_in (simple v) n e = absurd e
 name_in (event d) n e = absurd e
 name_in (array a) n e = absurd e
 name_in (reference r) n e = absurd e
 
-pub name_among : (cells : List NamedCell) (n : NameCell) → IsNameAmong cells n → IsIn (referred_in_cells cells) n.instance
+pub name_among : (cells : List NamedCell) (n : NameCell) → IsNameAmong cells n → IsInSkeleton (referred_in_cells cells) n.instance
 name_among [] n m = absurd m
 name_among (c ∷ cells) n (◌⊎◌.inl m) = in_front (referred_in c.cell) (referred_in_cells cells) n.instance (name_in c.cell n m)
 name_among (c ∷ cells) n (◌⊎◌.inr m) = in_back (referred_in c.cell) (referred_in_cells cells) n.instance (name_among cells n m)
 
-pub name_held : (cells : List Cell) (n : NameCell) → IsNameHeld cells n → IsIn (referred_by cells) n.instance
+pub name_held : (cells : List Cell) (n : NameCell) → IsNameHeld cells n → IsInSkeleton (referred_by cells) n.instance
 name_held [] n m = absurd m
 name_held (c ∷ cells) n (◌⊎◌.inl m) = in_front (referred_in c) (referred_by cells) n.instance (name_in c n m)
 name_held (c ∷ cells) n (◌⊎◌.inr m) = in_back (referred_in c) (referred_by cells) n.instance (name_held cells n m)
@@ -44,9 +44,9 @@ awaited_lives (procures t) r n = refl
 awaited_lives (waits_any rs) r n = refl
 awaited_lives ended r n = absurd n
 
-module _ (sc : Scopes) (w v : World) (ok : IsSound sc IsWhole w) (after : SkeletonOk (skeleton v))
+module _ (sc : Scopes) (w v : World) (ok : IsSound sc IsWholeInstance w) (after : SkeletonOk (skeleton v))
     (paths : (a b : ℕ) → IsStanding w a → IsStanding v a → IsOnPath w a b → IsOnPath v a b)
-    (blocks : (i : ℕ) → i < length (skeleton w).homes → (instance_at v i).block ≡ (instance_at w i).block) (whole : (i : ℕ) → IsStanding v i → IsWhole w i → IsWhole v i) where
+    (blocks : (i : ℕ) → i < length (skeleton w).homes → (instance_at v i).block ≡ (instance_at w i).block) (whole : (i : ℕ) → IsStanding v i → IsWholeInstance w i → IsWholeInstance v i) where
   abbrev pub InBoth : ℕ → Type 0
   InBoth i = IsStanding w i × IsStanding v i
 
@@ -55,19 +55,19 @@ module _ (sc : Scopes) (w v : World) (ok : IsSound sc IsWhole w) (after : Skelet
 
   -- ---- actuals and parts
 
-  pub actual_kept : (n : NameCell) → InBoth n.instance → KeepsActual sc IsWhole w n → KeepsActual sc IsWhole v n
+  pub actual_kept : (n : NameCell) → InBoth n.instance → KeepsActual sc IsWholeInstance w n → KeepsActual sc IsWholeInstance v n
   actual_kept n b k =
       record {
-        seen = subst (λ j. InExpr (IsSeen sc j) n.actual) (sym (block_kept n.instance b.0)) k.seen;
+        seen = subst (λ j. InExpr (BlockIsSeen sc j) n.actual) (sym (block_kept n.instance b.0)) k.seen;
         narrow = by k.narrow;
       }
     where
-      by : IsWhole w n.instance ⊎ InExpr (IsSeenAround sc ((instance_at w n.instance).block)) n.actual →
-          IsWhole v n.instance ⊎ InExpr (IsSeenAround sc ((instance_at v n.instance).block)) n.actual
+      by : IsWholeInstance w n.instance ⊎ InExpr (IsSeenAround sc ((instance_at w n.instance).block)) n.actual →
+          IsWholeInstance v n.instance ⊎ InExpr (IsSeenAround sc ((instance_at v n.instance).block)) n.actual
       by (◌⊎◌.inl f) = ◌⊎◌.inl (whole n.instance b.1 f)
       by (◌⊎◌.inr f) = ◌⊎◌.inr (subst (λ j. InExpr (IsSeenAround sc j) n.actual) (sym (block_kept n.instance b.0)) f)
 
-  pub part_kept : (x : Part) → ((i : ℕ) → IsIn (x.instance ∷ referred_by (held_in_rest x.rest)) i → InBoth i) → PartOk sc IsWhole w x → PartOk sc IsWhole v x
+  pub part_kept : (x : Part) → ((i : ℕ) → IsInSkeleton (x.instance ∷ referred_by (held_in_rest x.rest)) i → InBoth i) → PartOk sc IsWholeInstance w x → PartOk sc IsWholeInstance v x
   part_kept x b k =
       record {
         text = subst (λ j. KeepsToText sc j x.rest) (sym same) k.text;
@@ -81,14 +81,14 @@ module _ (sc : Scopes) (w v : World) (ok : IsSound sc IsWhole w) (after : Skelet
       same : (instance_at v x.instance).block ≡ (instance_at w x.instance).block
       same = block_kept x.instance here.0
 
-      by : IsWhole w x.instance ⊎ InRest (IsSeenAround sc ((instance_at w x.instance).block)) IsNoBlock (IsSeenAround sc ((instance_at w x.instance).block)) x.rest →
-          IsWhole v x.instance ⊎ InRest (IsSeenAround sc ((instance_at v x.instance).block)) IsNoBlock (IsSeenAround sc ((instance_at v x.instance).block)) x.rest
+      by : IsWholeInstance w x.instance ⊎ InRest (IsSeenAround sc ((instance_at w x.instance).block)) IsNoBlock (IsSeenAround sc ((instance_at w x.instance).block)) x.rest →
+          IsWholeInstance v x.instance ⊎ InRest (IsSeenAround sc ((instance_at v x.instance).block)) IsNoBlock (IsSeenAround sc ((instance_at v x.instance).block)) x.rest
       by (◌⊎◌.inl f) = ◌⊎◌.inl (whole x.instance here.1 f)
       by (◌⊎◌.inr f) = ◌⊎◌.inr (subst (λ j. InRest (IsSeenAround sc j) IsNoBlock (IsSeenAround sc j) x.rest) (sym same) f)
 
   -- ---- processes
 
-  pub unmoved_kept : (k : ℕ) (x y : Process) → numbered w.processes k ≡ Some x → numbered v.processes k ≡ Some y → Unmoved x y → ProcessOk sc IsWhole v y
+  pub unmoved_kept : (k : ℕ) (x y : Process) → numbered w.processes k ≡ Some x → numbered v.processes k ≡ Some y → Unmoved x y → ProcessOk sc IsWholeInstance v y
   unmoved_kept k x y e g f =
       record {
         parts = λ part n. part_kept part (λ i m. both part n i m) (before.parts part n);
@@ -98,11 +98,11 @@ module _ (sc : Scopes) (w v : World) (ok : IsSound sc IsWhole w) (after : Skelet
         few = before.few;
       }
     where
-      before : ProcessOk sc IsWhole w y
-      before = unmoved_ok sc IsWhole w x y f (ok.processes k x e)
+      before : ProcessOk sc IsWholeInstance w y
+      before = unmoved_ok sc IsWholeInstance w x y f (ok.processes k x e)
 
-      both : (part : Part) → IsAmong y.todo part → (i : ℕ) → IsIn (part.instance ∷ referred_by (held_in_rest part.rest)) i → InBoth i
-      both part n i m = (part_stands_in w ok.skeleton_ok k x part i e (subst (λ ps. IsAmong ps part) f.todo n) m, part_stands_in v after k y part i g n m)
+      both : (part : Part) → IsAmongParts y.todo part → (i : ℕ) → IsInSkeleton (part.instance ∷ referred_by (held_in_rest part.rest)) i → InBoth i
+      both part n i m = (part_stands_in w ok.skeleton_ok k x part i e (subst (λ ps. IsAmongParts ps part) f.todo n) m, part_stands_in v after k y part i g n m)
 
       awaited : (r : Reference) → IsAwaited y.state r → HasHead y.todo → IsOnPath v (newest_own y.todo) r.instance
       awaited r n head =
@@ -121,7 +121,7 @@ module _ (sc : Scopes) (w v : World) (ok : IsSound sc IsWhole w) (after : Skelet
   -- ---- instances
 
   pub instance_kept : (i : ℕ) (x y : Instance) → numbered w.instances i ≡ Some x → y.block ≡ x.block → y.parent ≡ x.parent → y.cells ≡ x.cells →
-      ((y.left ≡ false) ↔ IsStanding v i) → (IsStanding v i → IsStanding w i) → InstanceOk sc IsWhole v i y
+      ((y.left ≡ false) ↔ IsStanding v i) → (IsStanding v i → IsStanding w i) → InstanceOk sc IsWholeInstance v i y
   instance_kept i x y e block_is parent_is cells_are left_is stood =
       record {
         left = left_is;
@@ -129,28 +129,28 @@ module _ (sc : Scopes) (w v : World) (ok : IsSound sc IsWhole w) (after : Skelet
         placed = placed old.placed;
         whole = λ st h.
             let g : 1 ≤ x.parent = subst (λ j. 1 ≤ j) parent_is h in
-            subst (λ j. IsWhole v j) (sym parent_is) (whole x.parent (leads st x.parent (parent_among sc IsWhole w ok x.parent (referred_in_cells x.cells) g)).1 (old.whole (stood st) g));
+            subst (λ j. IsWholeInstance v j) (sym parent_is) (whole x.parent (leads st x.parent (parent_among sc IsWholeInstance w ok x.parent (referred_in_cells x.cells) g)).1 (old.whole (stood st) g));
         actuals = λ n st m.
             let named_here : IsNameAmong x.cells n = subst (λ cs. IsNameAmong cs n) cells_are m in
             let at = in_back (parent_in x.parent) (referred_in_cells x.cells) n.instance (name_among x.cells n named_here) in
             actual_kept n (leads st n.instance at) (old.actuals n (stood st) named_here);
       }
     where
-      old : InstanceOk sc IsWhole w i x
+      old : InstanceOk sc IsWholeInstance w i x
       old = ok.instances i x e
 
       -- what it refers to stands in both
-      leads : IsStanding v i → (r : ℕ) → IsIn (home_of x).refs r → InBoth r
+      leads : IsStanding v i → (r : ℕ) → IsInSkeleton (home_of x).refs r → InBoth r
       leads st r n =
           let path = ok.skeleton_ok.refers i (home_of x) r (stood st) (home_forth w i x e) n in
           (stands_path (skeleton w) ok.skeleton_ok i r (stood st) path, stands_path (skeleton v) after i r st (paths i r (stood st) st path))
 
-      placed : IsPlaced sc w x → IsPlaced sc v y
+      placed : PartIsPlaced sc w x → PartIsPlaced sc v y
       placed (outermost g a) = outermost (parent_is ∙ g) (ap (λ j. around sc.blocks j) block_is ∙ a)
       placed (inside g a) = inside (subst (λ j. 1 ≤ j) (sym parent_is) g) (ap (λ j. around sc.blocks j) block_is ∙ (a ∙ sym outer))
         where
           small : x.parent < length (skeleton w).homes
-          small = ok.skeleton_ok.known i (home_of x) x.parent (home_forth w i x e) (parent_among sc IsWhole w ok x.parent (referred_in_cells x.cells) g)
+          small = ok.skeleton_ok.known i (home_of x) x.parent (home_forth w i x e) (parent_among sc IsWholeInstance w ok x.parent (referred_in_cells x.cells) g)
 
           same : (instance_at v y.parent).block ≡ (instance_at w x.parent).block
           same = ap (λ j. (instance_at v j).block) parent_is ∙ blocks x.parent small

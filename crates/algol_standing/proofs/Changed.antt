@@ -8,8 +8,8 @@ use Rattle.b67_deeds.specs.Events.{EventState}
 use Rattle.algol_meaning.specs.World.{NamedCell, Instance, or_no_instance, instance_at, cell_in, cell_at, cells_with, with_instance, set_cell, add_cells, Process, State, able, procures, or_no_process, process_at, World}
 use Rattle.algol_meaning.specs.Events.{event_at, change_event}
 use Rattle.algol_meaning.specs.Critical.{referred_in}
-use Rattle.algol_standing.specs.Skeleton.{IsIn}
-use Rattle.algol_standing.specs.Worlds.{parent_in, referred_in_cells, IsNameIn, IsNameAmong, Awaits, AreListed}
+use Rattle.algol_standing.specs.Skeleton.{IsInSkeleton}
+use Rattle.algol_standing.specs.Worlds.{parent_in, referred_in_cells, IsNameIn, IsNameAmong, Awaits, WaitersAreListed}
 use Rattle.algol_standing.proofs.Awaiting.{awaits_able}
 use Rattle.algol_standing.proofs.Calls.{IsNoEvent}
 use Rattle.algol_standing.proofs.Seen.{in_front, in_back, in_either}
@@ -18,26 +18,26 @@ use Rattle.algol_standing.proofs.Alike.{InstanceAlike, instance_self}
 
 -- the cell refers to nothing, and is no name
 abbrev pub IsPlain : Cell → Type 0
-IsPlain c = ((i : ℕ) → IsIn (referred_in c) i → ⊥) × ((m : NameCell) → IsNameIn c m → ⊥)
+IsPlain c = ((i : ℕ) → IsInSkeleton (referred_in c) i → ⊥) × ((m : NameCell) → IsNameIn c m → ⊥)
 
 abbrev pub ArePlain : List NamedCell → Type 0
 ArePlain [] = Unit {0}
 ArePlain (c ∷ cells) = IsPlain c.cell × ArePlain cells
 
-refs_with : (cells : List NamedCell) (name : List ℕ) (c : Cell) (i : ℕ) → IsPlain c → IsIn (referred_in_cells (cells_with cells name c)) i → IsIn (referred_in_cells cells) i
+refs_with : (cells : List NamedCell) (name : List ℕ) (c : Cell) (i : ℕ) → IsPlain c → IsInSkeleton (referred_in_cells (cells_with cells name c)) i → IsInSkeleton (referred_in_cells cells) i
 refs_with [] name c i plain n = n
 refs_with (d ∷ cells) name c i plain n = by (same_name d.name name) (λ m. refs_with cells name c i plain m) n
   where
-    here : IsIn (referred_in c) i ⊎ IsIn (referred_in_cells cells) i → IsIn (referred_in d.cell ++ referred_in_cells cells) i
+    here : IsInSkeleton (referred_in c) i ⊎ IsInSkeleton (referred_in_cells cells) i → IsInSkeleton (referred_in d.cell ++ referred_in_cells cells) i
     here (◌⊎◌.inl m) = absurd (plain.0 i m)
     here (◌⊎◌.inr m) = in_back (referred_in d.cell) (referred_in_cells cells) i m
 
-    further : (IsIn (referred_in_cells (cells_with cells name c)) i → IsIn (referred_in_cells cells) i) → IsIn (referred_in d.cell) i ⊎ IsIn (referred_in_cells (cells_with cells name c)) i →
-        IsIn (referred_in d.cell ++ referred_in_cells cells) i
+    further : (IsInSkeleton (referred_in_cells (cells_with cells name c)) i → IsInSkeleton (referred_in_cells cells) i) → IsInSkeleton (referred_in d.cell) i ⊎ IsInSkeleton (referred_in_cells (cells_with cells name c)) i →
+        IsInSkeleton (referred_in d.cell ++ referred_in_cells cells) i
     further f (◌⊎◌.inl m) = in_front (referred_in d.cell) (referred_in_cells cells) i m
     further f (◌⊎◌.inr m) = in_back (referred_in d.cell) (referred_in_cells cells) i (f m)
 
-    by : (b : Bool) → (IsIn (referred_in_cells (cells_with cells name c)) i → IsIn (referred_in_cells cells) i) → IsIn (referred_in_cells (if b then record d { cell = c } ∷ cells else d ∷ cells_with cells name c)) i → IsIn (referred_in d.cell ++ referred_in_cells cells) i
+    by : (b : Bool) → (IsInSkeleton (referred_in_cells (cells_with cells name c)) i → IsInSkeleton (referred_in_cells cells) i) → IsInSkeleton (referred_in_cells (if b then record d { cell = c } ∷ cells else d ∷ cells_with cells name c)) i → IsInSkeleton (referred_in d.cell ++ referred_in_cells cells) i
     by true f m = here (in_either (referred_in c) (referred_in_cells cells) i m)
     by false f m = further f (in_either (referred_in d.cell) (referred_in_cells (cells_with cells name c)) i m)
 
@@ -58,17 +58,17 @@ names_with (d ∷ cells) name c m plain n = by (same_name d.name name) (λ k. na
     by true f k = here k
     by false f k = further f k
 
-pub refs_more : (cells more : List NamedCell) (i : ℕ) → ArePlain more → IsIn (referred_in_cells (cells ++ more)) i → IsIn (referred_in_cells cells) i
+pub refs_more : (cells more : List NamedCell) (i : ℕ) → ArePlain more → IsInSkeleton (referred_in_cells (cells ++ more)) i → IsInSkeleton (referred_in_cells cells) i
 refs_more [] [] i plain n = n
 refs_more [] (d ∷ more) i plain n = by (λ m. refs_more [] more i plain.1 m) (in_either (referred_in d.cell) (referred_in_cells more) i n)
   where
-    by : (IsIn (referred_in_cells more) i → ⊥) → IsIn (referred_in d.cell) i ⊎ IsIn (referred_in_cells more) i → ⊥
+    by : (IsInSkeleton (referred_in_cells more) i → ⊥) → IsInSkeleton (referred_in d.cell) i ⊎ IsInSkeleton (referred_in_cells more) i → ⊥
     by f (◌⊎◌.inl m) = plain.0.0 i m
     by f (◌⊎◌.inr m) = f m
 refs_more (d ∷ cells) more i plain n = by (λ m. refs_more cells more i plain m) (in_either (referred_in d.cell) (referred_in_cells (cells ++ more)) i n)
   where
-    by : (IsIn (referred_in_cells (cells ++ more)) i → IsIn (referred_in_cells cells) i) → IsIn (referred_in d.cell) i ⊎ IsIn (referred_in_cells (cells ++ more)) i →
-        IsIn (referred_in_cells (d ∷ cells)) i
+    by : (IsInSkeleton (referred_in_cells (cells ++ more)) i → IsInSkeleton (referred_in_cells cells) i) → IsInSkeleton (referred_in d.cell) i ⊎ IsInSkeleton (referred_in_cells (cells ++ more)) i →
+        IsInSkeleton (referred_in_cells (d ∷ cells)) i
     by f (◌⊎◌.inl m) = in_front (referred_in d.cell) (referred_in_cells cells) i m
     by f (◌⊎◌.inr m) = in_back (referred_in d.cell) (referred_in_cells cells) i (f m)
 
@@ -80,15 +80,15 @@ names_more (d ∷ cells) more m plain (◌⊎◌.inl k) = ◌⊎◌.inl k
 names_more (d ∷ cells) more m plain (◌⊎◌.inr k) = ◌⊎◌.inr (names_more cells more m plain k)
 
 -- an instance with other cells, which refer to nothing more and keep no other name
-with_cells : (x : Instance) (cells : List NamedCell) → ((i : ℕ) → IsIn (referred_in_cells cells) i → IsIn (referred_in_cells x.cells) i) →
+with_cells : (x : Instance) (cells : List NamedCell) → ((i : ℕ) → IsInSkeleton (referred_in_cells cells) i → IsInSkeleton (referred_in_cells x.cells) i) →
     ((m : NameCell) → IsNameAmong cells m → IsNameAmong x.cells m) → InstanceAlike x (record x { cells = cells })
 with_cells x cells f g = record { block = refl; parent = refl; process = refl; left = refl; refs = refs; names = g }
   where
-    by : (i : ℕ) → IsIn (parent_in x.parent) i ⊎ IsIn (referred_in_cells cells) i → IsIn (parent_in x.parent ++ referred_in_cells x.cells) i
+    by : (i : ℕ) → IsInSkeleton (parent_in x.parent) i ⊎ IsInSkeleton (referred_in_cells cells) i → IsInSkeleton (parent_in x.parent ++ referred_in_cells x.cells) i
     by i (◌⊎◌.inl n) = in_front (parent_in x.parent) (referred_in_cells x.cells) i n
     by i (◌⊎◌.inr n) = in_back (parent_in x.parent) (referred_in_cells x.cells) i (f i n)
 
-    refs : (i : ℕ) → IsIn (parent_in x.parent ++ referred_in_cells cells) i → IsIn (parent_in x.parent ++ referred_in_cells x.cells) i
+    refs : (i : ℕ) → IsInSkeleton (parent_in x.parent ++ referred_in_cells cells) i → IsInSkeleton (parent_in x.parent ++ referred_in_cells x.cells) i
     refs i n = by i (in_either (parent_in x.parent) (referred_in_cells cells) i n)
 
 -- ---- worlds
@@ -214,7 +214,7 @@ changed_alike w r (Some change) = set_alike w r (event (change (event_at w r))) 
 
 -- where only an able process changes and events do not, who is listed still waits
 pub listed_still : (w v : World) (p : ℕ) (q after : Process) → numbered w.processes p ≡ Some q → q.state ≡ able → v.processes ≡ set_numbered w.processes p after →
-    (r : Reference) (e : EventState) → AreListed w r e → AreListed v r e
+    (r : Reference) (e : EventState) → WaitersAreListed w r e → WaitersAreListed v r e
 listed_still w v p q after is able_is same r e l =
     record { waiters = λ k n. waiting k (l.waiters k n); procurers = λ k n. still k (procures r) (l.procurers k n) (procures_waits r); once = l.once; once_waiting = l.once_waiting }
   where

@@ -12,20 +12,20 @@ use Rattle.algol_tree.specs.Scopes.{Scopes, use_of}
 use Rattle.algol_meaning.specs.declared.TheConstants.{MOST_STARTED}
 use Rattle.algol_meaning.specs.Value.{number, whole_of, Reference}
 use Rattle.algol_meaning.specs.Rest.{Answer, done, value, cell}
-use Rattle.algol_meaning.specs.Settle.{block_of}
+use Rattle.algol_meaning.specs.Settle.{block_of_sort}
 use Rattle.algol_meaning.specs.World.{instance_at, cell_at, followed, value_in, array_in, Part, Process, State, able, waits_for, procures, waits_any, ended, is_able, lives, or_no_process, process_at, World}
 use Rattle.algol_meaning.specs.Arrays.{subscript_place, bounds_of}
-use Rattle.algol_meaning.specs.Events.{event_at, same_reference, is_among, first_happened}
+use Rattle.algol_meaning.specs.Events.{event_at, same_reference, reference_is_among, first_happened}
 use Rattle.algol_meaning.specs.Lines.{line_of}
 use Rattle.b67_deeds.specs.declared.Letter.TheVariants as actions
 use Rattle.algol_meaning.specs.Asks as asks
 use Rattle.algol_meaning.specs.Asks.{Ask, nothing, ask, resume}
-use Rattle.algol_meaning.specs.Choice.{Choice, choice, choice_in, choice_of, nth_exists, goes, fails, home, here, given_cells, task_of, starts, told, does_with_first, all_followed, waits_for_any, wakes_or_waits, does_with}
+use Rattle.algol_meaning.specs.Choice.{Choice, choice, choice_in, choice_of, nth_exists, goes, fails, home, here, given_cells, task_of, starts, told_answer, does_with_first, all_followed, waits_for_any, wakes_or_waits, does_with}
 use Rattle.b67_deeds.specs.Deeds as deeds
 use Rattle.b67_deeds.specs.Deeds.{EventDeed, deed}
 use Rattle.algol_meaning.specs.Run.{End, end_of, goes_on, may_go}
-use Rattle.algol_standing.specs.Worlds.{newest_own, IsOnPath, HasHead, IsWhole, IsSound}
-use Rattle.algol_paths.specs.Blocks.{IsSeen, IsInner}
+use Rattle.algol_standing.specs.Worlds.{newest_own, IsOnPath, HasHead, IsWholeInstance, IsSound}
+use Rattle.algol_paths.specs.Blocks.{BlockIsSeen, IsInner}
 use Rattle.algol_calls.specs.Fits.{AreFew}
 use Rattle.algol_calls.specs.Texts.{KeepToTexts}
 use Rattle.algol_standing.proofs.Calls.{CallFits, HeadFits}
@@ -44,7 +44,7 @@ use Rattle.algol_standing.proofs.Calling.{procedure_enters, block_enters}
 use Rattle.algol_standing.proofs.Starting.{process_starts}
 use Rattle.algol_standing.proofs.Quiet.{Keeps, either, fails_keeps, at_followed, sees, suited, value_goes, done_goes, same_goes, woken_goes, goes_ok, read_keeps, resolved_keeps, indexed_keeps, element_keeps, stored_keeps, arrays_keep, event_keeps}
 
-module _ (sc : Scopes) (texts : KeepToTexts sc) (w : World) (ok : IsSound sc IsWhole w) (p : ℕ) (q : Process) (part : Part) (outer : List Part) (is : numbered w.processes p ≡ Some q)
+module _ (sc : Scopes) (texts : KeepToTexts sc) (w : World) (ok : IsSound sc IsWholeInstance w) (p : ℕ) (q : Process) (part : Part) (outer : List Part) (is : numbered w.processes p ≡ Some q)
     (todo : q.todo ≡ part ∷ outer) (able_is : q.state ≡ able) where
   abbrev KeepsHere : Choice → Type 0
   KeepsHere = Keeps sc (heads_act sc) w ok p q part outer is todo able_is
@@ -56,17 +56,17 @@ module _ (sc : Scopes) (texts : KeepToTexts sc) (w : World) (ok : IsSound sc IsW
   fails_or = fails_keeps sc (heads_act sc) w ok p q part outer is todo able_is
 
   module _ (x : Ask) (e : ask part.rest ≡ x) where
-    seen_by : Sees (IsSeen sc ((instance_at w part.instance).block)) (IsInner sc ((instance_at w part.instance).block)) x
+    seen_by : Sees (BlockIsSeen sc ((instance_at w part.instance).block)) (IsInner sc ((instance_at w part.instance).block)) x
     seen_by = sees sc (heads_act sc) w ok p q part outer is todo able_is x e
 
     suits_by : (a : Answer) → Suits x a → Suits (ask part.rest) a
     suits_by = suited sc (heads_act sc) w ok p q part outer is todo able_is x e
 
   -- the cell of a name that the head sees
-  cell_by : (n : Named) → IsSeen sc ((instance_at w part.instance).block) n → CellOk sc IsWhole w ok (newest_own (part ∷ outer)) (cell_at w (here sc w p q part outer n))
-  cell_by = cell_here sc IsWhole w ok p q part outer is todo
+  cell_by : (n : Named) → BlockIsSeen sc ((instance_at w part.instance).block) n → CellOk sc IsWholeInstance w ok (newest_own (part ∷ outer)) (cell_at w (here sc w p q part outer n))
+  cell_by = cell_here sc IsWholeInstance w ok p q part outer is todo
 
-  told_suits : (x : EventDeed) (ns : List Named) (o : Option Bool) → Suits (asks.event_deed x ns) (told sc w p q part outer o)
+  told_suits : (x : EventDeed) (ns : List Named) (o : Option Bool) → Suits (asks.event_deed x ns) (told_answer sc w p q part outer o)
   told_suits x ns None = tt
   told_suits x ns (Some b) = tt
 
@@ -74,7 +74,7 @@ module _ (sc : Scopes) (texts : KeepToTexts sc) (w : World) (ok : IsSound sc IsW
   first_keeps x [] e = ok
   first_keeps x (n ∷ ns) e =
       let r = followed w (here sc w p q part outer n) in
-      let a = told sc w p q part outer (deed x p (event_at w r)).answer in
+      let a = told_answer sc w p q part outer (deed x p (event_at w r)).answer in
       deed_done sc (heads_act sc) w ok p q part outer is todo able_is r
       (at_followed sc (heads_act sc) w ok p q part outer is todo able_is n (seen_by (asks.event_deed x (n ∷ ns)) e).0) x
       (suits_by (asks.event_deed x (n ∷ ns)) e a (told_suits x (n ∷ ns) (deed x p (event_at w r)).answer)) (suits_by (asks.event_deed x (n ∷ ns)) e done tt)
@@ -85,10 +85,10 @@ module _ (sc : Scopes) (texts : KeepToTexts sc) (w : World) (ok : IsSound sc IsW
   all ns = all_followed sc w p q part outer ns
 
   abbrev SeenHere : Named → Type 0
-  SeenHere n = IsSeen sc ((instance_at w part.instance).block) n
+  SeenHere n = BlockIsSeen sc ((instance_at w part.instance).block) n
 
   -- each of them lies on the path
-  on_path : (ns : List Named) → AllByRecursion SeenHere ns → (r : Reference) → is_among (all ns) r ≡ true → IsOnPath w (newest_own (part ∷ outer)) r.instance
+  on_path : (ns : List Named) → AllByRecursion SeenHere ns → (r : Reference) → reference_is_among (all ns) r ≡ true → IsOnPath w (newest_own (part ∷ outer)) r.instance
   on_path [] s r m = false_true m
   on_path (n ∷ ns) s r m = by (same_or_not t r) (λ f. on_path ns s.1 r (sym (among_more t (all ns) r f) ∙ m))
     where
@@ -154,7 +154,7 @@ module _ (sc : Scopes) (texts : KeepToTexts sc) (w : World) (ok : IsSound sc IsW
   choice_keeps (asks.enters_block b) e fits = block_enters sc texts w ok p q part outer is todo able_is b e
   choice_keeps (asks.starts n gs task) e fits =
       one_of (nat_lt MOST_STARTED (length w.processes)) (fails sc w p q part outer fault.ProcessLimit)
-      (starts sc w p q part outer (block_of ((use_of sc n).sort)) (home sc w p q part outer n) (given_cells sc w p q part outer gs) (task_of sc w p q part outer task))
+      (starts sc w p q part outer (block_of_sort ((use_of sc n).sort)) (home sc w p q part outer n) (given_cells sc w p q part outer gs) (task_of sc w p q part outer task))
       (fails_or fault.ProcessLimit) (process_starts sc texts w ok p q part outer is todo able_is n gs task e fits.0 fits.1)
   choice_keeps (asks.event_deed x ns) e fits = deed_keeps x ns e fits
   choice_keeps (asks.writes phrases vs) e fits =
@@ -185,10 +185,10 @@ pub may_go_able : (w : World) (p : ℕ) → may_go w p ≡ true → is_able ((pr
 unfolding may_go
 may_go_able w p e = goes_able (end_of w) (is_able ((process_at w p).state)) e
 
-pub action_keeps : (sc : Scopes) → KeepToTexts sc → (w : World) (p : ℕ) → IsSound sc IsWhole w → may_go w p ≡ true → HeadFits sc ((process_at w p).todo) → IsSound sc IsWhole ((choice sc w p).world)
+pub action_keeps : (sc : Scopes) → KeepToTexts sc → (w : World) (p : ℕ) → IsSound sc IsWholeInstance w → may_go w p ≡ true → HeadFits sc ((process_at w p).todo) → IsSound sc IsWholeInstance ((choice sc w p).world)
 unfolding choice
 action_keeps sc texts w p ok goes fits =
-    subst (λ ps. IsSound sc IsWhole ((choice_in sc w p q ps).world)) (sym head.is)
+    subst (λ ps. IsSound sc IsWholeInstance ((choice_in sc w p q ps).world)) (sym head.is)
     (choice_keeps sc texts w ok p q head.part head.outer is head.is able_is (ask head.part.rest) refl (subst (λ ps. HeadFits sc ps) head.is fits))
   where
     q : Process

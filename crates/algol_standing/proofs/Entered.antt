@@ -12,11 +12,11 @@ use Rattle.algol_meaning.specs.Critical.{is_evaluation, own_instances, referred_
 use Rattle.algol_meaning.specs.Asks.{ask, nothing}
 use Rattle.algol_meaning.specs.Choice.{opens, with_new_instance}
 use Rattle.algol_laws.proofs.Standing.{opens_plain}
-use Rattle.algol_paths.specs.Blocks.{IsSeen, IsSeenAround, IsInner}
+use Rattle.algol_paths.specs.Blocks.{BlockIsSeen, IsSeenAround, IsInner}
 use Rattle.algol_paths.specs.Laws.{KeepsToText}
 use Rattle.algol_paths.proofs.Statements.{declared_keeps}
-use Rattle.algol_standing.specs.Skeleton.{IsIn, SkeletonOk}
-use Rattle.algol_standing.specs.Worlds.{held_in_rest, newest_own, stack_of, skeleton, IsStanding, IsOnPath, IsOwn, IsAmong, IsAwaited, inside, AreListed, GivesNoOwn, IsWhole, PartOk, ProcessOk, InstanceOk, IsSound}
+use Rattle.algol_standing.specs.Skeleton.{IsInSkeleton, SkeletonOk}
+use Rattle.algol_standing.specs.Worlds.{held_in_rest, newest_own, stack_of, skeleton, IsStanding, IsOnPath, IsOwn, IsAmongParts, IsAwaited, inside, WaitersAreListed, GivesNoOwn, IsWholeInstance, PartOk, ProcessOk, InstanceOk, IsSound}
 use Rattle.algol_calls.specs.Texts.{KeepToTexts}
 use Rattle.algol_standing.proofs.Calls.{IsNoEvent}
 use Rattle.algol_standing.proofs.Lists.{false_true}
@@ -35,10 +35,10 @@ use Rattle.algol_standing.proofs.Carried.{name_held, part_kept, actual_kept, unm
 use Rattle.algol_standing.proofs.Evaluating.{no_place_awaited}
 use Rattle.algol_standing.proofs.Entering as stacked
 
-module _ (sc : Scopes) (texts : KeepToTexts sc) (w : World) (ok : IsSound sc IsWhole w) (p : ℕ) (q : Process) (part : Part) (outer : List Part) (is : numbered w.processes p ≡ Some q)
+module _ (sc : Scopes) (texts : KeepToTexts sc) (w : World) (ok : IsSound sc IsWholeInstance w) (p : ℕ) (q : Process) (part : Part) (outer : List Part) (is : numbered w.processes p ≡ Some q)
     (todo : q.todo ≡ part ∷ outer) (able_is : q.state ≡ able) (j parent : ℕ) (cells : List Cell) (purpose : Purpose) (owns : is_evaluation purpose ≡ false) (known : j < length sc.blocks)
     (around_is : around sc.blocks j ≡ (instance_at w parent).block ∷ around sc.blocks ((instance_at w parent).block)) (parent_some : 1 ≤ parent)
-    (parent_path : IsOnPath w (newest_own (part ∷ outer)) parent) (parent_whole : IsWhole w parent) (cells_held : AreAll (CellOk sc IsWhole w ok (newest_own (part ∷ outer))) cells)
+    (parent_path : IsOnPath w (newest_own (part ∷ outer)) parent) (parent_whole : IsWholeInstance w parent) (cells_held : AreAll (CellOk sc IsWholeInstance w ok (newest_own (part ∷ outer))) cells)
     (no_events : AreAll IsNoEvent cells) (opens_it : Opens (ask part.rest)) (plainly : opens_plain (ask part.rest) ≡ true) where
   fine : Fine sc w (part ∷ outer)
   fine = stacked.fine sc texts w ok p q part outer is todo able_is j parent cells purpose owns known around_is parent_some parent_path parent_whole cells_held no_events opens_it plainly
@@ -106,15 +106,15 @@ module _ (sc : Scopes) (texts : KeepToTexts sc) (w : World) (ok : IsSound sc IsW
   after_at : numbered v.processes p ≡ Some after
   after_at = stacked.after_at sc texts w ok p q part outer is todo able_is j parent cells purpose owns known around_is parent_some parent_path parent_whole cells_held no_events opens_it plainly
 
-  whole : (i : ℕ) → IsStanding v i → IsWhole w i → IsWhole v i
+  whole : (i : ℕ) → IsStanding v i → IsWholeInstance w i → IsWholeInstance v i
   whole = stacked.whole sc texts w ok p q part outer is todo able_is j parent cells purpose owns known around_is parent_some parent_path parent_whole cells_held no_events opens_it plainly
 
   -- ---- parts and processes
 
-  inner_ok : PartOk sc IsWhole v inner
+  inner_ok : PartOk sc IsWholeInstance v inner
   inner_ok =
       record {
-        text = subst (λ k. KeepsToText sc k inner.rest) (sym block_is) (declared_keeps (IsSeen sc j) (IsInner sc j) (IsSeenAround sc j) sc items (texts j known));
+        text = subst (λ k. KeepsToText sc k inner.rest) (sym block_is) (declared_keeps (BlockIsSeen sc j) (IsInner sc j) (IsSeenAround sc j) sc items (texts j known));
         narrow = λ e. false_true (sym owns ∙ e);
         names = λ m n. absurd (plain_names (held_in_rest inner.rest) m (items_hold IsPlain simple_plain false sc items).0 n);
       }
@@ -122,25 +122,25 @@ module _ (sc : Scopes) (texts : KeepToTexts sc) (w : World) (ok : IsSound sc IsW
       block_is : (instance_at v number).block ≡ j
       block_is = ap (λ o. (or_no_instance o).block) new_at
 
-  parts_then : (x : Part) → IsAmong (inner ∷ around_it ∷ outer) x → PartOk sc IsWhole v x
-  parts_then x (◌⊎◌.inl e) = subst (λ y. PartOk sc IsWhole v y) e inner_ok
+  parts_then : (x : Part) → IsAmongParts (inner ∷ around_it ∷ outer) x → PartOk sc IsWholeInstance v x
+  parts_then x (◌⊎◌.inl e) = subst (λ y. PartOk sc IsWholeInstance v y) e inner_ok
   parts_then x (◌⊎◌.inr n) = part_kept sc w v ok v_ok paths blocks whole x (λ i m. (in_w i m, part_stands_in v v_ok p after x i after_at (◌⊎◌.inr n) m)) (fine_around.each x n)
     where
-      in_w : (i : ℕ) → IsIn (x.instance ∷ referred_by (held_in_rest x.rest)) i → IsStanding w i
+      in_w : (i : ℕ) → IsInSkeleton (x.instance ∷ referred_by (held_in_rest x.rest)) i → IsStanding w i
       in_w i m =
           let o = held_among (around_it ∷ outer) x i n m in
           let f = fine_around.holds (record { over = o.0; within = i }) o.1 in
           stands_path (skeleton w) ok.skeleton_ok o.0 i
-          (record { number = p; stack = stack_of q; is = at; inside = subst (λ ps. IsIn (own_instances ps) o.0) (sym todo) (same o.0 f.0) }) f.1
+          (record { number = p; stack = stack_of q; is = at; inside = subst (λ ps. IsInSkeleton (own_instances ps) o.0) (sym todo) (same o.0 f.0) }) f.1
         where
-          same : (k : ℕ) → IsIn (own_instances (around_it ∷ outer)) k → IsIn (own_instances (part ∷ outer)) k
+          same : (k : ℕ) → IsInSkeleton (own_instances (around_it ∷ outer)) k → IsInSkeleton (own_instances (part ∷ outer)) k
           same k l = l
 
-  wait : (x : Part) → IsAmong (around_it ∷ outer) x → ask x.rest ≡ nothing
+  wait : (x : Part) → IsAmongParts (around_it ∷ outer) x → ask x.rest ≡ nothing
   wait x (◌⊎◌.inl e) = subst (λ (y : Part). ask y.rest ≡ nothing) e (opened_waits sc part.rest opens_it)
   wait x (◌⊎◌.inr n) = others_wait q part outer ((ok.processes p q is).heads (ap lives able_is)) todo x n
 
-  after_ok : ProcessOk sc IsWhole v after
+  after_ok : ProcessOk sc IsWholeInstance v after
   after_ok =
       record {
         parts = parts_then;
@@ -165,11 +165,11 @@ module _ (sc : Scopes) (texts : KeepToTexts sc) (w : World) (ok : IsSound sc IsW
       by (◌⊎◌.inl f) = ◌⊎◌.inl (f.0, f.1)
       by (◌⊎◌.inr f) = ◌⊎◌.inr f.1
 
-  process_then : (k : ℕ) (y : Process) → numbered v.processes k ≡ Some y → ProcessOk sc IsWhole v y
+  process_then : (k : ℕ) (y : Process) → numbered v.processes k ≡ Some y → ProcessOk sc IsWholeInstance v y
   process_then k y e = by (was k y e)
     where
-      by : ((p ≡ k) × (y ≡ after)) ⊎ (numbered w.processes k ≡ Some y) → ProcessOk sc IsWhole v y
-      by (◌⊎◌.inl f) = subst (λ z. ProcessOk sc IsWhole v z) (sym f.1) after_ok
+      by : ((p ≡ k) × (y ≡ after)) ⊎ (numbered w.processes k ≡ Some y) → ProcessOk sc IsWholeInstance v y
+      by (◌⊎◌.inl f) = subst (λ z. ProcessOk sc IsWholeInstance v z) (sym f.1) after_ok
       by (◌⊎◌.inr f) = unmoved_kept sc w v ok v_ok paths blocks whole k y y f e (unmoved_self y)
 
   -- each process has the critical instance and the task that it had
@@ -212,12 +212,12 @@ module _ (sc : Scopes) (texts : KeepToTexts sc) (w : World) (ok : IsSound sc IsW
   -- ---- instances
 
   parent_stands : IsStanding w parent
-  parent_stands = stands_path (skeleton w) ok.skeleton_ok top parent (top_stands sc IsWhole w ok p q part outer is todo) parent_path
+  parent_stands = stands_path (skeleton w) ok.skeleton_ok top parent (top_stands sc IsWholeInstance w ok p q part outer is todo) parent_path
 
-  held_stands : (i : ℕ) → IsIn (referred_by cells) i → IsStanding w i
-  held_stands i m = stands_path (skeleton w) ok.skeleton_ok top i (top_stands sc IsWhole w ok p q part outer is todo) (all_refs sc IsWhole w ok top cells cells_held i m)
+  held_stands : (i : ℕ) → IsInSkeleton (referred_by cells) i → IsStanding w i
+  held_stands i m = stands_path (skeleton w) ok.skeleton_ok top i (top_stands sc IsWholeInstance w ok p q part outer is todo) (all_refs sc IsWholeInstance w ok top cells cells_held i m)
 
-  new_ok : InstanceOk sc IsWhole v number new
+  new_ok : InstanceOk sc IsWholeInstance v number new
   new_ok =
       record {
         left = (λ e. new_stands, λ st. refl);
@@ -227,13 +227,13 @@ module _ (sc : Scopes) (texts : KeepToTexts sc) (w : World) (ok : IsSound sc IsW
         actuals = λ m st n.
             let k = fresh_names (block_numbered sc.blocks j) cells m n in
             let s = held_stands m.instance (name_held cells m k) in
-            actual_kept sc w v ok v_ok paths blocks whole m (s, stands_on m.instance s) (all_names sc IsWhole w ok top cells cells_held m k);
+            actual_kept sc w v ok v_ok paths blocks whole m (s, stands_on m.instance s) (all_names sc IsWholeInstance w ok top cells cells_held m k);
       }
 
-  instance_then : (i : ℕ) (y : Instance) → numbered v.instances i ≡ Some y → InstanceOk sc IsWhole v i y
+  instance_then : (i : ℕ) (y : Instance) → numbered v.instances i ≡ Some y → InstanceOk sc IsWholeInstance v i y
   instance_then i y e = by (numbered_last w.instances new i y e)
     where
-      old : numbered w.instances i ≡ Some y → InstanceOk sc IsWhole v i y
+      old : numbered w.instances i ≡ Some y → InstanceOk sc IsWholeInstance v i y
       old f =
           instance_kept sc w v ok v_ok paths blocks whole i y y f refl refl refl
           (λ g. stands_on i ((ok.instances i y f).left.0 g), λ st. (ok.instances i y f).left.1 (still st)) still
@@ -245,14 +245,14 @@ module _ (sc : Scopes) (texts : KeepToTexts sc) (w : World) (ok : IsSound sc IsW
               which (◌⊎◌.inl s) = s
               which (◌⊎◌.inr g) = absurd (let h = numbered_small w.instances i y f in omega (arith, g, h))
 
-      by : (numbered w.instances i ≡ Some y) ⊎ ((i ≡ suc (length w.instances)) × (y ≡ new)) → InstanceOk sc IsWhole v i y
+      by : (numbered w.instances i ≡ Some y) ⊎ ((i ≡ suc (length w.instances)) × (y ≡ new)) → InstanceOk sc IsWholeInstance v i y
       by (◌⊎◌.inl f) = old f
-      by (◌⊎◌.inr f) = subst (λ k. InstanceOk sc IsWhole v k y) (number_next ∙ sym f.0) (subst (λ z. InstanceOk sc IsWhole v number z) (sym f.1) new_ok)
+      by (◌⊎◌.inr f) = subst (λ k. InstanceOk sc IsWholeInstance v k y) (number_next ∙ sym f.0) (subst (λ z. InstanceOk sc IsWholeInstance v number z) (sym f.1) new_ok)
 
-  listed_then : (r : Reference) (e : EventState) → IsStanding v r.instance → cell_at v r ≡ event e → AreListed v r e
+  listed_then : (r : Reference) (e : EventState) → IsStanding v r.instance → cell_at v r ≡ event e → WaitersAreListed v r e
   listed_then r e st f = by (stood r.instance st)
     where
-      by : IsStanding w r.instance ⊎ (r.instance ≡ number) → AreListed v r e
+      by : IsStanding w r.instance ⊎ (r.instance ≡ number) → WaitersAreListed v r e
       by (◌⊎◌.inl s) =
           let small = stands_small (skeleton w) ok.skeleton_ok r.instance s in
           let same = old_at r.instance (let n = number_is in omega (arith, small, n)) in
@@ -261,7 +261,7 @@ module _ (sc : Scopes) (texts : KeepToTexts sc) (w : World) (ok : IsSound sc IsW
           absurd (fresh_no_event (block_numbered sc.blocks j) cells no_events r.name e
           (ap (λ o. cell_in ((or_no_instance o).cells) r.name) (sym new_at) ∙ (ap (λ i. cell_in ((instance_at v i).cells) r.name) (sym g) ∙ f)))
 
-  pub entered_ok : IsSound sc IsWhole (opens sc w p q part outer (with_new_instance sc w p q part outer j parent p cells) inner).world
+  pub entered_ok : IsSound sc IsWholeInstance (opens sc w p q part outer (with_new_instance sc w p q part outer j parent p cells) inner).world
   entered_ok =
       record {
         skeleton_ok = v_ok;

@@ -14,8 +14,8 @@ use Rattle.algol_meaning.specs.Asks.{ask}
 use Rattle.algol_meaning.specs.Choice.{with_new_instance, new_part}
 use Rattle.algol_laws.proofs.Cells.{numbered_set, numbered_other}
 use Rattle.algol_laws.proofs.Standing.{opens_plain}
-use Rattle.algol_standing.specs.Skeleton.{Evaluation, IsEvaluated, Stack, Skeleton, IsIn, Stands, OnPath, here, SkeletonOk, entered as with_entered, evaluated}
-use Rattle.algol_standing.specs.Worlds.{parent_in, referred_in_cells, home_of, held_in_rest, newest_own, held_by, stack_of, skeleton, IsStanding, IsOnPath, IsAmong, IsWhole, IsSound}
+use Rattle.algol_standing.specs.Skeleton.{Evaluation, IsEvaluated, Stack, Skeleton, IsInSkeleton, SkeletonStands, OnPath, here, SkeletonOk, entered_skeleton, evaluated}
+use Rattle.algol_standing.specs.Worlds.{parent_in, referred_in_cells, home_of, held_in_rest, newest_own, held_by, stack_of, skeleton, IsStanding, IsOnPath, IsAmongParts, IsWholeInstance, IsSound}
 use Rattle.algol_calls.specs.Texts.{KeepToTexts}
 use Rattle.algol_standing.proofs.Calls.{IsNoEvent}
 use Rattle.algol_standing.proofs.Lists.{get-set, some_same, same_or_other}
@@ -45,10 +45,10 @@ own_head (part ∷ parts) = by (is_evaluation part.purpose) (own_head parts)
     by false m = ◌⊎◌.inr (own_instances parts, refl)
 
 -- the block, the parent, the cells and the purpose of what is entered
-module _ (sc : Scopes) (texts : KeepToTexts sc) (w : World) (ok : IsSound sc IsWhole w) (p : ℕ) (q : Process) (part : Part) (outer : List Part) (is : numbered w.processes p ≡ Some q)
+module _ (sc : Scopes) (texts : KeepToTexts sc) (w : World) (ok : IsSound sc IsWholeInstance w) (p : ℕ) (q : Process) (part : Part) (outer : List Part) (is : numbered w.processes p ≡ Some q)
     (todo : q.todo ≡ part ∷ outer) (able_is : q.state ≡ able) (j parent : ℕ) (cells : List Cell) (purpose : Purpose) (owns : is_evaluation purpose ≡ false) (known : j < length sc.blocks)
     (around_is : around sc.blocks j ≡ (instance_at w parent).block ∷ around sc.blocks ((instance_at w parent).block)) (parent_some : 1 ≤ parent)
-    (parent_path : IsOnPath w (newest_own (part ∷ outer)) parent) (parent_whole : IsWhole w parent) (cells_held : AreAll (CellOk sc IsWhole w ok (newest_own (part ∷ outer))) cells)
+    (parent_path : IsOnPath w (newest_own (part ∷ outer)) parent) (parent_whole : IsWholeInstance w parent) (cells_held : AreAll (CellOk sc IsWholeInstance w ok (newest_own (part ∷ outer))) cells)
     (no_events : AreAll IsNoEvent cells) (opens_it : Opens (ask part.rest)) (plainly : opens_plain (ask part.rest) ≡ true) where
   pub fine : Fine sc w (part ∷ outer)
   fine = subst (λ ps. Fine sc w ps) todo (fine_of sc w ok p q is)
@@ -91,25 +91,25 @@ module _ (sc : Scopes) (texts : KeepToTexts sc) (w : World) (ok : IsSound sc IsW
   abbrev refs : List ℕ
   refs = (home_of new).refs
 
-  refs_on_path : (x : ℕ) → IsIn refs x → IsOnPath w top x
+  refs_on_path : (x : ℕ) → IsInSkeleton refs x → IsOnPath w top x
   refs_on_path x n = by (in_either (parent_in parent) (referred_in_cells new.cells) x n)
     where
-      by : IsIn (parent_in parent) x ⊎ IsIn (referred_in_cells new.cells) x → IsOnPath w top x
+      by : IsInSkeleton (parent_in parent) x ⊎ IsInSkeleton (referred_in_cells new.cells) x → IsOnPath w top x
       by (◌⊎◌.inl m) = subst (λ i. IsOnPath w top i) (parent_only parent x m) parent_path
-      by (◌⊎◌.inr m) = all_refs sc IsWhole w ok top cells cells_held x (fresh_refs (block_numbered sc.blocks j) cells x m)
+      by (◌⊎◌.inr m) = all_refs sc IsWholeInstance w ok top cells cells_held x (fresh_refs (block_numbered sc.blocks j) cells x m)
 
   pub at : slice_get (skeleton w).stacks p ≡ Some (stack_of q)
   at = stack_forth w p q is
 
   stack_head : (r : List ℕ) × ((stack_of q).own ≡ top ∷ r)
-  stack_head = by (own_head (part ∷ outer)) (top_inside sc IsWhole w ok p q part outer is todo)
+  stack_head = by (own_head (part ∷ outer)) (top_inside sc IsWholeInstance w ok p q part outer is todo)
     where
-      by : (own_instances (part ∷ outer) ≡ []) ⊎ ((r : List ℕ) × (own_instances (part ∷ outer) ≡ top ∷ r)) → IsIn (own_instances (part ∷ outer)) top → (r : List ℕ) × (own_instances q.todo ≡ top ∷ r)
-      by (◌⊎◌.inl e) n = absurd (subst (λ xs. IsIn xs top) e n)
+      by : (own_instances (part ∷ outer) ≡ []) ⊎ ((r : List ℕ) × (own_instances (part ∷ outer) ≡ top ∷ r)) → IsInSkeleton (own_instances (part ∷ outer)) top → (r : List ℕ) × (own_instances q.todo ≡ top ∷ r)
+      by (◌⊎◌.inl e) n = absurd (subst (λ xs. IsInSkeleton xs top) e n)
       by (◌⊎◌.inr e) n = (e.0, ap own_instances todo ∙ e.1)
 
   abbrev s1 : Skeleton
-  s1 = with_entered (skeleton w) p (stack_of q) refs
+  s1 = entered_skeleton (skeleton w) p (stack_of q) refs
 
   s1_ok : SkeletonOk s1
   s1_ok = enter_ok (skeleton w) ok.skeleton_ok p (stack_of q) top stack_head.0 at stack_head.1 refs refs_on_path
@@ -129,21 +129,21 @@ module _ (sc : Scopes) (texts : KeepToTexts sc) (w : World) (ok : IsSound sc IsW
   newest_is : newest_own (inner ∷ around_it ∷ outer) ≡ number
   newest_is = ap (λ b. if b then newest_own (around_it ∷ outer) else number) owns
 
-  held_on_path : (e : Evaluation) → IsEvaluated held e → IsIn grown.own e.over × OnPath s1 e.over e.within
+  held_on_path : (e : Evaluation) → IsEvaluated held e → IsInSkeleton grown.own e.over × OnPath s1 e.over e.within
   held_on_path e n = by (evaluated_either (newest_own (inner ∷ around_it ∷ outer)) (number ∷ referred_by (held_in_rest inner.rest)) (held_by (around_it ∷ outer)) e n)
     where
-      path : e.over ≡ number → IsIn (number ∷ referred_by (held_in_rest inner.rest)) e.within → OnPath s1 e.over e.within
+      path : e.over ≡ number → IsInSkeleton (number ∷ referred_by (held_in_rest inner.rest)) e.within → OnPath s1 e.over e.within
       path f (◌⊎◌.inl g) = subst (λ i. OnPath s1 e.over i) (f ∙ g) here
       path f (◌⊎◌.inr m) = absurd (plain_refs (held_in_rest inner.rest) e.within (items_hold IsPlain simple_plain false sc items).0 m)
 
-      by : ((e.over ≡ newest_own (inner ∷ around_it ∷ outer)) × IsIn (number ∷ referred_by (held_in_rest inner.rest)) e.within) ⊎ IsEvaluated (held_by (around_it ∷ outer)) e →
-          IsIn grown.own e.over × OnPath s1 e.over e.within
+      by : ((e.over ≡ newest_own (inner ∷ around_it ∷ outer)) × IsInSkeleton (number ∷ referred_by (held_in_rest inner.rest)) e.within) ⊎ IsEvaluated (held_by (around_it ∷ outer)) e →
+          IsInSkeleton grown.own e.over × OnPath s1 e.over e.within
       by (◌⊎◌.inl f) = (◌⊎◌.inl (sym (f.0 ∙ (newest_is ∙ number_is))), path (f.0 ∙ newest_is) f.1)
       by (◌⊎◌.inr m) =
           let o = fine_around.holds e m in
-          (◌⊎◌.inr (subst (λ ps. IsIn (own_instances ps) e.over) (sym todo) (same o.0)), s1_path e.over e.within o.1)
+          (◌⊎◌.inr (subst (λ ps. IsInSkeleton (own_instances ps) e.over) (sym todo) (same o.0)), s1_path e.over e.within o.1)
         where
-          same : IsIn (own_instances (around_it ∷ outer)) e.over → IsIn (own_instances (part ∷ outer)) e.over
+          same : IsInSkeleton (own_instances (around_it ∷ outer)) e.over → IsInSkeleton (own_instances (part ∷ outer)) e.over
           same k = k
 
   abbrev s2 : Skeleton
@@ -173,31 +173,31 @@ module _ (sc : Scopes) (texts : KeepToTexts sc) (w : World) (ok : IsSound sc IsW
 
   pub stands_on : (i : ℕ) → IsStanding w i → IsStanding v i
   stands_on i st =
-      subst (λ (z : Skeleton). Stands z i) (sym skeleton_is)
+      subst (λ (z : Skeleton). SkeletonStands z i) (sym skeleton_is)
       (stands_up s1 s2 (evaluations_grow s1 s1_ok p grown grown_at held held_on_path) i
       (stands_up (skeleton w) s1 (enter_grows (skeleton w) ok.skeleton_ok p (stack_of q) top stack_head.0 at stack_head.1 refs refs_on_path) i st))
 
   pub new_stands : IsStanding v number
   new_stands =
-      subst (λ (z : Skeleton). Stands z number) (sym skeleton_is)
+      subst (λ (z : Skeleton). SkeletonStands z number) (sym skeleton_is)
       (record { number = p; stack = record grown { evaluations = held }; is = get-set s1.stacks p (record grown { evaluations = held }) grown grown_at; inside = ◌⊎◌.inl (sym number_is) })
 
   pub stood : (i : ℕ) → IsStanding v i → IsStanding w i ⊎ (i ≡ number)
-  stood i st = before (subst (λ (z : Skeleton). Stands z i) skeleton_is st)
+  stood i st = before (subst (λ (z : Skeleton). SkeletonStands z i) skeleton_is st)
     where
-      in_grown : IsIn grown.own i → IsStanding w i ⊎ (i ≡ number)
+      in_grown : IsInSkeleton grown.own i → IsStanding w i ⊎ (i ≡ number)
       in_grown (◌⊎◌.inl e) = ◌⊎◌.inr (sym e ∙ sym number_is)
       in_grown (◌⊎◌.inr n) = ◌⊎◌.inl (record { number = p; stack = stack_of q; is = at; inside = n })
 
-      in_s1 : (k : ℕ) (z : Stack) → IsIn z.own i → ((k ≡ p) × (z ≡ grown)) ⊎ ((p ≡ k → ⊥) × (slice_get (skeleton w).stacks k ≡ Some z)) → IsStanding w i ⊎ (i ≡ number)
-      in_s1 k z n (◌⊎◌.inl f) = in_grown (subst (λ (y : Stack). IsIn y.own i) f.1 n)
+      in_s1 : (k : ℕ) (z : Stack) → IsInSkeleton z.own i → ((k ≡ p) × (z ≡ grown)) ⊎ ((p ≡ k → ⊥) × (slice_get (skeleton w).stacks k ≡ Some z)) → IsStanding w i ⊎ (i ≡ number)
+      in_s1 k z n (◌⊎◌.inl f) = in_grown (subst (λ (y : Stack). IsInSkeleton y.own i) f.1 n)
       in_s1 k z n (◌⊎◌.inr f) = ◌⊎◌.inl (record { number = k; stack = z; is = f.1; inside = n })
 
-      before : Stands s2 i → IsStanding w i ⊎ (i ≡ number)
+      before : SkeletonStands s2 i → IsStanding w i ⊎ (i ≡ number)
       before x = by (set_cases s1.stacks p x.number (record grown { evaluations = held }) x.stack x.is)
         where
           by : ((x.number ≡ p) × (x.stack ≡ record grown { evaluations = held })) ⊎ ((p ≡ x.number → ⊥) × (slice_get s1.stacks x.number ≡ Some x.stack)) → IsStanding w i ⊎ (i ≡ number)
-          by (◌⊎◌.inl f) = in_grown (subst (λ (y : Stack). IsIn y.own i) f.1 x.inside)
+          by (◌⊎◌.inl f) = in_grown (subst (λ (y : Stack). IsInSkeleton y.own i) f.1 x.inside)
           by (◌⊎◌.inr f) = in_s1 x.number x.stack x.inside (set_cases (skeleton w).stacks p x.number grown x.stack f.1)
 
   pub old_at : (i : ℕ) → i ≤ length w.instances → instance_at v i ≡ instance_at w i
@@ -212,13 +212,13 @@ module _ (sc : Scopes) (texts : KeepToTexts sc) (w : World) (ok : IsSound sc IsW
   pub after_at : numbered v.processes p ≡ Some after
   after_at = numbered_set w.processes p q after is
 
-  pub whole : (i : ℕ) → IsStanding v i → IsWhole w i → IsWhole v i
+  pub whole : (i : ℕ) → IsStanding v i → IsWholeInstance w i → IsWholeInstance v i
   whole i st h = by (same_or_other p h.number)
     where
-      by : (p ≡ h.number) ⊎ (p ≡ h.number → ⊥) → IsWhole v i
+      by : (p ≡ h.number) ⊎ (p ≡ h.number → ⊥) → IsWholeInstance v i
       by (◌⊎◌.inl f) =
           let same : h.process ≡ q = some_same h.is (ap (λ k. numbered w.processes k) (sym f) ∙ is) in
-          let m = answered_still sc w ok part outer fine entered tt tt h.part (subst (λ ps. IsAmong ps h.part) todo (subst (λ (z : Process). IsAmong z.todo h.part) same h.among)) h.owns h.made in
+          let m = answered_still sc w ok part outer fine entered tt tt h.part (subst (λ ps. IsAmongParts ps h.part) todo (subst (λ (z : Process). IsAmongParts z.todo h.part) same h.among)) h.owns h.made in
           record {
             number = p;
             process = after;

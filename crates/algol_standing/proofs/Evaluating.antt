@@ -17,11 +17,11 @@ use Rattle.algol_meaning.specs.Asks.{Ask, nothing, ask, resume, evaluated_of, lo
 use Rattle.algol_meaning.specs.Choice.{is_subscripted, opens}
 use Rattle.algol_laws.proofs.Heads.{awaits_place_in, settle_acts, evaluated_acts, place_acts, located_acts}
 use Rattle.algol_laws.proofs.Standing.{opens_plain, opened}
-use Rattle.algol_paths.specs.Blocks.{IsSeen, IsSeenAround, IsInner}
+use Rattle.algol_paths.specs.Blocks.{BlockIsSeen, IsSeenAround, IsInner}
 use Rattle.algol_paths.specs.Texts.{InExpr, InRest}
 use Rattle.algol_paths.proofs.Expressions.{InHalf, InHalfPlace, settle_in, settle_place_in}
-use Rattle.algol_standing.specs.Skeleton.{Evaluation, IsEvaluated, IsIn}
-use Rattle.algol_standing.specs.Worlds.{held_in_rest, newest_own, held_by, IsOnPath, IsOwn, IsAmong, IsAwaited, IsNoBlock, GivesNoOwn, GivesPlace, WaitsForPlace, AreGiven, IsWhole, KeepsActual, PartOk, ProcessOk, IsSound}
+use Rattle.algol_standing.specs.Skeleton.{Evaluation, IsEvaluated, IsInSkeleton}
+use Rattle.algol_standing.specs.Worlds.{held_in_rest, newest_own, held_by, IsOnPath, IsOwn, IsAmongParts, IsAwaited, IsNoBlock, GivesNoOwn, GivesPlace, WaitsForPlace, PartsAreGiven, IsWholeInstance, KeepsActual, PartOk, ProcessOk, IsSound}
 use Rattle.algol_standing.proofs.Lists.{false_true, some_same}
 use Rattle.algol_standing.proofs.Holding.{HalfHolds, RestHolds, settle_holds, evaluated_holds}
 use Rattle.algol_standing.proofs.Pairs.{pairs_self, pairs_then_set}
@@ -72,8 +72,8 @@ subscripted_acts sc (tree.variable v) s =
     acting (ask (located_of (settle_place sc v))) (located_acts (settle_place sc v) (place_acts sc v))
 subscripted_acts sc _ s = false_true s
 
-module _ (sc : Scopes) (w : World) (ok : IsSound sc IsWhole w) (p : ℕ) (q : Process) (part : Part) (outer : List Part) (is : numbered w.processes p ≡ Some q) (todo : q.todo ≡ part ∷ outer)
-    (able_is : q.state ≡ able) (c : NameCell) (held : CellOk sc IsWhole w ok (newest_own (part ∷ outer)) (named c)) where
+module _ (sc : Scopes) (w : World) (ok : IsSound sc IsWholeInstance w) (p : ℕ) (q : Process) (part : Part) (outer : List Part) (is : numbered w.processes p ≡ Some q) (todo : q.todo ≡ part ∷ outer)
+    (able_is : q.state ≡ able) (c : NameCell) (held : CellOk sc IsWholeInstance w ok (newest_own (part ∷ outer)) (named c)) where
   fine : Fine sc w (part ∷ outer)
   fine = subst (λ ps. Fine sc w ps) todo (fine_of sc w ok p q is)
 
@@ -96,33 +96,33 @@ module _ (sc : Scopes) (w : World) (ok : IsSound sc IsWhole w) (p : ℕ) (q : Pr
     abbrev top : ℕ
     top = newest_own (part ∷ outer)
 
-    actual : KeepsActual sc IsWhole w c
+    actual : KeepsActual sc IsWholeInstance w c
     actual = held.1 c refl
 
-    inner_ok : PartOk sc IsWhole w inner
+    inner_ok : PartOk sc IsWholeInstance w inner
     inner_ok =
         record {
-          text = text (IsSeen sc j) (IsInner sc j) (IsSeenAround sc j) actual.seen;
+          text = text (BlockIsSeen sc j) (IsInner sc j) (IsSeenAround sc j) actual.seen;
           narrow = λ e. by actual.narrow;
-          names = λ m n. all_names sc IsWhole w ok top (held_in_rest r) holds.0 m n;
+          names = λ m n. all_names sc IsWholeInstance w ok top (held_in_rest r) holds.0 m n;
         }
       where
         j : ℕ
         j = (instance_at w c.instance).block
 
-        by : IsWhole w c.instance ⊎ InExpr (IsSeenAround sc j) c.actual → IsWhole w c.instance ⊎ InRest (IsSeenAround sc j) IsNoBlock (IsSeenAround sc j) r
+        by : IsWholeInstance w c.instance ⊎ InExpr (IsSeenAround sc j) c.actual → IsWholeInstance w c.instance ⊎ InRest (IsSeenAround sc j) IsNoBlock (IsSeenAround sc j) r
         by (◌⊎◌.inl f) = ◌⊎◌.inl f
         by (◌⊎◌.inr f) = ◌⊎◌.inr (text (IsSeenAround sc j) IsNoBlock (IsSeenAround sc j) f)
 
-    parts : (x : Part) → IsAmong (inner ∷ around ∷ outer) x → PartOk sc IsWhole w x
-    parts x (◌⊎◌.inl e) = subst (λ y. PartOk sc IsWhole w y) e inner_ok
+    parts : (x : Part) → IsAmongParts (inner ∷ around ∷ outer) x → PartOk sc IsWholeInstance w x
+    parts x (◌⊎◌.inl e) = subst (λ y. PartOk sc IsWholeInstance w y) e inner_ok
     parts x (◌⊎◌.inr n) = fine_around.each x n
 
-    wait : (x : Part) → IsAmong (around ∷ outer) x → ask x.rest ≡ nothing
+    wait : (x : Part) → IsAmongParts (around ∷ outer) x → ask x.rest ≡ nothing
     wait x (◌⊎◌.inl e) = subst (λ (y : Part). ask y.rest ≡ nothing) e (opened_waits sc part.rest opens_it)
     wait x (◌⊎◌.inr n) = others_wait q part outer ((ok.processes p q is).heads (ap lives able_is)) todo x n
 
-    given : AreGiven (inner ∷ around ∷ outer)
+    given : PartsAreGiven (inner ∷ around ∷ outer)
     given = (subst (λ b. GivesNoOwn b r) (sym evaluates) holds.1, gives, fine_around.given)
 
     own_same : own_instances (inner ∷ around ∷ outer) ≡ own_instances (around ∷ outer)
@@ -131,26 +131,26 @@ module _ (sc : Scopes) (w : World) (ok : IsSound sc IsWhole w) (p : ℕ) (q : Pr
     top_same : newest_own (inner ∷ around ∷ outer) ≡ top
     top_same = ap (λ b. if b then newest_own (around ∷ outer) else c.instance) evaluates
 
-    on_path : (e : Evaluation) → IsEvaluated (held_by (inner ∷ around ∷ outer)) e → IsIn (own_instances (inner ∷ around ∷ outer)) e.over × IsOnPath w e.over e.within
+    on_path : (e : Evaluation) → IsEvaluated (held_by (inner ∷ around ∷ outer)) e → IsInSkeleton (own_instances (inner ∷ around ∷ outer)) e.over × IsOnPath w e.over e.within
     on_path e n = by (evaluated_either (newest_own (inner ∷ around ∷ outer)) (c.instance ∷ referred_by (held_in_rest r)) (held_by (around ∷ outer)) e n)
       where
-        path : IsIn (c.instance ∷ referred_by (held_in_rest r)) e.within → IsOnPath w top e.within
+        path : IsInSkeleton (c.instance ∷ referred_by (held_in_rest r)) e.within → IsOnPath w top e.within
         path (◌⊎◌.inl f) = subst (λ i. IsOnPath w top i) f (held.0 c.instance (◌⊎◌.inl refl))
-        path (◌⊎◌.inr m) = all_refs sc IsWhole w ok top (held_in_rest r) holds.0 e.within m
+        path (◌⊎◌.inr m) = all_refs sc IsWholeInstance w ok top (held_in_rest r) holds.0 e.within m
 
-        inside : IsIn (own_instances (around ∷ outer)) top
-        inside = top_inside sc IsWhole w ok p q part outer is todo
+        inside : IsInSkeleton (own_instances (around ∷ outer)) top
+        inside = top_inside sc IsWholeInstance w ok p q part outer is todo
 
-        by : ((e.over ≡ newest_own (inner ∷ around ∷ outer)) × IsIn (c.instance ∷ referred_by (held_in_rest r)) e.within) ⊎ IsEvaluated (held_by (around ∷ outer)) e →
-            IsIn (own_instances (inner ∷ around ∷ outer)) e.over × IsOnPath w e.over e.within
+        by : ((e.over ≡ newest_own (inner ∷ around ∷ outer)) × IsInSkeleton (c.instance ∷ referred_by (held_in_rest r)) e.within) ⊎ IsEvaluated (held_by (around ∷ outer)) e →
+            IsInSkeleton (own_instances (inner ∷ around ∷ outer)) e.over × IsOnPath w e.over e.within
         by (◌⊎◌.inl f) =
             let over : e.over ≡ top = f.0 ∙ top_same in (
-              subst (λ is. IsIn is e.over) (sym own_same) (subst (λ i. IsIn (own_instances (around ∷ outer)) i) (sym over) inside),
+              subst (λ is. IsInSkeleton is e.over) (sym own_same) (subst (λ i. IsInSkeleton (own_instances (around ∷ outer)) i) (sym over) inside),
               subst (λ i. IsOnPath w i e.within) (sym over) (path f.1),
             )
-        by (◌⊎◌.inr m) = let o = fine_around.holds e m in (subst (λ is. IsIn is e.over) (sym own_same) o.0, o.1)
+        by (◌⊎◌.inr m) = let o = fine_around.holds e m in (subst (λ is. IsInSkeleton is e.over) (sym own_same) o.0, o.1)
 
-    process_then : ProcessOk sc IsWhole w after
+    process_then : ProcessOk sc IsWholeInstance w after
     process_then =
         record {
           parts = parts;
@@ -179,20 +179,20 @@ module _ (sc : Scopes) (w : World) (ok : IsSound sc IsWhole w) (p : ℕ) (q : Pr
 
     still : AreStillMade q.todo (inner ∷ around ∷ outer)
     still x n o m =
-        let k = answered_still sc w ok part outer fine entered tt tt x (subst (λ ps. IsAmong ps x) todo n) o m in
+        let k = answered_still sc w ok part outer fine entered tt tt x (subst (λ ps. IsAmongParts ps x) todo n) o m in
         record { part = k.part; among = ◌⊎◌.inr k.among; owns = k.owns; instance_is = k.instance_is; made = k.made }
 
     abbrev MovedHere : Process → Process → Type 0
     MovedHere = Moved sc w ok p q is after alike process_then on_path still
 
-    evaluation_ok : IsSound sc IsWhole (opens sc w p q part outer w inner).world
+    evaluation_ok : IsSound sc IsWholeInstance (opens sc w p q part outer w inner).world
     evaluation_ok =
         acted_ok sc w ok p q is after alike process_then on_path still (with_process w p after) (pairs_self InstanceAlike instance_self w.instances)
         (pairs_then_set Unmoved MovedHere (λ x y f. ◌⊎◌.inr f) w.processes w.processes p after (pairs_self Unmoved unmoved_self w.processes) (λ x e. ◌⊎◌.inl (some_same e is, refl)))
         (λ t e st f. listed_still w (with_process w p after) p q after is able_is refl t e (ok.listed t e st f))
 
   pub read_enters : (n : Named) → ask part.rest ≡ asks.reads n →
-      IsSound sc IsWhole (opens sc w p q part outer w (record { instance = c.instance; purpose = name_read; rest = evaluated_of (settle sc c.actual) })).world
+      IsSound sc IsWholeInstance (opens sc w p q part outer w (record { instance = c.instance; purpose = name_read; rest = evaluated_of (settle sc c.actual) })).world
   read_enters n e =
       evaluation_ok name_read (evaluated_of (settle sc c.actual)) refl (λ P Q R i. evaluated_text P Q R (settle sc c.actual) (settle_in P sc c.actual i))
       (evaluated_holds (Held sc w ok part outer fine) (plain_held sc w ok part outer fine) true (settle sc c.actual)
@@ -201,7 +201,7 @@ module _ (sc : Scopes) (w : World) (ok : IsSound sc IsWhole w) (p : ℕ) (q : Pr
       (λ f. absurd (no_place_awaited sc part.rest (ap opens_plain e) f))
 
   pub place_enters : (n : Named) → ask part.rest ≡ asks.resolves n → is_subscripted c.actual ≡ true →
-      IsSound sc IsWhole (opens sc w p q part outer w (record { instance = c.instance; purpose = name_place; rest = located_of (settle_actual_place sc c.actual) })).world
+      IsSound sc IsWholeInstance (opens sc w p q part outer w (record { instance = c.instance; purpose = name_place; rest = located_of (settle_actual_place sc c.actual) })).world
   place_enters n e s =
       evaluation_ok name_place (located_of (settle_actual_place sc c.actual)) refl (λ P Q R i. subscripted_text P Q R sc c.actual s i)
       (subscripted_holds (Held sc w ok part outer fine) (plain_held sc w ok part outer fine) sc c.actual s).0 (subscripted_acts sc c.actual s) (subst (λ x. Opens x) (sym e) tt)

@@ -6,7 +6,7 @@ use Rattle.algol_tree.specs.Sorts.{same_name}
 use Rattle.algol_meaning.specs.Value.{Reference, event}
 use Rattle.b67_deeds.specs.Events.{EventState}
 use Rattle.algol_meaning.specs.World.{NamedCell, Instance, or_no_instance, instance_at, cell_in, cell_at, cells_with, event_in, World}
-use Rattle.algol_meaning.specs.Events.{event_at, set_event, change_event, same_reference, is_among}
+use Rattle.algol_meaning.specs.Events.{event_at, set_event, change_event, same_reference, reference_is_among}
 use Rattle.algol_laws.proofs.Cells.{numbered_set, numbered_other, same_number, itself, same_name_is, same_name_refl, with_other}
 use Rattle.algol_standing.proofs.Lists.{same_or_other}
 use Rattle.algol_standing.proofs.Pairs.{set_or}
@@ -125,14 +125,14 @@ or_second : (a b : Bool) → a ≡ false → (a || b) ≡ b
 or_second true b e = cc
 or_second false b e = refl
 
-pub among_first : (t : Reference) (rs : List Reference) (s : Reference) → same_reference t s ≡ true → is_among (t ∷ rs) s ≡ true
-among_first t rs s e = or_first (same_reference t s) (is_among rs s) e
+pub among_first : (t : Reference) (rs : List Reference) (s : Reference) → same_reference t s ≡ true → reference_is_among (t ∷ rs) s ≡ true
+among_first t rs s e = or_first (same_reference t s) (reference_is_among rs s) e
 
-pub among_more : (t : Reference) (rs : List Reference) (s : Reference) → same_reference t s ≡ false → is_among (t ∷ rs) s ≡ is_among rs s
-among_more t rs s e = or_second (same_reference t s) (is_among rs s) e
+pub among_more : (t : Reference) (rs : List Reference) (s : Reference) → same_reference t s ≡ false → reference_is_among (t ∷ rs) s ≡ reference_is_among rs s
+among_more t rs s e = or_second (same_reference t s) (reference_is_among rs s) e
 
-pub among_later : (t : Reference) (rs : List Reference) (s : Reference) → is_among rs s ≡ true → is_among (t ∷ rs) s ≡ true
-among_later t rs s e = by (same_reference t s) (is_among rs s) e
+pub among_later : (t : Reference) (rs : List Reference) (s : Reference) → reference_is_among rs s ≡ true → reference_is_among (t ∷ rs) s ≡ true
+among_later t rs s e = by (same_reference t s) (reference_is_among rs s) e
   where
     by : (a b : Bool) → b ≡ true → (a || b) ≡ true
     by true b f = refl

@@ -16,10 +16,10 @@ use Rattle.algol_meaning.specs.Rest.{Rest, Answer, done}
 use Rattle.algol_meaning.specs.World.{Part, Process, State, able, waits_for, procures, lives, or_no_process, process_at, set_all_able, World}
 use Rattle.algol_meaning.specs.Events.{event_at, change_event, list_in, all_withdrawn, released}
 use Rattle.algol_meaning.specs.Asks.{nothing, ask, resume}
-use Rattle.algol_meaning.specs.Choice.{told, did, does}
+use Rattle.algol_meaning.specs.Choice.{told_answer, did, deed_does}
 use Rattle.algol_laws.proofs.Cells.{numbered_set}
 use Rattle.algol_laws.proofs.Releasing.{changed_processes, able_instances}
-use Rattle.algol_standing.specs.Worlds.{held_in_answer, newest_own, skeleton, IsOnPath, IsStanding, Awaits, AreListed, IsAwaited, IsFew, IsWhole, IsSound}
+use Rattle.algol_standing.specs.Worlds.{held_in_answer, newest_own, skeleton, IsOnPath, IsStanding, Awaits, WaitersAreListed, IsAwaited, IsFew, IsWholeInstance, IsSound}
 use Rattle.algol_standing.proofs.Awaiting.{awaits_able, awaits_procures}
 use Rattle.algol_standing.proofs.Lists.{some_same}
 use Rattle.algol_standing.proofs.Standing.{stands_path}
@@ -68,19 +68,19 @@ released_instances w r d =
     subst (λ xs. AllPairs InstanceAlike w.instances xs) (sym (able_instances u d.frees))
     (pairs_then InstanceAlike instance_then w.instances v.instances u.instances (changed_alike w r d.change) (withdrawn_instances v r d.withdraws))
 
-module _ (sc : Scopes) (heads_act : (r : Rest) (a : Answer) → Suits (ask r) a → ask (resume sc r a) ≡ nothing → ⊥) (w : World) (ok : IsSound sc IsWhole w) (p : ℕ) (q : Process) (part : Part) (outer : List Part)
+module _ (sc : Scopes) (heads_act : (r : Rest) (a : Answer) → Suits (ask r) a → ask (resume sc r a) ≡ nothing → ⊥) (w : World) (ok : IsSound sc IsWholeInstance w) (p : ℕ) (q : Process) (part : Part) (outer : List Part)
     (is : numbered w.processes p ≡ Some q) (todo : q.todo ≡ part ∷ outer) (able_is : q.state ≡ able) (r : Reference) (path : IsOnPath w (newest_own (part ∷ outer)) r.instance) where
   stands : IsStanding w r.instance
-  stands = stands_path (skeleton w) ok.skeleton_ok (newest_own (part ∷ outer)) r.instance (top_stands sc IsWhole w ok p q part outer is todo) path
+  stands = stands_path (skeleton w) ok.skeleton_ok (newest_own (part ∷ outer)) r.instance (top_stands sc IsWholeInstance w ok p q part outer is todo) path
 
-  listed : AreListed w r (event_at w r)
+  listed : WaitersAreListed w r (event_at w r)
   listed = now_listed w r (λ d f. ok.listed r d stands f)
 
   able_at : (process_at w p).state ≡ able
   able_at = ap (λ o. (or_no_process o).state) is ∙ able_is
 
   -- the process has this answer and this state, and the deed is done
-  module _ (a : Answer) (foreign : IsForeign a) (brings : AreAll (CellOk sc IsWhole w ok (newest_own (part ∷ outer))) (held_in_answer a)) (suits : Suits (ask part.rest) a)
+  module _ (a : Answer) (foreign : IsForeign a) (brings : AreAll (CellOk sc IsWholeInstance w ok (newest_own (part ∷ outer))) (held_in_answer a)) (suits : Suits (ask part.rest) a)
       (s : State) (lives_on : lives s ≡ true) (awaits : (t : Reference) → IsAwaited s t → IsOnPath w (newest_own (part ∷ outer)) t.instance)
       (few : IsFew q.woken s) (d : Deed) (lists : Lists p (event_at w r) d)
       (also : (k : ℕ) → IsListed d.frees k → Awaits ((process_at w k).state) r → IsListed d.withdraws k) (waits_so : d.next ≡ deeds.waits → Awaits s r) (procures_so : d.next ≡ deeds.procures → s ≡ procures r) where
@@ -117,7 +117,7 @@ module _ (sc : Scopes) (heads_act : (r : Rest) (a : Answer) → Suits (ask r) a 
         ap (λ o. (or_no_process o).state) (numbered_set (set_all_able (all_withdrawn (change_event w r d.change) r d.withdraws) d.frees).processes p x.0 moved x.1)
 
     -- who is listed waits
-    listed_now : AreListed after r (after_change d.change (event_at w r))
+    listed_now : WaitersAreListed after r (after_change d.change (event_at w r))
     listed_now = record { waiters = λ k n. waiter k (lists.waiters k n); procurers = λ k n. procurer k (lists.procurers k n); once = lists.once; once_waiting = lists.waiting_once }
       where
         waiter : (k : ℕ) → (IsListed (event_at w r).waiters k × (IsListed d.frees k → ⊥)) ⊎ ((d.next ≡ deeds.waits) × (p ≡ k)) → Awaits ((process_at after k).state) r
@@ -130,18 +130,18 @@ module _ (sc : Scopes) (heads_act : (r : Rest) (a : Answer) → Suits (ask r) a 
         procurer k (◌⊎◌.inl n) = still_procures w p q moved is able_is r d.change d.withdraws d.frees freed also k r (listed.procurers k n.0) n.1
         procurer k (◌⊎◌.inr n) = ap (λ j. (process_at after j).state) (sym n.1) ∙ state_now ∙ procures_so n.0
 
-    after_ok : IsSound sc IsWhole after
+    after_ok : IsSound sc IsWholeInstance after
     after_ok =
         resumed_ok sc w ok p q part outer is todo (ap lives able_is) a foreign brings acts s lives_on awaits q.woken few after instances processes
         (λ t e st f. listed_then w p q moved is able_is r d.change d.withdraws d.frees freed also listed_now t e (λ d g. ok.listed t d st g) f)
 
   -- ---- what is told
 
-  told_foreign : (o : Option Bool) → IsForeign (told sc w p q part outer o)
+  told_foreign : (o : Option Bool) → IsForeign (told_answer sc w p q part outer o)
   told_foreign None = tt
   told_foreign (Some b) = tt
 
-  told_brings : (C : Cell → Type 0) (o : Option Bool) → AreAll C (held_in_answer (told sc w p q part outer o))
+  told_brings : (C : Cell → Type 0) (o : Option Bool) → AreAll C (held_in_answer (told_answer sc w p q part outer o))
   told_brings C None = tt
   told_brings C (Some b) = tt
 
@@ -155,7 +155,7 @@ module _ (sc : Scopes) (heads_act : (r : Rest) (a : Answer) → Suits (ask r) a 
     d = deed x p (event_at w r)
 
     abbrev C : Cell → Type 0
-    C = CellOk sc IsWhole w ok (newest_own (part ∷ outer))
+    C = CellOk sc IsWholeInstance w ok (newest_own (part ∷ outer))
 
     lists : Lists p (event_at w r) d
     lists =
@@ -177,12 +177,12 @@ module _ (sc : Scopes) (heads_act : (r : Rest) (a : Answer) → Suits (ask r) a 
     no_more : (s : State) → list_in s ≡ [] → IsFew q.woken s
     no_more s e = (its_few.0, subst (λ rs. length rs ≤ MOST_EVENTS) (sym e) (omega (arith)))
 
-    pub deed_done : Suits (ask part.rest) (told sc w p q part outer d.answer) → Suits (ask part.rest) done → IsSound sc IsWhole (does sc w p q part outer x r d).world
+    pub deed_done : Suits (ask part.rest) (told_answer sc w p q part outer d.answer) → Suits (ask part.rest) done → IsSound sc IsWholeInstance (deed_does sc w p q part outer x r d).world
     deed_done goes_on stops = by d.next refl
       where
-        by : (n : Next) → d.next ≡ n → IsSound sc IsWhole (did sc w p q part outer x r d n).world
+        by : (n : Next) → d.next ≡ n → IsSound sc IsWholeInstance (did sc w p q part outer x r d n).world
         by deeds.goes e =
-            after_ok (told sc w p q part outer d.answer) (told_foreign d.answer) (told_brings C d.answer) goes_on q.state (ap lives able_is)
+            after_ok (told_answer sc w p q part outer d.answer) (told_foreign d.answer) (told_brings C d.answer) goes_on q.state (ap lives able_is)
             (waits_not sc heads_act w ok p q part outer is todo able_is) its_few d lists also (λ f. let no : deeds.goes ≡ deeds.waits = sym e ∙ f in cc)
             (λ f. let no : deeds.goes ≡ deeds.procures = sym e ∙ f in cc)
         by deeds.waits e =

@@ -13,10 +13,10 @@ use Rattle.algol_meaning.specs.Critical.{referred_by}
 use Rattle.algol_meaning.specs.Instances.{fresh_cells}
 use Rattle.algol_meaning.specs.Asks.{nothing, ask}
 use Rattle.algol_meaning.specs.Run.{start}
-use Rattle.algol_paths.specs.Blocks.{IsSeen, IsSeenAround, IsInner}
+use Rattle.algol_paths.specs.Blocks.{BlockIsSeen, IsSeenAround, IsInner}
 use Rattle.algol_paths.proofs.Statements.{declared_keeps}
-use Rattle.algol_standing.specs.Skeleton.{Evaluation, IsEvaluated, Stack, Home, IsIn, Owned, here, SkeletonOk}
-use Rattle.algol_standing.specs.Worlds.{home_of, held_in_rest, held_by, stack_of, skeleton, IsStanding, IsOnPath, IsOwn, IsAmong, outermost, IsWhole, PartOk, ProcessOk, InstanceOk, IsSound}
+use Rattle.algol_standing.specs.Skeleton.{Evaluation, IsEvaluated, Stack, Home, IsInSkeleton, Owned, here, SkeletonOk}
+use Rattle.algol_standing.specs.Worlds.{home_of, held_in_rest, held_by, stack_of, skeleton, IsStanding, IsOnPath, IsOwn, IsAmongParts, outermost, IsWholeInstance, PartOk, ProcessOk, InstanceOk, IsSound}
 use Rattle.algol_standing.specs.Lows.{LeadsLow, InstanceLow, PartLow, IsLow, IsMaking}
 use Rattle.algol_calls.specs.Texts.{HasOuterBlock}
 use Rattle.algol_standing.proofs.Lists.{none_some}
@@ -66,21 +66,21 @@ module _ (sc : Scopes) (o : HasOuterBlock sc) (acts : ask (settle_items sc (item
   stands : IsStanding first 1
   stands = record { number = 1; stack = stack_of process; is = refl; inside = ◌⊎◌.inl refl }
 
-  no_refs : (i : ℕ) (h : Home) (r : ℕ) → slice_get (skeleton first).homes i ≡ Some h → IsIn h.refs r → ⊥
-  no_refs zero h r e n = let same : record { refs = []; process = 0 } ≡ h = cc in subst (λ (g : Home). IsIn g.refs r) (sym same) n
+  no_refs : (i : ℕ) (h : Home) (r : ℕ) → slice_get (skeleton first).homes i ≡ Some h → IsInSkeleton h.refs r → ⊥
+  no_refs zero h r e n = let same : record { refs = []; process = 0 } ≡ h = cc in subst (λ (g : Home). IsInSkeleton g.refs r) (sym same) n
   no_refs (suc zero) h r e n =
       let same : home_of instance ≡ h = cc in
-      fresh_refs (block_numbered sc.blocks 0) [] r (subst (λ (g : Home). IsIn g.refs r) (sym same) n)
+      fresh_refs (block_numbered sc.blocks 0) [] r (subst (λ (g : Home). IsInSkeleton g.refs r) (sym same) n)
   no_refs (suc (suc k)) h r e n = none_some e
 
-  holds : (e : Evaluation) → IsEvaluated (held_by (part ∷ [])) e → IsIn (1 ∷ []) e.over × IsOnPath first e.over e.within
+  holds : (e : Evaluation) → IsEvaluated (held_by (part ∷ [])) e → IsInSkeleton (1 ∷ []) e.over × IsOnPath first e.over e.within
   holds e n = by (evaluated_either 1 (1 ∷ referred_by (held_in_rest rest)) [] e n)
     where
-      path : e.over ≡ 1 → IsIn (1 ∷ referred_by (held_in_rest rest)) e.within → IsOnPath first e.over e.within
+      path : e.over ≡ 1 → IsInSkeleton (1 ∷ referred_by (held_in_rest rest)) e.within → IsOnPath first e.over e.within
       path f (◌⊎◌.inl g) = subst (λ i. IsOnPath first e.over i) (f ∙ g) here
       path f (◌⊎◌.inr m) = absurd (plain_refs (held_in_rest rest) e.within held_plain m)
 
-      by : ((e.over ≡ 1) × IsIn (1 ∷ referred_by (held_in_rest rest)) e.within) ⊎ IsEvaluated [] e → IsIn (1 ∷ []) e.over × IsOnPath first e.over e.within
+      by : ((e.over ≡ 1) × IsInSkeleton (1 ∷ referred_by (held_in_rest rest)) e.within) ⊎ IsEvaluated [] e → IsInSkeleton (1 ∷ []) e.over × IsOnPath first e.over e.within
       by (◌⊎◌.inl f) = (◌⊎◌.inl (sym f.0), path f.0 f.1)
       by (◌⊎◌.inr m) = absurd m
 
@@ -94,19 +94,19 @@ module _ (sc : Scopes) (o : HasOuterBlock sc) (acts : ask (settle_items sc (item
         ended = stacks (λ k z. z.live ≡ false → z.own ≡ []) (λ e. refl) (λ e. true_false (sym e));
         known = λ i h r e n. absurd (no_refs i h r e n);
         refers = λ i h r st e n. absurd (no_refs i h r e n);
-        evaluates = λ k z e g n. stacks (λ k z. IsEvaluated z.evaluations e → IsIn z.own e.over × IsOnPath first e.over e.within) (λ m. absurd m) (λ m. holds e m) k z g n;
+        evaluates = λ k z e g n. stacks (λ k z. IsEvaluated z.evaluations e → IsInSkeleton z.own e.over × IsOnPath first e.over e.within) (λ m. absurd m) (λ m. holds e m) k z g n;
         holds = λ k z c g. stacks (λ k z. z.live ≡ true → z.critical ≡ Some c → IsStanding first c) (λ e f. true_false e) (λ e f. none_some f) k z g;
       }
 
-  part_first : PartOk sc IsWhole first part
+  part_first : PartOk sc IsWholeInstance first part
   part_first =
       record {
-        text = declared_keeps (IsSeen sc 0) (IsInner sc 0) (IsSeenAround sc 0) sc (items_of (block_numbered sc.blocks 0)) o.text;
+        text = declared_keeps (BlockIsSeen sc 0) (IsInner sc 0) (IsSeenAround sc 0) sc (items_of (block_numbered sc.blocks 0)) o.text;
         narrow = λ e. true_false e;
         names = λ m n. absurd (plain_names (held_in_rest rest) m held_plain n);
       }
 
-  process_first : ProcessOk sc IsWhole first process
+  process_first : ProcessOk sc IsWholeInstance first process
   process_first =
       record {
         parts = parts;
@@ -116,11 +116,11 @@ module _ (sc : Scopes) (o : HasOuterBlock sc) (acts : ask (settle_items sc (item
         few = (omega (arith), omega (arith));
       }
     where
-      parts : (x : Part) → IsAmong (part ∷ []) x → PartOk sc IsWhole first x
-      parts x (◌⊎◌.inl e) = subst (λ y. PartOk sc IsWhole first y) e part_first
+      parts : (x : Part) → IsAmongParts (part ∷ []) x → PartOk sc IsWholeInstance first x
+      parts x (◌⊎◌.inl e) = subst (λ y. PartOk sc IsWholeInstance first y) e part_first
       parts x (◌⊎◌.inr n) = absurd n
 
-  instance_first : InstanceOk sc IsWhole first 1 instance
+  instance_first : InstanceOk sc IsWholeInstance first 1 instance
   instance_first =
       record {
         left = (λ e. stands, λ st. refl);
@@ -135,12 +135,12 @@ module _ (sc : Scopes) (o : HasOuterBlock sc) (acts : ask (settle_items sc (item
   no_event (suc zero) name e f = fresh_no_event (block_numbered sc.blocks 0) [] tt name e f
   no_event (suc (suc k)) name e f = cc
 
-  first_ok : IsSound sc IsWhole first
+  first_ok : IsSound sc IsWholeInstance first
   first_ok =
       record {
         skeleton_ok = skeleton_first;
-        instances = instances (λ i x. InstanceOk sc IsWhole first i x) instance_first;
-        processes = processes (λ k q. ProcessOk sc IsWhole first q) process_first;
+        instances = instances (λ i x. InstanceOk sc IsWholeInstance first i x) instance_first;
+        processes = processes (λ k q. ProcessOk sc IsWholeInstance first q) process_first;
         older = λ k c q e. processes (λ k q. lives q.state ≡ true → q.critical ≡ Some c → (i : ℕ) → IsOwn q.todo i → c < i) (λ live f. none_some f) k q e;
         first = λ q e. processes (λ k q. (q.critical ≡ None) × (q.task ≡ None)) (refl, refl) 1 q e;
         later = λ k q e. none_some e;
@@ -155,19 +155,19 @@ module _ (sc : Scopes) (o : HasOuterBlock sc) (acts : ask (settle_items sc (item
   first_low i m =
       record {
         instances = λ j x e. instances (λ k y. y.left ≡ false → InstanceLow sc b i y) (λ s. record { childless = other; cells = fresh_low sc b i (block_numbered sc.blocks 0) [] tt }) j x e;
-        parts = λ k q y e. processes (λ k z. IsAmong z.todo y → PartLow sc b i y) (λ n. in_part y n) k q e;
+        parts = λ k q y e. processes (λ k z. IsAmongParts z.todo y → PartLow sc b i y) (λ n. in_part y n) k q e;
         tasks = λ k q r e. processes (λ k z. z.task ≡ Some r → LeadsLow sc b i r) (λ f. none_some f) k q e;
       }
     where
       b : ℕ
       b = (instance_at first i).block
 
-      only : (y : Part) → IsAmong (part ∷ []) y → y.instance ≡ 1
+      only : (y : Part) → IsAmongParts (part ∷ []) y → y.instance ≡ 1
       only y (◌⊎◌.inl f) = ap (λ (z : Part). z.instance) (sym f)
       only y (◌⊎◌.inr n) = absurd n
 
       one : i ≡ 1
-      one = sym m.instance_is ∙ processes (λ k z. IsAmong z.todo m.part → m.part.instance ≡ 1) (λ n. only m.part n) m.number m.process m.is m.among
+      one = sym m.instance_is ∙ processes (λ k z. IsAmongParts z.todo m.part → m.part.instance ≡ 1) (λ n. only m.part n) m.number m.process m.is m.among
 
       other : 0 ≡ i → ⊥
       other f = let at = one in omega (arith, f, at)
@@ -180,7 +180,7 @@ module _ (sc : Scopes) (o : HasOuterBlock sc) (acts : ask (settle_items sc (item
             narrow = λ e f. true_false e;
           }
 
-      in_part : (y : Part) → IsAmong (part ∷ []) y → PartLow sc b i y
+      in_part : (y : Part) → IsAmongParts (part ∷ []) y → PartLow sc b i y
       in_part y (◌⊎◌.inl f) = subst (λ z. PartLow sc b i z) f part_low
       in_part y (◌⊎◌.inr n) = absurd n
 
@@ -189,6 +189,6 @@ pub first_world_low : (sc : Scopes) → HasOuterBlock sc → (ask (settle_items 
 unfolding start
 first_world_low sc o acts = first_low sc o acts
 
-pub first_world : (sc : Scopes) → HasOuterBlock sc → (ask (settle_items sc (items_of (block_numbered sc.blocks 0))) ≡ nothing → ⊥) → IsSound sc IsWhole (start sc)
+pub first_world : (sc : Scopes) → HasOuterBlock sc → (ask (settle_items sc (items_of (block_numbered sc.blocks 0))) ≡ nothing → ⊥) → IsSound sc IsWholeInstance (start sc)
 unfolding start
 first_world sc o acts = first_ok sc o acts

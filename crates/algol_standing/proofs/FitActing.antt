@@ -7,13 +7,13 @@ use Rattle.algol_tree.specs.Scopes.{Scopes}
 use Rattle.algol_meaning.specs.Value.{Value, Reference, simple}
 use Rattle.algol_meaning.specs.Rest.{Answer, entered}
 use Rattle.algol_meaning.specs.World.{Part, Process, State, with_process, World}
-use Rattle.algol_meaning.specs.Events.{is_among, list_in}
+use Rattle.algol_meaning.specs.Events.{reference_is_among, list_in}
 use Rattle.algol_meaning.specs.Critical.{is_evaluation}
 use Rattle.algol_meaning.specs.Asks.{Ask, ask, resume}
 use Rattle.algol_meaning.specs.Choice.{Choice, fails, opens}
 use Rattle.algol_calls.specs.Fits.{AskFits, AnswerFits}
 use Rattle.algol_calls.proofs.Rests.{resumed_fits, rest_asks}
-use Rattle.algol_standing.specs.Worlds.{held_in_rest, held_in_answer, IsAmong, GivesNoOwn, IsWhole, IsSound}
+use Rattle.algol_standing.specs.Worlds.{held_in_rest, held_in_answer, IsAmongParts, GivesNoOwn, IsWholeInstance, IsSound}
 use Rattle.algol_standing.specs.Fitting.{LeadsRight, AllLeadRight, PartFits, ProcessFits, WorldFits}
 use Rattle.algol_standing.proofs.Holding.{IsForeign, resumed_holds}
 use Rattle.algol_standing.proofs.Fine.{Fine, fine_of}
@@ -39,10 +39,10 @@ goes_on_fits sc w x a h own fit brings foreign =
           (right_all sc w (held_in_answer a) brings) foreign).0;
     }
 
-module _ (sc : Scopes) (w : World) (ok : IsSound sc IsWhole w) (fits : WorldFits sc w) (p : ℕ) (q : Process) (part : Part) (outer : List Part) (is : numbered w.processes p ≡ Some q)
+module _ (sc : Scopes) (w : World) (ok : IsSound sc IsWholeInstance w) (fits : WorldFits sc w) (p : ℕ) (q : Process) (part : Part) (outer : List Part) (is : numbered w.processes p ≡ Some q)
     (todo : q.todo ≡ part ∷ outer) where
-  pub each_fits : (x : Part) → IsAmong (part ∷ outer) x → PartFits sc w x
-  each_fits x n = (fits.processes p q is).parts x (subst (λ ps. IsAmong ps x) (sym todo) n)
+  pub each_fits : (x : Part) → IsAmongParts (part ∷ outer) x → PartFits sc w x
+  each_fits x n = (fits.processes p q is).parts x (subst (λ ps. IsAmongParts ps x) (sym todo) n)
 
   pub here_fits : PartFits sc w part
   here_fits = each_fits part (◌⊎◌.inl refl)
@@ -55,10 +55,10 @@ module _ (sc : Scopes) (w : World) (ok : IsSound sc IsWhole w) (fits : WorldFits
 
   -- in this state it has no other events in its list
   abbrev pub NoOthers : State → Type 0
-  NoOthers s = (r : Reference) → is_among (list_in s) r ≡ true → is_among (list_in q.state) r ≡ true
+  NoOthers s = (r : Reference) → reference_is_among (list_in s) r ≡ true → reference_is_among (list_in q.state) r ≡ true
 
   -- the process has these parts in a world with more instances
-  pub parts_fit : (v : World) → Extends w v → (parts : List Part) → ((x : Part) → IsAmong parts x → PartFits sc v x) → (s : State) → NoOthers s →
+  pub parts_fit : (v : World) → Extends w v → (parts : List Part) → ((x : Part) → IsAmongParts parts x → PartFits sc v x) → (s : State) → NoOthers s →
       ProcessFits sc v (record q { todo = parts; state = s })
   parts_fit v more parts f s none =
       record {
@@ -67,7 +67,7 @@ module _ (sc : Scopes) (w : World) (ok : IsSound sc IsWhole w) (fits : WorldFits
         waits = λ r e. plain_too sc w v more r ((fits.processes p q is).waits r (none r e));
       }
 
-  pub outer_fits : (v : World) → Extends w v → (x : Part) → IsAmong outer x → PartFits sc v x
+  pub outer_fits : (v : World) → Extends w v → (x : Part) → IsAmongParts outer x → PartFits sc v x
   outer_fits v more x n = part_too sc w v more x (each_fits x (◌⊎◌.inr n))
 
   module _ (x : Ask) (e : ask part.rest ≡ x) (a : Answer) (fit : AnswerFits sc x a) (brings : AllLeadRight sc w (held_in_answer a)) (foreign : IsForeign a) where
@@ -77,7 +77,7 @@ module _ (sc : Scopes) (w : World) (ok : IsSound sc IsWhole w) (fits : WorldFits
     pub answered_process : ProcessFits sc w (record q { todo = record part { rest = resume sc part.rest a } ∷ outer })
     answered_process = parts_fit w (extends_self w w refl) (record part { rest = resume sc part.rest a } ∷ outer) each q.state (λ r f. f)
       where
-        each : (y : Part) → IsAmong (record part { rest = resume sc part.rest a } ∷ outer) y → PartFits sc w y
+        each : (y : Part) → IsAmongParts (record part { rest = resume sc part.rest a } ∷ outer) y → PartFits sc w y
         each y (◌⊎◌.inl f) = subst (λ z. PartFits sc w z) f answered_fits
         each y (◌⊎◌.inr n) = each_fits y (◌⊎◌.inr n)
 
@@ -88,7 +88,7 @@ module _ (sc : Scopes) (w : World) (ok : IsSound sc IsWhole w) (fits : WorldFits
         process_fits sc v p (record q { todo = record part { rest = resume sc part.rest a } ∷ outer; state = s }) h
         (parts_fit v more (record part { rest = resume sc part.rest a } ∷ outer) each s none)
       where
-        each : (y : Part) → IsAmong (record part { rest = resume sc part.rest a } ∷ outer) y → PartFits sc v y
+        each : (y : Part) → IsAmongParts (record part { rest = resume sc part.rest a } ∷ outer) y → PartFits sc v y
         each y (◌⊎◌.inl f) = subst (λ z. PartFits sc v z) f (part_too sc w v more (record part { rest = resume sc part.rest a }) answered_fits)
         each y (◌⊎◌.inr n) = outer_fits v more y n
 
@@ -102,7 +102,7 @@ module _ (sc : Scopes) (w : World) (ok : IsSound sc IsWhole w) (fits : WorldFits
         process_fits sc v p (record q { todo = inner ∷ record part { rest = resume sc part.rest entered } ∷ outer }) h
         (parts_fit v more (inner ∷ record part { rest = resume sc part.rest entered } ∷ outer) each q.state (λ r f. f))
       where
-        each : (y : Part) → IsAmong (inner ∷ record part { rest = resume sc part.rest entered } ∷ outer) y → PartFits sc v y
+        each : (y : Part) → IsAmongParts (inner ∷ record part { rest = resume sc part.rest entered } ∷ outer) y → PartFits sc v y
         each y (◌⊎◌.inl f) = subst (λ z. PartFits sc v z) f inner_fits
         each y (◌⊎◌.inr (◌⊎◌.inl f)) =
             subst (λ z. PartFits sc v z) f (part_too sc w v more (record part { rest = resume sc part.rest entered }) (answered_fits x e entered fit tt tt))

@@ -16,7 +16,7 @@ use Rattle.b67_deeds.specs.Events.{fresh_state}
 use Rattle.b67_deeds.specs.Deeds as deeds
 use Rattle.b67_deeds.specs.Deeds.{EventDeed, Deed, Next, deed}
 use Rattle.algol_meaning.specs.Rest.{Place, own, there, element_of, Answer, done, value, cell, place}
-use Rattle.algol_meaning.specs.Settle.{block_of, sort_at, settle_actual_place}
+use Rattle.algol_meaning.specs.Settle.{block_of_sort, sort_at, settle_actual_place}
 use Rattle.algol_meaning.specs.World.{instance_at, cell_in, cell_at, set_cell, add_cells, followed, value_in, array_in, name_place, Part, Process, State, able, waits_for, procures, waits_any, with_process, World}
 use Rattle.algol_meaning.specs.Arrays.{subscript_place, element_at, with_element, new_array, new_arrays, has_wrong_size, has_no_room, bounds_of}
 use Rattle.algol_meaning.specs.Events.{event_at, same_reference, joined_all, first_happened, released}
@@ -24,11 +24,11 @@ use Rattle.algol_meaning.specs.Lines.{line_of}
 use Rattle.b67_deeds.specs.declared.Letter.TheVariants as actions
 use Rattle.algol_meaning.specs.Asks as asks
 use Rattle.algol_meaning.specs.Asks.{Ask, ask, resume, located_of}
-use Rattle.algol_meaning.specs.Choice.{Choice, choice_of, is_subscripted, nth_exists, goes, opens, fails, home, here, read_of, resolved_of, indexed_at, element_read_at, stored, made_arrays, given_cells, task_of, starts, told, did, does_with_first, all_followed, waits_for_any, wakes_or_waits, does_with}
+use Rattle.algol_meaning.specs.Choice.{Choice, choice_of, is_subscripted, nth_exists, goes, opens, fails, home, here, read_of, resolved_of, indexed_at, element_read_at, stored, made_arrays, given_cells, task_of, starts, told_answer, did, does_with_first, all_followed, waits_for_any, wakes_or_waits, does_with}
 use Rattle.algol_paths.specs.Blocks.{IsSeenAround, IsInner}
-use Rattle.algol_calls.specs.Fits.{CallsFitInTexts, IsLink, Leads, AskFits, AnswerFits}
+use Rattle.algol_calls.specs.Fits.{CallsFitInTexts, IsLink, NameLeads, AskFits, AnswerFits}
 use Rattle.algol_calls.proofs.Sorts.{by_name_formal}
-use Rattle.algol_standing.specs.Worlds.{held_in_rest, held_in_answer, IsWhole, IsSound}
+use Rattle.algol_standing.specs.Worlds.{held_in_rest, held_in_answer, IsWholeInstance, IsSound}
 use Rattle.algol_standing.specs.Fitting.{IsPlainAt, LeadsRight, AllLeadRight, ProcessFits, WorldFits}
 use Rattle.algol_standing.proofs.Lists.{false_true}
 use Rattle.algol_standing.proofs.EventCells.{same_is, same_or_not, among_more}
@@ -43,7 +43,7 @@ use Rattle.algol_standing.proofs.FitEntering.{procedure_fits, start_fits, block_
 use Rattle.algol_standing.proofs.FitReleasing.{ArePlain, deed_fits, joined_fits}
 use Rattle.algol_standing.proofs.FitLeaving.{leaves_fit, jump_fits}
 
-module _ (sc : Scopes) (texts : CallsFitInTexts sc) (w : World) (ok : IsSound sc IsWhole w) (fits : WorldFits sc w) (p : ℕ) (q : Process) (part : Part) (outer : List Part)
+module _ (sc : Scopes) (texts : CallsFitInTexts sc) (w : World) (ok : IsSound sc IsWholeInstance w) (fits : WorldFits sc w) (p : ℕ) (q : Process) (part : Part) (outer : List Part)
     (is : numbered w.processes p ≡ Some q) (todo : q.todo ≡ part ∷ outer) (able_is : q.state ≡ able) where
   abbrev Keeps : Choice → Type 0
   Keeps = KeepsFit sc w ok fits p q part outer is todo
@@ -70,7 +70,7 @@ module _ (sc : Scopes) (texts : CallsFitInTexts sc) (w : World) (ok : IsSound sc
     seen_of : Sees SeenHere (IsInner sc j) x
     seen_of =
         subst (λ y. Sees SeenHere (IsInner sc j) y) e
-        (rest_sees SeenHere (IsInner sc j) (IsSeenAround sc j) (λ n s. s.0) part.rest (part_ok sc IsWhole w ok p q part outer is todo).text)
+        (rest_sees SeenHere (IsInner sc j) (IsSeenAround sc j) (λ n s. s.0) part.rest (part_ok sc IsWholeInstance w ok p q part outer is todo).text)
 
     held_of : AskHolds (LeadsRight sc w) x
     held_of =
@@ -140,15 +140,15 @@ module _ (sc : Scopes) (texts : CallsFitInTexts sc) (w : World) (ok : IsSound sc
 
   -- ---- events
 
-  told_fits : (x : EventDeed) (ns : List Named) (o : Option Bool) → AnswerFits sc (asks.event_deed x ns) (told sc w p q part outer o)
+  told_fits : (x : EventDeed) (ns : List Named) (o : Option Bool) → AnswerFits sc (asks.event_deed x ns) (told_answer sc w p q part outer o)
   told_fits x ns None = tt
   told_fits x ns (Some b) = tt
 
-  told_right : (o : Option Bool) → AllLeadRight sc w (held_in_answer (told sc w p q part outer o))
+  told_right : (o : Option Bool) → AllLeadRight sc w (held_in_answer (told_answer sc w p q part outer o))
   told_right None = tt
   told_right (Some b) = tt
 
-  told_foreign : (o : Option Bool) → IsForeign (told sc w p q part outer o)
+  told_foreign : (o : Option Bool) → IsForeign (told_answer sc w p q part outer o)
   told_foreign None = tt
   told_foreign (Some b) = tt
 
@@ -161,7 +161,7 @@ module _ (sc : Scopes) (texts : CallsFitInTexts sc) (w : World) (ok : IsSound sc
 
       by : (m : Next) → Keeps (did sc w p q part outer x r d m)
       by deeds.goes =
-          goes_to_answer (asks.event_deed x ns) e (told sc w p q part outer d.answer) (told_fits x ns d.answer) (told_right d.answer) (told_foreign d.answer) (released w r d).world h.1 h.0
+          goes_to_answer (asks.event_deed x ns) e (told_answer sc w p q part outer d.answer) (told_fits x ns d.answer) (told_right d.answer) (told_foreign d.answer) (released w r d).world h.1 h.0
           q.state (λ r f. f)
       by deeds.waits = goes_in (asks.event_deed x ns) e tt (released w r d).world h.1 h.0 (waits_for r) (λ t f. false_true f)
       by deeds.procures = goes_in (asks.event_deed x ns) e tt (released w r d).world h.1 h.0 (procures r) (λ t f. false_true f)
@@ -179,7 +179,7 @@ module _ (sc : Scopes) (texts : CallsFitInTexts sc) (w : World) (ok : IsSound sc
   abbrev all : List Named → List Reference
   all ns = all_followed sc w p q part outer ns
 
-  all_plain : (ns : List Named) → AllByRecursion SeenHere ns → AllByRecursion (Leads sc) ns → ArePlain sc w (all ns)
+  all_plain : (ns : List Named) → AllByRecursion SeenHere ns → AllByRecursion (NameLeads sc) ns → ArePlain sc w (all ns)
   all_plain [] s l r m = false_true m
   all_plain (n ∷ ns) s l r m = by (same_or_not t r) (λ f. all_plain ns s.1 l.1 r (sym (among_more t (all ns) r f) ∙ m))
     where
@@ -280,7 +280,7 @@ module _ (sc : Scopes) (texts : CallsFitInTexts sc) (w : World) (ok : IsSound sc
       let x = wanted_of (asks.starts n gs task) e in
       let s = seen_of (asks.starts n gs task) e in
       one_of (nat_lt MOST_STARTED (length w.processes)) (fails sc w p q part outer fault.ProcessLimit)
-      (starts sc w p q part outer (block_of ((use_of sc n).sort)) (home sc w p q part outer n) (given_cells sc w p q part outer gs) (task_of sc w p q part outer task))
+      (starts sc w p q part outer (block_of_sort ((use_of sc n).sort)) (home sc w p q part outer n) (given_cells sc w p q part outer gs) (task_of sc w p q part outer task))
       (fails_fit sc w ok fits p q part outer is todo fault.ProcessLimit)
       (start_fits sc texts w ok fits p q part outer is todo n gs x.0 x.1 s.1 (held_of (asks.starts n gs task) e) task x.2 s.2 e)
   choice_kept (asks.event_deed x ns) e = does_kept x ns e

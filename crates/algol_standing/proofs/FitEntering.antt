@@ -10,7 +10,7 @@ use Rattle.algol_tree.specs.Sorts.{Sort, Parameter}
 use Rattle.algol_tree.specs.Scopes.{Scopes, use_of}
 use Rattle.algol_meaning.specs.Value.{Reference, NameCell, Cell}
 use Rattle.algol_meaning.specs.Rest.{Given, valued, passed, refers, names, HalfPlace, at, aims, done, entered}
-use Rattle.algol_meaning.specs.Settle.{sorts_of, block_of, settle, settle_place, settle_actual_place}
+use Rattle.algol_meaning.specs.Settle.{sorts_of, block_of_sort, settle, settle_place, settle_actual_place}
 use Rattle.algol_meaning.specs.Statements.{items_of, settle_items}
 use Rattle.algol_meaning.specs.World as begins
 use Rattle.algol_meaning.specs.World.{Purpose, block, procedure, name_read, name_place, Instance, Part, Process, able, with_process, World}
@@ -20,11 +20,11 @@ use Rattle.algol_meaning.specs.Asks as asks
 use Rattle.algol_meaning.specs.Asks.{Ask, ask, located_of, evaluated_of}
 use Rattle.algol_meaning.specs.Choice.{is_subscripted, opens, home, here, given_cell, given_cells, next_process, with_new_instance, new_part, entered_procedure, entered_block, task_of, with_started, starts}
 use Rattle.algol_paths.specs.Texts.{InName, InGivens}
-use Rattle.algol_calls.specs.Fits.{CallsFitInTexts, CellFits, IsCallee, wanted, ExprFits, GivenFits, GivensFit, TaskFits, AnswerFits}
+use Rattle.algol_calls.specs.Fits.{CallsFitInTexts, CellFits, IsCallee, sorts_wanted, CalledExprFits, GivenFits, GivensFit, TaskFits, AnswerFits}
 use Rattle.algol_calls.proofs.Expressions.{HalfPlaceFits, settle_fits, settle_place_fits}
 use Rattle.algol_calls.proofs.Statements.{settled_fits}
 use Rattle.algol_calls.proofs.Rests.{evaluated_fits, located_fits}
-use Rattle.algol_standing.specs.Worlds.{held_in_rest, held_in_givens, IsAmong, IsWhole, IsSound}
+use Rattle.algol_standing.specs.Worlds.{held_in_rest, held_in_givens, IsAmongParts, IsWholeInstance, IsSound}
 use Rattle.algol_standing.specs.Fitting.{ParametersFit, parameters_at, IsPlainAt, LeadsRight, InstanceFits, PartFits, ProcessFits, WorldFits}
 use Rattle.algol_standing.proofs.Lists.{none_some, false_true, get-last}
 use Rattle.algol_standing.proofs.Holding.{AreAll, settle_holds, settle_place_holds, PlaceHolds, evaluated_holds, items_hold}
@@ -49,7 +49,7 @@ more_process sc w v y fits h e f =
         by (◌⊎◌.inl m) = fits.processes (suc k) z m
         by (◌⊎◌.inr m) = subst (λ t. ProcessFits sc w t) (sym m.1) h
 
-module _ (sc : Scopes) (texts : CallsFitInTexts sc) (w : World) (ok : IsSound sc IsWhole w) (fits : WorldFits sc w) (p : ℕ) (q : Process) (part : Part) (outer : List Part)
+module _ (sc : Scopes) (texts : CallsFitInTexts sc) (w : World) (ok : IsSound sc IsWholeInstance w) (fits : WorldFits sc w) (p : ℕ) (q : Process) (part : Part) (outer : List Part)
     (is : numbered w.processes p ≡ Some q) (todo : q.todo ≡ part ∷ outer) where
   abbrev Right : Cell → Type 0
   Right = LeadsRight sc w
@@ -118,15 +118,15 @@ module _ (sc : Scopes) (texts : CallsFitInTexts sc) (w : World) (ok : IsSound sc
 
   -- ---- by what the head asks for
 
-  module _ (n : Named) (gs : List Given) (callee : IsCallee sc n) (given : GivensFit sc gs (wanted sc n)) (seen : InGivens SeenHere gs) (held : AreAll Right (held_in_givens gs)) where
+  module _ (n : Named) (gs : List Given) (callee : IsCallee sc n) (given : GivensFit sc gs (sorts_wanted sc n)) (seen : InGivens SeenHere gs) (held : AreAll Right (held_in_givens gs)) where
     abbrev j : ℕ
-    j = block_of ((use_of sc n).sort)
+    j = block_of_sort ((use_of sc n).sort)
 
     abbrev cells : List Cell
     cells = given_cells sc w p q part outer gs
 
     all_are_right : AreAll Right cells
-    all_are_right = cells_right gs (wanted sc n) given seen held
+    all_are_right = cells_right gs (sorts_wanted sc n) given seen held
 
     first_fit : ParametersFit (parameters_at sc j) (parameter_cells (parameters_at sc j) cells)
     first_fit = given_parameters (parameters_at sc j) gs given
@@ -172,7 +172,7 @@ module _ (sc : Scopes) (texts : CallsFitInTexts sc) (w : World) (ok : IsSound sc
           more_process sc with_instance begun new_process (after_fits j (home sc w p q part outer n) next callee.known cells all_are_right first_fit)
           (record { parts = each; task = λ r g. task_plain task task_fits task_seen r g; waits = λ r g. false_true g }) refl refl
         where
-          each : (x : Part) → IsAmong (new_part sc w p q part outer j begins.started ∷ []) x → PartFits sc with_instance x
+          each : (x : Part) → IsAmongParts (new_part sc w p q part outer j begins.started ∷ []) x → PartFits sc with_instance x
           each x (◌⊎◌.inl f) =
               subst (λ z. PartFits sc with_instance z) f
               (new_part_fits j (home sc w p q part outer n) next callee.known cells all_are_right first_fit with_instance begins.started)
@@ -190,7 +190,7 @@ module _ (sc : Scopes) (texts : CallsFitInTexts sc) (w : World) (ok : IsSound sc
 
   -- ---- names
 
-  pub read_fits : (c : NameCell) (n : Named) → ask part.rest ≡ asks.reads n → ExprFits sc c.actual →
+  pub read_fits : (c : NameCell) (n : Named) → ask part.rest ≡ asks.reads n → CalledExprFits sc c.actual →
       WorldFits sc (opens sc w p q part outer w (record { instance = c.instance; purpose = name_read; rest = evaluated_of (settle sc c.actual) })).world
   read_fits c n e f =
       opens_fits sc w ok fits p q part outer is todo (asks.reads n) e tt w (extends_self w w refl) fits (record { instance = c.instance; purpose = name_read; rest = evaluated_of (settle sc c.actual) })
@@ -200,7 +200,7 @@ module _ (sc : Scopes) (texts : CallsFitInTexts sc) (w : World) (ok : IsSound sc
             (evaluated_holds Right (simple_right sc w) true (settle sc c.actual) (settle_holds Right (simple_right sc w) sc c.actual)).0;
       })
 
-  actual_place_fits : (e : PExpr) → is_subscripted e ≡ true → ExprFits sc e → HalfPlaceFits sc (settle_actual_place sc e)
+  actual_place_fits : (e : PExpr) → is_subscripted e ≡ true → CalledExprFits sc e → HalfPlaceFits sc (settle_actual_place sc e)
   actual_place_fits (tree.variable (tree.subscripted n (tree.more e es))) f i = settle_place_fits sc n (tree.more e es) i
   actual_place_fits _ f i = false_true f
 
@@ -212,7 +212,7 @@ module _ (sc : Scopes) (texts : CallsFitInTexts sc) (w : World) (ok : IsSound sc
   actual_place_held (tree.variable v) f = located_held (settle_place sc v) (settle_place_holds Right (simple_right sc w) sc v)
   actual_place_held _ f = false_true f
 
-  pub place_fits : (c : NameCell) (n : Named) → ask part.rest ≡ asks.resolves n → is_subscripted c.actual ≡ true → ExprFits sc c.actual →
+  pub place_fits : (c : NameCell) (n : Named) → ask part.rest ≡ asks.resolves n → is_subscripted c.actual ≡ true → CalledExprFits sc c.actual →
       WorldFits sc (opens sc w p q part outer w (record { instance = c.instance; purpose = name_place; rest = located_of (settle_actual_place sc c.actual) })).world
   place_fits c n e s f =
       opens_fits sc w ok fits p q part outer is todo (asks.resolves n) e tt w (extends_self w w refl) fits

@@ -13,9 +13,9 @@ use Rattle.algol_meaning.specs.Asks as asks
 use Rattle.algol_meaning.specs.Asks.{Ask, ask}
 use Rattle.algol_meaning.specs.Choice.{choice, choice_in}
 use Rattle.algol_meaning.specs.Run.{start, may_go}
-use Rattle.algol_calls.specs.Fits.{CallsFitInTexts, IsLink, GivenThen, wanted, ItemsFit, AskFits}
+use Rattle.algol_calls.specs.Fits.{CallsFitInTexts, IsLink, GivenThen, sorts_wanted, ItemsFit, AskFits}
 use Rattle.algol_calls.proofs.Statements.{settled_fits}
-use Rattle.algol_standing.specs.Worlds.{held_in_rest, IsAmong, HasHead, IsWhole, IsSound}
+use Rattle.algol_standing.specs.Worlds.{held_in_rest, IsAmongParts, HasHead, IsWholeInstance, IsSound}
 use Rattle.algol_standing.specs.Fitting.{ParametersFit, LeadsRight, InstanceFits, PartFits, ProcessFits, WorldFits}
 use Rattle.algol_standing.proofs.Calls.{IsNoEvent, PassNoEvents, CallFits, HeadFits}
 use Rattle.algol_standing.proofs.Lists.{none_some, false_true}
@@ -44,14 +44,14 @@ passes_none sc X (refers n ∷ gs) (s ∷ all) i = passes_none sc X gs all i.1
 passes_none sc X (names e ∷ gs) (s ∷ all) i = passes_none sc X gs all i.1
 
 call_fits : (sc : Scopes) (x : Ask) → AskFits sc x → CallFits sc x
-call_fits sc (asks.enters n gs) f = (f.0, passes_none sc (λ after. after ≡ []) gs (wanted sc n) f.1)
-call_fits sc (asks.starts n gs task) f = (f.0, passes_none sc (λ after. after ≡ []) gs (wanted sc n) f.1)
+call_fits sc (asks.enters n gs) f = (f.0, passes_none sc (λ after. after ≡ []) gs (sorts_wanted sc n) f.1)
+call_fits sc (asks.starts n gs task) f = (f.0, passes_none sc (λ after. after ≡ []) gs (sorts_wanted sc n) f.1)
 call_fits sc (asks.event_deed x ns) f = f.1
 call_fits sc _ f = tt
 
 -- ---- a process that may go
 
-module _ (sc : Scopes) (w : World) (p : ℕ) (ok : IsSound sc IsWhole w) (fits : WorldFits sc w) (goes : may_go w p ≡ true) where
+module _ (sc : Scopes) (w : World) (p : ℕ) (ok : IsSound sc IsWholeInstance w) (fits : WorldFits sc w) (goes : may_go w p ≡ true) where
   is : numbered w.processes p ≡ Some (process_at w p)
   is = found (numbered w.processes p) (may_go_able w p goes)
 
@@ -106,7 +106,7 @@ module _ (sc : Scopes) (text : ItemsFit sc (items_of (block_numbered sc.blocks 0
   process_first : ProcessFits sc first process
   process_first = record { parts = parts; task = λ r e. none_some e; waits = λ r e. false_true e }
     where
-      parts : (x : Part) → IsAmong (part ∷ []) x → PartFits sc first x
+      parts : (x : Part) → IsAmongParts (part ∷ []) x → PartFits sc first x
       parts x (◌⊎◌.inl e) = subst (λ y. PartFits sc first y) e part_first
       parts x (◌⊎◌.inr n) = absurd n
 

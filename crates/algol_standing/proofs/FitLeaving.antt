@@ -17,11 +17,11 @@ use Rattle.algol_meaning.specs.Instances.{leave, Cut, cut_at}
 use Rattle.algol_meaning.specs.Events.{event_at, released, caused_by_end}
 use Rattle.algol_meaning.specs.Asks as asks
 use Rattle.algol_meaning.specs.Asks.{nothing, ask, resume}
-use Rattle.algol_meaning.specs.Choice.{fails, left_with, ended_releasing, left_or_ended, left, gone, goes_to}
+use Rattle.algol_meaning.specs.Choice.{fails, left_with, ended_releasing, left_or_ended, left_choice, gone, goes_to}
 use Rattle.algol_calls.specs.Fits.{CallsFitInTexts, AskFits, AnswerFits}
 use Rattle.algol_calls.proofs.Statements.{settled_fits}
 use Rattle.algol_calls.proofs.Rests.{labelled_fits}
-use Rattle.algol_standing.specs.Worlds.{held_in_rest, held_in_answer, IsAmong, HasHead, IsWhole, IsSound}
+use Rattle.algol_standing.specs.Worlds.{held_in_rest, held_in_answer, IsAmongParts, HasHead, IsWholeInstance, IsSound}
 use Rattle.algol_standing.specs.Fitting.{IsPlainAt, LeadsRight, AllLeadRight, PartFits, WorldFits}
 use Rattle.algol_standing.proofs.Holding.{IsForeign, items_hold}
 use Rattle.algol_standing.proofs.Fine.{Fine, fine_of, fine_tail, part_stands_in}
@@ -42,7 +42,7 @@ waiting sc (value v) f = tt
 waiting sc (cell c) f = tt
 waiting sc entered f = tt
 
-module _ (sc : Scopes) (texts : CallsFitInTexts sc) (w : World) (ok : IsSound sc IsWhole w) (fits : WorldFits sc w) (p : ℕ) (q : Process) (part : Part) (outer : List Part)
+module _ (sc : Scopes) (texts : CallsFitInTexts sc) (w : World) (ok : IsSound sc IsWholeInstance w) (fits : WorldFits sc w) (p : ℕ) (q : Process) (part : Part) (outer : List Part)
     (is : numbered w.processes p ≡ Some q) (todo : q.todo ≡ part ∷ outer) (able_is : q.state ≡ able) where
   fine : Fine sc w (part ∷ outer)
   fine = subst (λ ps. Fine sc w ps) todo (fine_of sc w ok p q is)
@@ -66,9 +66,9 @@ module _ (sc : Scopes) (texts : CallsFitInTexts sc) (w : World) (ok : IsSound sc
 
     next_fits : (next : Part) (parts : List Part) → outer ≡ next ∷ parts → PartFits sc w (record next { rest = resume sc next.rest a })
     next_fits next parts below =
-        goes_on_fits sc w next a (each_fits sc w ok fits p q part outer is todo next (subst (λ ps. IsAmong (part ∷ ps) next) (sym below) (◌⊎◌.inr (◌⊎◌.inl refl))))
+        goes_on_fits sc w next a (each_fits sc w ok fits p q part outer is todo next (subst (λ ps. IsAmongParts (part ∷ ps) next) (sym below) (◌⊎◌.inr (◌⊎◌.inl refl))))
         (no_own next parts (fine_tail sc w part (next ∷ parts) (subst (λ ps. Fine sc w (part ∷ ps)) below fine)).given)
-        (subst (λ x. AnswerFits sc x a) (sym (others_wait q part outer head todo next (subst (λ ps. IsAmong ps next) (sym below) (◌⊎◌.inl refl)))) fit) brings foreign
+        (subst (λ x. AnswerFits sc x a) (sym (others_wait q part outer head todo next (subst (λ ps. IsAmongParts ps next) (sym below) (◌⊎◌.inl refl)))) fit) brings foreign
 
     left_with_fits : (v : World) → Extends w v → WorldFits sc v → (parts : List Part) → outer ≡ parts → WorldFits sc (left_with sc w p q part outer v a parts).world
     left_with_fits v more h [] below = h
@@ -76,9 +76,9 @@ module _ (sc : Scopes) (texts : CallsFitInTexts sc) (w : World) (ok : IsSound sc
         process_fits sc v p (record q { todo = record next { rest = resume sc next.rest a } ∷ parts }) h
         (parts_fit sc w ok fits p q part outer is todo v more (record next { rest = resume sc next.rest a } ∷ parts) each q.state (λ r f. f))
       where
-        each : (x : Part) → IsAmong (record next { rest = resume sc next.rest a } ∷ parts) x → PartFits sc v x
+        each : (x : Part) → IsAmongParts (record next { rest = resume sc next.rest a } ∷ parts) x → PartFits sc v x
         each x (◌⊎◌.inl f) = subst (λ z. PartFits sc v z) f (part_too sc w v more (record next { rest = resume sc next.rest a }) (next_fits next parts below))
-        each x (◌⊎◌.inr n) = outer_fits sc w ok fits p q part outer is todo v more x (subst (λ ps. IsAmong ps x) (sym below) (◌⊎◌.inr n))
+        each x (◌⊎◌.inr n) = outer_fits sc w ok fits p q part outer is todo v more x (subst (λ ps. IsAmongParts ps x) (sym below) (◌⊎◌.inr n))
 
     abbrev without : World
     without = leave w (part.instance ∷ [])
@@ -103,7 +103,7 @@ module _ (sc : Scopes) (texts : CallsFitInTexts sc) (w : World) (ok : IsSound sc
     left_or_ended_fits [] below = ended_by q.task refl
     left_or_ended_fits (next ∷ parts) below = left_with_fits without gone_fits.1 gone_fits.0 (next ∷ parts) below
 
-    pub leaves_fit : WorldFits sc (left sc w p q part outer a).world
+    pub leaves_fit : WorldFits sc (left_choice sc w p q part outer a).world
     leaves_fit = by (is_evaluation part.purpose) (some_depends w.processes part.instance)
       where
         by : (b c : Bool) →
@@ -128,19 +128,19 @@ module _ (sc : Scopes) (texts : CallsFitInTexts sc) (w : World) (ok : IsSound sc
       abbrev there_on : Part
       there_on = record target { rest = settle_items sc (items_from b n.name) }
 
-      among : (xs : List Part) (x : Part) → IsAmong (target ∷ parts) x → IsAmong (xs ++ target ∷ parts) x
+      among : (xs : List Part) (x : Part) → IsAmongParts (target ∷ parts) x → IsAmongParts (xs ++ target ∷ parts) x
       among [] x m = m
       among (y ∷ xs) x m = ◌⊎◌.inr (among xs x m)
 
-      in_all : (x : Part) → IsAmong (target ∷ parts) x → IsAmong (part ∷ outer) x
-      in_all x m = subst (λ ps. IsAmong ps x) (sym all_is) (among newer x m)
+      in_all : (x : Part) → IsAmongParts (target ∷ parts) x → IsAmongParts (part ∷ outer) x
+      in_all x m = subst (λ ps. IsAmongParts ps x) (sym all_is) (among newer x m)
 
       known : (instance_at w i).block < length sc.blocks
       known =
-          let st = part_stands_in w ok.skeleton_ok p q target target.instance is (subst (λ ps. IsAmong ps target) (sym todo) (in_all target (◌⊎◌.inl refl))) (◌⊎◌.inl refl) in
-          let x = there sc IsWhole w ok target.instance st in
+          let st = part_stands_in w ok.skeleton_ok p q target target.instance is (subst (λ ps. IsAmongParts ps target) (sym todo) (in_all target (◌⊎◌.inl refl))) (◌⊎◌.inl refl) in
+          let x = there sc IsWholeInstance w ok target.instance st in
           subst (λ k. (instance_at w k).block < length sc.blocks) at_i
-          (subst (λ (y : Instance). y.block < length sc.blocks) (sym (instance_is sc IsWhole w ok target.instance x.0 x.1)) ((ok.instances target.instance x.0 x.1).known))
+          (subst (λ (y : Instance). y.block < length sc.blocks) (sym (instance_is sc IsWholeInstance w ok target.instance x.0 x.1)) ((ok.instances target.instance x.0 x.1).known))
 
       there_fits : PartFits sc v there_on
       there_fits =
@@ -149,7 +149,7 @@ module _ (sc : Scopes) (texts : CallsFitInTexts sc) (w : World) (ok : IsSound sc
             holds = all_right sc v (held_in_rest (settle_items sc (items_from b n.name))) (items_hold (LeadsRight sc v) (simple_right sc v) false sc (items_from b n.name)).0;
           }
 
-      each : (x : Part) → IsAmong (there_on ∷ parts) x → PartFits sc v x
+      each : (x : Part) → IsAmongParts (there_on ∷ parts) x → PartFits sc v x
       each x (◌⊎◌.inl f) = subst (λ z. PartFits sc v z) f there_fits
       each x (◌⊎◌.inr m) = part_too sc w v away.1 x (each_fits sc w ok fits p q part outer is todo x (in_all x (◌⊎◌.inr m)))
 

@@ -8,7 +8,7 @@ use Rattle.b67_deeds.specs.Deeds.{Deed, tests, deed}
 use Rattle.algol_tree.specs.Scopes.{Scopes}
 use Rattle.algol_meaning.specs.Value.{Reference, event}
 use Rattle.algol_meaning.specs.World.{process_at, set_all_able, World}
-use Rattle.algol_meaning.specs.Events.{event_at, change_event, is_among, joined_all, list_in, forgotten, woken_by, withdrawn, all_withdrawn, released}
+use Rattle.algol_meaning.specs.Events.{event_at, change_event, reference_is_among, joined_all, list_in, forgotten, woken_by, withdrawn, all_withdrawn, released}
 use Rattle.algol_laws.proofs.Releasing.{able_instances}
 use Rattle.algol_standing.specs.Fitting.{IsPlainAt, WorldFits}
 use Rattle.algol_standing.proofs.EventCells.{same_self, among_first, among_later}
@@ -20,7 +20,7 @@ module _ (sc : Scopes) where
   FitsStill w v = WorldFits sc v × Extends w v
 
   abbrev pub ArePlain : World → List Reference → Type 0
-  ArePlain w rs = (r : Reference) → is_among rs r ≡ true → IsPlainAt sc w r
+  ArePlain w rs = (r : Reference) → reference_is_among rs r ≡ true → IsPlainAt sc w r
 
   first_plain : (w : World) (r : Reference) (rs : List Reference) → ArePlain w (r ∷ rs) → IsPlainAt sc w r
   first_plain w r rs f = f r (among_first r rs r (same_self r))
@@ -73,7 +73,7 @@ module _ (sc : Scopes) where
   pub joined_fits : (rs seen : List Reference) (w : World) (p : ℕ) → WorldFits sc w → ArePlain w rs → FitsStill w (joined_all w p seen rs)
   joined_fits [] seen w p fits plain = (fits, extends_self w w refl)
   joined_fits (r ∷ rs) seen w p fits plain =
-      by (is_among seen r) (joined_fits rs (r ∷ seen) w p fits (others_plain w w r rs (extends_self w w refl) plain))
+      by (reference_is_among seen r) (joined_fits rs (r ∷ seen) w p fits (others_plain w w r rs (extends_self w w refl) plain))
       (joined_fits rs (r ∷ seen) v p f.0 (others_plain w v r rs f.1 plain))
     where
       v : World

@@ -11,7 +11,7 @@ use Rattle.b67_deeds.specs.Events.{EventState}
 use Rattle.algol_meaning.specs.World.{NamedCell, cell_in}
 use Rattle.algol_meaning.specs.Critical.{referred_in, referred_by}
 use Rattle.algol_meaning.specs.Instances.{parameter_cells, initial_cells, result_cells, variable_cells, fresh_cells}
-use Rattle.algol_standing.specs.Skeleton.{IsIn}
+use Rattle.algol_standing.specs.Skeleton.{IsInSkeleton}
 use Rattle.algol_standing.specs.Worlds.{parent_in, referred_in_cells, IsNameAmong, IsNameHeld}
 use Rattle.algol_standing.proofs.Calls.{IsNoEvent}
 use Rattle.algol_standing.proofs.Holding.{AreAll}
@@ -53,13 +53,13 @@ variables_simple (tree.decls _ ds) = variables_simple ds
 
 -- ---- parameters
 
-parameter_refs : (ps : List Parameter) (cells : List Cell) (i : ℕ) → IsIn (referred_in_cells (parameter_cells ps cells)) i → IsIn (referred_by cells) i
+parameter_refs : (ps : List Parameter) (cells : List Cell) (i : ℕ) → IsInSkeleton (referred_in_cells (parameter_cells ps cells)) i → IsInSkeleton (referred_by cells) i
 parameter_refs [] cells i n = absurd n
 parameter_refs (p ∷ ps) [] i n = absurd n
 parameter_refs (p ∷ ps) (c ∷ cells) i n = by (in_either (referred_in c) (referred_in_cells (parameter_cells ps cells)) i n) (λ m. parameter_refs ps cells i m)
   where
-    by : IsIn (referred_in c) i ⊎ IsIn (referred_in_cells (parameter_cells ps cells)) i → (IsIn (referred_in_cells (parameter_cells ps cells)) i → IsIn (referred_by cells) i) →
-        IsIn (referred_in c ++ referred_by cells) i
+    by : IsInSkeleton (referred_in c) i ⊎ IsInSkeleton (referred_in_cells (parameter_cells ps cells)) i → (IsInSkeleton (referred_in_cells (parameter_cells ps cells)) i → IsInSkeleton (referred_by cells) i) →
+        IsInSkeleton (referred_in c ++ referred_by cells) i
     by (◌⊎◌.inl m) f = in_front (referred_in c) (referred_by cells) i m
     by (◌⊎◌.inr m) f = in_back (referred_in c) (referred_by cells) i (f m)
 
@@ -87,7 +87,7 @@ module _ (b : Block) (cells : List Cell) where
   abbrev results : List NamedCell
   results = result_cells b.result b.name
 
-  pub fresh_refs : (i : ℕ) → IsIn (referred_in_cells (fresh_cells b cells)) i → IsIn (referred_by cells) i
+  pub fresh_refs : (i : ℕ) → IsInSkeleton (referred_in_cells (fresh_cells b cells)) i → IsInSkeleton (referred_by cells) i
   fresh_refs i n =
       parameter_refs b.parameters cells i
       (refs_more parameters results i (result_simple b.result b.name).0 (refs_more (parameters ++ results) (variable_cells b.decls) i (variables_simple b.decls).0 n))
@@ -108,18 +108,18 @@ module _ (b : Block) (cells : List Cell) where
       none : cell_in [] name ≡ event e → ⊥
       none h = cc
 
-pub parent_only : (j i : ℕ) → IsIn (parent_in j) i → j ≡ i
+pub parent_only : (j i : ℕ) → IsInSkeleton (parent_in j) i → j ≡ i
 parent_only zero i n = absurd n
 parent_only (suc j) i (◌⊎◌.inl e) = e
 parent_only (suc j) i (◌⊎◌.inr n) = absurd n
 
 -- ---- what plain cells that are held refer to
 
-pub plain_refs : (cells : List Cell) (i : ℕ) → AreAll IsPlain cells → IsIn (referred_by cells) i → ⊥
+pub plain_refs : (cells : List Cell) (i : ℕ) → AreAll IsPlain cells → IsInSkeleton (referred_by cells) i → ⊥
 plain_refs [] i f n = n
 plain_refs (c ∷ cells) i f n = by (λ m. plain_refs cells i f.1 m) (in_either (referred_in c) (referred_by cells) i n)
   where
-    by : (IsIn (referred_by cells) i → ⊥) → IsIn (referred_in c) i ⊎ IsIn (referred_by cells) i → ⊥
+    by : (IsInSkeleton (referred_by cells) i → ⊥) → IsInSkeleton (referred_in c) i ⊎ IsInSkeleton (referred_by cells) i → ⊥
     by g (◌⊎◌.inl m) = f.0.0 i m
     by g (◌⊎◌.inr m) = g m
 

@@ -1,7 +1,7 @@
 -- A new instance, on top of a stack or as the base of a new one, keeps the world facts.
 use Rattle.std.proofs.Common.{◌≡◌, ◌⊎◌, ℕ, ◌+◌, ◌<◌, List, [], ◌∷◌, ◌++◌, length, Some, true, false, refl, sym, ap, ◌∙◌, subst, arith, length-append}
 use Rattle.std.specs.Prelude.{slice_get}
-use Rattle.algol_standing.specs.Skeleton.{Evaluation, IsEvaluated, entered, started, Stack, Home, Skeleton, IsIn, NextIn, Owned, Stands, Next, OnPath, here, down, SkeletonOk}
+use Rattle.algol_standing.specs.Skeleton.{Evaluation, IsEvaluated, entered_skeleton, started, Stack, Home, Skeleton, IsInSkeleton, NextIn, Owned, SkeletonStands, SkeletonNext, OnPath, here, down, SkeletonOk}
 use Rattle.algol_standing.proofs.Lists.{some_same, get-small, get-front, get-seam, get-last, get-set, get-set_other, same_or_other}
 use Rattle.algol_standing.proofs.Standing.{true_false, set_cases, lives, stands_path, home_stands, stands_small}
 
@@ -9,7 +9,7 @@ pub owned_front : (homes : List Home) (h : Home) (p : ℕ) (own : List ℕ) → 
 owned_front homes h p [] o = tt
 owned_front homes h p (x ∷ xs) o = (o.0, get-front homes (h ∷ []) x o.0 o.1, o.2, o.3, owned_front homes h p xs o.4)
 
-pub owned_small : (homes : List Home) (p : ℕ) (own : List ℕ) (a : ℕ) → Owned homes p own → IsIn own a → a < length homes
+pub owned_small : (homes : List Home) (p : ℕ) (own : List ℕ) (a : ℕ) → Owned homes p own → IsInSkeleton own a → a < length homes
 owned_small homes p [] a o i = absurd i
 owned_small homes p (x ∷ xs) a o (◌⊎◌.inl e) = omega (arith, get-small homes x o.0 o.1, e)
 owned_small homes p (x ∷ xs) a o (◌⊎◌.inr i) = owned_small homes p xs a o.4 i
@@ -18,13 +18,13 @@ owned_small homes p (x ∷ xs) a o (◌⊎◌.inr i) = owned_small homes p xs a 
 pub record Grown (t : Skeleton) (p : ℕ) (q : Stack) : Type 0 where
   pub stack : Stack
   pub is : slice_get t.stacks p ≡ Some stack
-  pub inside : (b : ℕ) → IsIn q.own b → IsIn stack.own b
+  pub inside : (b : ℕ) → IsInSkeleton q.own b → IsInSkeleton stack.own b
   pub next : (a b : ℕ) → NextIn q.critical q.own a b → NextIn stack.critical stack.own a b
 
 abbrev pub Grows : Skeleton → Skeleton → Type 0
 Grows s t = (p : ℕ) (q : Stack) → slice_get s.stacks p ≡ Some q → Grown t p q
 
-pub stands_up : (s t : Skeleton) → Grows s t → (b : ℕ) → Stands s b → Stands t b
+pub stands_up : (s t : Skeleton) → Grows s t → (b : ℕ) → SkeletonStands s b → SkeletonStands t b
 stands_up s t g b st = let y = g st.number st.stack st.is in record { number = st.number; stack = y.stack; is = y.is; inside = y.inside b st.inside }
 
 pub path_up : (s t : Skeleton) → Grows s t → (a b : ℕ) → OnPath s a b → OnPath t a b
@@ -38,13 +38,13 @@ module _ (s t : Skeleton) (ok : SkeletonOk s) (g : Grows s t) (h : Home) (homes 
   old_home : (a : ℕ) (x : Home) → slice_get s.homes a ≡ Some x → slice_get t.homes a ≡ Some x
   old_home a x e = ap (λ hs. slice_get hs a) homes ∙ get-front s.homes (h ∷ []) a x e
 
-  pub old_refers : (a : ℕ) (x : Home) (r : ℕ) → Stands s a → slice_get t.homes a ≡ Some x → IsIn x.refs r → OnPath t a r
+  pub old_refers : (a : ℕ) (x : Home) (r : ℕ) → SkeletonStands s a → slice_get t.homes a ≡ Some x → IsInSkeleton x.refs r → OnPath t a r
   old_refers a x r st e n =
       let y = home_stands s ok a st in
       let same : y.0 ≡ x = some_same (old_home a y.0 y.1) e in
-      path_up s t g a r (ok.refers a y.0 r st y.1 (subst (λ (z : Home). IsIn z.refs r) (sym same) n))
+      path_up s t g a r (ok.refers a y.0 r st y.1 (subst (λ (z : Home). IsInSkeleton z.refs r) (sym same) n))
 
-  pub all_known : ((r : ℕ) → IsIn h.refs r → r < length s.homes) → (a : ℕ) (x : Home) (r : ℕ) → slice_get t.homes a ≡ Some x → IsIn x.refs r → r < length t.homes
+  pub all_known : ((r : ℕ) → IsInSkeleton h.refs r → r < length s.homes) → (a : ℕ) (x : Home) (r : ℕ) → slice_get t.homes a ≡ Some x → IsInSkeleton x.refs r → r < length t.homes
   all_known small a x r e n = by (get-last s.homes h a x (ap (λ hs. slice_get hs a) (sym homes) ∙ e))
     where
       longer : length t.homes ≡ length s.homes + 1
@@ -52,16 +52,16 @@ module _ (s t : Skeleton) (ok : SkeletonOk s) (g : Grows s t) (h : Home) (homes 
 
       by : (slice_get s.homes a ≡ Some x) ⊎ ((a ≡ length s.homes) × (x ≡ h)) → r < length t.homes
       by (◌⊎◌.inl f) = omega (arith, longer, ok.known a x r f n)
-      by (◌⊎◌.inr f) = omega (arith, longer, small r (subst (λ (z : Home). IsIn z.refs r) f.1 n))
+      by (◌⊎◌.inr f) = omega (arith, longer, small r (subst (λ (z : Home). IsInSkeleton z.refs r) f.1 n))
 
 -- ---- on top of a stack
 
-module _ (s : Skeleton) (ok : SkeletonOk s) (p : ℕ) (q : Stack) (i : ℕ) (r : List ℕ) (is : slice_get s.stacks p ≡ Some q) (own : q.own ≡ i ∷ r) (refs : List ℕ) (paths : (x : ℕ) → IsIn refs x → OnPath s i x) where
+module _ (s : Skeleton) (ok : SkeletonOk s) (p : ℕ) (q : Stack) (i : ℕ) (r : List ℕ) (is : slice_get s.stacks p ≡ Some q) (own : q.own ≡ i ∷ r) (refs : List ℕ) (paths : (x : ℕ) → IsInSkeleton refs x → OnPath s i x) where
   abbrev above : Stack
   above = record q { own = length s.homes ∷ q.own }
 
   abbrev with_entered : Skeleton
-  with_entered = entered s p q refs
+  with_entered = entered_skeleton s p q refs
 
   at_p : slice_get with_entered.stacks p ≡ Some above
   at_p = get-set s.stacks p above q is
@@ -76,15 +76,15 @@ module _ (s : Skeleton) (ok : SkeletonOk s) (p : ℕ) (q : Stack) (i : ℕ) (r :
           record {
             stack = above;
             is = ap (λ n. slice_get with_entered.stacks n) (sym f) ∙ at_p;
-            inside = λ b n. ◌⊎◌.inr (subst (λ (z : Stack). IsIn z.own b) (sym same) n);
+            inside = λ b n. ◌⊎◌.inr (subst (λ (z : Stack). IsInSkeleton z.own b) (sym same) n);
             next = λ b c n. subst (λ x. NextIn q.critical (length s.homes ∷ x) b c) (sym own) (◌⊎◌.inr (subst (λ x. NextIn x (i ∷ r) b c) (ap (λ (z : Stack). z.critical) (sym same)) (subst (λ x. NextIn y.critical x b c) o n)));
           }
       by (◌⊎◌.inr f) = record { stack = y; is = get-set_other s.stacks p k above f ∙ e; inside = λ b n. n; next = λ b c n. n }
 
-  stands_i : Stands s i
-  stands_i = record { number = p; stack = q; is = is; inside = subst (λ x. IsIn x i) (sym own) (◌⊎◌.inl refl) }
+  stands_i : SkeletonStands s i
+  stands_i = record { number = p; stack = q; is = is; inside = subst (λ x. IsInSkeleton x i) (sym own) (◌⊎◌.inl refl) }
 
-  small : (x : ℕ) → IsIn refs x → x < length s.homes
+  small : (x : ℕ) → IsInSkeleton refs x → x < length s.homes
   small x n = stands_small s ok x (stands_path s ok i x stands_i (paths x n))
 
   new_home : (x : Home) → slice_get with_entered.homes (length s.homes) ≡ Some x → x ≡ record { refs = refs; process = p }
@@ -107,41 +107,41 @@ module _ (s : Skeleton) (ok : SkeletonOk s) (p : ℕ) (q : Stack) (i : ℕ) (r :
           ))
       by (◌⊎◌.inr f) = owned_front s.homes (record { refs = refs; process = p }) k y.own (ok.owned k y f.1)
 
-  enter_refers : (b : ℕ) (x : Home) (t : ℕ) → Stands with_entered b → slice_get with_entered.homes b ≡ Some x → IsIn x.refs t → OnPath with_entered b t
+  enter_refers : (b : ℕ) (x : Home) (t : ℕ) → SkeletonStands with_entered b → slice_get with_entered.homes b ≡ Some x → IsInSkeleton x.refs t → OnPath with_entered b t
   enter_refers b x t st e m = by (set_cases s.stacks p st.number above st.stack st.is)
     where
       top : length s.homes ≡ b → OnPath with_entered b t
       top f =
           let next : NextIn q.critical (length s.homes ∷ q.own) (length s.homes) i = subst (λ o. NextIn q.critical (length s.homes ∷ o) (length s.homes) i) (sym own) (◌⊎◌.inl (refl, refl)) in
-          let first : Next with_entered (length s.homes) i = record { number = p; stack = above; is = at_p; next = next } in
+          let first : SkeletonNext with_entered (length s.homes) i = record { number = p; stack = above; is = at_p; next = next } in
           let is_new : x ≡ record { refs = refs; process = p } = new_home x (ap (λ n. slice_get with_entered.homes n) f ∙ e) in
-          let up : OnPath with_entered (length s.homes) t = down first (path_up s with_entered enter_grows i t (paths t (subst (λ (z : Home). IsIn z.refs t) is_new m))) in
+          let up : OnPath with_entered (length s.homes) t = down first (path_up s with_entered enter_grows i t (paths t (subst (λ (z : Home). IsInSkeleton z.refs t) is_new m))) in
           subst (λ n. OnPath with_entered n t) f up
 
-      older : Stands s b → OnPath with_entered b t
+      older : SkeletonStands s b → OnPath with_entered b t
       older o = old_refers s with_entered ok enter_grows (record { refs = refs; process = p }) refl b x t o e m
 
-      inside : IsIn (length s.homes ∷ q.own) b → OnPath with_entered b t
+      inside : IsInSkeleton (length s.homes ∷ q.own) b → OnPath with_entered b t
       inside (◌⊎◌.inl f) = top f
       inside (◌⊎◌.inr n) = older (record { number = p; stack = q; is = is; inside = n })
 
       by : ((st.number ≡ p) × (st.stack ≡ above)) ⊎ ((p ≡ st.number → ⊥) × (slice_get s.stacks st.number ≡ Some st.stack)) → OnPath with_entered b t
-      by (◌⊎◌.inl f) = inside (subst (λ (z : Stack). IsIn z.own b) f.1 st.inside)
+      by (◌⊎◌.inl f) = inside (subst (λ (z : Stack). IsInSkeleton z.own b) f.1 st.inside)
       by (◌⊎◌.inr f) = older (record { number = st.number; stack = st.stack; is = f.1; inside = st.inside })
 
-  enter_evaluates : (k : ℕ) (y : Stack) (e : Evaluation) → slice_get with_entered.stacks k ≡ Some y → IsEvaluated y.evaluations e → IsIn y.own e.over × OnPath with_entered e.over e.within
+  enter_evaluates : (k : ℕ) (y : Stack) (e : Evaluation) → slice_get with_entered.stacks k ≡ Some y → IsEvaluated y.evaluations e → IsInSkeleton y.own e.over × OnPath with_entered e.over e.within
   enter_evaluates k y e g n = by (set_cases s.stacks p k above y g)
     where
-      by : ((k ≡ p) × (y ≡ above)) ⊎ ((p ≡ k → ⊥) × (slice_get s.stacks k ≡ Some y)) → IsIn y.own e.over × OnPath with_entered e.over e.within
+      by : ((k ≡ p) × (y ≡ above)) ⊎ ((p ≡ k → ⊥) × (slice_get s.stacks k ≡ Some y)) → IsInSkeleton y.own e.over × OnPath with_entered e.over e.within
       by (◌⊎◌.inl f) =
           let o = ok.evaluates p q e is (subst (λ (z : Stack). IsEvaluated z.evaluations e) f.1 n) in
-          (subst (λ (z : Stack). IsIn z.own e.over) (sym f.1) (◌⊎◌.inr o.0), path_up s with_entered enter_grows e.over e.within o.1)
+          (subst (λ (z : Stack). IsInSkeleton z.own e.over) (sym f.1) (◌⊎◌.inr o.0), path_up s with_entered enter_grows e.over e.within o.1)
       by (◌⊎◌.inr f) = let o = ok.evaluates k y e f.1 n in (o.0, path_up s with_entered enter_grows e.over e.within o.1)
 
-  enter_holds : (k : ℕ) (y : Stack) (c : ℕ) → slice_get with_entered.stacks k ≡ Some y → y.live ≡ true → y.critical ≡ Some c → Stands with_entered c
+  enter_holds : (k : ℕ) (y : Stack) (c : ℕ) → slice_get with_entered.stacks k ≡ Some y → y.live ≡ true → y.critical ≡ Some c → SkeletonStands with_entered c
   enter_holds k y c e live cr = by (set_cases s.stacks p k above y e)
     where
-      by : ((k ≡ p) × (y ≡ above)) ⊎ ((p ≡ k → ⊥) × (slice_get s.stacks k ≡ Some y)) → Stands with_entered c
+      by : ((k ≡ p) × (y ≡ above)) ⊎ ((p ≡ k → ⊥) × (slice_get s.stacks k ≡ Some y)) → SkeletonStands with_entered c
       by (◌⊎◌.inl f) = stands_up s with_entered enter_grows c (ok.holds p q c is (ap (λ (z : Stack). z.live) (sym f.1) ∙ live) (ap (λ (z : Stack). z.critical) (sym f.1) ∙ cr))
       by (◌⊎◌.inr f) = stands_up s with_entered enter_grows c (ok.holds k y c f.1 live cr)
 
@@ -165,7 +165,7 @@ module _ (s : Skeleton) (ok : SkeletonOk s) (p : ℕ) (q : Stack) (i : ℕ) (r :
 
 -- ---- as the base of a new stack
 
-module _ (s : Skeleton) (ok : SkeletonOk s) (c : ℕ) (refs : List ℕ) (stands : Stands s c) (paths : (x : ℕ) → IsIn refs x → OnPath s c x) where
+module _ (s : Skeleton) (ok : SkeletonOk s) (c : ℕ) (refs : List ℕ) (stands : SkeletonStands s c) (paths : (x : ℕ) → IsInSkeleton refs x → OnPath s c x) where
   abbrev base : Stack
   base = record { own = length s.homes ∷ []; evaluations = []; critical = Some c; live = true }
 
@@ -187,40 +187,40 @@ module _ (s : Skeleton) (ok : SkeletonOk s) (c : ℕ) (refs : List ℕ) (stands 
           subst (λ n. Owned with_started.homes n y.own) (sym f.0) (subst (λ (z : Stack). Owned with_started.homes (length s.stacks) z.own) (sym f.1)
           (base_home, get-seam s.homes base_home [], refl, λ b n. absurd n, tt))
 
-  start_refers : (b : ℕ) (x : Home) (t : ℕ) → Stands with_started b → slice_get with_started.homes b ≡ Some x → IsIn x.refs t → OnPath with_started b t
+  start_refers : (b : ℕ) (x : Home) (t : ℕ) → SkeletonStands with_started b → slice_get with_started.homes b ≡ Some x → IsInSkeleton x.refs t → OnPath with_started b t
   start_refers b x t st e m = by (get-last s.stacks base st.number st.stack st.is)
     where
       top : length s.homes ≡ b → OnPath with_started b t
       top f =
-          let first : Next with_started (length s.homes) c = record { number = length s.stacks; stack = base; is = get-seam s.stacks base []; next = (refl, refl) } in
+          let first : SkeletonNext with_started (length s.homes) c = record { number = length s.stacks; stack = base; is = get-seam s.stacks base []; next = (refl, refl) } in
           let is_new : x ≡ base_home = some_same (ap (λ n. slice_get with_started.homes n) f ∙ e) (get-seam s.homes base_home []) in
-          let up : OnPath with_started (length s.homes) t = down first (path_up s with_started start_grows c t (paths t (subst (λ (z : Home). IsIn z.refs t) is_new m))) in
+          let up : OnPath with_started (length s.homes) t = down first (path_up s with_started start_grows c t (paths t (subst (λ (z : Home). IsInSkeleton z.refs t) is_new m))) in
           subst (λ n. OnPath with_started n t) f up
 
-      inside : IsIn (length s.homes ∷ []) b → OnPath with_started b t
+      inside : IsInSkeleton (length s.homes ∷ []) b → OnPath with_started b t
       inside (◌⊎◌.inl f) = top f
       inside (◌⊎◌.inr n) = absurd n
 
       by : (slice_get s.stacks st.number ≡ Some st.stack) ⊎ ((st.number ≡ length s.stacks) × (st.stack ≡ base)) → OnPath with_started b t
       by (◌⊎◌.inl f) = old_refers s with_started ok start_grows base_home refl b x t (record { number = st.number; stack = st.stack; is = f; inside = st.inside }) e m
-      by (◌⊎◌.inr f) = inside (subst (λ (z : Stack). IsIn z.own b) f.1 st.inside)
+      by (◌⊎◌.inr f) = inside (subst (λ (z : Stack). IsInSkeleton z.own b) f.1 st.inside)
 
-  start_evaluates : (k : ℕ) (y : Stack) (e : Evaluation) → slice_get with_started.stacks k ≡ Some y → IsEvaluated y.evaluations e → IsIn y.own e.over × OnPath with_started e.over e.within
+  start_evaluates : (k : ℕ) (y : Stack) (e : Evaluation) → slice_get with_started.stacks k ≡ Some y → IsEvaluated y.evaluations e → IsInSkeleton y.own e.over × OnPath with_started e.over e.within
   start_evaluates k y e g n = by (get-last s.stacks base k y g)
     where
-      by : (slice_get s.stacks k ≡ Some y) ⊎ ((k ≡ length s.stacks) × (y ≡ base)) → IsIn y.own e.over × OnPath with_started e.over e.within
+      by : (slice_get s.stacks k ≡ Some y) ⊎ ((k ≡ length s.stacks) × (y ≡ base)) → IsInSkeleton y.own e.over × OnPath with_started e.over e.within
       by (◌⊎◌.inl f) = let o = ok.evaluates k y e f n in (o.0, path_up s with_started start_grows e.over e.within o.1)
       by (◌⊎◌.inr f) = absurd (subst (λ (z : Stack). IsEvaluated z.evaluations e) f.1 n)
 
-  start_holds : (k : ℕ) (y : Stack) (d : ℕ) → slice_get with_started.stacks k ≡ Some y → y.live ≡ true → y.critical ≡ Some d → Stands with_started d
+  start_holds : (k : ℕ) (y : Stack) (d : ℕ) → slice_get with_started.stacks k ≡ Some y → y.live ≡ true → y.critical ≡ Some d → SkeletonStands with_started d
   start_holds k y d e live cr = by (get-last s.stacks base k y e)
     where
       crit : Some c ≡ Some d → c ≡ d
       crit h = cc
 
-      by : (slice_get s.stacks k ≡ Some y) ⊎ ((k ≡ length s.stacks) × (y ≡ base)) → Stands with_started d
+      by : (slice_get s.stacks k ≡ Some y) ⊎ ((k ≡ length s.stacks) × (y ≡ base)) → SkeletonStands with_started d
       by (◌⊎◌.inl f) = stands_up s with_started start_grows d (ok.holds k y d f live cr)
-      by (◌⊎◌.inr f) = stands_up s with_started start_grows d (subst (λ n. Stands s n) (crit (ap (λ (z : Stack). z.critical) (sym f.1) ∙ cr)) stands)
+      by (◌⊎◌.inr f) = stands_up s with_started start_grows d (subst (λ n. SkeletonStands s n) (crit (ap (λ (z : Stack). z.critical) (sym f.1) ∙ cr)) stands)
 
   start_ended : (k : ℕ) (y : Stack) → slice_get with_started.stacks k ≡ Some y → y.live ≡ false → y.own ≡ []
   start_ended k y e dead = by (get-last s.stacks base k y e)

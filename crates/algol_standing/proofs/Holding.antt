@@ -13,10 +13,10 @@ use Rattle.b67_num.specs.declared.NumFault.{NumFault}
 use Rattle.algol_meaning.specs.Value.{Value, number, whole_of, truth_of, Cell, simple}
 use Rattle.algol_meaning.specs.Operators.{result_of}
 use Rattle.algol_meaning.specs.Rest as rests
-use Rattle.algol_meaning.specs.Rest.{Place, Given, valued, passed, refers, names, Hole, Actuals, Half, val, busy, HalfGiven, given, wants, Aim, HalfPlace, at, aims, Loop, Item, Rest, Answer, done, value, cell, place, entered, cell_of, subscripts_of}
-use Rattle.algol_meaning.specs.Settle.{after_result, right_of, left_of, negated_of, inverted_of, condition_of, named_of, subscripted_of, called_of, valued_of, alone_of, sorts_of, left_alone_of, aimed_of, half_of, half_place_of, callee, is_typed, sort_at, other_of, actual_of, first_actual_of, settle, settle_actuals, put, put_actuals, settle_place, indexed_of, put_place}
+use Rattle.algol_meaning.specs.Rest.{Place, Given, valued, passed, refers, names, Hole, Actuals, Half, val, busy, HalfGiven, given, wants, Aim, HalfPlace, at, aims, Loop, Item, Rest, Answer, done, value, cell, place, entered, cell_of_answer, subscripts_of}
+use Rattle.algol_meaning.specs.Settle.{after_result, right_of, left_of, negated_of, inverted_of, condition_of, named_of, subscripted_of, called_of, valued_of, alone_of, sorts_of, left_alone_of, aimed_of, half_of, half_place_of, callee, is_typed, sort_at, other_of, actual_of, first_actual_of, settle, settle_actuals, answer_put, put_actuals, settle_place, indexed_of, put_place}
 use Rattle.algol_meaning.specs.Statements.{items, run_and, turn_and, assigned_of, aimed_at, chosen_of, looped_of, checked_of, repeated_of, counted_of, after_count, selected_of, statement_called_of, prepared_of, item_of, bound_of, begun_of, is_past, difference_in, stepped, settle_line, settle_bounds, settle_stmt, settle_stmts, settle_body, counted_body, again, tested_of, differed_of, settle_items}
-use Rattle.algol_meaning.specs.Asks.{evaluated_of, located_of, nth_stmt, inside_or_after, called, resume}
+use Rattle.algol_meaning.specs.Asks.{evaluated_of, located_of, nth_stmt, inside_or_after, asks_called, resume}
 use Rattle.algol_standing.specs.Worlds.{held_in_place, held_in_givens, held_in_hole, held_in_actuals, held_in_aim, held_in_rest, held_in_answer, IsGivable, GivesNoOwn}
 
 abbrev pub AreAll : (Cell → Type 0) → List Cell → Type 0
@@ -144,7 +144,7 @@ module _ (C : Cell → Type 0) (plain : (v : Value) → C (simple v)) where
   half_place_holds (place p) i = i
   half_place_holds _ i = tt
 
-  cell_holds : (a : Answer) → AreAll C (held_in_answer a) → C (cell_of a (simple (number (pos 0))))
+  cell_holds : (a : Answer) → AreAll C (held_in_answer a) → C (cell_of_answer a (simple (number (pos 0))))
   cell_holds (cell c) i = i.0
   cell_holds done i = plain (number (pos 0))
   cell_holds (value v) i = plain (number (pos 0))
@@ -188,7 +188,7 @@ module _ (C : Cell → Type 0) (plain : (v : Value) → C (simple v)) where
       actuals_hold (tree.more e es) sorts gs i = first_actual_holds sorts e (settle sc e) gs es (settle_actuals sc es) (settle_holds e) i (λ after more l. actuals_hold es after more l)
 
     mutual
-      put_holds : (h : Hole) (a : Answer) → AreAll C (held_in_hole h) → AreAll C (held_in_answer a) → HalfHolds (put sc h a)
+      put_holds : (h : Hole) (a : Answer) → AreAll C (held_in_hole h) → AreAll C (held_in_answer a) → HalfHolds (answer_put sc h a)
       put_holds (rests.read n) a i j = half_holds a
       put_holds (rests.element n ks v) a i j = half_holds a
       put_holds (rests.index n ks v e es) a i j = subscripted_holds n (subscripts_of a) (settle sc e) es (settle_holds e)
@@ -196,20 +196,20 @@ module _ (C : Cell → Type 0) (plain : (v : Value) → C (simple v)) where
       put_holds (rests.broken op v w fault) a i j = half_holds a
       put_holds (rests.enter n gs) a i j = half_holds a
       put_holds rests.inside a i j = half_holds a
-      put_holds (rests.subscript n ks h es) a i j = subscripted_holds n ks (put sc h a) es (put_holds h a i j)
+      put_holds (rests.subscript n ks h es) a i j = subscripted_holds n ks (answer_put sc h a) es (put_holds h a i j)
       put_holds (rests.argument n x) a i j = called_holds n (put_actuals sc x a) (put_actuals_hold x a i j)
-      put_holds (rests.left op h b) a i j = left_holds op (put sc h a) b (settle sc b) (put_holds h a i j) (settle_holds b)
-      put_holds (rests.right op v h) a i j = right_holds op v (put sc h a) (put_holds h a i j)
-      put_holds (rests.negated h) a i j = negated_holds (put sc h a) (put_holds h a i j)
-      put_holds (rests.inverted h) a i j = inverted_holds (put sc h a) (put_holds h a i j)
-      put_holds (rests.condition h x y) a i j = condition_holds (put sc h a) x y (settle sc x) (settle sc y) (put_holds h a i j) (settle_holds x) (settle_holds y)
+      put_holds (rests.left op h b) a i j = left_holds op (answer_put sc h a) b (settle sc b) (put_holds h a i j) (settle_holds b)
+      put_holds (rests.right op v h) a i j = right_holds op v (answer_put sc h a) (put_holds h a i j)
+      put_holds (rests.negated h) a i j = negated_holds (answer_put sc h a) (put_holds h a i j)
+      put_holds (rests.inverted h) a i j = inverted_holds (answer_put sc h a) (put_holds h a i j)
+      put_holds (rests.condition h x y) a i j = condition_holds (answer_put sc h a) x y (settle sc x) (settle sc y) (put_holds h a i j) (settle_holds x) (settle_holds y)
 
       put_actuals_hold : (x : Actuals) (a : Answer) → AreAll C (held_in_actuals x) → AreAll C (held_in_answer a) → GivenHolds (put_actuals sc x a)
       put_actuals_hold (rests.pass gs n sorts es) a i j =
-          let c = passed (cell_of a (simple (number (pos 0)))) in
+          let c = passed (cell_of_answer a (simple (number (pos 0)))) in
           actuals_hold es sorts (gs ++ c ∷ []) (and_given gs c i (cell_holds a j, tt))
       put_actuals_hold (rests.in_value gs h sorts es) a i j =
-          valued_holds gs (put sc h a) sorts es (settle_actuals sc es sorts) (all_front C (held_in_givens gs) (held_in_hole h) i)
+          valued_holds gs (answer_put sc h a) sorts es (settle_actuals sc es sorts) (all_front C (held_in_givens gs) (held_in_hole h) i)
           (put_holds h a (all_back C (held_in_givens gs) (held_in_hole h) i) j) (λ more l. actuals_hold es sorts more l)
 
     -- ---- left sides
@@ -226,7 +226,7 @@ module _ (C : Cell → Type 0) (plain : (v : Value) → C (simple v)) where
     put_place_holds (rests.resolve n) a i j = half_place_holds a j
     put_place_holds (rests.place_index n ks v es) a i j = indexed_holds n a es j
     put_place_holds rests.inside_place a i j = half_place_holds a j
-    put_place_holds (rests.place_subscript n ks h es) a i j = aimed_holds n ks (put sc h a) es (put_holds h a i j)
+    put_place_holds (rests.place_subscript n ks h es) a i j = aimed_holds n ks (answer_put sc h a) es (put_holds h a i j)
 
   -- ---- one lemma for each form that settling and resuming share; the part evaluates a name, or it does not
 
@@ -320,7 +320,7 @@ module _ (C : Cell → Type 0) (plain : (v : Value) → C (simple v)) where
       put_place_givable (rests.resolve n) a i = half_place_givable a i
       put_place_givable (rests.place_index n ks v es) a i = indexed_givable n a es i
       put_place_givable rests.inside_place a i = half_place_givable a i
-      put_place_givable (rests.place_subscript n ks h es) a i = aimed_givable n ks (put sc h a) es
+      put_place_givable (rests.place_subscript n ks h es) a i = aimed_givable n ks (answer_put sc h a) es
 
       line_holds : (es : PExprs) (phrases : List PhraseText) (k : List Item) (vs : List Value) → RestHolds (settle_line sc es phrases k vs)
       line_holds tree.none phrases k vs = (tt, tt)
@@ -407,7 +407,7 @@ module _ (C : Cell → Type 0) (plain : (v : Value) → C (simple v)) where
       inside_holds (cell c) k = items_hold k
       inside_holds (place p) k = items_hold k
 
-      entered_holds : (typed : Bool) (a : Answer) (k : List Item) → RestHolds (called sc typed a k)
+      entered_holds : (typed : Bool) (a : Answer) (k : List Item) → RestHolds (asks_called sc typed a k)
       entered_holds true entered k = (tt, tt)
       entered_holds false entered k = (tt, tt)
       entered_holds typed done k = items_hold k
@@ -433,25 +433,25 @@ module _ (C : Cell → Type 0) (plain : (v : Value) → C (simple v)) where
       resumed_holds (rests.event n k) a i j f = items_hold k
       resumed_holds (rests.within k) a i j f = items_hold k
       resumed_holds (rests.dropping k) a i j f = items_hold k
-      resumed_holds (rests.evaluating h) a i j f = evaluated_holds (put sc h a) (put_holds sc h a i.0 j)
+      resumed_holds (rests.evaluating h) a i j f = evaluated_holds (answer_put sc h a) (put_holds sc h a i.0 j)
       resumed_holds (rests.locating x) a i j f = located_holds (put_place sc x a) (put_place_holds sc x a i.0 j) (put_place_givable x a f) i.1
       resumed_holds (rests.aiming x e k) a i j f = aimed_at_holds (put_place sc x a) e (settle sc e) k (put_place_holds sc x a i.0 j) (settle_holds sc e)
       resumed_holds (rests.storing p h k) a i j f =
-          assigned_holds p (put sc h a) k (all_front C (held_in_place p) (held_in_hole h) i.0) (put_holds sc h a (all_back C (held_in_place p) (held_in_hole h) i.0) j)
+          assigned_holds p (answer_put sc h a) k (all_front C (held_in_place p) (held_in_hole h) i.0) (put_holds sc h a (all_back C (held_in_place p) (held_in_hole h) i.0) j)
       resumed_holds (rests.choosing h x y k) a i j f =
-          chosen_holds (put sc h a) x y k (settle_stmt sc x k (settle_items sc k)) (settle_stmt sc y k (settle_items sc k)) (put_holds sc h a i.0 j)
+          chosen_holds (answer_put sc h a) x y k (settle_stmt sc x k (settle_items sc k)) (settle_stmt sc y k (settle_items sc k)) (put_holds sc h a i.0 j)
           (stmt_holds x k (settle_items sc k) (items_hold k)) (stmt_holds y k (settle_items sc k) (items_hold k))
       resumed_holds (rests.looping h c b k) a i j f =
-          looped_holds (put sc h a) c b k (settle_stmt sc b (turn_and (tree.while c b) k) (rests.turning (run_and (tree.while c b) k))) (settle_items sc k) (put_holds sc h a i.0 j)
+          looped_holds (answer_put sc h a) c b k (settle_stmt sc b (turn_and (tree.while c b) k) (rests.turning (run_and (tree.while c b) k))) (settle_items sc k) (put_holds sc h a i.0 j)
           (stmt_holds b (turn_and (tree.while c b) k) (rests.turning (run_and (tree.while c b) k)) (tt, tt)) (items_hold k)
-      resumed_holds (rests.checking h b c k) a i j f = checked_holds (put sc h a) b c k (settle_items sc k) (put_holds sc h a i.0 j) (items_hold k)
-      resumed_holds (rests.counting h b k) a i j f = counted_holds (put sc h a) b k (counted_body sc b k) (settle_items sc k) (put_holds sc h a i.0 j) (counted_body_holds b k) (items_hold k)
-      resumed_holds (rests.differing h loop k) a i j f = differed_holds (put sc h a) loop k (settle_items sc k) (put_holds sc h a i.0 j) (items_hold k)
-      resumed_holds (rests.stepping d h loop k) a i j f = tested_holds d (put sc h a) loop k (settle_items sc k) (put_holds sc h a i.0 j) (items_hold k)
-      resumed_holds (rests.selecting h ss k) a i j f = selected_holds (put sc h a) ss k (put_holds sc h a i.0 j)
+      resumed_holds (rests.checking h b c k) a i j f = checked_holds (answer_put sc h a) b c k (settle_items sc k) (put_holds sc h a i.0 j) (items_hold k)
+      resumed_holds (rests.counting h b k) a i j f = counted_holds (answer_put sc h a) b k (counted_body sc b k) (settle_items sc k) (put_holds sc h a i.0 j) (counted_body_holds b k) (items_hold k)
+      resumed_holds (rests.differing h loop k) a i j f = differed_holds (answer_put sc h a) loop k (settle_items sc k) (put_holds sc h a i.0 j) (items_hold k)
+      resumed_holds (rests.stepping d h loop k) a i j f = tested_holds d (answer_put sc h a) loop k (settle_items sc k) (put_holds sc h a i.0 j) (items_hold k)
+      resumed_holds (rests.selecting h ss k) a i j f = selected_holds (answer_put sc h a) ss k (put_holds sc h a i.0 j)
       resumed_holds (rests.calling n x k) a i j f = called_rest_holds n (put_actuals sc x a) k (put_actuals_hold sc x a i.0 j)
       resumed_holds (rests.preparing n x task k) a i j f = prepared_holds n (put_actuals sc x a) task k (put_actuals_hold sc x a i.0 j)
       resumed_holds (rests.writing phrases vs h es k) a i j f =
-          item_holds phrases vs (put sc h a) es k (settle_line sc es phrases k) (put_holds sc h a i.0 j) (λ ws. line_holds es phrases k ws)
+          item_holds phrases vs (answer_put sc h a) es k (settle_line sc es phrases k) (put_holds sc h a i.0 j) (λ ws. line_holds es phrases k ws)
       resumed_holds (rests.bounding kind ns pairs vs h ps k) a i j f =
-          bound_holds kind ns pairs vs (put sc h a) ps k (settle_bounds sc ps kind ns pairs k) (put_holds sc h a i.0 j) (λ ws. bounds_hold ps kind ns pairs k ws)
+          bound_holds kind ns pairs vs (answer_put sc h a) ps k (settle_bounds sc ps kind ns pairs k) (put_holds sc h a i.0 j) (λ ws. bounds_hold ps kind ns pairs k ws)

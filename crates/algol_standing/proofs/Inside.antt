@@ -12,10 +12,10 @@ use Rattle.algol_tree.specs.Scopes.{Scopes}
 use Rattle.algol_meaning.specs.Value.{Value}
 use Rattle.algol_meaning.specs.Rest as rests
 use Rattle.algol_meaning.specs.Rest.{Place, Given, Hole, Actuals, Half, val, busy, HalfGiven, given, wants, Aim, HalfPlace, at, aims, Loop, Item, Rest, entered}
-use Rattle.algol_meaning.specs.Settle.{is_typed, subscripted_of, called_of, valued_of, left_of, right_of, condition_of, negated_of, inverted_of, aimed_of, settle, settle_actuals, put, put_actuals, put_place}
+use Rattle.algol_meaning.specs.Settle.{is_typed, subscripted_of, called_of, valued_of, left_of, right_of, condition_of, negated_of, inverted_of, aimed_of, settle, settle_actuals, answer_put, put_actuals, put_place}
 use Rattle.algol_meaning.specs.Statements.{assigned_of, aimed_at, chosen_of, looped_of, checked_of, counted_of, counted_body, selected_of, statement_called_of, prepared_of, item_of, bound_of, tested_of, differed_of, settle_line, settle_bounds, settle_stmt, run_and, turn_and, settle_items}
 use Rattle.algol_meaning.specs.Asks as asks
-use Rattle.algol_meaning.specs.Asks.{Ask, nothing, ask_hole, ask_actuals, ask_aim, ask, resume, called, evaluated_of, located_of}
+use Rattle.algol_meaning.specs.Asks.{Ask, nothing, ask_hole, ask_actuals, ask_aim, ask, resume, asks_called, evaluated_of, located_of}
 
 -- it is answered by a part inside, or it may be
 abbrev pub Opens : Ask → Type 0
@@ -75,7 +75,7 @@ aimed_waits n ks (val v) es e = absurd e
 
 module _ (sc : Scopes) where
   mutual
-    put_waits : (h : Hole) → Opens (ask_hole h) → AsksNothing (put sc h entered)
+    put_waits : (h : Hole) → Opens (ask_hole h) → AsksNothing (answer_put sc h entered)
     put_waits (rests.read n) e = refl
     put_waits (rests.element n ks i) e = absurd e
     put_waits (rests.index n ks i x es) e = absurd e
@@ -83,23 +83,23 @@ module _ (sc : Scopes) where
     put_waits (rests.broken op v w f) e = absurd e
     put_waits (rests.enter n gs) e = refl
     put_waits rests.inside e = absurd e
-    put_waits (rests.subscript n ks h es) e = subscripted_waits n ks (put sc h entered) es (put_waits h e)
+    put_waits (rests.subscript n ks h es) e = subscripted_waits n ks (answer_put sc h entered) es (put_waits h e)
     put_waits (rests.argument n x) e = called_waits n (put_actuals sc x entered) (put_actuals_wait x e)
-    put_waits (rests.left op h b) e = left_waits op (put sc h entered) b (settle sc b) (put_waits h e)
-    put_waits (rests.right op v h) e = right_waits op v (put sc h entered) (put_waits h e)
-    put_waits (rests.negated h) e = negated_waits (put sc h entered) (put_waits h e)
-    put_waits (rests.inverted h) e = inverted_waits (put sc h entered) (put_waits h e)
-    put_waits (rests.condition h x y) e = condition_waits (put sc h entered) x y (settle sc x) (settle sc y) (put_waits h e)
+    put_waits (rests.left op h b) e = left_waits op (answer_put sc h entered) b (settle sc b) (put_waits h e)
+    put_waits (rests.right op v h) e = right_waits op v (answer_put sc h entered) (put_waits h e)
+    put_waits (rests.negated h) e = negated_waits (answer_put sc h entered) (put_waits h e)
+    put_waits (rests.inverted h) e = inverted_waits (answer_put sc h entered) (put_waits h e)
+    put_waits (rests.condition h x y) e = condition_waits (answer_put sc h entered) x y (settle sc x) (settle sc y) (put_waits h e)
 
     put_actuals_wait : (x : Actuals) → Opens (ask_actuals x) → GivenAsksNothing (put_actuals sc x entered)
     put_actuals_wait (rests.pass gs n sorts es) e = absurd e
-    put_actuals_wait (rests.in_value gs h sorts es) e = valued_waits gs (put sc h entered) sorts es (settle_actuals sc es sorts) (put_waits h e)
+    put_actuals_wait (rests.in_value gs h sorts es) e = valued_waits gs (answer_put sc h entered) sorts es (settle_actuals sc es sorts) (put_waits h e)
 
   put_place_waits : (x : Aim) → Opens (ask_aim x) → PlaceAsksNothing (put_place sc x entered)
   put_place_waits (rests.resolve n) e = refl
   put_place_waits (rests.place_index n ks i es) e = absurd e
   put_place_waits rests.inside_place e = absurd e
-  put_place_waits (rests.place_subscript n ks h es) e = aimed_waits n ks (put sc h entered) es (put_waits h e)
+  put_place_waits (rests.place_subscript n ks h es) e = aimed_waits n ks (answer_put sc h entered) es (put_waits h e)
 
   -- ---- one lemma for each form
 
@@ -167,27 +167,27 @@ module _ (sc : Scopes) where
   in_bound kind ns pairs vs (busy h) ps k go_on e = e
   in_bound kind ns pairs vs (val v) ps k go_on e = absurd e
 
-  in_call : (typed : Bool) (k : List Item) → Waits (called sc typed entered k)
+  in_call : (typed : Bool) (k : List Item) → Waits (asks_called sc typed entered k)
   in_call true k = refl
   in_call false k = refl
 
   pub opened_waits : (r : Rest) → Opens (ask r) → ask (resume sc r entered) ≡ nothing
   opened_waits (rests.entering_block b k) e = refl
   opened_waits (rests.entering n gs k) e = in_call (is_typed sc n) k
-  opened_waits (rests.evaluating h) e = in_evaluated (put sc h entered) (put_waits h e)
+  opened_waits (rests.evaluating h) e = in_evaluated (answer_put sc h entered) (put_waits h e)
   opened_waits (rests.locating x) e = in_located (put_place sc x entered) (put_place_waits x e)
   opened_waits (rests.aiming x b k) e = in_aimed (put_place sc x entered) b (settle sc b) k (put_place_waits x e)
-  opened_waits (rests.storing p h k) e = in_assigned p (put sc h entered) k (put_waits h e)
-  opened_waits (rests.choosing h x y k) e = in_chosen (put sc h entered) x y k (settle_stmt sc x k (settle_items sc k)) (settle_stmt sc y k (settle_items sc k)) (put_waits h e)
+  opened_waits (rests.storing p h k) e = in_assigned p (answer_put sc h entered) k (put_waits h e)
+  opened_waits (rests.choosing h x y k) e = in_chosen (answer_put sc h entered) x y k (settle_stmt sc x k (settle_items sc k)) (settle_stmt sc y k (settle_items sc k)) (put_waits h e)
   opened_waits (rests.looping h c b k) e =
-      in_looped (put sc h entered) c b k (settle_stmt sc b (turn_and (tree.while c b) k) (rests.turning (run_and (tree.while c b) k))) (settle_items sc k) (put_waits h e)
-  opened_waits (rests.checking h b c k) e = in_checked (put sc h entered) b c k (settle_items sc k) (put_waits h e)
-  opened_waits (rests.counting h b k) e = in_counted (put sc h entered) b k (counted_body sc b k) (settle_items sc k) (put_waits h e)
-  opened_waits (rests.differing h loop k) e = in_differed (put sc h entered) loop k (settle_items sc k) (put_waits h e)
-  opened_waits (rests.stepping d h loop k) e = in_tested d (put sc h entered) loop k (settle_items sc k) (put_waits h e)
-  opened_waits (rests.selecting h ss k) e = in_selected (put sc h entered) ss k (put_waits h e)
+      in_looped (answer_put sc h entered) c b k (settle_stmt sc b (turn_and (tree.while c b) k) (rests.turning (run_and (tree.while c b) k))) (settle_items sc k) (put_waits h e)
+  opened_waits (rests.checking h b c k) e = in_checked (answer_put sc h entered) b c k (settle_items sc k) (put_waits h e)
+  opened_waits (rests.counting h b k) e = in_counted (answer_put sc h entered) b k (counted_body sc b k) (settle_items sc k) (put_waits h e)
+  opened_waits (rests.differing h loop k) e = in_differed (answer_put sc h entered) loop k (settle_items sc k) (put_waits h e)
+  opened_waits (rests.stepping d h loop k) e = in_tested d (answer_put sc h entered) loop k (settle_items sc k) (put_waits h e)
+  opened_waits (rests.selecting h ss k) e = in_selected (answer_put sc h entered) ss k (put_waits h e)
   opened_waits (rests.calling n x k) e = in_called n (put_actuals sc x entered) k (put_actuals_wait x e)
   opened_waits (rests.preparing n x t k) e = in_prepared n (put_actuals sc x entered) t k (put_actuals_wait x e)
-  opened_waits (rests.writing ps vs h es k) e = in_item ps vs (put sc h entered) es k (settle_line sc es ps k) (put_waits h e)
-  opened_waits (rests.bounding kind ns pairs vs h ps k) e = in_bound kind ns pairs vs (put sc h entered) ps k (settle_bounds sc ps kind ns pairs k) (put_waits h e)
+  opened_waits (rests.writing ps vs h es k) e = in_item ps vs (answer_put sc h entered) es k (settle_line sc es ps k) (put_waits h e)
+  opened_waits (rests.bounding kind ns pairs vs h ps k) e = in_bound kind ns pairs vs (answer_put sc h entered) ps k (settle_bounds sc ps kind ns pairs k) (put_waits h e)
   opened_waits _ e = absurd e

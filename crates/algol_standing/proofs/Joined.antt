@@ -6,7 +6,7 @@ use Rattle.b67_deeds.specs.Events.{EventState, joined}
 use Rattle.b67_deeds.specs.Deeds.{tests, deed}
 use Rattle.algol_meaning.specs.Value.{Reference, Cell, event}
 use Rattle.algol_meaning.specs.World.{cell_at, event_in, World}
-use Rattle.algol_meaning.specs.Events.{event_at, change_event, same_reference, is_among, joined_all}
+use Rattle.algol_meaning.specs.Events.{event_at, change_event, same_reference, reference_is_among, joined_all}
 use Rattle.algol_standing.proofs.Pairs.{AllPairs, pairs_self, pairs_then}
 use Rattle.algol_standing.proofs.Alike.{InstanceAlike, instance_self, instance_then}
 use Rattle.algol_standing.proofs.Changed.{changed_alike}
@@ -19,39 +19,39 @@ module _ (p : ℕ) where
   -- ---- what is true of the rest of the list
 
   -- an event that is seen is among those that are seen then
-  seen_first : (t : Reference) (seen : List Reference) (s : Reference) → is_among seen t ≡ true → same_reference t s ≡ true → is_among seen s ≡ true
-  seen_first t seen s e f = subst (λ u. is_among seen u ≡ true) (same_is t s f) e
+  seen_first : (t : Reference) (seen : List Reference) (s : Reference) → reference_is_among seen t ≡ true → same_reference t s ≡ true → reference_is_among seen s ≡ true
+  seen_first t seen s e f = subst (λ u. reference_is_among seen u ≡ true) (same_is t s f) e
 
   -- ---- the events
 
   -- it was seen, or is not of the list
-  pub joined_other : (w : World) (seen rs : List Reference) (s : Reference) → (is_among seen s ≡ true) ⊎ (is_among rs s ≡ false) →
+  pub joined_other : (w : World) (seen rs : List Reference) (s : Reference) → (reference_is_among seen s ≡ true) ⊎ (reference_is_among rs s ≡ false) →
       cell_at (joined_all w p seen rs) s ≡ cell_at w s
   joined_other w seen [] s o = refl
-  joined_other w seen (t ∷ rs) s o = by (is_among seen t) refl (λ o. joined_other w (t ∷ seen) rs s o) (λ o. joined_other (with_joined w t) (t ∷ seen) rs s o)
+  joined_other w seen (t ∷ rs) s o = by (reference_is_among seen t) refl (λ o. joined_other w (t ∷ seen) rs s o) (λ o. joined_other (with_joined w t) (t ∷ seen) rs s o)
     where
-      more : (same_reference t s ≡ true) ⊎ (same_reference t s ≡ false) → (is_among seen s ≡ true) ⊎ (is_among (t ∷ rs) s ≡ false) →
-          (is_among (t ∷ seen) s ≡ true) ⊎ (is_among rs s ≡ false)
+      more : (same_reference t s ≡ true) ⊎ (same_reference t s ≡ false) → (reference_is_among seen s ≡ true) ⊎ (reference_is_among (t ∷ rs) s ≡ false) →
+          (reference_is_among (t ∷ seen) s ≡ true) ⊎ (reference_is_among rs s ≡ false)
       more (◌⊎◌.inl e) o = ◌⊎◌.inl (among_first t seen s e)
       more (◌⊎◌.inr e) (◌⊎◌.inl f) = ◌⊎◌.inl (among_more t seen s e ∙ f)
       more (◌⊎◌.inr e) (◌⊎◌.inr f) = ◌⊎◌.inr (sym (among_more t rs s e) ∙ f)
 
-      other : is_among seen t ≡ false → (is_among seen s ≡ true) ⊎ (is_among (t ∷ rs) s ≡ false) → t ≡ s → ⊥
-      other e (◌⊎◌.inl f) same = false_true (is_among seen t) e (subst (λ u. is_among seen u ≡ true) (sym same) f)
-      other e (◌⊎◌.inr f) same = false_true (is_among (t ∷ rs) s) f (among_first t rs s (subst (λ u. same_reference t u ≡ true) same (same_self t)))
+      other : reference_is_among seen t ≡ false → (reference_is_among seen s ≡ true) ⊎ (reference_is_among (t ∷ rs) s ≡ false) → t ≡ s → ⊥
+      other e (◌⊎◌.inl f) same = false_true (reference_is_among seen t) e (subst (λ u. reference_is_among seen u ≡ true) (sym same) f)
+      other e (◌⊎◌.inr f) same = false_true (reference_is_among (t ∷ rs) s) f (among_first t rs s (subst (λ u. same_reference t u ≡ true) same (same_self t)))
 
-      by : (b : Bool) → is_among seen t ≡ b →
-          ((is_among (t ∷ seen) s ≡ true) ⊎ (is_among rs s ≡ false) → cell_at (joined_all w p (t ∷ seen) rs) s ≡ cell_at w s) →
-          ((is_among (t ∷ seen) s ≡ true) ⊎ (is_among rs s ≡ false) → cell_at (joined_all (with_joined w t) p (t ∷ seen) rs) s ≡ cell_at (with_joined w t) s) →
+      by : (b : Bool) → reference_is_among seen t ≡ b →
+          ((reference_is_among (t ∷ seen) s ≡ true) ⊎ (reference_is_among rs s ≡ false) → cell_at (joined_all w p (t ∷ seen) rs) s ≡ cell_at w s) →
+          ((reference_is_among (t ∷ seen) s ≡ true) ⊎ (reference_is_among rs s ≡ false) → cell_at (joined_all (with_joined w t) p (t ∷ seen) rs) s ≡ cell_at (with_joined w t) s) →
           cell_at (if b then joined_all w p (t ∷ seen) rs else (joined_all (with_joined w t) p (t ∷ seen) rs)) s ≡ cell_at w s
       by true e f g = f (more (same_or_not t s) o)
       by false e f g = g (more (same_or_not t s) o) ∙ cell_apart w t s (joined p (event_at w t)) (other e o)
 
   -- each different event of the list has the process at the end of its waiters
-  pub joined_cell : (w : World) (seen rs : List Reference) (s : Reference) (d : EventState) → cell_at w s ≡ event d → is_among rs s ≡ true → is_among seen s ≡ false →
+  pub joined_cell : (w : World) (seen rs : List Reference) (s : Reference) (d : EventState) → cell_at w s ≡ event d → reference_is_among rs s ≡ true → reference_is_among seen s ≡ false →
       cell_at (joined_all w p seen rs) s ≡ event (joined p d)
   joined_cell w seen [] s d f m n = cc
-  joined_cell w seen (t ∷ rs) s d f m n = by (is_among seen t) refl (same_or_not t s)
+  joined_cell w seen (t ∷ rs) s d f m n = by (reference_is_among seen t) refl (same_or_not t s)
       (λ m n. joined_cell w (t ∷ seen) rs s d f m n) (λ g m n. joined_cell (with_joined w t) (t ∷ seen) rs s d g m n)
     where
       now : same_reference t s ≡ true → cell_at (with_joined w t) s ≡ event (joined p d)
@@ -59,12 +59,12 @@ module _ (p : ℕ) where
           subst (λ (u : Reference). cell_at (with_joined w u) s ≡ event (joined p d)) (sym (same_is t s e))
           (cell_there w s d (joined p (event_at w s)) f ∙ ap (λ (c : Cell). event (joined p (event_in c))) f)
 
-      by : (b : Bool) → is_among seen t ≡ b → (same_reference t s ≡ true) ⊎ (same_reference t s ≡ false) →
-          (is_among rs s ≡ true → is_among (t ∷ seen) s ≡ false → cell_at (joined_all w p (t ∷ seen) rs) s ≡ event (joined p d)) →
-          (cell_at (with_joined w t) s ≡ event d → is_among rs s ≡ true → is_among (t ∷ seen) s ≡ false →
+      by : (b : Bool) → reference_is_among seen t ≡ b → (same_reference t s ≡ true) ⊎ (same_reference t s ≡ false) →
+          (reference_is_among rs s ≡ true → reference_is_among (t ∷ seen) s ≡ false → cell_at (joined_all w p (t ∷ seen) rs) s ≡ event (joined p d)) →
+          (cell_at (with_joined w t) s ≡ event d → reference_is_among rs s ≡ true → reference_is_among (t ∷ seen) s ≡ false →
           cell_at (joined_all (with_joined w t) p (t ∷ seen) rs) s ≡ event (joined p d)) →
           cell_at (if b then joined_all w p (t ∷ seen) rs else (joined_all (with_joined w t) p (t ∷ seen) rs)) s ≡ event (joined p d)
-      by true e (◌⊎◌.inl g) h k = absurd (false_true (is_among seen s) n (seen_first t seen s e g))
+      by true e (◌⊎◌.inl g) h k = absurd (false_true (reference_is_among seen s) n (seen_first t seen s e g))
       by true e (◌⊎◌.inr g) h k = h (sym (among_more t rs s g) ∙ m) (among_more t seen s g ∙ n)
       by false e (◌⊎◌.inl g) h k = joined_other (with_joined w t) (t ∷ seen) rs s (◌⊎◌.inl (among_first t seen s g)) ∙ now g
       by false e (◌⊎◌.inr g) h k =
@@ -72,14 +72,14 @@ module _ (p : ℕ) where
 
   -- an event that is there then is one that the process has joined, or it was there
   pub joined_back : (w : World) (seen rs : List Reference) (s : Reference) (d : EventState) → cell_at (joined_all w p seen rs) s ≡ event d →
-      ((is_among rs s ≡ true) × (d ≡ joined p (event_at w s))) ⊎ (cell_at w s ≡ event d)
+      ((reference_is_among rs s ≡ true) × (d ≡ joined p (event_at w s))) ⊎ (cell_at w s ≡ event d)
   joined_back w seen [] s d f = ◌⊎◌.inr f
-  joined_back w seen (t ∷ rs) s d f = by (is_among seen t) refl f (λ g. joined_back w (t ∷ seen) rs s d g) (λ g. joined_back (with_joined w t) (t ∷ seen) rs s d g)
+  joined_back w seen (t ∷ rs) s d f = by (reference_is_among seen t) refl f (λ g. joined_back w (t ∷ seen) rs s d g) (λ g. joined_back (with_joined w t) (t ∷ seen) rs s d g)
     where
       Back : Type 0
-      Back = ((is_among (t ∷ rs) s ≡ true) × (d ≡ joined p (event_at w s))) ⊎ (cell_at w s ≡ event d)
+      Back = ((reference_is_among (t ∷ rs) s ≡ true) × (d ≡ joined p (event_at w s))) ⊎ (cell_at w s ≡ event d)
 
-      later : ((is_among rs s ≡ true) × (d ≡ joined p (event_at w s))) ⊎ (cell_at w s ≡ event d) → Back
+      later : ((reference_is_among rs s ≡ true) × (d ≡ joined p (event_at w s))) ⊎ (cell_at w s ≡ event d) → Back
       later (◌⊎◌.inl g) = ◌⊎◌.inl (among_later t rs s g.0, g.1)
       later (◌⊎◌.inr g) = ◌⊎◌.inr g
 
@@ -94,10 +94,10 @@ module _ (p : ℕ) where
               )
           which (◌⊎◌.inr h) = ◌⊎◌.inr h.1
 
-      by : (b : Bool) → is_among seen t ≡ b → cell_at (if b then joined_all w p (t ∷ seen) rs else (joined_all (with_joined w t) p (t ∷ seen) rs)) s ≡ event d →
-          (cell_at (joined_all w p (t ∷ seen) rs) s ≡ event d → ((is_among rs s ≡ true) × (d ≡ joined p (event_at w s))) ⊎ (cell_at w s ≡ event d)) →
+      by : (b : Bool) → reference_is_among seen t ≡ b → cell_at (if b then joined_all w p (t ∷ seen) rs else (joined_all (with_joined w t) p (t ∷ seen) rs)) s ≡ event d →
+          (cell_at (joined_all w p (t ∷ seen) rs) s ≡ event d → ((reference_is_among rs s ≡ true) × (d ≡ joined p (event_at w s))) ⊎ (cell_at w s ≡ event d)) →
           (cell_at (joined_all (with_joined w t) p (t ∷ seen) rs) s ≡ event d →
-          ((is_among rs s ≡ true) × (d ≡ joined p (event_at (with_joined w t) s))) ⊎ (cell_at (with_joined w t) s ≡ event d)) → Back
+          ((reference_is_among rs s ≡ true) × (d ≡ joined p (event_at (with_joined w t) s))) ⊎ (cell_at (with_joined w t) s ≡ event d)) → Back
       by true e g h k = later (h g)
       by false e g h k = which (same_or_not t s)
         where
@@ -108,7 +108,7 @@ module _ (p : ℕ) where
               same : event_at (with_joined w t) s ≡ event_at w s
               same = ap (λ (c : Cell). event_in c) (cell_apart w t s (joined p (event_at w t)) (not_same t s i))
 
-              apart : ((is_among rs s ≡ true) × (d ≡ joined p (event_at (with_joined w t) s))) ⊎ (cell_at (with_joined w t) s ≡ event d) → Back
+              apart : ((reference_is_among rs s ≡ true) × (d ≡ joined p (event_at (with_joined w t) s))) ⊎ (cell_at (with_joined w t) s ≡ event d) → Back
               apart (◌⊎◌.inl j) = ◌⊎◌.inl (among_more t rs s i ∙ j.0, j.1 ∙ ap (λ x. joined p x) same)
               apart (◌⊎◌.inr j) = at_once j
 
@@ -116,7 +116,7 @@ module _ (p : ℕ) where
 
 pub joined_instances : (p : ℕ) (w : World) (seen rs : List Reference) → AllPairs InstanceAlike w.instances (joined_all w p seen rs).instances
 joined_instances p w seen [] = pairs_self InstanceAlike instance_self w.instances
-joined_instances p w seen (t ∷ rs) = by (is_among seen t) (joined_instances p w (t ∷ seen) rs) (joined_instances p (with_joined p w t) (t ∷ seen) rs)
+joined_instances p w seen (t ∷ rs) = by (reference_is_among seen t) (joined_instances p w (t ∷ seen) rs) (joined_instances p (with_joined p w t) (t ∷ seen) rs)
   where
     by : (b : Bool) → AllPairs InstanceAlike w.instances (joined_all w p (t ∷ seen) rs).instances →
         AllPairs InstanceAlike (with_joined p w t).instances (joined_all (with_joined p w t) p (t ∷ seen) rs).instances →

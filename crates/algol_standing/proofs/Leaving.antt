@@ -10,8 +10,8 @@ use Rattle.algol_meaning.specs.Critical.{is_this, some_depends, some_depends_on_
 use Rattle.algol_meaning.specs.Instances.{leave}
 use Rattle.algol_laws.proofs.Cells.{numbered_set, numbered_other, itself}
 use Rattle.algol_paths.specs.Arrays.{all_to_make}
-use Rattle.algol_standing.specs.Skeleton.{Stack, Skeleton, IsIn, Stands, OnPath, SkeletonOk, AreFree}
-use Rattle.algol_standing.specs.Worlds.{held_by, stack_of, skeleton, IsStanding, IsOnPath, IsOwn, IsAmong, IsAwaited, HasHead, IsWhole, ProcessOk, InstanceOk, IsSound}
+use Rattle.algol_standing.specs.Skeleton.{Stack, Skeleton, IsInSkeleton, SkeletonStands, OnPath, SkeletonOk, AreFree}
+use Rattle.algol_standing.specs.Worlds.{held_by, stack_of, skeleton, IsStanding, IsOnPath, IsOwn, IsAmongParts, IsAwaited, HasHead, IsWholeInstance, ProcessOk, InstanceOk, IsSound}
 use Rattle.algol_standing.proofs.Lists.{some_same, same_or_other}
 use Rattle.algol_standing.proofs.Pairs.{stack_forth, stack_back}
 use Rattle.algol_standing.proofs.Changed.{listed_still}
@@ -35,7 +35,7 @@ depends (q ∷ qs) zero i y e l c =
     (ap (λ (z : Process). is_this z.critical i) same ∙ (ap (λ o. is_this o i) c ∙ itself i)))
 depends (q ∷ qs) (suc k) i y e l c = or_right (lives q.state && is_this q.critical i) (some_depends qs i) (depends qs k i y e l c)
 
-depends_on_one : (qs : List Process) (is : List ℕ) (i : ℕ) → IsIn is i → some_depends qs i ≡ true → some_depends_on_any qs is ≡ true
+depends_on_one : (qs : List Process) (is : List ℕ) (i : ℕ) → IsInSkeleton is i → some_depends qs i ≡ true → some_depends_on_any qs is ≡ true
 depends_on_one qs [] i n e = absurd n
 depends_on_one qs (j ∷ is) i (◌⊎◌.inl f) e = or_left (some_depends qs j) (some_depends_on_any qs is) (ap (λ k. some_depends qs k) f ∙ e)
 depends_on_one qs (j ∷ is) i (◌⊎◌.inr n) e = or_right (some_depends qs j) (some_depends_on_any qs is) (depends_on_one qs is i n e)
@@ -58,10 +58,10 @@ free_of w is none i n k y e live c = by (stack_back w k y e)
 abbrev pub GoesOrEnds : List ℕ → List Part → State → Type 0
 GoesOrEnds newer parts s = (lives s ≡ true) ⊎ ((i : ℕ) × (newer ≡ i ∷ []) × (own_instances parts ≡ []) × (lives s ≡ false))
 
-module _ (sc : Scopes) (w : World) (ok : IsSound sc IsWhole w) (p : ℕ) (q : Process) (is : numbered w.processes p ≡ Some q) (able_is : q.state ≡ able) (newer : List ℕ) (parts : List Part) (s : State)
+module _ (sc : Scopes) (w : World) (ok : IsSound sc IsWholeInstance w) (p : ℕ) (q : Process) (is : numbered w.processes p ≡ Some q) (able_is : q.state ≡ able) (newer : List ℕ) (parts : List Part) (s : State)
     (own_is : own_instances q.todo ≡ newer ++ own_instances parts) (fine : Fine sc w parts) (heads : lives s ≡ true → HasHead parts) (awaits_none : (r : Reference) → IsAwaited s r → ⊥)
     (owned : (i : ℕ) → IsOwn parts i → IsOwn q.todo i)
-    (still : (x : Part) → IsAmong q.todo x → is_evaluation x.purpose ≡ false → all_to_make x.rest ≡ [] → IsIn newer x.instance ⊎ IsStillMade parts x)
+    (still : (x : Part) → IsAmongParts q.todo x → is_evaluation x.purpose ≡ false → all_to_make x.rest ≡ [] → IsInSkeleton newer x.instance ⊎ IsStillMade parts x)
     (none : some_depends_on_any w.processes newer ≡ false) (how : GoesOrEnds newer parts s) where
   abbrev pub goer : Process
   goer = record q { todo = parts; state = s }
@@ -92,7 +92,7 @@ module _ (sc : Scopes) (w : World) (ok : IsSound sc IsWhole w) (p : ℕ) (q : Pr
       by (◌⊎◌.inr f) =
           ended_ok (skeleton w) ok.skeleton_ok p (stack_of q) at newer (own_instances parts) own_is (held_by parts) (lives s) (free_of w newer none) fine.holds f.0 f.1 f.2 f.3
 
-  t_path : (a b : ℕ) → IsOnPath w a b → (IsIn newer a → ⊥) → OnPath t a b
+  t_path : (a b : ℕ) → IsOnPath w a b → (IsInSkeleton newer a → ⊥) → OnPath t a b
   t_path a b l out = by how
     where
       by : GoesOrEnds newer parts s → OnPath t a b
@@ -104,12 +104,12 @@ module _ (sc : Scopes) (w : World) (ok : IsSound sc IsWhole w) (p : ℕ) (q : Pr
   after : SkeletonOk (skeleton left_world)
   after = subst (λ (z : Skeleton). SkeletonOk z) (sym skeleton_is) t_ok
 
-  pub stood : (i : ℕ) → IsStanding left_world i → IsStanding w i × (IsIn newer i → ⊥)
-  stood i st = dropped_stood (skeleton w) ok.skeleton_ok p (stack_of q) at newer (own_instances parts) own_is (held_by parts) (lives s) i (subst (λ (z : Skeleton). Stands z i) skeleton_is st)
+  pub stood : (i : ℕ) → IsStanding left_world i → IsStanding w i × (IsInSkeleton newer i → ⊥)
+  stood i st = dropped_stood (skeleton w) ok.skeleton_ok p (stack_of q) at newer (own_instances parts) own_is (held_by parts) (lives s) i (subst (λ (z : Skeleton). SkeletonStands z i) skeleton_is st)
 
-  stands_on : (i : ℕ) → IsStanding w i → (IsIn newer i → ⊥) → IsStanding left_world i
+  stands_on : (i : ℕ) → IsStanding w i → (IsInSkeleton newer i → ⊥) → IsStanding left_world i
   stands_on i st out =
-      subst (λ (z : Skeleton). Stands z i) (sym skeleton_is)
+      subst (λ (z : Skeleton). SkeletonStands z i) (sym skeleton_is)
       (dropped_stands (skeleton w) ok.skeleton_ok p (stack_of q) at newer (own_instances parts) own_is (held_by parts) (lives s) i st out)
 
   paths : (a b : ℕ) → IsStanding w a → IsStanding left_world a → IsOnPath w a b → IsOnPath left_world a b
@@ -125,11 +125,11 @@ module _ (sc : Scopes) (w : World) (ok : IsSound sc IsWhole w) (p : ℕ) (q : Pr
   other_at : (k : ℕ) → (p ≡ k → ⊥) → numbered left_world.processes k ≡ numbered w.processes k
   other_at k out = ap (λ ps. numbered ps k) processes_are ∙ numbered_other w.processes p k goer out
 
-  whole : (i : ℕ) → IsStanding left_world i → IsWhole w i → IsWhole left_world i
+  whole : (i : ℕ) → IsStanding left_world i → IsWholeInstance w i → IsWholeInstance left_world i
   whole i st h = by (same_or_other p h.number)
     where
-      acting : IsIn newer h.part.instance ⊎ IsStillMade parts h.part → IsWhole left_world i
-      acting (◌⊎◌.inl n) = absurd ((stood i st).1 (subst (λ j. IsIn newer j) h.instance_is n))
+      acting : IsInSkeleton newer h.part.instance ⊎ IsStillMade parts h.part → IsWholeInstance left_world i
+      acting (◌⊎◌.inl n) = absurd ((stood i st).1 (subst (λ j. IsInSkeleton newer j) h.instance_is n))
       acting (◌⊎◌.inr m) =
           record {
             number = p;
@@ -142,10 +142,10 @@ module _ (sc : Scopes) (w : World) (ok : IsSound sc IsWhole w) (p : ℕ) (q : Pr
             made = m.made;
           }
 
-      by : (p ≡ h.number) ⊎ (p ≡ h.number → ⊥) → IsWhole left_world i
+      by : (p ≡ h.number) ⊎ (p ≡ h.number → ⊥) → IsWholeInstance left_world i
       by (◌⊎◌.inl f) =
           let same : h.process ≡ q = some_same h.is (ap (λ k. numbered w.processes k) (sym f) ∙ is) in
-          acting (still h.part (subst (λ (z : Process). IsAmong z.todo h.part) same h.among) h.owns h.made)
+          acting (still h.part (subst (λ (z : Process). IsAmongParts z.todo h.part) same h.among) h.owns h.made)
       by (◌⊎◌.inr f) =
           record {
             number = h.number;
@@ -196,7 +196,7 @@ module _ (sc : Scopes) (w : World) (ok : IsSound sc IsWhole w) (p : ℕ) (q : Pr
       by (◌⊎◌.inl f) = subst (λ z. WasAs k z) (sym f.1) (acting f.0)
       by (◌⊎◌.inr f) = record { before = y; at_k = f.1; critical = refl; task = refl; lived = λ l. l; owns = λ i n. n }
 
-  then_ok : ProcessOk sc IsWhole left_world goer
+  then_ok : ProcessOk sc IsWholeInstance left_world goer
   then_ok =
       record {
         parts = λ x n. part_kept sc w left_world ok after paths blocks whole x
@@ -207,34 +207,34 @@ module _ (sc : Scopes) (w : World) (ok : IsSound sc IsWhole w) (p : ℕ) (q : Pr
         few = (((ok.processes p q is).few).0, subst (λ rs. length rs ≤ MOST_EVENTS) (sym (no_list s awaits_none)) (omega (arith)));
       }
 
-  process_then : (k : ℕ) (y : Process) → numbered left_world.processes k ≡ Some y → ProcessOk sc IsWhole left_world y
+  process_then : (k : ℕ) (y : Process) → numbered left_world.processes k ≡ Some y → ProcessOk sc IsWholeInstance left_world y
   process_then k y e = by (was k y e)
     where
-      by : ((p ≡ k) × (y ≡ goer)) ⊎ ((p ≡ k → ⊥) × (numbered w.processes k ≡ Some y)) → ProcessOk sc IsWhole left_world y
-      by (◌⊎◌.inl f) = subst (λ z. ProcessOk sc IsWhole left_world z) (sym f.1) then_ok
+      by : ((p ≡ k) × (y ≡ goer)) ⊎ ((p ≡ k → ⊥) × (numbered w.processes k ≡ Some y)) → ProcessOk sc IsWholeInstance left_world y
+      by (◌⊎◌.inl f) = subst (λ z. ProcessOk sc IsWholeInstance left_world z) (sym f.1) then_ok
       by (◌⊎◌.inr f) = unmoved_kept sc w left_world ok after paths blocks whole k y y f.1 e (unmoved_self y)
 
-  instance_then : (i : ℕ) (y : Instance) → numbered left_world.instances i ≡ Some y → InstanceOk sc IsWhole left_world i y
+  instance_then : (i : ℕ) (y : Instance) → numbered left_world.instances i ≡ Some y → InstanceOk sc IsWholeInstance left_world i y
   instance_then i y e = by (leave_back w newer i y e)
     where
-      by : (x : Instance) × (numbered w.instances i ≡ Some x) × IsLeftAs newer i x y → InstanceOk sc IsWhole left_world i y
+      by : (x : Instance) × (numbered w.instances i ≡ Some x) × IsLeftAs newer i x y → InstanceOk sc IsWholeInstance left_world i y
       by m = instance_kept sc w left_world ok after paths blocks whole i m.0 y m.1 m.2.block m.2.parent m.2.cells (stands_then m.2.left, stood_then m.2.left) (λ st. (stood i st).0)
         where
-          old : InstanceOk sc IsWhole w i m.0
+          old : InstanceOk sc IsWholeInstance w i m.0
           old = ok.instances i m.0 m.1
 
-          stands_then : (IsIn newer i × (y.left ≡ true)) ⊎ ((IsIn newer i → ⊥) × (y.left ≡ (m.0).left)) → y.left ≡ false → IsStanding left_world i
+          stands_then : (IsInSkeleton newer i × (y.left ≡ true)) ⊎ ((IsInSkeleton newer i → ⊥) × (y.left ≡ (m.0).left)) → y.left ≡ false → IsStanding left_world i
           stands_then (◌⊎◌.inl f) g = both_false y.left f.1 g
           stands_then (◌⊎◌.inr f) g = stands_on i (old.left.0 (sym f.1 ∙ g)) f.0
 
-          stood_then : (IsIn newer i × (y.left ≡ true)) ⊎ ((IsIn newer i → ⊥) × (y.left ≡ (m.0).left)) → IsStanding left_world i → y.left ≡ false
+          stood_then : (IsInSkeleton newer i × (y.left ≡ true)) ⊎ ((IsInSkeleton newer i → ⊥) × (y.left ≡ (m.0).left)) → IsStanding left_world i → y.left ≡ false
           stood_then (◌⊎◌.inl f) st = absurd ((stood i st).1 f.0)
           stood_then (◌⊎◌.inr f) st = f.1 ∙ old.left.1 (stood i st).0
 
   cells_same : (r : Reference) → cell_at left_world r ≡ cell_at w r
   cells_same r = leave_same (λ (x : Instance). cell_in x.cells r.name) (λ x. refl) w newer r.instance
 
-  pub left_ok : IsSound sc IsWhole left_world
+  pub left_ok : IsSound sc IsWholeInstance left_world
   left_ok =
       record {
         skeleton_ok = after;

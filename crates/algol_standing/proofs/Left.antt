@@ -4,8 +4,8 @@ use Rattle.b67_list.specs.Numbered.{numbered}
 use Rattle.algol_tree.specs.Scopes.{Scopes}
 use Rattle.algol_meaning.specs.Value.{Reference}
 use Rattle.algol_meaning.specs.World.{Instance, instance_at, Process, lives, World}
-use Rattle.algol_standing.specs.Skeleton.{Evaluation, IsEvaluated, IsIn}
-use Rattle.algol_standing.specs.Worlds.{parent_in, referred_in_cells, home_of, newest_own, held_by, stack_of, skeleton, IsStanding, IsWhole, IsSound}
+use Rattle.algol_standing.specs.Skeleton.{Evaluation, IsEvaluated, IsInSkeleton}
+use Rattle.algol_standing.specs.Worlds.{parent_in, referred_in_cells, home_of, newest_own, held_by, stack_of, skeleton, IsStanding, IsWholeInstance, IsSound}
 use Rattle.algol_standing.specs.Laws.{WhatIsReferredToStands, ReferencesLieOnPaths}
 use Rattle.algol_standing.proofs.Lists.{none_some}
 use Rattle.algol_standing.proofs.Standing.{stands_path}
@@ -17,12 +17,12 @@ module _ (sc : Scopes) (Whole : World → ℕ → Type 0) (w : World) (ok : IsSo
   in_use : (i : ℕ) → IsStanding w i → (instance_at w i).left ≡ false
   in_use i st = let x = there sc Whole w ok i st in ap (λ (y : Instance). y.left) (instance_is sc Whole w ok i x.0 x.1) ∙ (ok.instances i x.0 x.1).left.1 st
 
-  refers : (i r : ℕ) (x : Instance) → numbered w.instances i ≡ Some x → x.left ≡ false → IsIn (home_of x).refs r → (instance_at w r).left ≡ false
+  refers : (i r : ℕ) (x : Instance) → numbered w.instances i ≡ Some x → x.left ≡ false → IsInSkeleton (home_of x).refs r → (instance_at w r).left ≡ false
   refers i r x e f n =
       let st = (ok.instances i x e).left.0 f in
       in_use r (stands_path (skeleton w) ok.skeleton_ok i r st (ok.skeleton_ok.refers i (home_of x) r st (home_forth w i x e) n))
 
-  is_parent : (j : ℕ) (is : List ℕ) → 1 ≤ j → IsIn (parent_in j ++ is) j
+  is_parent : (j : ℕ) (is : List ℕ) → 1 ≤ j → IsInSkeleton (parent_in j ++ is) j
   is_parent zero is h = absurd (omega (arith, h))
   is_parent (suc j) is h = ◌⊎◌.inl refl
 
@@ -39,11 +39,11 @@ module _ (sc : Scopes) (Whole : World → ℕ → Type 0) (w : World) (ok : IsSo
 pub what_is_referred_to_stands : WhatIsReferredToStands
 what_is_referred_to_stands sc w ok =
     record {
-      parents = λ i x e f h. refers sc IsWhole w ok.sound i x.parent x e f (is_parent sc IsWhole w ok.sound x.parent (referred_in_cells x.cells) h);
-      cells = λ i r x e f n. refers sc IsWhole w ok.sound i r x e f (in_back (parent_in x.parent) (referred_in_cells x.cells) r n);
-      criticals = λ p c q e live f. in_use sc IsWhole w ok.sound c (critical sc IsWhole w ok.sound p c q e live f);
-      tasks = λ p q r e live f. in_use sc IsWhole w ok.sound r.instance (task sc IsWhole w ok.sound p q r e live f);
-      parts = λ p q x i e n m. in_use sc IsWhole w ok.sound i (part_stands_in w ok.sound.skeleton_ok p q x i e n m);
+      parents = λ i x e f h. refers sc IsWholeInstance w ok.sound i x.parent x e f (is_parent sc IsWholeInstance w ok.sound x.parent (referred_in_cells x.cells) h);
+      cells = λ i r x e f n. refers sc IsWholeInstance w ok.sound i r x e f (in_back (parent_in x.parent) (referred_in_cells x.cells) r n);
+      criticals = λ p c q e live f. in_use sc IsWholeInstance w ok.sound c (critical sc IsWholeInstance w ok.sound p c q e live f);
+      tasks = λ p q r e live f. in_use sc IsWholeInstance w ok.sound r.instance (task sc IsWholeInstance w ok.sound p q r e live f);
+      parts = λ p q x i e n m. in_use sc IsWholeInstance w ok.sound i (part_stands_in w ok.sound.skeleton_ok p q x i e n m);
     }
 
 pub references_lie_on_paths : ReferencesLieOnPaths

@@ -6,9 +6,9 @@ use Rattle.b67_deeds.specs.Events.{EventState}
 use Rattle.b67_deeds.specs.Deeds.{after_change}
 use Rattle.b67_deeds.specs.Listed.{IsListed, AreOnce}
 use Rattle.algol_meaning.specs.World.{or_no_instance, cell_in, cell_at, Process, State, able, procures, or_no_process, process_at, lives, with_process, set_able, set_all_able, event_in, World}
-use Rattle.algol_meaning.specs.Events.{event_at, change_event, is_among, list_in, all_withdrawn}
+use Rattle.algol_meaning.specs.Events.{event_at, change_event, reference_is_among, list_in, all_withdrawn}
 use Rattle.algol_laws.proofs.Releasing.{changed_processes, able_instances, all_withdrawn_state}
-use Rattle.algol_standing.specs.Worlds.{Awaits, AreListed}
+use Rattle.algol_standing.specs.Worlds.{Awaits, WaitersAreListed}
 use Rattle.algol_standing.proofs.Awaiting.{awaits_able, awaits_procures, awaits_lives, awaits_two}
 use Rattle.algol_standing.proofs.Pairs.{AllPairs, numbered_forth, pairs_then_set, set_or}
 use Rattle.algol_standing.proofs.Unmoved.{Unmoved, unmoved_able}
@@ -51,10 +51,10 @@ pub procures_able : (r : Reference) → procures r ≡ able → ⊥
 procures_able r e = cc
 
 -- the event of a cell, if it holds one; any other has nobody listed
-pub now_listed : (w : World) (r : Reference) → ((e : EventState) → cell_at w r ≡ event e → AreListed w r e) → AreListed w r (event_at w r)
+pub now_listed : (w : World) (r : Reference) → ((e : EventState) → cell_at w r ≡ event e → WaitersAreListed w r e) → WaitersAreListed w r (event_at w r)
 now_listed w r f = by (cell_at w r) refl
   where
-    by : (c : Cell) → cell_at w r ≡ c → AreListed w r (event_in c)
+    by : (c : Cell) → cell_at w r ≡ c → WaitersAreListed w r (event_in c)
     by (event e) g = f e g
     by (simple v) g = record { waiters = λ k n. absurd n; procurers = λ k n. absurd n; once = tt; once_waiting = tt }
     by (array a) g = record { waiters = λ k n. absurd n; procurers = λ k n. absurd n; once = tt; once_waiting = tt }
@@ -129,15 +129,15 @@ module _ (w : World) (p : ℕ) (q after : Process) (is : numbered w.processes p 
   abbrev leaves : Reference → ℕ → Bool
   leaves s k = has_in_list (change_event w r c) s k
 
-  leaves_so : (s : Reference) (k : ℕ) → is_among (list_in (process_at w k).state) s ≡ true → leaves s k ≡ true
-  leaves_so s k e = ap (λ qs. is_among (list_in (or_no_process (numbered qs k)).state) s) (changed_processes w r c) ∙ e
+  leaves_so : (s : Reference) (k : ℕ) → reference_is_among (list_in (process_at w k).state) s ≡ true → leaves s k ≡ true
+  leaves_so s k e = ap (λ qs. reference_is_among (list_in (or_no_process (numbered qs k)).state) s) (changed_processes w r c) ∙ e
 
   event_then : (s : Reference) → event_at happened s ≡ thinned (leaves s) ws (event_at (change_event w r c) s)
   event_then s =
       ap (λ xs. event_in (cell_in ((or_no_instance (numbered xs s.instance)).cells) s.name)) (able_instances thin ps) ∙ withdrawn_event (change_event w r c) r s ws
 
   -- another event's list
-  elsewhere : (s : Reference) → (r ≡ s → ⊥) → AreListed w s (event_at w s) → AreListed happened s (thinned (leaves s) ws (event_at w s))
+  elsewhere : (s : Reference) → (r ≡ s → ⊥) → WaitersAreListed w s (event_at w s) → WaitersAreListed happened s (thinned (leaves s) ws (event_at w s))
   elsewhere s other l =
       record {
         waiters = λ k n.
@@ -159,23 +159,23 @@ module _ (w : World) (p : ℕ) (q after : Process) (is : numbered w.processes p 
       procuring k f (◌⊎◌.inl n) = awaits_procures ((process_at w k).state) r s n f
       procuring k f (◌⊎◌.inr g) = other (procures_same r s (sym g ∙ f))
 
-  pub listed_then : AreListed happened r (after_change c (event_at w r)) → (s : Reference) (d : EventState) →
-      ((e : EventState) → cell_at w s ≡ event e → AreListed w s e) → cell_at happened s ≡ event d → AreListed happened s d
-  listed_then here s d before f = subst (λ x. AreListed happened s x) (sym is_it) (by (references r s))
+  pub listed_then : WaitersAreListed happened r (after_change c (event_at w r)) → (s : Reference) (d : EventState) →
+      ((e : EventState) → cell_at w s ≡ event e → WaitersAreListed w s e) → cell_at happened s ≡ event d → WaitersAreListed happened s d
+  listed_then here s d before f = subst (λ x. WaitersAreListed happened s x) (sym is_it) (by (references r s))
     where
       is_it : d ≡ thinned (leaves s) ws (event_at (change_event w r c) s)
       is_it = ap (λ (x : Cell). event_in x) (sym f) ∙ event_then s
 
-      nobody : AreListed happened r (event_in (cell_in [] []))
+      nobody : WaitersAreListed happened r (event_in (cell_in [] []))
       nobody = record { waiters = λ k n. absurd n; procurers = λ k n. absurd n; once = tt; once_waiting = tt }
 
       at_r : (event_at (change_event w r c) r ≡ after_change c (event_at w r)) ⊎ (event_at (change_event w r c) r ≡ event_in (cell_in [] [])) →
-          AreListed happened r (thinned (leaves r) ws (event_at (change_event w r c) r))
-      at_r (◌⊎◌.inl g) = thinned_listed happened r (leaves r) ws (event_at (change_event w r c) r) (subst (λ x. AreListed happened r x) (sym g) here)
-      at_r (◌⊎◌.inr g) = thinned_listed happened r (leaves r) ws (event_at (change_event w r c) r) (subst (λ x. AreListed happened r x) (sym g) nobody)
+          WaitersAreListed happened r (thinned (leaves r) ws (event_at (change_event w r c) r))
+      at_r (◌⊎◌.inl g) = thinned_listed happened r (leaves r) ws (event_at (change_event w r c) r) (subst (λ x. WaitersAreListed happened r x) (sym g) here)
+      at_r (◌⊎◌.inr g) = thinned_listed happened r (leaves r) ws (event_at (change_event w r c) r) (subst (λ x. WaitersAreListed happened r x) (sym g) nobody)
 
-      by : (r ≡ s) ⊎ (r ≡ s → ⊥) → AreListed happened s (thinned (leaves s) ws (event_at (change_event w r c) s))
+      by : (r ≡ s) ⊎ (r ≡ s → ⊥) → WaitersAreListed happened s (thinned (leaves s) ws (event_at (change_event w r c) s))
       by (◌⊎◌.inl g) =
-          subst (λ t. AreListed happened t (thinned (leaves t) ws (event_at (change_event w r c) t))) g (at_r (changed_event w r c))
+          subst (λ t. WaitersAreListed happened t (thinned (leaves t) ws (event_at (change_event w r c) t))) g (at_r (changed_event w r c))
       by (◌⊎◌.inr g) =
-          subst (λ x. AreListed happened s (thinned (leaves s) ws x)) (sym (changed_apart w r s c g)) (elsewhere s g (now_listed w s before))
+          subst (λ x. WaitersAreListed happened s (thinned (leaves s) ws x)) (sym (changed_apart w r s c g)) (elsewhere s g (now_listed w s before))

@@ -13,28 +13,28 @@ use Rattle.algol_paths.specs.Blocks.{IsSeenAround}
 use Rattle.algol_paths.specs.Arrays.{all_to_make}
 use Rattle.algol_paths.proofs.Rests.{resumed_keeps}
 use Rattle.algol_paths.proofs.Making.{all_is_made_in_order}
-use Rattle.algol_standing.specs.Worlds.{held_in_rest, held_in_answer, IsAmong, IsNoBlock, GivesNoOwn, AreGiven, IsWhole, IsSound}
+use Rattle.algol_standing.specs.Worlds.{held_in_rest, held_in_answer, IsAmongParts, IsNoBlock, GivesNoOwn, PartsAreGiven, IsWholeInstance, IsSound}
 use Rattle.algol_standing.proofs.Holding.{AreAll, IsForeign, resumed_holds}
 use Rattle.algol_standing.proofs.Resumed.{answer_in, nothing_left, no_own}
 use Rattle.algol_standing.proofs.LowWorlds.{Low, plain_low, low_all, all_low, GoesLow, LowIf, TaskLow, PartsLow, same_low, process_low}
 use Rattle.algol_standing.proofs.LowNames.{Near}
 
-module _ (sc : Scopes) (w : World) (ok : IsSound sc IsWhole w) (p : ℕ) (q : Process) (part : Part) (outer : List Part) (is : numbered w.processes p ≡ Some q)
+module _ (sc : Scopes) (w : World) (ok : IsSound sc IsWholeInstance w) (p : ℕ) (q : Process) (part : Part) (outer : List Part) (is : numbered w.processes p ≡ Some q)
     (todo : q.todo ≡ part ∷ outer) (b i : ℕ) (X : Type 0) (h : Near sc b i X w part) where
-  in_all : (y : Part) → IsAmong (part ∷ outer) y → IsAmong q.todo y
-  in_all y n = subst (λ ps. IsAmong ps y) (sym todo) n
+  in_all : (y : Part) → IsAmongParts (part ∷ outer) y → IsAmongParts q.todo y
+  in_all y n = subst (λ ps. IsAmongParts ps y) (sym todo) n
 
-  pub old_part : (y : Part) → IsAmong (part ∷ outer) y → GoesLow sc b i X y
+  pub old_part : (y : Part) → IsAmongParts (part ∷ outer) y → GoesLow sc b i X y
   old_part y n = h.low.parts p q y is (in_all y n)
 
-  pub given : AreGiven (part ∷ outer)
-  given = subst (λ ps. AreGiven ps) todo (ok.processes p q is).gives
+  pub given : PartsAreGiven (part ∷ outer)
+  given = subst (λ ps. PartsAreGiven ps) todo (ok.processes p q is).gives
 
   pub task_low : TaskLow sc b i X q
   task_low r e = h.low.tasks p q r is e
 
   -- a part goes on with an answer
-  pub goes_on_low : (y : Part) → IsAmong (part ∷ outer) y → GivesNoOwn (is_evaluation y.purpose) y.rest → (a : Answer) → AreAll (Low sc b i X) (held_in_answer a) → IsForeign a →
+  pub goes_on_low : (y : Part) → IsAmongParts (part ∷ outer) y → GivesNoOwn (is_evaluation y.purpose) y.rest → (a : Answer) → AreAll (Low sc b i X) (held_in_answer a) → IsForeign a →
       GoesLow sc b i X (record y { rest = resume sc y.rest a })
   goes_on_low y n own a brings foreign =
       record {

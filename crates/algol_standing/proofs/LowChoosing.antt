@@ -14,7 +14,7 @@ use Rattle.b67_deeds.specs.Events.{fresh_state}
 use Rattle.b67_deeds.specs.Deeds as deeds
 use Rattle.b67_deeds.specs.Deeds.{EventDeed, Deed, Next, deed}
 use Rattle.algol_meaning.specs.Rest.{Place, own, there, element_of, Answer, done, value, cell, place}
-use Rattle.algol_meaning.specs.Settle.{block_of, settle_actual_place}
+use Rattle.algol_meaning.specs.Settle.{block_of_sort, settle_actual_place}
 use Rattle.algol_meaning.specs.World.{instance_at, cell_at, set_cell, add_cells, followed, value_in, array_in, name_place, Part, Process, State, waits_for, procures, waits_any, with_process, World}
 use Rattle.algol_meaning.specs.Arrays.{subscript_place, element_at, with_element, new_arrays, has_wrong_size, has_no_room, bounds_of}
 use Rattle.algol_meaning.specs.Events.{event_at, joined_all, first_happened, released}
@@ -22,10 +22,10 @@ use Rattle.algol_meaning.specs.Lines.{line_of}
 use Rattle.b67_deeds.specs.declared.Letter.TheVariants as actions
 use Rattle.algol_meaning.specs.Asks as asks
 use Rattle.algol_meaning.specs.Asks.{Ask, ask, resume, located_of}
-use Rattle.algol_meaning.specs.Choice.{Choice, choice_of, is_subscripted, nth_exists, goes, opens, fails, home, here, read_of, resolved_of, indexed_at, element_read_at, stored, made_arrays, given_cells, task_of, starts, told, did, does_with_first, all_followed, waits_for_any, wakes_or_waits, does_with}
-use Rattle.algol_paths.specs.Blocks.{IsSeen, IsSeenAround, IsInner}
-use Rattle.algol_calls.specs.Fits.{wanted, AskFits}
-use Rattle.algol_standing.specs.Worlds.{held_in_rest, held_in_answer, IsNoBlock, IsWhole, IsSound}
+use Rattle.algol_meaning.specs.Choice.{Choice, choice_of, is_subscripted, nth_exists, goes, opens, fails, home, here, read_of, resolved_of, indexed_at, element_read_at, stored, made_arrays, given_cells, task_of, starts, told_answer, did, does_with_first, all_followed, waits_for_any, wakes_or_waits, does_with}
+use Rattle.algol_paths.specs.Blocks.{BlockIsSeen, IsSeenAround, IsInner}
+use Rattle.algol_calls.specs.Fits.{sorts_wanted, AskFits}
+use Rattle.algol_standing.specs.Worlds.{held_in_rest, held_in_answer, IsNoBlock, IsWholeInstance, IsSound}
 use Rattle.algol_standing.specs.Fitting.{WorldFits}
 use Rattle.algol_standing.specs.Lows.{LeadsLow, CellsLow}
 use Rattle.algol_calls.specs.Texts.{KeepToTexts}
@@ -39,7 +39,7 @@ use Rattle.algol_standing.proofs.LowActing.{old_part, task_low, goes_low, woken_
 use Rattle.algol_standing.proofs.LowEntering.{told_of, procedure_low, start_low, block_low, read_low, place_low}
 use Rattle.algol_standing.proofs.LowLeaving.{deed_low, leaves_low, jump_low}
 
-module _ (sc : Scopes) (texts : KeepToTexts sc) (w : World) (ok : IsSound sc IsWhole w) (fits : WorldFits sc w) (p : ℕ) (q : Process) (part : Part) (outer : List Part)
+module _ (sc : Scopes) (texts : KeepToTexts sc) (w : World) (ok : IsSound sc IsWholeInstance w) (fits : WorldFits sc w) (p : ℕ) (q : Process) (part : Part) (outer : List Part)
     (is : numbered w.processes p ≡ Some q) (todo : q.todo ≡ part ∷ outer) (b i : ℕ) (X : Type 0) (h : Near sc b i X w part) where
   abbrev Keeps : Choice → Type 0
   Keeps = KeepsLow sc w ok p q part outer is todo b i X h
@@ -63,10 +63,10 @@ module _ (sc : Scopes) (texts : KeepToTexts sc) (w : World) (ok : IsSound sc IsW
     wanted_of : AskFits sc x
     wanted_of = asked sc w ok fits p q part outer is todo x e
 
-    seen_of : Sees (IsSeen sc j) (IsInner sc j) x
+    seen_of : Sees (BlockIsSeen sc j) (IsInner sc j) x
     seen_of =
-        subst (λ y. Sees (IsSeen sc j) (IsInner sc j) y) e
-        (rest_sees (IsSeen sc j) (IsInner sc j) (IsSeenAround sc j) (λ n s. s.0) part.rest (part_ok sc IsWhole w ok p q part outer is todo).text)
+        subst (λ y. Sees (BlockIsSeen sc j) (IsInner sc j) y) e
+        (rest_sees (BlockIsSeen sc j) (IsInner sc j) (IsSeenAround sc j) (λ n s. s.0) part.rest (part_ok sc IsWholeInstance w ok p q part outer is todo).text)
 
     near_of : X → part.instance ≡ i → Sees (IsSeenAround sc b) IsNoBlock x
     near_of t f = subst (λ y. Sees (IsSeenAround sc b) IsNoBlock y) e (h.near t f)
@@ -125,11 +125,11 @@ module _ (sc : Scopes) (texts : KeepToTexts sc) (w : World) (ok : IsSound sc IsW
   stored_kept (there r) v = set_kept r (simple v) (λ t. tt)
   stored_kept (element_of r ks) v = set_kept r (array (with_element (array_in (cell_at w r)) ks v)) (λ t. tt)
 
-  told_low : (o : Option Bool) → AreAll LowHere (held_in_answer (told sc w p q part outer o))
+  told_low : (o : Option Bool) → AreAll LowHere (held_in_answer (told_answer sc w p q part outer o))
   told_low None = tt
   told_low (Some b) = tt
 
-  told_foreign : (o : Option Bool) → IsForeign (told sc w p q part outer o)
+  told_foreign : (o : Option Bool) → IsForeign (told_answer sc w p q part outer o)
   told_foreign None = tt
   told_foreign (Some b) = tt
 
@@ -141,7 +141,7 @@ module _ (sc : Scopes) (texts : KeepToTexts sc) (w : World) (ok : IsSound sc IsW
 
       by : (m : Next) → Keeps (did sc w p q part outer x r d m)
       by deeds.goes =
-          goes_low sc w ok p q part outer is todo b i X h (told sc w p q part outer d.answer) (told_low d.answer) (told_foreign d.answer) (released w r d).world low q.state
+          goes_low sc w ok p q part outer is todo b i X h (told_answer sc w p q part outer d.answer) (told_low d.answer) (told_foreign d.answer) (released w r d).world low q.state
       by deeds.waits = goes_in (released w r d).world low (waits_for r)
       by deeds.procures = goes_in (released w r d).world low (procures r)
 
@@ -197,7 +197,7 @@ module _ (sc : Scopes) (texts : KeepToTexts sc) (w : World) (ok : IsSound sc IsW
   choice_low (asks.fails f) e = fails_or (fault_of f)
   choice_low (asks.enters n gs) e =
       let f = wanted_of (asks.enters n gs) e in
-      procedure_low sc w ok p q part outer is todo b i X h n gs f.0 (seen_of (asks.enters n gs) e) (near_of (asks.enters n gs) e) (told_of sc (λ after. after ≡ []) gs (wanted sc n) f.1)
+      procedure_low sc w ok p q part outer is todo b i X h n gs f.0 (seen_of (asks.enters n gs) e) (near_of (asks.enters n gs) e) (told_of sc (λ after. after ≡ []) gs (sorts_wanted sc n) f.1)
       (held_of (asks.enters n gs) e)
   choice_low (asks.passes n) e = stays (cell (cell_at w (at_name n))) (cell_here_low sc w ok p q part outer is todo b i X h n (seen_of (asks.passes n) e), tt) tt
   choice_low (asks.resolves n) e =
@@ -216,10 +216,10 @@ module _ (sc : Scopes) (texts : KeepToTexts sc) (w : World) (ok : IsSound sc IsW
       let f = wanted_of (asks.starts n gs task) e in
       let s = seen_of (asks.starts n gs task) e in
       one_of (nat_lt MOST_STARTED (length w.processes)) (fails sc w p q part outer fault.ProcessLimit)
-      (starts sc w p q part outer (block_of ((use_of sc n).sort)) (home sc w p q part outer n) (given_cells sc w p q part outer gs) (task_of sc w p q part outer task))
+      (starts sc w p q part outer (block_of_sort ((use_of sc n).sort)) (home sc w p q part outer n) (given_cells sc w p q part outer gs) (task_of sc w p q part outer task))
       (fails_or fault.ProcessLimit)
       (start_low sc w ok p q part outer is todo b i X h n gs f.0 (s.0, s.1) (λ t g. let m = near_of (asks.starts n gs task) e t g in (m.0, m.1))
-      (told_of sc (λ after. after ≡ []) gs (wanted sc n) f.1) (held_of (asks.starts n gs task) e) task f.2 s.2 (λ t g. (near_of (asks.starts n gs task) e t g).2))
+      (told_of sc (λ after. after ≡ []) gs (sorts_wanted sc n) f.1) (held_of (asks.starts n gs task) e) task f.2 s.2 (λ t g. (near_of (asks.starts n gs task) e t g).2))
   choice_low (asks.event_deed x ns) e = does_kept x ns
   choice_low (asks.writes phrases vs) e =
       goes_in (record w { output = w.output ++ line_of phrases vs ∷ [] }) (same_low sc b i X w (record w { output = w.output ++ line_of phrases vs ∷ [] }) refl refl h.low) q.state

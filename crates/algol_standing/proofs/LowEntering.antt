@@ -8,7 +8,7 @@ use Rattle.algol_tree.specs.Sorts.{Sort, is_variable, is_formal}
 use Rattle.algol_tree.specs.Scopes.{Scopes, use_of}
 use Rattle.algol_meaning.specs.Value.{Reference, NameCell, Cell, named}
 use Rattle.algol_meaning.specs.Rest.{Given, valued, passed, refers, names, done}
-use Rattle.algol_meaning.specs.Settle.{block_of, settle, settle_actual_place}
+use Rattle.algol_meaning.specs.Settle.{block_of_sort, settle, settle_actual_place}
 use Rattle.algol_meaning.specs.Statements.{items_of, settle_items}
 use Rattle.algol_meaning.specs.World as begins
 use Rattle.algol_meaning.specs.World.{Purpose, block, procedure, name_read, name_place, Instance, instance_at, Part, Process, able, World}
@@ -16,11 +16,11 @@ use Rattle.algol_meaning.specs.Critical.{is_evaluation, newest_first, first_on_p
 use Rattle.algol_meaning.specs.Instances.{fresh_cells}
 use Rattle.algol_meaning.specs.Asks.{located_of, evaluated_of}
 use Rattle.algol_meaning.specs.Choice.{is_subscripted, opens, home, here, given_cells, next_process, with_new_instance, new_part, entered_procedure, entered_block, task_of, with_started, starts}
-use Rattle.algol_paths.specs.Blocks.{IsSeen, IsSeenAround}
+use Rattle.algol_paths.specs.Blocks.{BlockIsSeen, IsSeenAround}
 use Rattle.algol_paths.specs.Texts.{InName, InGivens}
 use Rattle.algol_paths.proofs.Expressions.{settle_in}
-use Rattle.algol_calls.specs.Fits.{IsTold, IsCallee, GivenThen, TaskFits}
-use Rattle.algol_standing.specs.Worlds.{held_in_rest, held_in_givens, IsNoBlock, IsWhole, IsSound}
+use Rattle.algol_calls.specs.Fits.{NameIsTold, IsCallee, GivenThen, TaskFits}
+use Rattle.algol_standing.specs.Worlds.{held_in_rest, held_in_givens, IsNoBlock, IsWholeInstance, IsSound}
 use Rattle.algol_standing.specs.Lows.{LeadsLow, InstanceLow}
 use Rattle.algol_standing.proofs.Lists.{none_some, false_true}
 use Rattle.algol_standing.proofs.Holding.{AreAll, settle_holds, evaluated_holds, items_hold}
@@ -33,7 +33,7 @@ use Rattle.algol_standing.proofs.LowActing.{goes_low, opens_low}
 
 abbrev pub AreTold : Scopes → List Given → Type 0
 AreTold sc [] = Unit {0}
-AreTold sc (refers n ∷ gs) = IsTold sc n × AreTold sc gs
+AreTold sc (refers n ∷ gs) = NameIsTold sc n × AreTold sc gs
 AreTold sc (_ ∷ gs) = AreTold sc gs
 
 pub told_of : (sc : Scopes) (F : List Sort → Type 0) (gs : List Given) (all : List Sort) → GivenThen sc F gs all → AreTold sc gs
@@ -44,13 +44,13 @@ told_of sc F (passed c ∷ gs) (s ∷ all) f = told_of sc F gs all f.1
 told_of sc F (refers n ∷ gs) (s ∷ all) f = ((f.0).0.told, told_of sc F gs all f.1)
 told_of sc F (names e ∷ gs) (s ∷ all) f = told_of sc F gs all f.1
 
-task_told : (sc : Scopes) (t : Named) → TaskFits sc (Some t) → IsTold sc t
+task_told : (sc : Scopes) (t : Named) → TaskFits sc (Some t) → NameIsTold sc t
 task_told sc t f = f.told
 
-module _ (sc : Scopes) (w : World) (ok : IsSound sc IsWhole w) (p : ℕ) (q : Process) (part : Part) (outer : List Part) (is : numbered w.processes p ≡ Some q)
+module _ (sc : Scopes) (w : World) (ok : IsSound sc IsWholeInstance w) (p : ℕ) (q : Process) (part : Part) (outer : List Part) (is : numbered w.processes p ≡ Some q)
     (todo : q.todo ≡ part ∷ outer) (b i : ℕ) (X : Type 0) (h : Near sc b i X w part) where
   abbrev Seen : Named → Type 0
-  Seen = IsSeen sc ((instance_at w part.instance).block)
+  Seen = BlockIsSeen sc ((instance_at w part.instance).block)
 
   abbrev AroundHere : Named → Type 0
   AroundHere = Around sc w ok p q part outer is todo b i X h
@@ -112,7 +112,7 @@ module _ (sc : Scopes) (w : World) (ok : IsSound sc IsWhole w) (p : ℕ) (q : Pr
   module _ (n : Named) (gs : List Given) (callee : IsCallee sc n) (seen : Seen n × InGivens Seen gs) (narrow : X → part.instance ≡ i → IsSeenAround sc b n × InGivens (IsSeenAround sc b) gs)
       (told : AreTold sc gs) (held : AreAll (Low sc b i X) (held_in_givens gs)) where
     abbrev j : ℕ
-    j = block_of ((use_of sc n).sort)
+    j = block_of_sort ((use_of sc n).sort)
 
     abbrev cells : List Cell
     cells = given_cells sc w p q part outer gs

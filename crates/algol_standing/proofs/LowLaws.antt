@@ -10,10 +10,10 @@ use Rattle.algol_meaning.specs.Asks.{ask}
 use Rattle.algol_meaning.specs.Choice.{choice, choice_in}
 use Rattle.algol_meaning.specs.Run.{may_go}
 use Rattle.algol_laws.proofs.Choices.{each_keeps}
-use Rattle.algol_paths.specs.Blocks.{IsSeen, IsSeenAround, IsInner}
+use Rattle.algol_paths.specs.Blocks.{BlockIsSeen, IsSeenAround, IsInner}
 use Rattle.algol_paths.specs.Arrays.{all_to_make}
-use Rattle.algol_standing.specs.Skeleton.{IsIn, Owned}
-use Rattle.algol_standing.specs.Worlds.{parent_in, referred_in_cells, home_of, held_in_rest, stack_of, skeleton, IsStanding, IsAmong, IsNoBlock, HasHead, IsWhole, IsSound}
+use Rattle.algol_standing.specs.Skeleton.{IsInSkeleton, Owned}
+use Rattle.algol_standing.specs.Worlds.{parent_in, referred_in_cells, home_of, held_in_rest, stack_of, skeleton, IsStanding, IsAmongParts, IsNoBlock, HasHead, IsWholeInstance, IsSound}
 use Rattle.algol_standing.specs.Fitting.{WorldFits}
 use Rattle.algol_standing.specs.Lows.{CellLow, AllLow, CellsLow, WorldLow, IsLow, IsMaking}
 use Rattle.algol_standing.specs.Laws.{OthersKeepLow, MakingIsLow}
@@ -35,21 +35,21 @@ use Rattle.algol_standing.proofs.LowChoosing.{choice_low}
 -- ---- what refers to nothing of an instance
 
 module _ (sc : Scopes) (b i : ℕ) where
-  apart_low : (c : Cell) → (IsIn (referred_in c) i → ⊥) → CellLow sc b i c
+  apart_low : (c : Cell) → (IsInSkeleton (referred_in c) i → ⊥) → CellLow sc b i c
   apart_low (simple v) f = tt
   apart_low (event e) f = tt
   apart_low (array a) f = tt
   apart_low (named n) f = λ e. absurd (f (◌⊎◌.inl e))
   apart_low (reference r) f = λ e. absurd (f (◌⊎◌.inl e))
 
-  cells_apart : (cells : List NamedCell) → (IsIn (referred_in_cells cells) i → ⊥) → CellsLow sc b i cells
+  cells_apart : (cells : List NamedCell) → (IsInSkeleton (referred_in_cells cells) i → ⊥) → CellsLow sc b i cells
   cells_apart [] f = tt
   cells_apart (c ∷ cells) f = (
     apart_low c.cell (λ n. f (in_front (referred_in c.cell) (referred_in_cells cells) i n)),
     cells_apart cells (λ n. f (in_back (referred_in c.cell) (referred_in_cells cells) i n)),
   )
 
-  all_apart : (cells : List Cell) → (IsIn (referred_by cells) i → ⊥) → AllLow sc b i cells
+  all_apart : (cells : List Cell) → (IsInSkeleton (referred_by cells) i → ⊥) → AllLow sc b i cells
   all_apart [] f = tt
   all_apart (c ∷ cells) f =
       (apart_low c (λ n. f (in_front (referred_in c) (referred_by cells) i n)), all_apart cells (λ n. f (in_back (referred_in c) (referred_by cells) i n)))
@@ -58,7 +58,7 @@ module _ (sc : Scopes) (b i : ℕ) where
   low_is X v l t =
       record { instances = λ j x e s. l.instances j x e s t; parts = λ k q y e n. (l.parts k q y e n).low t; tasks = λ k q r e f. l.tasks k q r e f t }
 
-module _ (sc : Scopes) (texts : KeepToTexts sc) (w : World) (ok : IsSound sc IsWhole w) (fits : WorldFits sc w) (p : ℕ) (goes : may_go w p ≡ true) where
+module _ (sc : Scopes) (texts : KeepToTexts sc) (w : World) (ok : IsSound sc IsWholeInstance w) (fits : WorldFits sc w) (p : ℕ) (goes : may_go w p ≡ true) where
   abbrev q : Process
   q = process_at w p
 
@@ -102,11 +102,11 @@ module _ (sc : Scopes) (texts : KeepToTexts sc) (w : World) (ok : IsSound sc IsW
     evaluates_near low e f =
         let b = (instance_at w i).block in
         rest_sees (IsSeenAround sc b) IsNoBlock (IsSeenAround sc b) (λ n s. s) part.rest
-        ((low.parts p q part is (subst (λ ps. IsAmong ps part) (sym head.is) (◌⊎◌.inl refl))).narrow e f)
+        ((low.parts p q part is (subst (λ ps. IsAmongParts ps part) (sym head.is) (◌⊎◌.inl refl))).narrow e f)
 
     -- .. or where it is i's own
-    owns_in : is_evaluation part.purpose ≡ false → part.instance ≡ i → IsIn (own_instances q.todo) i
-    owns_in o f = subst (λ k. IsIn (own_instances q.todo) k) f (own_among q.todo part (subst (λ ps. IsAmong ps part) (sym head.is) (◌⊎◌.inl refl)) o)
+    owns_in : is_evaluation part.purpose ≡ false → part.instance ≡ i → IsInSkeleton (own_instances q.todo) i
+    owns_in o f = subst (λ k. IsInSkeleton (own_instances q.todo) k) f (own_among q.todo part (subst (λ ps. IsAmongParts ps part) (sym head.is) (◌⊎◌.inl refl)) o)
 
     owner : is_evaluation part.purpose ≡ false → part.instance ≡ i → (instance_at w i).process ≡ p
     owner o f = home_process sc w ok i (record { number = p; stack = stack_of q; is = stack_forth w p q is; inside = owns_in o f })
@@ -140,7 +140,7 @@ module _ (sc : Scopes) (texts : KeepToTexts sc) (w : World) (ok : IsSound sc IsW
     module _ (before : IsMaking w i → IsLow sc w i) where
       -- its own part is the one that has
       only_part : is_evaluation part.purpose ≡ false → part.instance ≡ i → IsMaking w i → all_to_make part.rest ≡ [] → ⊥
-      only_part o f m made = in_it (subst (λ ps. IsAmong ps m.part) head.is (subst (λ (z : Process). IsAmong z.todo m.part) same m.among))
+      only_part o f m made = in_it (subst (λ ps. IsAmongParts ps m.part) head.is (subst (λ (z : Process). IsAmongParts z.todo m.part) same m.among))
         where
           stands : IsStanding w i
           stands =
@@ -148,7 +148,7 @@ module _ (sc : Scopes) (texts : KeepToTexts sc) (w : World) (ok : IsSound sc IsW
                 number = m.number;
                 stack = stack_of m.process;
                 is = stack_forth w m.number m.process m.is;
-                inside = subst (λ k. IsIn (own_instances m.process.todo) k) m.instance_is (own_among m.process.todo m.part m.among m.owns);
+                inside = subst (λ k. IsInSkeleton (own_instances m.process.todo) k) m.instance_is (own_among m.process.todo m.part m.among m.owns);
               }
 
           number_is : m.number ≡ p
@@ -163,7 +163,7 @@ module _ (sc : Scopes) (texts : KeepToTexts sc) (w : World) (ok : IsSound sc IsW
           first : own_instances (part ∷ outer) ≡ part.instance ∷ own_instances outer
           first = ap (λ t. if t then own_instances outer else part.instance ∷ own_instances outer) o
 
-          in_it : IsAmong (part ∷ outer) m.part → ⊥
+          in_it : IsAmongParts (part ∷ outer) m.part → ⊥
           in_it (◌⊎◌.inl g) = m.makes (subst (λ (z : Part). all_to_make z.rest ≡ []) g made)
           in_it (◌⊎◌.inr n) =
               let older = (subst (λ xs. Owned (skeleton w).homes p xs) first ordered).3 m.part.instance (own_among outer m.part n m.owns) in
@@ -198,7 +198,7 @@ module _ (sc : Scopes) (texts : KeepToTexts sc) (w : World) (ok : IsSound sc IsW
           by t f true e = evaluates_near (before t) e f
           by t f false e =
               let j = (instance_at w part.instance).block in
-              owns_near t f e (bound_sees (IsSeen sc j) (IsInner sc j) (IsSeenAround sc j) part.rest (part_ok sc IsWhole w ok p q part outer is head.is).text)
+              owns_near t f e (bound_sees (BlockIsSeen sc j) (IsInner sc j) (IsSeenAround sc j) part.rest (part_ok sc IsWholeInstance w ok p q part outer is head.is).text)
 
       making_after : LowIf sc ((instance_at w i).block) i (IsMaking w i) v
       making_after = choice_keeps_low ((instance_at w i).block) i (IsMaking w i) near_making
@@ -214,18 +214,18 @@ module _ (sc : Scopes) (texts : KeepToTexts sc) (w : World) (ok : IsSound sc IsW
 
   module _ (i : ℕ) (some : 1 ≤ i) (none_at : numbered w.instances i ≡ None) where
     not_there : IsStanding w i → ⊥
-    not_there st = let x = there sc IsWhole w ok i st in none_some (sym none_at ∙ x.1)
+    not_there st = let x = there sc IsWholeInstance w ok i st in none_some (sym none_at ∙ x.1)
 
-    not_referred : (j : ℕ) (x : Instance) → numbered w.instances j ≡ Some x → x.left ≡ false → IsIn (home_of x).refs i → ⊥
+    not_referred : (j : ℕ) (x : Instance) → numbered w.instances j ≡ Some x → x.left ≡ false → IsInSkeleton (home_of x).refs i → ⊥
     not_referred j x e s n =
         let st = (ok.instances j x e).left.0 s in
         not_there (stands_path (skeleton w) ok.skeleton_ok j i st (ok.skeleton_ok.refers j (home_of x) i st (home_forth w j x e) n))
 
     no_parent : (j : ℕ) (x : Instance) → numbered w.instances j ≡ Some x → x.left ≡ false → x.parent ≡ i → ⊥
     no_parent j x e s f =
-        not_referred j x e s (subst (λ k. IsIn (parent_in x.parent ++ referred_in_cells x.cells) k) f (parent_among sc IsWhole w ok x.parent (referred_in_cells x.cells) (subst (λ k. 1 ≤ k) (sym f) some)))
+        not_referred j x e s (subst (λ k. IsInSkeleton (parent_in x.parent ++ referred_in_cells x.cells) k) f (parent_among sc IsWholeInstance w ok x.parent (referred_in_cells x.cells) (subst (λ k. 1 ≤ k) (sym f) some)))
 
-    not_held : (k : ℕ) (z : Process) (y : Part) → numbered w.processes k ≡ Some z → IsAmong z.todo y → IsIn (y.instance ∷ referred_by (held_in_rest y.rest)) i → ⊥
+    not_held : (k : ℕ) (z : Process) (y : Part) → numbered w.processes k ≡ Some z → IsAmongParts z.todo y → IsInSkeleton (y.instance ∷ referred_by (held_in_rest y.rest)) i → ⊥
     not_held k z y e n m = not_there (part_stands_in w ok.skeleton_ok k z y i e n m)
 
     no_task : (k : ℕ) (z : Process) (r : Reference) → numbered w.processes k ≡ Some z → z.task ≡ Some r → r.instance ≡ i → ⊥
@@ -254,7 +254,7 @@ module _ (sc : Scopes) (texts : KeepToTexts sc) (w : World) (ok : IsSound sc IsW
                     };
                 tasks = λ k z r e f t. λ g. absurd (no_task k z r e f g);
               };
-          near = λ t f. absurd (not_held p q part is (subst (λ ps. IsAmong ps part) (sym head.is) (◌⊎◌.inl refl)) (◌⊎◌.inl f));
+          near = λ t f. absurd (not_held p q part is (subst (λ ps. IsAmongParts ps part) (sym head.is) (◌⊎◌.inl refl)) (◌⊎◌.inl f));
           fresh = λ e. tt;
         }
 
@@ -269,14 +269,14 @@ module _ (sc : Scopes) (texts : KeepToTexts sc) (w : World) (ok : IsSound sc IsW
         number = m.number;
         stack = stack_of m.process;
         is = stack_forth u m.number m.process m.is;
-        inside = subst (λ k. IsIn (own_instances m.process.todo) k) m.instance_is (own_among m.process.todo m.part m.among m.owns);
+        inside = subst (λ k. IsInSkeleton (own_instances m.process.todo) k) m.instance_is (own_among m.process.todo m.part m.among m.owns);
       }
 
-  pub each_making_low : IsSound sc IsWhole v → ((i : ℕ) → IsMaking w i → IsLow sc w i) → (i : ℕ) → IsMaking v i → IsLow sc v i
+  pub each_making_low : IsSound sc IsWholeInstance v → ((i : ℕ) → IsMaking w i → IsLow sc w i) → (i : ℕ) → IsMaking v i → IsLow sc v i
   each_making_low after before i m = by (numbered w.instances i) refl
     where
       positive : (k : ℕ) → IsStanding v k → 1 ≤ k
-      positive zero st = let x = there sc IsWhole v after zero st in none_some x.1
+      positive zero st = let x = there sc IsWholeInstance v after zero st in none_some x.1
       positive (suc k) st = omega arith
 
       by : (o : Option Instance) → numbered w.instances i ≡ o → IsLow sc v i
@@ -284,10 +284,10 @@ module _ (sc : Scopes) (texts : KeepToTexts sc) (w : World) (ok : IsSound sc IsW
       by None e = new_low i (positive i (making_stands v i m)) e
 
   pub others : (i : ℕ) → IsStanding w i → ((instance_at w i).process ≡ p → ⊥) → IsLow sc w i → IsLow sc v i
-  others i st other low = let x = there sc IsWhole w ok i st in others_low i x.0 x.1 other low
+  others i st other low = let x = there sc IsWholeInstance w ok i st in others_low i x.0 x.1 other low
 
   pub making : (i : ℕ) → (IsMaking w i → IsLow sc w i) → IsMaking w i → IsLow sc v i
-  making i before m = let x = there sc IsWhole w ok i (making_stands w i m) in making_low i x.0 x.1 before m
+  making i before m = let x = there sc IsWholeInstance w ok i (making_stands w i m) in making_low i x.0 x.1 before m
 
 pub others_keep_low : OthersKeepLow
 others_keep_low sc w p i texts ok goes st other low = others sc texts.keep w ok.sound ok.fits p goes i st other low

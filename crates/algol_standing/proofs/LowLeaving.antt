@@ -17,9 +17,9 @@ use Rattle.algol_meaning.specs.Instances.{leave, Cut, cut_at}
 use Rattle.algol_meaning.specs.Events.{event_at, change_event, all_withdrawn, released, caused_by_end}
 use Rattle.algol_meaning.specs.Asks as asks
 use Rattle.algol_meaning.specs.Asks.{ask, resume}
-use Rattle.algol_meaning.specs.Choice.{fails, left_with, ended_releasing, left_or_ended, left, gone, goes_to}
+use Rattle.algol_meaning.specs.Choice.{fails, left_with, ended_releasing, left_or_ended, left_choice, gone, goes_to}
 use Rattle.algol_paths.proofs.Jumps.{jumps_keep_to_their_text}
-use Rattle.algol_standing.specs.Worlds.{held_in_rest, held_in_answer, IsAmong, AreGiven, IsWhole, IsSound}
+use Rattle.algol_standing.specs.Worlds.{held_in_rest, held_in_answer, IsAmongParts, PartsAreGiven, IsWholeInstance, IsSound}
 use Rattle.algol_calls.specs.Texts.{KeepToTexts}
 use Rattle.algol_standing.proofs.Lists.{false_true}
 use Rattle.algol_standing.proofs.Holding.{AreAll, IsForeign, items_hold}
@@ -32,7 +32,7 @@ use Rattle.algol_standing.proofs.LowWorlds.{Low, plain_low, low_all, all_low, Go
 use Rattle.algol_standing.proofs.LowNames.{Near}
 use Rattle.algol_standing.proofs.LowActing.{old_part, given, task_low, goes_on_low, fails_low}
 
-module _ (sc : Scopes) (texts : KeepToTexts sc) (w : World) (ok : IsSound sc IsWhole w) (p : ℕ) (q : Process) (part : Part) (outer : List Part)
+module _ (sc : Scopes) (texts : KeepToTexts sc) (w : World) (ok : IsSound sc IsWholeInstance w) (p : ℕ) (q : Process) (part : Part) (outer : List Part)
     (is : numbered w.processes p ≡ Some q) (todo : q.todo ≡ part ∷ outer) (b i : ℕ) (X : Type 0) (h : Near sc b i X w part) where
   pub deed_low : (v : World) (r : Reference) (d : Deed) → LowIf sc b i X v → LowIf sc b i X (released v r d).world
   deed_low v r d l =
@@ -50,13 +50,13 @@ module _ (sc : Scopes) (texts : KeepToTexts sc) (w : World) (ok : IsSound sc IsW
         leaves_held (Low sc b i X) part.rest a asks_it
         (all_low sc b i X (held_in_rest part.rest) (λ t. ((old_part sc w ok p q part outer is todo b i X h part (◌⊎◌.inl refl)).low t).holds))
 
-    given_below : (next : Part) (parts : List Part) → AreGiven (part ∷ next ∷ parts) → AreGiven (next ∷ parts)
+    given_below : (next : Part) (parts : List Part) → PartsAreGiven (part ∷ next ∷ parts) → PartsAreGiven (next ∷ parts)
     given_below next parts g = g.2
 
     next_low : (next : Part) (parts : List Part) → outer ≡ next ∷ parts → GoesLow sc b i X (record next { rest = resume sc next.rest a })
     next_low next parts below =
-        goes_on_low sc w ok p q part outer is todo b i X h next (subst (λ ps. IsAmong (part ∷ ps) next) (sym below) (◌⊎◌.inr (◌⊎◌.inl refl)))
-        (no_own next parts (given_below next parts (subst (λ ps. AreGiven (part ∷ ps)) below (given sc w ok p q part outer is todo b i X h)))) a brings foreign
+        goes_on_low sc w ok p q part outer is todo b i X h next (subst (λ ps. IsAmongParts (part ∷ ps) next) (sym below) (◌⊎◌.inr (◌⊎◌.inl refl)))
+        (no_own next parts (given_below next parts (subst (λ ps. PartsAreGiven (part ∷ ps)) below (given sc w ok p q part outer is todo b i X h)))) a brings foreign
 
     left_with_low : (v : World) → LowIf sc b i X v → (parts : List Part) → outer ≡ parts → LowIf sc b i X (left_with sc w p q part outer v a parts).world
     left_with_low v l [] below = l
@@ -65,7 +65,7 @@ module _ (sc : Scopes) (texts : KeepToTexts sc) (w : World) (ok : IsSound sc IsW
       where
         each : PartsLow sc b i X (record next { rest = resume sc next.rest a } ∷ parts)
         each x (◌⊎◌.inl f) = subst (λ z. GoesLow sc b i X z) f (next_low next parts below)
-        each x (◌⊎◌.inr n) = old_part sc w ok p q part outer is todo b i X h x (◌⊎◌.inr (subst (λ ps. IsAmong ps x) (sym below) (◌⊎◌.inr n)))
+        each x (◌⊎◌.inr n) = old_part sc w ok p q part outer is todo b i X h x (◌⊎◌.inr (subst (λ ps. IsAmongParts ps x) (sym below) (◌⊎◌.inr n)))
 
     abbrev without : World
     without = leave w (part.instance ∷ [])
@@ -86,7 +86,7 @@ module _ (sc : Scopes) (texts : KeepToTexts sc) (w : World) (ok : IsSound sc IsW
     left_or_ended_low [] below = ended_by q.task
     left_or_ended_low (next ∷ parts) below = left_with_low without gone_low (next ∷ parts) below
 
-    pub leaves_low : LowIf sc b i X (left sc w p q part outer a).world
+    pub leaves_low : LowIf sc b i X (left_choice sc w p q part outer a).world
     leaves_low = by (is_evaluation part.purpose) (some_depends w.processes part.instance)
       where
         by : (s d : Bool) →
@@ -107,19 +107,19 @@ module _ (sc : Scopes) (texts : KeepToTexts sc) (w : World) (ok : IsSound sc IsW
       abbrev there_on : Part
       there_on = record target { rest = settle_items sc (items_from label_block n.name) }
 
-      among : (xs : List Part) (x : Part) → IsAmong (target ∷ parts) x → IsAmong (xs ++ target ∷ parts) x
+      among : (xs : List Part) (x : Part) → IsAmongParts (target ∷ parts) x → IsAmongParts (xs ++ target ∷ parts) x
       among [] x m = m
       among (y ∷ xs) x m = ◌⊎◌.inr (among xs x m)
 
-      in_all : (x : Part) → IsAmong (target ∷ parts) x → IsAmong (part ∷ outer) x
-      in_all x m = subst (λ ps. IsAmong ps x) (sym all_is) (among newer x m)
+      in_all : (x : Part) → IsAmongParts (target ∷ parts) x → IsAmongParts (part ∷ outer) x
+      in_all x m = subst (λ ps. IsAmongParts ps x) (sym all_is) (among newer x m)
 
       known : (instance_at w k).block < length sc.blocks
       known =
-          let st = part_stands_in w ok.skeleton_ok p q target target.instance is (subst (λ ps. IsAmong ps target) (sym todo) (in_all target (◌⊎◌.inl refl))) (◌⊎◌.inl refl) in
-          let x = there sc IsWhole w ok target.instance st in
+          let st = part_stands_in w ok.skeleton_ok p q target target.instance is (subst (λ ps. IsAmongParts ps target) (sym todo) (in_all target (◌⊎◌.inl refl))) (◌⊎◌.inl refl) in
+          let x = there sc IsWholeInstance w ok target.instance st in
           subst (λ m. (instance_at w m).block < length sc.blocks) at_k
-          (subst (λ (y : Instance). y.block < length sc.blocks) (sym (instance_is sc IsWhole w ok target.instance x.0 x.1)) ((ok.instances target.instance x.0 x.1).known))
+          (subst (λ (y : Instance). y.block < length sc.blocks) (sym (instance_is sc IsWholeInstance w ok target.instance x.0 x.1)) ((ok.instances target.instance x.0 x.1).known))
 
       there_low : GoesLow sc b i X there_on
       there_low =

@@ -10,10 +10,10 @@ use Rattle.algol_meaning.specs.Value.{Reference, Cell, simple, event, array, nam
 use Rattle.algol_meaning.specs.World.{Instance, instance_at, ancestor, cell_in, cell_at, by_cell, followed, Part, Process, World}
 use Rattle.algol_meaning.specs.Asks.{ask}
 use Rattle.algol_meaning.specs.Choice.{home, here}
-use Rattle.algol_paths.specs.Blocks.{IsSeen, IsSeenAround}
-use Rattle.algol_calls.specs.Fits.{parameter_sort, has_parameter, has_simple, IsTold}
+use Rattle.algol_paths.specs.Blocks.{BlockIsSeen, IsSeenAround}
+use Rattle.algol_calls.specs.Fits.{parameter_sort, has_parameter, has_simple, NameIsTold}
 use Rattle.algol_calls.proofs.Simple.{parameter_simple}
-use Rattle.algol_standing.specs.Worlds.{newest_own, skeleton, IsStanding, IsPlaced, outermost, inside, IsNoBlock, IsWhole, IsSound}
+use Rattle.algol_standing.specs.Worlds.{newest_own, skeleton, IsStanding, PartIsPlaced, outermost, inside, IsNoBlock, IsWholeInstance, IsSound}
 use Rattle.algol_standing.specs.Lows.{LeadsLow, CellLow}
 use Rattle.algol_standing.proofs.Lists.{none_some, false_true}
 use Rattle.algol_standing.proofs.Standing.{stands_path}
@@ -41,7 +41,7 @@ pub record Near (sc : Scopes) (b i : ℕ) (X : Type 0) (w : World) (part : Part)
   -- the next instance may be the one
   pub fresh : length w.instances + 1 ≡ i → X
 
-module _ (sc : Scopes) (w : World) (ok : IsSound sc IsWhole w) (p : ℕ) (q : Process) (part : Part) (outer : List Part) (is : numbered w.processes p ≡ Some q)
+module _ (sc : Scopes) (w : World) (ok : IsSound sc IsWholeInstance w) (p : ℕ) (q : Process) (part : Part) (outer : List Part) (is : numbered w.processes p ≡ Some q)
     (todo : q.todo ≡ part ∷ outer) (b i : ℕ) (X : Type 0) (h : Near sc b i X w part) where
   abbrev j : ℕ
   j = (instance_at w part.instance).block
@@ -50,14 +50,14 @@ module _ (sc : Scopes) (w : World) (ok : IsSound sc IsWhole w) (p : ℕ) (q : Pr
       ((m : ℕ) → IsStanding w m → (m ≡ i → ⊥) → slice_get ((instance_at w m).block ∷ around sc.blocks ((instance_at w m).block)) up ≡ Some c → ancestor w up m ≡ i → ⊥) →
       ancestor w (suc up) k ≡ i → ⊥
   up_one t up k c st e further =
-      let x = there sc IsWhole w ok k st in
-      let same : instance_at w k ≡ x.0 = instance_is sc IsWhole w ok k x.0 x.1 in
+      let x = there sc IsWholeInstance w ok k st in
+      let same : instance_at w k ≡ x.0 = instance_is sc IsWholeInstance w ok k x.0 x.1 in
       by x.0 x.1 same (ok.instances k x.0 x.1).placed (ap (λ (y : Instance). slice_get (around sc.blocks y.block) up) (sym same) ∙ e)
     where
-      by : (x : Instance) → numbered w.instances k ≡ Some x → instance_at w k ≡ x → IsPlaced sc w x → slice_get (around sc.blocks x.block) up ≡ Some c → ancestor w (suc up) k ≡ i → ⊥
+      by : (x : Instance) → numbered w.instances k ≡ Some x → instance_at w k ≡ x → PartIsPlaced sc w x → slice_get (around sc.blocks x.block) up ≡ Some c → ancestor w (suc up) k ≡ i → ⊥
       by x f same (outermost g a) at up_is = none_some (ap (λ js. slice_get js up) (sym a) ∙ at)
       by x f same (inside g a) at up_is =
-          let path = parent_path sc IsWhole w ok k x st f g in
+          let path = parent_path sc IsWholeInstance w ok k x st f g in
           let s = stands_path (skeleton w) ok.skeleton_ok k x.parent st path in
           further x.parent s (h.low.instances k x f ((ok.instances k x f).left.1 st) t).childless (ap (λ js. slice_get js up) (sym a) ∙ at)
           (subst (λ (y : Instance). ancestor w up y.parent ≡ i) same up_is)
@@ -68,16 +68,16 @@ module _ (sc : Scopes) (w : World) (ok : IsSound sc IsWhole w) (p : ℕ) (q : Pr
   not_above t (suc up) k c st e = up_one t (suc up) k c st e (λ m s other f. not_above t up m c s f)
 
   -- what is named of i, is named by a part in i, of its own block
-  pub home_is : (n : Named) → IsSeen sc j n → X → home sc w p q part outer n ≡ i → (part.instance ≡ i) × ((use_of sc n).up ≡ 0)
+  pub home_is : (n : Named) → BlockIsSeen sc j n → X → home sc w p q part outer n ≡ i → (part.instance ≡ i) × ((use_of sc n).up ≡ 0)
   home_is n s t = by ((use_of sc n).up) refl s
     where
       by : (up : ℕ) → (use_of sc n).up ≡ up → slice_get (j ∷ around sc.blocks j) up ≡ Some ((use_of sc n).block) → ancestor w up part.instance ≡ i →
           (part.instance ≡ i) × ((use_of sc n).up ≡ 0)
       by zero e f g = (g, e)
-      by (suc up) e f g = absurd (not_above t up part.instance ((use_of sc n).block) (part_stands sc IsWhole w ok p q part outer is todo) f g)
+      by (suc up) e f g = absurd (not_above t up part.instance ((use_of sc n).block) (part_stands sc IsWholeInstance w ok p q part outer is todo) f g)
 
   -- a variable or a parameter of the block
-  seen_simple : (n : Named) → (use_of sc n).up ≡ 0 → IsTold sc n → IsSeenAround sc b n → has_simple (block_numbered sc.blocks b) n.name ≡ true
+  seen_simple : (n : Named) → (use_of sc n).up ≡ 0 → NameIsTold sc n → IsSeenAround sc b n → has_simple (block_numbered sc.blocks b) n.name ≡ true
   seen_simple n zero_up told s = subst (λ k. has_simple (block_numbered sc.blocks k) n.name ≡ true) (sym same) (by s.1)
     where
       same : b ≡ (use_of sc n).block
@@ -95,17 +95,17 @@ module _ (sc : Scopes) (w : World) (ok : IsSound sc IsWhole w) (p : ℕ) (q : Pr
   abbrev pub Around : Named → Type 0
   Around n = X → part.instance ≡ i → IsSeenAround sc b n
 
-  pub leads_here : (n : Named) → IsSeen sc j n → Around n → IsTold sc n → X → LeadsLow sc b i (here sc w p q part outer n)
+  pub leads_here : (n : Named) → BlockIsSeen sc j n → Around n → NameIsTold sc n → X → LeadsLow sc b i (here sc w p q part outer n)
   leads_here n s narrow told t at = let its = home_is n s t at in seen_simple n its.1 told (narrow t its.0)
 
   -- the cell of a name
-  pub cell_here_low : (n : Named) → IsSeen sc j n → X → CellLow sc b i (cell_at w (here sc w p q part outer n))
+  pub cell_here_low : (n : Named) → BlockIsSeen sc j n → X → CellLow sc b i (cell_at w (here sc w p q part outer n))
   cell_here_low n s t =
       let k = home sc w p q part outer n in
-      let path = home_path sc IsWhole w ok p q part outer is todo n s in
-      let st = stands_path (skeleton w) ok.skeleton_ok (newest_own (part ∷ outer)) k (top_stands sc IsWhole w ok p q part outer is todo) path in
-      let x = there sc IsWhole w ok k st in
-      subst (λ (y : Instance). CellLow sc b i (cell_in y.cells n.name)) (sym (instance_is sc IsWhole w ok k x.0 x.1))
+      let path = home_path sc IsWholeInstance w ok p q part outer is todo n s in
+      let st = stands_path (skeleton w) ok.skeleton_ok (newest_own (part ∷ outer)) k (top_stands sc IsWholeInstance w ok p q part outer is todo) path in
+      let x = there sc IsWholeInstance w ok k st in
+      subst (λ (y : Instance). CellLow sc b i (cell_in y.cells n.name)) (sym (instance_is sc IsWholeInstance w ok k x.0 x.1))
       (cell_in_low sc b i (x.0).cells n.name (h.low.instances k x.0 x.1 ((ok.instances k x.0 x.1).left.1 st) t).cells)
 
   followed_by : (c : Cell) (r : Reference) → CellLow sc b i c → LeadsLow sc b i r → LeadsLow sc b i (by_cell c r)
@@ -115,6 +115,6 @@ module _ (sc : Scopes) (w : World) (ok : IsSound sc IsWhole w) (p : ℕ) (q : Pr
   followed_by (array a) r m l = l
   followed_by (named c) r m l = l
 
-  pub followed_low : (n : Named) → IsSeen sc j n → Around n → IsTold sc n → X → LeadsLow sc b i (followed w (here sc w p q part outer n))
+  pub followed_low : (n : Named) → BlockIsSeen sc j n → Around n → NameIsTold sc n → X → LeadsLow sc b i (followed w (here sc w p q part outer n))
   followed_low n s narrow told t =
       followed_by (cell_at w (here sc w p q part outer n)) (here sc w p q part outer n) (cell_here_low n s t) (leads_here n s narrow told t)

@@ -14,11 +14,11 @@ use Rattle.algol_tree.specs.Sorts.{Parameter, same_name}
 use Rattle.algol_tree.specs.Scopes.{Scopes}
 use Rattle.algol_meaning.specs.Value.{Value, Reference, Cell, simple, event}
 use Rattle.algol_meaning.specs.World.{NamedCell, Instance, or_no_instance, instance_at, cell_in, cells_with, with_instance, set_cell, add_cells, Part, Process, able, no_process, or_no_process, process_at, with_process, set_able, set_all_able, World}
-use Rattle.algol_meaning.specs.Events.{event_at, set_event, change_event, is_among, joined_all, list_in, forgotten, woken_by, withdrawn, all_withdrawn}
+use Rattle.algol_meaning.specs.Events.{event_at, set_event, change_event, reference_is_among, joined_all, list_in, forgotten, woken_by, withdrawn, all_withdrawn}
 use Rattle.algol_meaning.specs.Critical.{is_evaluation}
 use Rattle.algol_meaning.specs.Instances.{parameter_cells, initial_cells, result_cells, variable_cells, fresh_cells, leave}
 use Rattle.algol_paths.specs.Arrays.{all_to_make}
-use Rattle.algol_standing.specs.Worlds.{IsAmong}
+use Rattle.algol_standing.specs.Worlds.{IsAmongParts}
 use Rattle.algol_standing.specs.Lows.{LeadsLow, CellLow, AllLow, CellsLow, InstanceLow, PartLow}
 use Rattle.algol_standing.proofs.Lists.{none_some, some_same, false_true}
 use Rattle.algol_standing.proofs.Pairs.{set_or}
@@ -99,7 +99,7 @@ module _ (sc : Scopes) (b i : ℕ) (X : Type 0) where
 
   pub record LowIf (w : World) : Type 0 where
     pub instances : (j : ℕ) (x : Instance) → numbered w.instances j ≡ Some x → x.left ≡ false → X → InstanceLow sc b i x
-    pub parts : (k : ℕ) (q : Process) (y : Part) → numbered w.processes k ≡ Some q → IsAmong q.todo y → GoesLow y
+    pub parts : (k : ℕ) (q : Process) (y : Part) → numbered w.processes k ≡ Some q → IsAmongParts q.todo y → GoesLow y
     pub tasks : (k : ℕ) (q : Process) (r : Reference) → numbered w.processes k ≡ Some q → q.task ≡ Some r → X → LeadsLow sc b i r
 
   -- nothing of instances and processes changes
@@ -117,7 +117,7 @@ module _ (sc : Scopes) (b i : ℕ) (X : Type 0) where
   TaskLow q = (r : Reference) → q.task ≡ Some r → X → LeadsLow sc b i r
 
   abbrev pub PartsLow : List Part → Type 0
-  PartsLow parts = (y : Part) → IsAmong parts y → GoesLow y
+  PartsLow parts = (y : Part) → IsAmongParts parts y → GoesLow y
 
   pub process_low : (w : World) (p : ℕ) (q : Process) → LowIf w → PartsLow q.todo → TaskLow q → LowIf (with_process w p q)
   process_low w p q h parts task = record { instances = h.instances; parts = λ k z y e n. in_parts k z y n (was k z e); tasks = λ k z r e f. in_task k z r f (was k z e) }
@@ -130,9 +130,9 @@ module _ (sc : Scopes) (b i : ℕ) (X : Type 0) where
           by (◌⊎◌.inl f) = ◌⊎◌.inl (sym f ∙ e)
           by (◌⊎◌.inr f) = ◌⊎◌.inr (some_same e f.1)
 
-      in_parts : (k : ℕ) (z : Process) (y : Part) → IsAmong z.todo y → (numbered w.processes k ≡ Some z) ⊎ (z ≡ q) → GoesLow y
+      in_parts : (k : ℕ) (z : Process) (y : Part) → IsAmongParts z.todo y → (numbered w.processes k ≡ Some z) ⊎ (z ≡ q) → GoesLow y
       in_parts k z y n (◌⊎◌.inl f) = h.parts k z y f n
-      in_parts k z y n (◌⊎◌.inr f) = parts y (subst (λ (t : Process). IsAmong t.todo y) f n)
+      in_parts k z y n (◌⊎◌.inr f) = parts y (subst (λ (t : Process). IsAmongParts t.todo y) f n)
 
       in_task : (k : ℕ) (z : Process) (r : Reference) → z.task ≡ Some r → (numbered w.processes k ≡ Some z) ⊎ (z ≡ q) → X → LeadsLow sc b i r
       in_task k z r g (◌⊎◌.inl f) = h.tasks k z r f g
@@ -142,10 +142,10 @@ module _ (sc : Scopes) (b i : ℕ) (X : Type 0) where
   state_low : (w : World) (p : ℕ) (o : Option Process) → LowIf w → numbered w.processes p ≡ o → PartsLow (process_at w p).todo × TaskLow (process_at w p)
   state_low w p (Some q) h e =
       let same : process_at w p ≡ q = ap or_no_process e in
-      (λ y n. h.parts p q y e (subst (λ (z : Process). IsAmong z.todo y) same n), λ r f. h.tasks p q r e (ap (λ (z : Process). z.task) (sym same) ∙ f))
+      (λ y n. h.parts p q y e (subst (λ (z : Process). IsAmongParts z.todo y) same n), λ r f. h.tasks p q r e (ap (λ (z : Process). z.task) (sym same) ∙ f))
   state_low w p None h e =
       let same : process_at w p ≡ no_process = ap or_no_process e in
-      (λ y n. absurd (subst (λ (z : Process). IsAmong z.todo y) same n), λ r f. none_some (ap (λ (z : Process). z.task) (sym same) ∙ f))
+      (λ y n. absurd (subst (λ (z : Process). IsAmongParts z.todo y) same n), λ r f. none_some (ap (λ (z : Process). z.task) (sym same) ∙ f))
 
   pub able_low : (ps : List ℕ) (w : World) → LowIf w → LowIf (set_all_able w ps)
   able_low [] w h = h
@@ -204,7 +204,7 @@ module _ (sc : Scopes) (b i : ℕ) (X : Type 0) where
   pub joined_low : (rs seen : List Reference) (w : World) (p : ℕ) → LowIf w → LowIf (joined_all w p seen rs)
   joined_low [] seen w p h = h
   joined_low (r ∷ rs) seen w p h =
-      by (is_among seen r) (joined_low rs (r ∷ seen) w p h) (joined_low rs (r ∷ seen) v p (changed_low w r (deed (tests test.WaitAny) p (event_at w r)).change h))
+      by (reference_is_among seen r) (joined_low rs (r ∷ seen) w p h) (joined_low rs (r ∷ seen) v p (changed_low w r (deed (tests test.WaitAny) p (event_at w r)).change h))
     where
       v : World
       v = change_event w r (deed (tests test.WaitAny) p (event_at w r)).change
@@ -245,9 +245,9 @@ module _ (sc : Scopes) (b i : ℕ) (X : Type 0) where
         tasks = λ k z r g n. in_task k z r n (numbered_last w.processes q k z (ap (λ qs. numbered qs k) (sym f) ∙ g));
       }
     where
-      in_parts : (k : ℕ) (z : Process) (y : Part) → IsAmong z.todo y → (numbered w.processes k ≡ Some z) ⊎ ((k ≡ suc (length w.processes)) × (z ≡ q)) → GoesLow y
+      in_parts : (k : ℕ) (z : Process) (y : Part) → IsAmongParts z.todo y → (numbered w.processes k ≡ Some z) ⊎ ((k ≡ suc (length w.processes)) × (z ≡ q)) → GoesLow y
       in_parts k z y n (◌⊎◌.inl g) = h.parts k z y g n
-      in_parts k z y n (◌⊎◌.inr g) = parts y (subst (λ (t : Process). IsAmong t.todo y) g.1 n)
+      in_parts k z y n (◌⊎◌.inr g) = parts y (subst (λ (t : Process). IsAmongParts t.todo y) g.1 n)
 
       in_task : (k : ℕ) (z : Process) (r : Reference) → z.task ≡ Some r → (numbered w.processes k ≡ Some z) ⊎ ((k ≡ suc (length w.processes)) × (z ≡ q)) → X → LeadsLow sc b i r
       in_task k z r n (◌⊎◌.inl g) = h.tasks k z r g n

@@ -4,10 +4,10 @@ use Rattle.std.specs.Prelude.{slice_get, if◌then◌else◌, ◌==◌, ◌&&◌
 use Rattle.b67_list.specs.Numbered.{numbered}
 use Rattle.algol_tree.specs.Scopes.{Scopes}
 use Rattle.algol_meaning.specs.World.{Instance, or_no_instance, instance_at, Part, Process, or_no_process, process_at, lives, World}
-use Rattle.algol_meaning.specs.Critical.{is_this, is_evaluation, own_instances, NumberedInstance, newest_first, is_one_of, first_on_path}
+use Rattle.algol_meaning.specs.Critical.{is_this, is_evaluation, own_instances, NumberedInstance, newest_first, process_is_one_of, first_on_path}
 use Rattle.algol_laws.proofs.Cells.{itself, same_number}
-use Rattle.algol_standing.specs.Skeleton.{Stack, Home, IsIn, NextIn, FirstOf, this, further}
-use Rattle.algol_standing.specs.Worlds.{home_of, newest_own, stack_of, skeleton, IsStanding, IsOwn, IsWhole, IsSound}
+use Rattle.algol_standing.specs.Skeleton.{Stack, Home, IsInSkeleton, NextIn, FirstOf, this, further}
+use Rattle.algol_standing.specs.Worlds.{home_of, newest_own, stack_of, skeleton, IsStanding, IsOwn, IsWholeInstance, IsSound}
 use Rattle.algol_standing.proofs.Lists.{none_some, some_same, get-seam, same_or_other}
 use Rattle.algol_standing.proofs.Standing.{home_stands, stands_small, lives as stack_lives}
 use Rattle.algol_standing.proofs.Shrink.{next_in}
@@ -46,10 +46,10 @@ newest_down w (x ∷ xs) front e =
     here : record { number = suc (length front); of = x } ∷ down_from w (length front) ≡ down_from w (length (front ++ x ∷ []))
     here = ap (λ z. record { number = suc (length front); of = z } ∷ down_from w (length front)) (sym at) ∙ ap (λ k. down_from w k) number_is
 
-module _ (sc : Scopes) (w : World) (ok : IsSound sc IsWhole w) where
+module _ (sc : Scopes) (w : World) (ok : IsSound sc IsWholeInstance w) where
   -- it stands in the stack of the process, or is its critical instance
   abbrev IsOn : Process → ℕ → Type 0
-  IsOn q m = IsIn (own_instances q.todo) m ⊎ (q.critical ≡ Some m)
+  IsOn q m = IsInSkeleton (own_instances q.todo) m ⊎ (q.critical ≡ Some m)
 
   on_stands : (p : ℕ) (q : Process) → numbered w.processes p ≡ Some q → lives q.state ≡ true → (m : ℕ) → IsOn q m → IsStanding w m
   on_stands p q is live m (◌⊎◌.inl n) = record { number = p; stack = stack_of q; is = stack_forth w p q is; inside = n }
@@ -62,12 +62,12 @@ module _ (sc : Scopes) (w : World) (ok : IsSound sc IsWhole w) where
   pub home_process : (m : ℕ) (st : IsStanding w m) → (instance_at w m).process ≡ st.number
   home_process m st =
       let h = home_stands (skeleton w) ok.skeleton_ok m st in
-      let x = there sc IsWhole w ok m st in
+      let x = there sc IsWholeInstance w ok m st in
       let same : h.0 ≡ home_of x.0 = some_same h.1 (home_forth w m x.0 x.1) in
-      ap (λ (y : Instance). y.process) (instance_is sc IsWhole w ok m x.0 x.1) ∙ (ap (λ (g : Home). g.process) (sym same) ∙ h.2)
+      ap (λ (y : Instance). y.process) (instance_is sc IsWholeInstance w ok m x.0 x.1) ∙ (ap (λ (g : Home). g.process) (sym same) ∙ h.2)
 
   not_left : (m : ℕ) → IsStanding w m → (instance_at w m).left ≡ false
-  not_left m st = let x = there sc IsWhole w ok m st in ap (λ (y : Instance). y.left) (instance_is sc IsWhole w ok m x.0 x.1) ∙ (ok.instances m x.0 x.1).left.1 st
+  not_left m st = let x = there sc IsWholeInstance w ok m st in ap (λ (y : Instance). y.left) (instance_is sc IsWholeInstance w ok m x.0 x.1) ∙ (ok.instances m x.0 x.1).left.1 st
 
   left_stands : (m : ℕ) → (instance_at w m).left ≡ false → IsStanding w m
   left_stands m e = by (numbered w.instances m) refl
@@ -96,7 +96,7 @@ module _ (sc : Scopes) (w : World) (ok : IsSound sc IsWhole w) where
         in_own : (st : IsStanding w m) → st.number ≡ p → IsOn q m
         in_own st f =
             let same : st.stack ≡ stack_of q = some_same st.is (ap (λ k. slice_get (skeleton w).stacks k) f ∙ stack_forth w p q is) in
-            ◌⊎◌.inl (subst (λ (z : Stack). IsIn z.own m) same st.inside)
+            ◌⊎◌.inl (subst (λ (z : Stack). IsInSkeleton z.own m) same st.inside)
 
         by : ((((instance_at w m).process == p) && not (instance_at w m).left) ≡ true) ⊎ (is_this ((process_at w p).critical) m ≡ true) → IsOn q m
         by (◌⊎◌.inl f) =
@@ -111,14 +111,14 @@ module _ (sc : Scopes) (w : World) (ok : IsSound sc IsWhole w) where
     on : IsOn q a
     none : (m : ℕ) → m ≤ k → a < m → IsOn q m → ⊥
 
-  own_older : (p : ℕ) (q : Process) → numbered w.processes p ≡ Some q → lives q.state ≡ true → (d i : ℕ) → q.critical ≡ Some d → IsIn (own_instances q.todo) i → d < i
+  own_older : (p : ℕ) (q : Process) → numbered w.processes p ≡ Some q → lives q.state ≡ true → (d i : ℕ) → q.critical ≡ Some d → IsInSkeleton (own_instances q.todo) i → d < i
   own_older p q is live d i e n = ok.older p d q is live e i (own_of q.todo n)
     where
-      own_of : (parts : List Part) → IsIn (own_instances parts) i → IsOwn parts i
+      own_of : (parts : List Part) → IsInSkeleton (own_instances parts) i → IsOwn parts i
       own_of [] m = absurd m
       own_of (x ∷ parts) m = by (is_evaluation x.purpose) refl m (own_of parts)
         where
-          by : (b : Bool) → is_evaluation x.purpose ≡ b → IsIn (if b then own_instances parts else x.instance ∷ own_instances parts) i → (IsIn (own_instances parts) i → IsOwn parts i) →
+          by : (b : Bool) → is_evaluation x.purpose ≡ b → IsInSkeleton (if b then own_instances parts else x.instance ∷ own_instances parts) i → (IsInSkeleton (own_instances parts) i → IsOwn parts i) →
               IsOwn (x ∷ parts) i
           by true f l g = ◌⊎◌.inr (g l)
           by false f (◌⊎◌.inl h) g = ◌⊎◌.inl (f, h)
@@ -133,10 +133,10 @@ module _ (sc : Scopes) (w : World) (ok : IsSound sc IsWhole w) where
         none = λ m h g o. order.1 m o g (let f = h in omega (arith, f, e));
       }
     where
-      order : (b < a) × ((m : ℕ) → IsIn (own_instances q.todo) m ⊎ (q.critical ≡ Some m) → b < m → m < a → ⊥)
+      order : (b < a) × ((m : ℕ) → IsInSkeleton (own_instances q.todo) m ⊎ (q.critical ≡ Some m) → b < m → m < a → ⊥)
       order = between (skeleton w).homes p q.critical (own_instances q.todo) a b (ok.skeleton_ok.owned p (stack_of q) (stack_forth w p q is)) (own_older p q is live) n
 
-      on : IsIn (own_instances q.todo) b ⊎ (q.critical ≡ Some b) → IsOn q b
+      on : IsInSkeleton (own_instances q.todo) b ⊎ (q.critical ≡ Some b) → IsOn q b
       on m = m
 
   module _ (wanted : List ℕ) where
@@ -148,15 +148,15 @@ module _ (sc : Scopes) (w : World) (ok : IsSound sc IsWhole w) where
 
     -- the walk is there
     found : (k a d : ℕ) → Again k d → a ≡ suc k → FirstOf (skeleton w) wanted a d →
-        (if is_one_of wanted (suc k) then suc k else first_on_path w (down_from w k) ((instance_at w (suc k)).process) wanted) ≡ d
+        (if process_is_one_of wanted (suc k) then suc k else first_on_path w (down_from w k) ((instance_at w (suc k)).process) wanted) ≡ d
     found k a d again e (this n) =
-        ap (λ b. if b then suc k else first_on_path w (down_from w k) ((instance_at w (suc k)).process) wanted) (one_of_true wanted (suc k) (subst (λ i. IsIn wanted i) e n)) ∙ sym e
+        ap (λ b. if b then suc k else first_on_path w (down_from w k) ((instance_at w (suc k)).process) wanted) (one_of_true wanted (suc k) (subst (λ i. IsInSkeleton wanted i) e n)) ∙ sym e
     found k a d again e (further {b = b} out n g) =
-        ap (λ t. if t then suc k else first_on_path w (down_from w k) ((instance_at w (suc k)).process) wanted) (one_of_false (is_one_of wanted (suc k)) refl)
+        ap (λ t. if t then suc k else first_on_path w (down_from w k) ((instance_at w (suc k)).process) wanted) (one_of_false (process_is_one_of wanted (suc k)) refl)
         ∙ (ap (λ i. first_on_path w (down_from w k) i wanted) process_is ∙ down (stack_back w n.number n.stack n.is))
       where
-        one_of_false : (t : Bool) → is_one_of wanted (suc k) ≡ t → is_one_of wanted (suc k) ≡ false
-        one_of_false true h = absurd (out (subst (λ i. IsIn wanted i) (sym e) (one_of_back wanted (suc k) h)))
+        one_of_false : (t : Bool) → process_is_one_of wanted (suc k) ≡ t → process_is_one_of wanted (suc k) ≡ false
+        one_of_false true h = absurd (out (subst (λ i. IsInSkeleton wanted i) (sym e) (one_of_back wanted (suc k) h)))
         one_of_false false h = h
 
         st : IsStanding w a
@@ -165,13 +165,13 @@ module _ (sc : Scopes) (w : World) (ok : IsSound sc IsWhole w) where
         process_is : (instance_at w (suc k)).process ≡ n.number
         process_is = ap (λ i. (instance_at w i).process) (sym e) ∙ home_process a st
 
-        lived : (y : Process) → numbered w.processes n.number ≡ Some y → (xs : List ℕ) → own_instances y.todo ≡ xs → IsIn xs a → lives y.state ≡ true
+        lived : (y : Process) → numbered w.processes n.number ≡ Some y → (xs : List ℕ) → own_instances y.todo ≡ xs → IsInSkeleton xs a → lives y.state ≡ true
         lived y h [] i m = absurd m
         lived y h (x ∷ xs) i m = stack_lives (skeleton w) ok.skeleton_ok n.number (stack_of y) x xs (stack_forth w n.number y h) i
 
         down : ((n.stack.own ≡ []) × (n.stack.evaluations ≡ []) × (n.stack.live ≡ false)) ⊎ ((y : Process) × (numbered w.processes n.number ≡ Some y) × (n.stack ≡ stack_of y)) →
             first_on_path w (down_from w k) n.number wanted ≡ d
-        down (◌⊎◌.inl h) = absurd (subst (λ xs. IsIn xs a) h.0 (below_in n.stack.critical n.stack.own a b n.next))
+        down (◌⊎◌.inl h) = absurd (subst (λ xs. IsInSkeleton xs a) h.0 (below_in n.stack.critical n.stack.own a b n.next))
         down (◌⊎◌.inr h) =
             let next : NextIn (h.0).critical (own_instances (h.0).todo) a b = subst (λ (z : Stack). NextIn z.critical z.own a b) h.2 n.next in
             let lives_on : lives (h.0).state ≡ true = lived h.0 h.1 (own_instances (h.0).todo) refl (below_in (h.0).critical (own_instances (h.0).todo) a b next) in
@@ -182,7 +182,7 @@ module _ (sc : Scopes) (w : World) (ok : IsSound sc IsWhole w) where
     walk zero p q a d is live top f = absurd (nothing_there (on_stands p q is live a top.on) (let l = top.low in omega (arith, l)))
       where
         nothing_there : IsStanding w a → a ≡ 0 → ⊥
-        nothing_there st e = let x = there sc IsWhole w ok a st in none_some (ap (λ i. numbered w.instances i) (sym e) ∙ x.1)
+        nothing_there st e = let x = there sc IsWholeInstance w ok a st in none_some (ap (λ i. numbered w.instances i) (sym e) ∙ x.1)
     walk (suc k) p q a d is live top f = by (λ p q a is live top f. walk k p q a d is live top f) (same_or_other a (suc k))
       where
         older : List NumberedInstance
@@ -191,7 +191,7 @@ module _ (sc : Scopes) (w : World) (ok : IsSound sc IsWhole w) where
         here : Again k d → a ≡ suc k → first_on_path w (down_from w (suc k)) p wanted ≡ d
         here again e =
             ap
-            (λ b. if b then (if is_one_of wanted (suc k) then suc k else first_on_path w older ((instance_at w (suc k)).process) wanted) else first_on_path w older p wanted)
+            (λ b. if b then (if process_is_one_of wanted (suc k) then suc k else first_on_path w older ((instance_at w (suc k)).process) wanted) else first_on_path w older p wanted)
             (on_true p q is live (suc k) (subst (λ i. IsOn q i) e top.on))
             ∙ found k a d again e f
 
@@ -199,7 +199,7 @@ module _ (sc : Scopes) (w : World) (ok : IsSound sc IsWhole w) where
         past : Again k d → (a ≡ suc k → ⊥) → first_on_path w (down_from w (suc k)) p wanted ≡ d
         past again other =
             ap
-            (λ b. if b then (if is_one_of wanted (suc k) then suc k else first_on_path w older ((instance_at w (suc k)).process) wanted) else first_on_path w older p wanted)
+            (λ b. if b then (if process_is_one_of wanted (suc k) then suc k else first_on_path w older ((instance_at w (suc k)).process) wanted) else first_on_path w older p wanted)
             (off (on_test p (suc k)) refl)
             ∙ again p q a is live (record { low = low; on = top.on; none = λ m h g o. top.none m (let l = h in omega (arith, l)) g o }) f
           where
@@ -219,8 +219,8 @@ module _ (sc : Scopes) (w : World) (ok : IsSound sc IsWhole w) where
     first_found p q r d is live own f =
         ap (λ l. first_on_path w l p wanted) (newest_down w w.instances [] refl) ∙ walk (length w.instances) p q (newest_own q.todo) d is live top f
       where
-        at_top : IsIn (own_instances q.todo) (newest_own q.todo)
-        at_top = subst (λ xs. IsIn xs (newest_own q.todo)) (sym own) (◌⊎◌.inl refl)
+        at_top : IsInSkeleton (own_instances q.todo) (newest_own q.todo)
+        at_top = subst (λ xs. IsInSkeleton xs (newest_own q.todo)) (sym own) (◌⊎◌.inl refl)
 
         highest : (m : ℕ) → IsOn q m → m ≤ newest_own q.todo
         highest m (◌⊎◌.inl n) = lower (skeleton w).homes p q.critical (own_instances q.todo) m (ok.skeleton_ok.owned p (stack_of q) (stack_forth w p q is)) n (newest_own q.todo) r own

@@ -19,9 +19,9 @@ use Rattle.b67_deeds.specs.declared.Letter.{Letter}
 use Rattle.algol_meaning.specs.Asks as asks
 use Rattle.algol_meaning.specs.Asks.{Ask, nothing, ask, resume, located_of}
 use Rattle.algol_meaning.specs.Choice.{Choice, is_subscripted, goes, opens, fails, home, here, read_of, resolved_of, indexed_at, element_read_at, stored, made_arrays, made_event}
-use Rattle.algol_paths.specs.Blocks.{IsSeen, IsSeenAround, IsInner}
-use Rattle.algol_standing.specs.Skeleton.{IsIn}
-use Rattle.algol_standing.specs.Worlds.{held_in_answer, newest_own, stack_of, IsStanding, IsOnPath, IsAwaited, IsFew, AreListed, IsWhole, IsSound}
+use Rattle.algol_paths.specs.Blocks.{BlockIsSeen, IsSeenAround, IsInner}
+use Rattle.algol_standing.specs.Skeleton.{IsInSkeleton}
+use Rattle.algol_standing.specs.Worlds.{held_in_answer, newest_own, stack_of, IsStanding, IsOnPath, IsAwaited, IsFew, WaitersAreListed, IsWholeInstance, IsSound}
 use Rattle.algol_standing.proofs.Calls.{IsNoEvent}
 use Rattle.algol_standing.proofs.Lists.{some_same}
 use Rattle.algol_standing.proofs.Holding.{AreAll, IsForeign}
@@ -53,10 +53,10 @@ arrays_no_events kind bs [] = tt
 arrays_no_events kind bs (n ∷ ns) = (new_no_event kind bs, arrays_no_events kind bs ns)
 
 -- nothing of instances and processes changes
-pub same_ok : (sc : Scopes) (w v : World) → IsSound sc IsWhole w → v.instances ≡ w.instances → v.processes ≡ w.processes → IsSound sc IsWhole v
+pub same_ok : (sc : Scopes) (w v : World) → IsSound sc IsWholeInstance w → v.instances ≡ w.instances → v.processes ≡ w.processes → IsSound sc IsWholeInstance v
 same_ok sc w v ok e f =
     alike_ok w v (subst (λ xs. AllPairs InstanceAlike w.instances xs) (sym e) (pairs_self InstanceAlike instance_self w.instances))
-    (subst (λ xs. AllPairs ProcessAlike w.processes xs) (sym f) (pairs_self ProcessAlike process_self w.processes)) sc IsWhole
+    (subst (λ xs. AllPairs ProcessAlike w.processes xs) (sym f) (pairs_self ProcessAlike process_self w.processes)) sc IsWholeInstance
     (λ i h. record { number = h.number; process = h.process; part = h.part; is = ap (λ qs. numbered qs h.number) f ∙ h.is; among = h.among; owns = h.owns; instance_is = h.instance_is; made = h.made })
     ok (λ k q g. ok.processes k q (ap (λ qs. numbered qs k) (sym f) ∙ g))
     (λ k q x g n. ok.skeleton_ok.evaluates k (stack_of q) x (stack_forth w k q (ap (λ qs. numbered qs k) (sym f) ∙ g)) n)
@@ -65,14 +65,14 @@ same_ok sc w v ok e f =
     cells : (r : Reference) (x : EventState) → cell_at v r ≡ event x → cell_at w r ≡ event x
     cells r x g = subst (λ xs. cell_at (record w { instances = xs }) r ≡ event x) e g
 
-    listed : (r : Reference) (x : EventState) → AreListed w r x → AreListed v r x
-    listed r x l = subst (λ qs. AreListed (record w { instances = v.instances; processes = qs; output = v.output; fault = v.fault }) r x) (sym f)
+    listed : (r : Reference) (x : EventState) → WaitersAreListed w r x → WaitersAreListed v r x
+    listed r x l = subst (λ qs. WaitersAreListed (record w { instances = v.instances; processes = qs; output = v.output; fault = v.fault }) r x) (sym f)
         (record { waiters = l.waiters; procurers = l.procurers; once = l.once; once_waiting = l.once_waiting })
 
-module _ (sc : Scopes) (heads_act : (r : Rest) (a : Answer) → Suits (ask r) a → ask (resume sc r a) ≡ nothing → ⊥) (w : World) (ok : IsSound sc IsWhole w) (p : ℕ) (q : Process) (part : Part) (outer : List Part)
+module _ (sc : Scopes) (heads_act : (r : Rest) (a : Answer) → Suits (ask r) a → ask (resume sc r a) ≡ nothing → ⊥) (w : World) (ok : IsSound sc IsWholeInstance w) (p : ℕ) (q : Process) (part : Part) (outer : List Part)
     (is : numbered w.processes p ≡ Some q) (todo : q.todo ≡ part ∷ outer) (able_is : q.state ≡ able) where
   abbrev Held : Cell → Type 0
-  Held = CellOk sc IsWhole w ok (newest_own (part ∷ outer))
+  Held = CellOk sc IsWholeInstance w ok (newest_own (part ∷ outer))
 
   pub live : lives q.state ≡ true
   live = ap lives able_is
@@ -103,7 +103,7 @@ module _ (sc : Scopes) (heads_act : (r : Rest) (a : Answer) → Suits (ask r) a 
         (pairs_then_set Unmoved MovedHere (λ x y f. ◌⊎◌.inr f) w.processes w.processes p moved (pairs_self Unmoved unmoved_self w.processes)
         (λ x e. ◌⊎◌.inl (some_same e is, refl)))
 
-    pub goes_ok : IsSound sc IsWhole (with_process after p moved)
+    pub goes_ok : IsSound sc IsWholeInstance (with_process after p moved)
     goes_ok =
         resumed_ok sc w ok p q part outer is todo live a foreign brings acts q.state live waits_not woken few (with_process after p moved) instances processes
         (λ r e st f. listed_still w (with_process after p moved) p q moved is able_is (ap (λ qs. set_numbered qs p moved) same) r e (ok.listed r e st (events r e f)))
@@ -119,7 +119,7 @@ module _ (sc : Scopes) (heads_act : (r : Rest) (a : Answer) → Suits (ask r) a 
     abbrev moved_then : Process
     moved_then = resumed sc w ok p q part outer is todo live done tt tt acts_then q.state live waits_not q.woken its_few
 
-    pub event_goes : IsSound sc IsWhole (with_process made p moved_then)
+    pub event_goes : IsSound sc IsWholeInstance (with_process made p moved_then)
     event_goes =
         resumed_ok sc w ok p q part outer is todo live done tt tt acts_then q.state live waits_not q.woken its_few (with_process made p moved_then)
         (add_alike w part.instance (record { name = name; cell = event fresh_state } ∷ []) ((λ i n. absurd n, λ m n. absurd n), tt))
@@ -127,24 +127,24 @@ module _ (sc : Scopes) (heads_act : (r : Rest) (a : Answer) → Suits (ask r) a 
         (pairs_self Unmoved unmoved_self w.processes) (λ x e. ◌⊎◌.inl (some_same e is, refl)))
         (λ r e st f. by r e st (event_before w part.instance name fresh_state r e f))
       where
-        by : (r : Reference) (e : EventState) → IsStanding w r.instance → (cell_at w r ≡ event e) ⊎ (e ≡ fresh_state) → AreListed (with_process made p moved_then) r e
+        by : (r : Reference) (e : EventState) → IsStanding w r.instance → (cell_at w r ≡ event e) ⊎ (e ≡ fresh_state) → WaitersAreListed (with_process made p moved_then) r e
         by r e st (◌⊎◌.inl g) = listed_still w (with_process made p moved_then) p q moved_then is able_is refl r e (ok.listed r e st g)
         by r e st (◌⊎◌.inr g) =
-            subst (λ d. AreListed (with_process made p moved_then) r d) (sym g) (record { waiters = λ k n. absurd n; procurers = λ k n. absurd n; once = tt; once_waiting = tt })
+            subst (λ d. WaitersAreListed (with_process made p moved_then) r d) (sym g) (record { waiters = λ k n. absurd n; procurers = λ k n. absurd n; once = tt; once_waiting = tt })
 
   -- .. where no cell changes
-  pub same_goes : (a : Answer) → IsForeign a → AreAll Held (held_in_answer a) → Suits (ask part.rest) a → IsSound sc IsWhole (with_process w p (record q { todo = record part { rest = resume sc part.rest a } ∷ outer }))
+  pub same_goes : (a : Answer) → IsForeign a → AreAll Held (held_in_answer a) → Suits (ask part.rest) a → IsSound sc IsWholeInstance (with_process w p (record q { todo = record part { rest = resume sc part.rest a } ∷ outer }))
   same_goes a f b s = goes_ok q.woken its_few a f b s w (pairs_self InstanceAlike instance_self w.instances) refl (λ r e g. g)
 
   -- who was released goes on by its woken number, and has none then
   pub woken_goes : (v : Value) → Suits (ask part.rest) (value v) →
-      IsSound sc IsWhole (with_process w p (record q { todo = record part { rest = resume sc part.rest (value v) } ∷ outer; woken = 0 }))
+      IsSound sc IsWholeInstance (with_process w p (record q { todo = record part { rest = resume sc part.rest (value v) } ∷ outer; woken = 0 }))
   woken_goes v s = goes_ok 0 (omega (arith), its_few.1) (value v) tt tt s w (pairs_self InstanceAlike instance_self w.instances) refl (λ r e g. g)
 
   -- ---- choices
 
   abbrev pub Keeps : Choice → Type 0
-  Keeps c = IsSound sc IsWhole c.world
+  Keeps c = IsSound sc IsWholeInstance c.world
 
   pub either : (b : Bool) (c d : Choice) → Keeps c → Keeps d → Keeps (if b then c else d)
   either true c d f g = f
@@ -154,10 +154,10 @@ module _ (sc : Scopes) (heads_act : (r : Rest) (a : Answer) → Suits (ask r) a 
   fails_keeps k = same_ok sc w (fails sc w p q part outer k).world ok refl refl
 
   abbrev seen : Named → Type 0
-  seen n = IsSeen sc ((instance_at w part.instance).block) n
+  seen n = BlockIsSeen sc ((instance_at w part.instance).block) n
 
   at_home : (n : Named) → seen n → IsOnPath w (newest_own (part ∷ outer)) (home sc w p q part outer n)
-  at_home n s = home_path sc IsWhole w ok p q part outer is todo n s
+  at_home n s = home_path sc IsWholeInstance w ok p q part outer is todo n s
 
   -- what a reference leads to lies on the path
   led_path : (n : Named) → seen n → (c : Cell) → Held c → IsOnPath w (newest_own (part ∷ outer)) (by_cell c (here sc w p q part outer n)).instance
@@ -168,12 +168,12 @@ module _ (sc : Scopes) (heads_act : (r : Rest) (a : Answer) → Suits (ask r) a 
   led_path n s (named c) h = at_home n s
 
   pub at_followed : (n : Named) → seen n → IsOnPath w (newest_own (part ∷ outer)) (followed w (here sc w p q part outer n)).instance
-  at_followed n s = led_path n s (cell_at w (here sc w p q part outer n)) (cell_here sc IsWhole w ok p q part outer is todo n s)
+  at_followed n s = led_path n s (cell_at w (here sc w p q part outer n)) (cell_here sc IsWholeInstance w ok p q part outer is todo n s)
 
   to_there : (r : Reference) → IsOnPath w (newest_own (part ∷ outer)) r.instance → Held (reference r)
   to_there r l = (by, λ m n. absurd n)
     where
-      by : (i : ℕ) → IsIn (r.instance ∷ []) i → IsOnPath w (newest_own (part ∷ outer)) i
+      by : (i : ℕ) → IsInSkeleton (r.instance ∷ []) i → IsOnPath w (newest_own (part ∷ outer)) i
       by i (◌⊎◌.inl e) = subst (λ j. IsOnPath w (newest_own (part ∷ outer)) j) e l
       by i (◌⊎◌.inr n) = absurd n
 
@@ -182,7 +182,7 @@ module _ (sc : Scopes) (heads_act : (r : Rest) (a : Answer) → Suits (ask r) a 
     sees =
         subst (λ y. Sees seen (IsInner sc ((instance_at w part.instance).block)) y) e
         (rest_sees seen (IsInner sc ((instance_at w part.instance).block)) (IsSeenAround sc ((instance_at w part.instance).block)) (λ n s. s.0) part.rest
-        (part_ok sc IsWhole w ok p q part outer is todo).text)
+        (part_ok sc IsWholeInstance w ok p q part outer is todo).text)
 
     pub suited : (a : Answer) → Suits x a → Suits (ask part.rest) a
     suited a s = subst (λ y. Suits y a) (sym e) s
@@ -229,7 +229,7 @@ module _ (sc : Scopes) (heads_act : (r : Rest) (a : Answer) → Suits (ask r) a 
   element_keeps n ks v e a (Some k) = value_goes (asks.reads_element n ks v) e actions.ElementRead (element_at a (ks ++ k ∷ [])) tt
 
   module _ (x : Place) (v : Value) (e : ask part.rest ≡ asks.stores x v) where
-    set_goes : (r : Reference) (c : Cell) → IsPlain c → IsNoEvent c → IsSound sc IsWhole (with_process (set_cell w r c) p (record q { todo = record part { rest = resume sc part.rest done } ∷ outer }))
+    set_goes : (r : Reference) (c : Cell) → IsPlain c → IsNoEvent c → IsSound sc IsWholeInstance (with_process (set_cell w r c) p (record q { todo = record part { rest = resume sc part.rest done } ∷ outer }))
     set_goes r c plain without = goes_ok q.woken its_few done tt tt (suited (asks.stores x v) e done tt) (set_cell w r c) (set_alike w r c plain) refl (set_event_before w r c without)
 
   pub stored_keeps : (x : Place) (v : Value) → ask part.rest ≡ asks.stores x v → Keeps (stored sc w p q part outer x v)

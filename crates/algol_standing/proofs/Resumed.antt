@@ -12,13 +12,13 @@ use Rattle.algol_meaning.specs.Settle.{put_place}
 use Rattle.algol_meaning.specs.World.{instance_at, cell_at, Part, Process, State, lives, World}
 use Rattle.algol_meaning.specs.Critical.{is_evaluation, own_instances, referred_by}
 use Rattle.algol_meaning.specs.Asks.{located_of, nothing, ask, resume}
-use Rattle.algol_paths.specs.Blocks.{IsSeen, IsSeenAround, IsInner}
+use Rattle.algol_paths.specs.Blocks.{BlockIsSeen, IsSeenAround, IsInner}
 use Rattle.algol_paths.specs.Texts.{InAnswer, InRest}
 use Rattle.algol_paths.specs.Arrays.{Made, made_in, to_come, all_to_make, all_left_to_make}
 use Rattle.algol_paths.proofs.Rests.{resumed_keeps}
 use Rattle.algol_paths.proofs.Making.{all_is_made_in_order}
-use Rattle.algol_standing.specs.Skeleton.{Evaluation, IsEvaluated, IsIn}
-use Rattle.algol_standing.specs.Worlds.{held_in_rest, held_in_answer, newest_own, held_by, IsStanding, IsOnPath, IsOwn, IsAmong, AreListed, IsAwaited, IsFew, IsNoBlock, GivesNoOwn, GivesPlace, AreGiven, HasHead, IsWhole, PartOk, ProcessOk, IsSound}
+use Rattle.algol_standing.specs.Skeleton.{Evaluation, IsEvaluated, IsInSkeleton}
+use Rattle.algol_standing.specs.Worlds.{held_in_rest, held_in_answer, newest_own, held_by, IsStanding, IsOnPath, IsOwn, IsAmongParts, WaitersAreListed, IsAwaited, IsFew, IsNoBlock, GivesNoOwn, GivesPlace, PartsAreGiven, HasHead, IsWholeInstance, PartOk, ProcessOk, IsSound}
 use Rattle.algol_standing.proofs.Holding.{AreAll, IsForeign, RestHolds, PlaceGivable, put_place_givable, resumed_holds}
 use Rattle.algol_standing.proofs.Pairs.{AllPairs}
 use Rattle.algol_standing.proofs.Alike.{InstanceAlike, ProcessAlike}
@@ -63,61 +63,61 @@ tail_same : (x y : Part) (xs ys : List Part) → x ∷ xs ≡ y ∷ ys → xs �
 tail_same x y xs ys e = cc
 
 -- only the innermost part of a live process asks for an action
-pub others_wait : (q : Process) (part : Part) (outer : List Part) → HasHead q.todo → q.todo ≡ part ∷ outer → (x : Part) → IsAmong outer x → ask x.rest ≡ nothing
-others_wait q part outer head todo x n = head.wait x (subst (λ ps. IsAmong ps x) (tail_same part head.part outer head.outer (sym todo ∙ head.is)) n)
+pub others_wait : (q : Process) (part : Part) (outer : List Part) → HasHead q.todo → q.todo ≡ part ∷ outer → (x : Part) → IsAmongParts outer x → ask x.rest ≡ nothing
+others_wait q part outer head todo x n = head.wait x (subst (λ ps. IsAmongParts ps x) (tail_same part head.part outer head.outer (sym todo ∙ head.is)) n)
 
-pub no_own : (part : Part) (outer : List Part) → AreGiven (part ∷ outer) → GivesNoOwn (is_evaluation part.purpose) part.rest
+pub no_own : (part : Part) (outer : List Part) → PartsAreGiven (part ∷ outer) → GivesNoOwn (is_evaluation part.purpose) part.rest
 no_own part [] g = g
 no_own part (next ∷ parts) g = g.0
 
 -- ---- parts
 
-module _ (sc : Scopes) (w : World) (ok : IsSound sc IsWhole w) (part : Part) (outer : List Part) (fine : Fine sc w (part ∷ outer)) where
+module _ (sc : Scopes) (w : World) (ok : IsSound sc IsWholeInstance w) (part : Part) (outer : List Part) (fine : Fine sc w (part ∷ outer)) where
   abbrev pub top : ℕ
   top = newest_own (part ∷ outer)
 
   abbrev pub Held : Cell → Type 0
-  Held = CellOk sc IsWhole w ok top
+  Held = CellOk sc IsWholeInstance w ok top
 
   pub plain_held : (v : Value) → Held (simple v)
   plain_held v = (λ i n. absurd n, λ m n. absurd n)
 
   pub fine_holds : AreAll Held (held_in_rest part.rest)
   fine_holds =
-      all_by sc IsWhole w ok top (held_in_rest part.rest)
+      all_by sc IsWholeInstance w ok top (held_in_rest part.rest)
       (λ i n. (fine.holds (record { over = top; within = i }) (evaluated_front top (part.instance ∷ referred_by (held_in_rest part.rest)) (held_by outer) i (◌⊎◌.inr n))).1)
       (λ m n. (fine.each part (◌⊎◌.inl refl)).names m n)
 
-  here_holds : IsIn (own_instances (part ∷ outer)) top × IsOnPath w top part.instance
+  here_holds : IsInSkeleton (own_instances (part ∷ outer)) top × IsOnPath w top part.instance
   here_holds =
       fine.holds (record { over = top; within = part.instance })
       (evaluated_front top (part.instance ∷ referred_by (held_in_rest part.rest)) (held_by outer) part.instance (◌⊎◌.inl refl))
 
   -- other things to do of the innermost part
-  module _ (r : Rest) (part_then : PartOk sc IsWhole w (record part { rest = r })) (holds_then : RestHolds Held plain_held (is_evaluation part.purpose) r)
+  module _ (r : Rest) (part_then : PartOk sc IsWholeInstance w (record part { rest = r })) (holds_then : RestHolds Held plain_held (is_evaluation part.purpose) r)
       (gives_then : GivesPlace part.rest → GivesPlace r) where
     abbrev pub changed : Part
     changed = record part { rest = r }
 
-    given_then : (parts : List Part) → AreGiven (part ∷ parts) → AreGiven (changed ∷ parts)
+    given_then : (parts : List Part) → PartsAreGiven (part ∷ parts) → PartsAreGiven (changed ∷ parts)
     given_then [] g = holds_then.1
     given_then (next ∷ parts) g = (holds_then.1, λ n. gives_then (g.1 n), g.2)
 
-    each_then : (x : Part) → IsAmong (changed ∷ outer) x → PartOk sc IsWhole w x
-    each_then x (◌⊎◌.inl e) = subst (λ y. PartOk sc IsWhole w y) e part_then
+    each_then : (x : Part) → IsAmongParts (changed ∷ outer) x → PartOk sc IsWholeInstance w x
+    each_then x (◌⊎◌.inl e) = subst (λ y. PartOk sc IsWholeInstance w y) e part_then
     each_then x (◌⊎◌.inr n) = fine.each x (◌⊎◌.inr n)
 
-    on_path : (e : Evaluation) → IsEvaluated (held_by (changed ∷ outer)) e → IsIn (own_instances (changed ∷ outer)) e.over × IsOnPath w e.over e.within
+    on_path : (e : Evaluation) → IsEvaluated (held_by (changed ∷ outer)) e → IsInSkeleton (own_instances (changed ∷ outer)) e.over × IsOnPath w e.over e.within
     on_path e n = by (evaluated_either top (part.instance ∷ referred_by (held_in_rest r)) (held_by outer) e n)
       where
-        path : IsIn (part.instance ∷ referred_by (held_in_rest r)) e.within → IsOnPath w top e.within
+        path : IsInSkeleton (part.instance ∷ referred_by (held_in_rest r)) e.within → IsOnPath w top e.within
         path (◌⊎◌.inl f) = subst (λ i. IsOnPath w top i) f here_holds.1
-        path (◌⊎◌.inr m) = all_refs sc IsWhole w ok top (held_in_rest r) holds_then.0 e.within m
+        path (◌⊎◌.inr m) = all_refs sc IsWholeInstance w ok top (held_in_rest r) holds_then.0 e.within m
 
-        by : ((e.over ≡ top) × IsIn (part.instance ∷ referred_by (held_in_rest r)) e.within) ⊎ IsEvaluated (held_by outer) e →
-            IsIn (own_instances (changed ∷ outer)) e.over × IsOnPath w e.over e.within
+        by : ((e.over ≡ top) × IsInSkeleton (part.instance ∷ referred_by (held_in_rest r)) e.within) ⊎ IsEvaluated (held_by outer) e →
+            IsInSkeleton (own_instances (changed ∷ outer)) e.over × IsOnPath w e.over e.within
         by (◌⊎◌.inl f) = (
-          subst (λ i. IsIn (own_instances (changed ∷ outer)) i) (sym f.0) here_holds.0,
+          subst (λ i. IsInSkeleton (own_instances (changed ∷ outer)) i) (sym f.0) here_holds.0,
           subst (λ i. IsOnPath w i e.within) (sym f.0) (path f.1),
         )
         by (◌⊎◌.inr m) = fine.holds e (evaluated_back top (part.instance ∷ referred_by (held_in_rest part.rest)) (held_by outer) e m)
@@ -132,22 +132,22 @@ module _ (sc : Scopes) (w : World) (ok : IsSound sc IsWhole w) (part : Part) (ou
     holds_then : RestHolds Held plain_held (is_evaluation part.purpose) answered.rest
     holds_then = resumed_holds Held plain_held (is_evaluation part.purpose) sc part.rest a (fine_holds, no_own part outer fine.given) brings foreign
 
-    old : PartOk sc IsWhole w part
+    old : PartOk sc IsWholeInstance w part
     old = fine.each part (◌⊎◌.inl refl)
 
-    part_then : PartOk sc IsWhole w answered
+    part_then : PartOk sc IsWholeInstance w answered
     part_then =
         record {
-          text = resumed_keeps (IsSeen sc j) (IsInner sc j) (IsSeenAround sc j) sc part.rest a old.text (answer_in (IsSeen sc j) a foreign);
+          text = resumed_keeps (BlockIsSeen sc j) (IsInner sc j) (IsSeenAround sc j) sc part.rest a old.text (answer_in (BlockIsSeen sc j) a foreign);
           narrow = λ e. by (old.narrow e);
-          names = λ m n. all_names sc IsWhole w ok top (held_in_rest answered.rest) holds_then.0 m n;
+          names = λ m n. all_names sc IsWholeInstance w ok top (held_in_rest answered.rest) holds_then.0 m n;
         }
       where
         j : ℕ
         j = (instance_at w part.instance).block
 
-        by : IsWhole w part.instance ⊎ InRest (IsSeenAround sc j) IsNoBlock (IsSeenAround sc j) part.rest →
-            IsWhole w part.instance ⊎ InRest (IsSeenAround sc j) IsNoBlock (IsSeenAround sc j) (resume sc part.rest a)
+        by : IsWholeInstance w part.instance ⊎ InRest (IsSeenAround sc j) IsNoBlock (IsSeenAround sc j) part.rest →
+            IsWholeInstance w part.instance ⊎ InRest (IsSeenAround sc j) IsNoBlock (IsSeenAround sc j) (resume sc part.rest a)
         by (◌⊎◌.inl f) = ◌⊎◌.inl f
         by (◌⊎◌.inr f) = ◌⊎◌.inr (resumed_keeps (IsSeenAround sc j) IsNoBlock (IsSeenAround sc j) sc part.rest a f (answer_in (IsSeenAround sc j) a foreign))
 
@@ -170,8 +170,8 @@ module _ (sc : Scopes) (w : World) (ok : IsSound sc IsWhole w) (part : Part) (ou
 
 -- ---- the process
 
-module _ (sc : Scopes) (w : World) (ok : IsSound sc IsWhole w) (p : ℕ) (q : Process) (part : Part) (outer : List Part) (is : numbered w.processes p ≡ Some q) (todo : q.todo ≡ part ∷ outer)
-    (live : lives q.state ≡ true) (a : Answer) (foreign : IsForeign a) (brings : AreAll (CellOk sc IsWhole w ok (newest_own (part ∷ outer))) (held_in_answer a))
+module _ (sc : Scopes) (w : World) (ok : IsSound sc IsWholeInstance w) (p : ℕ) (q : Process) (part : Part) (outer : List Part) (is : numbered w.processes p ≡ Some q) (todo : q.todo ≡ part ∷ outer)
+    (live : lives q.state ≡ true) (a : Answer) (foreign : IsForeign a) (brings : AreAll (CellOk sc IsWholeInstance w ok (newest_own (part ∷ outer))) (held_in_answer a))
     (acts : ask (resume sc part.rest a) ≡ nothing → ⊥) (s : State) (lives_on : lives s ≡ true) (awaits : (r : Reference) → IsAwaited s r → IsOnPath w (newest_own (part ∷ outer)) r.instance)
     (woken : ℕ) (few : IsFew woken s) where
   fine_here : Fine sc w (part ∷ outer)
@@ -190,7 +190,7 @@ module _ (sc : Scopes) (w : World) (ok : IsSound sc IsWhole w) (p : ℕ) (q : Pr
   head_then : HasHead (acted ∷ outer)
   head_then = record { part = acted; outer = outer; is = refl; acts = acts; wait = λ x n. others_wait q part outer ((ok.processes p q is).heads live) todo x n }
 
-  process_then : ProcessOk sc IsWhole w resumed
+  process_then : ProcessOk sc IsWholeInstance w resumed
   process_then = record { parts = fine_then.each; heads = λ l. head_then; gives = fine_then.given; awaited = awaits; few = few }
 
   alike_then : ProcessAlike q resumed
@@ -214,5 +214,5 @@ module _ (sc : Scopes) (w : World) (ok : IsSound sc IsWhole w) (p : ℕ) (q : Pr
   Moved x y = ((x ≡ q) × (y ≡ resumed)) ⊎ Unmoved x y
 
   pub resumed_ok : (v : World) → AllPairs InstanceAlike w.instances v.instances → AllPairs Moved w.processes v.processes →
-      ((r : Reference) (e : EventState) → IsStanding w r.instance → cell_at v r ≡ event e → AreListed v r e) → IsSound sc IsWhole v
+      ((r : Reference) (e : EventState) → IsStanding w r.instance → cell_at v r ≡ event e → WaitersAreListed v r e) → IsSound sc IsWholeInstance v
   resumed_ok v instances processes listed = acted_ok sc w ok p q is resumed alike_then process_then fine_then.holds still_then v instances processes listed

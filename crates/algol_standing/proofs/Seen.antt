@@ -9,9 +9,9 @@ use Rattle.algol_tree.specs.Scopes.{Scopes, use_of}
 use Rattle.algol_meaning.specs.Value.{NameCell, Cell}
 use Rattle.algol_meaning.specs.World.{NamedCell, Instance, or_no_instance, instance_at, ancestor, cell_in, cell_at, Part, Process, World}
 use Rattle.algol_meaning.specs.Critical.{own_instances, referred_in, referred_by}
-use Rattle.algol_paths.specs.Blocks.{IsSeen}
-use Rattle.algol_standing.specs.Skeleton.{Evaluation, IsEvaluated, Home, IsIn, here}
-use Rattle.algol_standing.specs.Worlds.{parent_in, referred_in_cells, home_of, held_in_rest, newest_own, held_by, stack_of, skeleton, IsStanding, IsOnPath, IsAmong, IsPlaced, outermost, inside, IsNameIn, IsNameAmong, IsNameHeld, KeepsActual, PartOk, IsSound}
+use Rattle.algol_paths.specs.Blocks.{BlockIsSeen}
+use Rattle.algol_standing.specs.Skeleton.{Evaluation, IsEvaluated, Home, IsInSkeleton, here}
+use Rattle.algol_standing.specs.Worlds.{parent_in, referred_in_cells, home_of, held_in_rest, newest_own, held_by, stack_of, skeleton, IsStanding, IsOnPath, IsAmongParts, PartIsPlaced, outermost, inside, IsNameIn, IsNameAmong, IsNameHeld, KeepsActual, PartOk, IsSound}
 use Rattle.algol_standing.proofs.Lists.{none_some, some_same}
 use Rattle.algol_standing.proofs.Standing.{stands_path, path_on, home_stands}
 use Rattle.algol_standing.proofs.Holding.{AreAll}
@@ -19,21 +19,21 @@ use Rattle.algol_standing.proofs.Pairs.{map_back, home_forth, stack_forth, stack
 
 -- ---- lists of instances
 
-pub in_front : (xs ys : List ℕ) (i : ℕ) → IsIn xs i → IsIn (xs ++ ys) i
+pub in_front : (xs ys : List ℕ) (i : ℕ) → IsInSkeleton xs i → IsInSkeleton (xs ++ ys) i
 in_front [] ys i n = absurd n
 in_front (x ∷ xs) ys i (◌⊎◌.inl e) = ◌⊎◌.inl e
 in_front (x ∷ xs) ys i (◌⊎◌.inr n) = ◌⊎◌.inr (in_front xs ys i n)
 
-pub in_back : (xs ys : List ℕ) (i : ℕ) → IsIn ys i → IsIn (xs ++ ys) i
+pub in_back : (xs ys : List ℕ) (i : ℕ) → IsInSkeleton ys i → IsInSkeleton (xs ++ ys) i
 in_back [] ys i n = n
 in_back (x ∷ xs) ys i n = ◌⊎◌.inr (in_back xs ys i n)
 
-pub in_either : (xs ys : List ℕ) (i : ℕ) → IsIn (xs ++ ys) i → IsIn xs i ⊎ IsIn ys i
+pub in_either : (xs ys : List ℕ) (i : ℕ) → IsInSkeleton (xs ++ ys) i → IsInSkeleton xs i ⊎ IsInSkeleton ys i
 in_either [] ys i n = ◌⊎◌.inr n
 in_either (x ∷ xs) ys i (◌⊎◌.inl e) = ◌⊎◌.inl (◌⊎◌.inl e)
 in_either (x ∷ xs) ys i (◌⊎◌.inr n) = by (in_either xs ys i n)
   where
-    by : IsIn xs i ⊎ IsIn ys i → IsIn (x ∷ xs) i ⊎ IsIn ys i
+    by : IsInSkeleton xs i ⊎ IsInSkeleton ys i → IsInSkeleton (x ∷ xs) i ⊎ IsInSkeleton ys i
     by (◌⊎◌.inl m) = ◌⊎◌.inl (◌⊎◌.inr m)
     by (◌⊎◌.inr m) = ◌⊎◌.inr m
 
@@ -42,7 +42,7 @@ in_either (x ∷ xs) ys i (◌⊎◌.inr n) = by (in_either xs ys i n)
 abbrev pub above : ℕ → List ℕ → List Evaluation
 above top is = map (λ (i : ℕ). record { over = top; within = i }) is
 
-pub evaluated_front : (top : ℕ) (is : List ℕ) (es : List Evaluation) (i : ℕ) → IsIn is i → IsEvaluated (above top is ++ es) (record { over = top; within = i })
+pub evaluated_front : (top : ℕ) (is : List ℕ) (es : List Evaluation) (i : ℕ) → IsInSkeleton is i → IsEvaluated (above top is ++ es) (record { over = top; within = i })
 evaluated_front top [] es i n = absurd n
 evaluated_front top (j ∷ is) es i (◌⊎◌.inl e) = ◌⊎◌.inl (ap (λ (k : ℕ). record { over = top; within = k }) e)
 evaluated_front top (j ∷ is) es i (◌⊎◌.inr n) = ◌⊎◌.inr (evaluated_front top is es i n)
@@ -51,24 +51,24 @@ pub evaluated_back : (top : ℕ) (is : List ℕ) (es : List Evaluation) (e : Eva
 evaluated_back top [] es e n = n
 evaluated_back top (j ∷ is) es e n = ◌⊎◌.inr (evaluated_back top is es e n)
 
-pub evaluated_either : (top : ℕ) (is : List ℕ) (es : List Evaluation) (e : Evaluation) → IsEvaluated (above top is ++ es) e → ((e.over ≡ top) × IsIn is e.within) ⊎ IsEvaluated es e
+pub evaluated_either : (top : ℕ) (is : List ℕ) (es : List Evaluation) (e : Evaluation) → IsEvaluated (above top is ++ es) e → ((e.over ≡ top) × IsInSkeleton is e.within) ⊎ IsEvaluated es e
 evaluated_either top [] es e n = ◌⊎◌.inr n
 evaluated_either top (j ∷ is) es e (◌⊎◌.inl f) = ◌⊎◌.inl (ap (λ (x : Evaluation). x.over) (sym f), ◌⊎◌.inl (ap (λ (x : Evaluation). x.within) f))
 evaluated_either top (j ∷ is) es e (◌⊎◌.inr n) = by (evaluated_either top is es e n)
   where
-    by : ((e.over ≡ top) × IsIn is e.within) ⊎ IsEvaluated es e → ((e.over ≡ top) × IsIn (j ∷ is) e.within) ⊎ IsEvaluated es e
+    by : ((e.over ≡ top) × IsInSkeleton is e.within) ⊎ IsEvaluated es e → ((e.over ≡ top) × IsInSkeleton (j ∷ is) e.within) ⊎ IsEvaluated es e
     by (◌⊎◌.inl f) = ◌⊎◌.inl (f.0, ◌⊎◌.inr f.1)
     by (◌⊎◌.inr f) = ◌⊎◌.inr f
 
 -- ---- cells
 
 -- a cell that is read is one of the instance, or a value
-pub read_refs : (cells : List NamedCell) (name : List ℕ) (i : ℕ) → IsIn (referred_in (cell_in cells name)) i → IsIn (referred_in_cells cells) i
+pub read_refs : (cells : List NamedCell) (name : List ℕ) (i : ℕ) → IsInSkeleton (referred_in (cell_in cells name)) i → IsInSkeleton (referred_in_cells cells) i
 read_refs [] name i n = absurd n
 read_refs (c ∷ cells) name i n = by (same_name c.name name) (λ m. read_refs cells name i m) n
   where
-    by : (b : Bool) → (IsIn (referred_in (cell_in cells name)) i → IsIn (referred_in_cells cells) i) → IsIn (referred_in (if b then c.cell else cell_in cells name)) i →
-        IsIn (referred_in c.cell ++ referred_in_cells cells) i
+    by : (b : Bool) → (IsInSkeleton (referred_in (cell_in cells name)) i → IsInSkeleton (referred_in_cells cells) i) → IsInSkeleton (referred_in (if b then c.cell else cell_in cells name)) i →
+        IsInSkeleton (referred_in c.cell ++ referred_in_cells cells) i
     by true f m = in_front (referred_in c.cell) (referred_in_cells cells) i m
     by false f m = in_back (referred_in c.cell) (referred_in_cells cells) i (f m)
 
@@ -83,9 +83,9 @@ read_names (c ∷ cells) name m n = by (same_name c.name name) (λ k. read_names
 module _ (sc : Scopes) (Whole : World → ℕ → Type 0) (w : World) (ok : IsSound sc Whole w) where
   -- what is held above an instance: what it refers to lies on the path, and the actuals of its names stand in their texts
   abbrev pub CellOk : ℕ → Cell → Type 0
-  CellOk top c = ((i : ℕ) → IsIn (referred_in c) i → IsOnPath w top i) × ((m : NameCell) → IsNameIn c m → KeepsActual sc Whole w m)
+  CellOk top c = ((i : ℕ) → IsInSkeleton (referred_in c) i → IsOnPath w top i) × ((m : NameCell) → IsNameIn c m → KeepsActual sc Whole w m)
 
-  pub all_by : (top : ℕ) (cells : List Cell) → ((i : ℕ) → IsIn (referred_by cells) i → IsOnPath w top i) → ((m : NameCell) → IsNameHeld cells m → KeepsActual sc Whole w m) →
+  pub all_by : (top : ℕ) (cells : List Cell) → ((i : ℕ) → IsInSkeleton (referred_by cells) i → IsOnPath w top i) → ((m : NameCell) → IsNameHeld cells m → KeepsActual sc Whole w m) →
       AreAll (CellOk top) cells
   all_by top [] f g = tt
   all_by top (c ∷ cells) f g = (
@@ -93,11 +93,11 @@ module _ (sc : Scopes) (Whole : World → ℕ → Type 0) (w : World) (ok : IsSo
     all_by top cells (λ i n. f i (in_back (referred_in c) (referred_by cells) i n)) (λ m n. g m (◌⊎◌.inr n)),
   )
 
-  pub all_refs : (top : ℕ) (cells : List Cell) → AreAll (CellOk top) cells → (i : ℕ) → IsIn (referred_by cells) i → IsOnPath w top i
+  pub all_refs : (top : ℕ) (cells : List Cell) → AreAll (CellOk top) cells → (i : ℕ) → IsInSkeleton (referred_by cells) i → IsOnPath w top i
   all_refs top [] f i n = absurd n
   all_refs top (c ∷ cells) f i n = by (λ m. all_refs top cells f.1 i m) (in_either (referred_in c) (referred_by cells) i n)
     where
-      by : (IsIn (referred_by cells) i → IsOnPath w top i) → IsIn (referred_in c) i ⊎ IsIn (referred_by cells) i → IsOnPath w top i
+      by : (IsInSkeleton (referred_by cells) i → IsOnPath w top i) → IsInSkeleton (referred_in c) i ⊎ IsInSkeleton (referred_by cells) i → IsOnPath w top i
       by g (◌⊎◌.inl m) = f.0.0 i m
       by g (◌⊎◌.inr m) = g m
 
@@ -115,7 +115,7 @@ module _ (sc : Scopes) (Whole : World → ℕ → Type 0) (w : World) (ok : IsSo
       nowhere : (h : Home) × (slice_get (skeleton w).homes 0 ≡ Some h) × (h.process ≡ st.number) →
           ((st.stack.own ≡ []) × (st.stack.evaluations ≡ []) × (st.stack.live ≡ false)) ⊎ ((q : Process) × (numbered w.processes st.number ≡ Some q) × (st.stack ≡ stack_of q)) →
           (x : Instance) × (numbered w.instances 0 ≡ Some x)
-      nowhere h (◌⊎◌.inl f) = absurd (subst (λ o. IsIn o 0) f.0 st.inside)
+      nowhere h (◌⊎◌.inl f) = absurd (subst (λ o. IsInSkeleton o 0) f.0 st.inside)
       nowhere h (◌⊎◌.inr f) =
           let none : record { refs = []; process = 0 } ≡ h.0 = some_same refl h.1 in
           let number : st.number ≡ 0 = sym h.2 ∙ ap (λ (g : Home). g.process) (sym none) in
@@ -128,7 +128,7 @@ module _ (sc : Scopes) (Whole : World → ℕ → Type 0) (w : World) (ok : IsSo
   pub instance_is : (i : ℕ) (x : Instance) → numbered w.instances i ≡ Some x → instance_at w i ≡ x
   instance_is i x e = ap or_no_instance e
 
-  pub parent_among : (j : ℕ) (is : List ℕ) → 1 ≤ j → IsIn (parent_in j ++ is) j
+  pub parent_among : (j : ℕ) (is : List ℕ) → 1 ≤ j → IsInSkeleton (parent_in j ++ is) j
   parent_among zero is h = absurd (omega (arith, h))
   parent_among (suc j) is h = ◌⊎◌.inl refl
 
@@ -146,7 +146,7 @@ module _ (sc : Scopes) (Whole : World → ℕ → Type 0) (w : World) (ok : IsSo
     where
       by : (x : Instance) → numbered w.instances i ≡ Some x → instance_at w i ≡ x →
           ((j : ℕ) → IsStanding w j → slice_get ((instance_at w j).block ∷ around sc.blocks ((instance_at w j).block)) up ≡ Some b →
-          IsOnPath w j (ancestor w up j) × ((instance_at w (ancestor w up j)).block ≡ b)) → IsPlaced sc w x → slice_get (around sc.blocks x.block) up ≡ Some b →
+          IsOnPath w j (ancestor w up j) × ((instance_at w (ancestor w up j)).block ≡ b)) → PartIsPlaced sc w x → slice_get (around sc.blocks x.block) up ≡ Some b →
           IsOnPath w i (ancestor w (suc up) i) × ((instance_at w (ancestor w (suc up) i)).block ≡ b)
       by x e same more_up (outermost g a) f = none_some (ap (λ js. slice_get js up) (sym a) ∙ f)
       by x e same more_up (inside g a) f =
@@ -174,12 +174,12 @@ module _ (sc : Scopes) (Whole : World → ℕ → Type 0) (w : World) (ok : IsSo
     abbrev pub top : ℕ
     top = newest_own (part ∷ outer)
 
-    pub holds : (e : Evaluation) → IsEvaluated (held_by (part ∷ outer)) e → IsIn (own_instances (part ∷ outer)) e.over × IsOnPath w e.over e.within
+    pub holds : (e : Evaluation) → IsEvaluated (held_by (part ∷ outer)) e → IsInSkeleton (own_instances (part ∷ outer)) e.over × IsOnPath w e.over e.within
     holds e n =
         let o = ok.skeleton_ok.evaluates p (stack_of q) e (stack_forth w p q is) (subst (λ ps. IsEvaluated (held_by ps) e) (sym todo) n) in
-        (subst (λ ps. IsIn (own_instances ps) e.over) todo o.0, o.1)
+        (subst (λ ps. IsInSkeleton (own_instances ps) e.over) todo o.0, o.1)
 
-    pub top_inside : IsIn (own_instances (part ∷ outer)) top
+    pub top_inside : IsInSkeleton (own_instances (part ∷ outer)) top
     top_inside = (holds (record { over = top; within = part.instance })
         (evaluated_front top (part.instance ∷ referred_by (held_in_rest part.rest)) (held_by outer) part.instance (◌⊎◌.inl refl))).0
 
@@ -188,13 +188,13 @@ module _ (sc : Scopes) (Whole : World → ℕ → Type 0) (w : World) (ok : IsSo
         (evaluated_front top (part.instance ∷ referred_by (held_in_rest part.rest)) (held_by outer) part.instance (◌⊎◌.inl refl))).1
 
     pub top_stands : IsStanding w top
-    top_stands = record { number = p; stack = stack_of q; is = stack_forth w p q is; inside = subst (λ ps. IsIn (own_instances ps) top) (sym todo) top_inside }
+    top_stands = record { number = p; stack = stack_of q; is = stack_forth w p q is; inside = subst (λ ps. IsInSkeleton (own_instances ps) top) (sym todo) top_inside }
 
     pub part_stands : IsStanding w part.instance
     part_stands = stands_path (skeleton w) ok.skeleton_ok top part.instance top_stands part_path
 
     pub part_ok : PartOk sc Whole w part
-    part_ok = (ok.processes p q is).parts part (subst (λ ps. IsAmong ps part) (sym todo) (◌⊎◌.inl refl))
+    part_ok = (ok.processes p q is).parts part (subst (λ ps. IsAmongParts ps part) (sym todo) (◌⊎◌.inl refl))
 
     pub held_ok : AreAll (CellOk top) (held_in_rest part.rest)
     held_ok =
@@ -203,12 +203,12 @@ module _ (sc : Scopes) (Whole : World → ℕ → Type 0) (w : World) (ok : IsSo
         (λ m n. part_ok.names m n)
 
     -- the instance that holds what a name means, and its cell there
-    pub home_path : (n : Named) → IsSeen sc ((instance_at w part.instance).block) n → IsOnPath w top (ancestor w ((use_of sc n).up) part.instance)
+    pub home_path : (n : Named) → BlockIsSeen sc ((instance_at w part.instance).block) n → IsOnPath w top (ancestor w ((use_of sc n).up) part.instance)
     home_path n s =
         path_on (skeleton w) ok.skeleton_ok top part.instance (ancestor w ((use_of sc n).up) part.instance) part_path
         (ancestors ((use_of sc n).up) part.instance ((use_of sc n).block) part_stands s).0
 
-    pub cell_here : (n : Named) → IsSeen sc ((instance_at w part.instance).block) n →
+    pub cell_here : (n : Named) → BlockIsSeen sc ((instance_at w part.instance).block) n →
         CellOk top (cell_at w (record { instance = ancestor w ((use_of sc n).up) part.instance; name = n.name }))
     cell_here n s =
         let i = ancestor w ((use_of sc n).up) part.instance in

@@ -4,7 +4,7 @@ use Rattle.std.specs.Prelude.{slice_get, slice_set}
 use Rattle.b67_list.specs.Numbered.{numbered, set_numbered}
 use Rattle.algol_meaning.specs.World.{Instance, or_no_instance, instance_at, with_instance, Process, World}
 use Rattle.algol_meaning.specs.Instances.{leave}
-use Rattle.algol_standing.specs.Skeleton.{Stack, Home, IsIn}
+use Rattle.algol_standing.specs.Skeleton.{Stack, Home, IsInSkeleton}
 use Rattle.algol_standing.specs.Worlds.{home_of, stack_of, skeleton}
 use Rattle.algol_standing.proofs.Lists.{none_some, get-seam, get-last, get-small}
 use Rattle.algol_standing.proofs.Standing.{set_cases}
@@ -144,7 +144,7 @@ pub record IsLeftAs (is : List ℕ) (i : ℕ) (x y : Instance) : Type 0 where
   pub block : y.block ≡ x.block
   pub parent : y.parent ≡ x.parent
   pub cells : y.cells ≡ x.cells
-  pub left : (IsIn is i × (y.left ≡ true)) ⊎ ((IsIn is i → ⊥) × (y.left ≡ x.left))
+  pub left : (IsInSkeleton is i × (y.left ≡ true)) ⊎ ((IsInSkeleton is i → ⊥) × (y.left ≡ x.left))
 
 pub leave_back : (w : World) (is : List ℕ) (i : ℕ) (y : Instance) → numbered (leave w is).instances i ≡ Some y → (x : Instance) × (numbered w.instances i ≡ Some x) × IsLeftAs is i x y
 leave_back w [] i y e = (y, e, record { block = refl; parent = refl; cells = refl; left = ◌⊎◌.inr (λ n. n, refl) })
@@ -156,11 +156,11 @@ leave_back w (j ∷ is) i y e = by (leave_back (with_instance w j x) is i y e)
     more : (z : Instance) → (j ≡ i → ⊥) → IsLeftAs is i z y → IsLeftAs (j ∷ is) i z y
     more z other l = record { block = l.block; parent = l.parent; cells = l.cells; left = left l.left }
       where
-        not_any : (IsIn is i → ⊥) → IsIn (j ∷ is) i → ⊥
+        not_any : (IsInSkeleton is i → ⊥) → IsInSkeleton (j ∷ is) i → ⊥
         not_any n (◌⊎◌.inl f) = other f
         not_any n (◌⊎◌.inr m) = n m
 
-        left : (IsIn is i × (y.left ≡ true)) ⊎ ((IsIn is i → ⊥) × (y.left ≡ z.left)) → (IsIn (j ∷ is) i × (y.left ≡ true)) ⊎ ((IsIn (j ∷ is) i → ⊥) × (y.left ≡ z.left))
+        left : (IsInSkeleton is i × (y.left ≡ true)) ⊎ ((IsInSkeleton is i → ⊥) × (y.left ≡ z.left)) → (IsInSkeleton (j ∷ is) i × (y.left ≡ true)) ⊎ ((IsInSkeleton (j ∷ is) i → ⊥) × (y.left ≡ z.left))
         left (◌⊎◌.inl f) = ◌⊎◌.inl (◌⊎◌.inr f.0, f.1)
         left (◌⊎◌.inr f) = ◌⊎◌.inr (λ m. not_any f.0 m, f.1)
 
@@ -177,7 +177,7 @@ leave_back w (j ∷ is) i y e = by (leave_back (with_instance w j x) is i y e)
         at : z ≡ record u { left = true }
         at = g ∙ (ap (λ k. record (instance_at w k) { left = true }) f ∙ ap (λ o. record (or_no_instance o) { left = true }) h)
 
-        left : (IsIn is i × (y.left ≡ true)) ⊎ ((IsIn is i → ⊥) × (y.left ≡ z.left)) → y.left ≡ true
+        left : (IsInSkeleton is i × (y.left ≡ true)) ⊎ ((IsInSkeleton is i → ⊥) × (y.left ≡ z.left)) → y.left ≡ true
         left (◌⊎◌.inl k) = k.1
         left (◌⊎◌.inr k) = k.1 ∙ ap (λ (v : Instance). v.left) at
 

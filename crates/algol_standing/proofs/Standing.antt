@@ -1,7 +1,7 @@
 -- What lies on the path of a standing instance stands.
 use Rattle.std.proofs.Common.{◌≡◌, ◌⊎◌, ℕ, zero, suc, ◌<◌, List, [], ◌∷◌, length, Some, Bool, true, false, refl, sym, ap, ◌∙◌, arith}
 use Rattle.std.specs.Prelude.{slice_get, slice_set}
-use Rattle.algol_standing.specs.Skeleton.{Stack, Home, Skeleton, IsIn, NextIn, Owned, Stands, OnPath, here, down, SkeletonOk}
+use Rattle.algol_standing.specs.Skeleton.{Stack, Home, Skeleton, IsInSkeleton, NextIn, Owned, SkeletonStands, OnPath, here, down, SkeletonOk}
 use Rattle.algol_standing.proofs.Lists.{none_some, get-small}
 
 pub true_false : {B : Type 0} {x : Bool} → x ≡ true → x ≡ false → B
@@ -31,7 +31,7 @@ module _ (s : Skeleton) (ok : SkeletonOk s) where
       by true f = f
       by false f = nil_cons (sym (ok.ended p q is f) ∙ e)
 
-  next_stands : (p : ℕ) (q : Stack) (own : List ℕ) (a b : ℕ) → slice_get s.stacks p ≡ Some q → q.live ≡ true → ((c : ℕ) → IsIn own c → IsIn q.own c) → NextIn q.critical own a b → Stands s b
+  next_stands : (p : ℕ) (q : Stack) (own : List ℕ) (a b : ℕ) → slice_get s.stacks p ≡ Some q → q.live ≡ true → ((c : ℕ) → IsInSkeleton own c → IsInSkeleton q.own c) → NextIn q.critical own a b → SkeletonStands s b
   next_stands p q [] a b is live sub n = absurd n
   next_stands p q (x ∷ []) a b is live sub n = ok.holds p q b is live n.1
   next_stands p q (x ∷ y ∷ r) a b is live sub (◌⊎◌.inl n) = record { number = p; stack = q; is = is; inside = sub b (◌⊎◌.inr (◌⊎◌.inl n.1)) }
@@ -41,7 +41,7 @@ module _ (s : Skeleton) (ok : SkeletonOk s) where
   next_lives p q [] a b is e n = absurd n
   next_lives p q (x ∷ r) a b is e n = lives p q x r is e
 
-  pub stands_path : (a b : ℕ) → Stands s a → OnPath s a b → Stands s b
+  pub stands_path : (a b : ℕ) → SkeletonStands s a → OnPath s a b → SkeletonStands s b
   stands_path a b st here = st
   stands_path a b st (down {b = c} n l) = stands_path c b (next_stands n.number n.stack n.stack.own a c n.is (next_lives n.number n.stack n.stack.own a c n.is refl n.next) (λ d i. i) n.next) l
 
@@ -49,14 +49,14 @@ module _ (s : Skeleton) (ok : SkeletonOk s) where
   path_on a b c here m = m
   path_on a b c (down {b = d} n l) m = down n (path_on d b c l m)
 
-  in_home : (p : ℕ) (own : List ℕ) (a : ℕ) → Owned s.homes p own → IsIn own a → (h : Home) × (slice_get s.homes a ≡ Some h) × (h.process ≡ p)
+  in_home : (p : ℕ) (own : List ℕ) (a : ℕ) → Owned s.homes p own → IsInSkeleton own a → (h : Home) × (slice_get s.homes a ≡ Some h) × (h.process ≡ p)
   in_home p [] a o i = absurd i
   in_home p (x ∷ xs) a o (◌⊎◌.inl e) = (o.0, ap (λ y. slice_get s.homes y) (sym e) ∙ o.1, o.2)
   in_home p (x ∷ xs) a o (◌⊎◌.inr i) = in_home p xs a o.4 i
 
   -- a standing instance has its home, in the stack where it stands
-  pub home_stands : (a : ℕ) → (st : Stands s a) → (h : Home) × (slice_get s.homes a ≡ Some h) × (h.process ≡ st.number)
+  pub home_stands : (a : ℕ) → (st : SkeletonStands s a) → (h : Home) × (slice_get s.homes a ≡ Some h) × (h.process ≡ st.number)
   home_stands a st = in_home st.number st.stack.own a (ok.owned st.number st.stack st.is) st.inside
 
-  pub stands_small : (a : ℕ) → Stands s a → a < length s.homes
+  pub stands_small : (a : ℕ) → SkeletonStands s a → a < length s.homes
   stands_small a st = get-small s.homes a (home_stands a st).0 (home_stands a st).1

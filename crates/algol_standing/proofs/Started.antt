@@ -11,8 +11,8 @@ use Rattle.algol_meaning.specs.World.{Instance, or_no_instance, instance_at, sta
 use Rattle.algol_meaning.specs.Critical.{own_instances, newest_first, first_on_path, referred_by, referred_by_task}
 use Rattle.algol_meaning.specs.Instances.{fresh_cells}
 use Rattle.algol_meaning.specs.Choice.{with_new_instance, new_part, with_started, next_process}
-use Rattle.algol_standing.specs.Skeleton.{Evaluation, IsEvaluated, Stack, Skeleton, IsIn, Stands, OnPath, here, FirstOf, SkeletonOk, started as with_base, evaluated}
-use Rattle.algol_standing.specs.Worlds.{parent_in, referred_in_cells, home_of, held_in_rest, newest_own, held_by, stack_of, skeleton, IsStanding, IsOnPath, IsWhole, IsSound}
+use Rattle.algol_standing.specs.Skeleton.{Evaluation, IsEvaluated, Stack, Skeleton, IsInSkeleton, SkeletonStands, OnPath, here, FirstOf, SkeletonOk, started as with_base, evaluated}
+use Rattle.algol_standing.specs.Worlds.{parent_in, referred_in_cells, home_of, held_in_rest, newest_own, held_by, stack_of, skeleton, IsStanding, IsOnPath, IsWholeInstance, IsSound}
 use Rattle.algol_calls.specs.Texts.{KeepToTexts}
 use Rattle.algol_standing.proofs.Calls.{IsNoEvent}
 use Rattle.algol_standing.proofs.Lists.{get-seam}
@@ -31,11 +31,11 @@ set_last : {A : Type 0} (xs : List A) (y z : A) → slice_set (xs ++ y ∷ []) (
 set_last [] y z = refl
 set_last (x ∷ xs) y z = ap (λ ys. x ∷ ys) (set_last xs y z)
 
-module _ (sc : Scopes) (texts : KeepToTexts sc) (w : World) (ok : IsSound sc IsWhole w) (p : ℕ) (q : Process) (part : Part) (outer : List Part) (is : numbered w.processes p ≡ Some q)
+module _ (sc : Scopes) (texts : KeepToTexts sc) (w : World) (ok : IsSound sc IsWholeInstance w) (p : ℕ) (q : Process) (part : Part) (outer : List Part) (is : numbered w.processes p ≡ Some q)
     (todo : q.todo ≡ part ∷ outer) (able_is : q.state ≡ able) (j parent : ℕ) (cells : List Cell) (task : Option Reference) (known : j < length sc.blocks)
     (around_is : around sc.blocks j ≡ (instance_at w parent).block ∷ around sc.blocks ((instance_at w parent).block)) (parent_some : 1 ≤ parent)
-    (parent_path : IsOnPath w (newest_own (part ∷ outer)) parent) (parent_whole : IsWhole w parent) (cells_held : AreAll (CellOk sc IsWhole w ok (newest_own (part ∷ outer))) cells)
-    (no_events : AreAll IsNoEvent cells) (task_path : (x : ℕ) → IsIn (referred_by_task task) x → IsOnPath w (newest_own (part ∷ outer)) x) where
+    (parent_path : IsOnPath w (newest_own (part ∷ outer)) parent) (parent_whole : IsWholeInstance w parent) (cells_held : AreAll (CellOk sc IsWholeInstance w ok (newest_own (part ∷ outer))) cells)
+    (no_events : AreAll IsNoEvent cells) (task_path : (x : ℕ) → IsInSkeleton (referred_by_task task) x → IsOnPath w (newest_own (part ∷ outer)) x) where
   abbrev pub top : ℕ
   top = newest_own (part ∷ outer)
 
@@ -78,7 +78,7 @@ module _ (sc : Scopes) (texts : KeepToTexts sc) (w : World) (ok : IsSound sc IsW
   -- ---- the critical instance
 
   pub top_here : IsStanding w top
-  top_here = top_stands sc IsWhole w ok p q part outer is todo
+  top_here = top_stands sc IsWholeInstance w ok p q part outer is todo
 
   first : FirstOf (skeleton w) wanted top critical
   first = first_is sc w ok p q part outer is todo (ap lives able_is) wanted parent (◌⊎◌.inl refl) parent_path
@@ -89,20 +89,20 @@ module _ (sc : Scopes) (texts : KeepToTexts sc) (w : World) (ok : IsSound sc IsW
   pub critical_stands : IsStanding w critical
   critical_stands = stands_path (skeleton w) ok.skeleton_ok top critical top_here critical_path
 
-  pub leads : (x : ℕ) → IsIn wanted x → IsOnPath w top x → IsOnPath w critical x
+  pub leads : (x : ℕ) → IsInSkeleton wanted x → IsOnPath w top x → IsOnPath w critical x
   leads x n l = from_first (skeleton w) ok.skeleton_ok wanted top critical first x n l
 
   abbrev refs : List ℕ
   refs = (home_of new).refs
 
-  refs_on_path : (x : ℕ) → IsIn refs x → IsOnPath w critical x
+  refs_on_path : (x : ℕ) → IsInSkeleton refs x → IsOnPath w critical x
   refs_on_path x n = by (in_either (parent_in parent) (referred_in_cells new.cells) x n)
     where
-      by : IsIn (parent_in parent) x ⊎ IsIn (referred_in_cells new.cells) x → IsOnPath w critical x
+      by : IsInSkeleton (parent_in parent) x ⊎ IsInSkeleton (referred_in_cells new.cells) x → IsOnPath w critical x
       by (◌⊎◌.inl m) = leads x (◌⊎◌.inl (parent_only parent x m)) (subst (λ i. IsOnPath w top i) (parent_only parent x m) parent_path)
       by (◌⊎◌.inr m) =
           let k = fresh_refs (block_numbered sc.blocks j) cells x m in
-          leads x (◌⊎◌.inr (in_front (referred_by cells) (referred_by_task task) x k)) (all_refs sc IsWhole w ok top cells cells_held x k)
+          leads x (◌⊎◌.inr (in_front (referred_by cells) (referred_by_task task) x k)) (all_refs sc IsWholeInstance w ok top cells cells_held x k)
 
   -- ---- the skeleton
 
@@ -121,14 +121,14 @@ module _ (sc : Scopes) (texts : KeepToTexts sc) (w : World) (ok : IsSound sc IsW
   abbrev held : List Evaluation
   held = held_by (inner ∷ [])
 
-  held_on_path : (e : Evaluation) → IsEvaluated held e → IsIn base.own e.over × OnPath s1 e.over e.within
+  held_on_path : (e : Evaluation) → IsEvaluated held e → IsInSkeleton base.own e.over × OnPath s1 e.over e.within
   held_on_path e n = by (evaluated_either number (number ∷ referred_by (held_in_rest inner.rest)) [] e n)
     where
-      path : e.over ≡ number → IsIn (number ∷ referred_by (held_in_rest inner.rest)) e.within → OnPath s1 e.over e.within
+      path : e.over ≡ number → IsInSkeleton (number ∷ referred_by (held_in_rest inner.rest)) e.within → OnPath s1 e.over e.within
       path f (◌⊎◌.inl g) = subst (λ i. OnPath s1 e.over i) (f ∙ g) here
       path f (◌⊎◌.inr m) = absurd (plain_refs (held_in_rest inner.rest) e.within (items_hold IsPlain simple_plain false sc items).0 m)
 
-      by : ((e.over ≡ number) × IsIn (number ∷ referred_by (held_in_rest inner.rest)) e.within) ⊎ IsEvaluated [] e → IsIn base.own e.over × OnPath s1 e.over e.within
+      by : ((e.over ≡ number) × IsInSkeleton (number ∷ referred_by (held_in_rest inner.rest)) e.within) ⊎ IsEvaluated [] e → IsInSkeleton base.own e.over × OnPath s1 e.over e.within
       by (◌⊎◌.inl f) = (◌⊎◌.inl (sym (f.0 ∙ number_is)), path f.0 f.1)
       by (◌⊎◌.inr m) = absurd m
 
@@ -156,7 +156,7 @@ module _ (sc : Scopes) (texts : KeepToTexts sc) (w : World) (ok : IsSound sc IsW
 
   pub stands_on : (i : ℕ) → IsStanding w i → IsStanding v i
   stands_on i st =
-      subst (λ (z : Skeleton). Stands z i) (sym skeleton_is)
+      subst (λ (z : Skeleton). SkeletonStands z i) (sym skeleton_is)
       (stands_up s1 s2 (evaluations_grow s1 s1_ok (length (skeleton w).stacks) base base_at held held_on_path) i
       (stands_up (skeleton w) s1 (start_grows (skeleton w) ok.skeleton_ok critical refs critical_stands refs_on_path) i st))
 
@@ -178,23 +178,23 @@ module _ (sc : Scopes) (texts : KeepToTexts sc) (w : World) (ok : IsSound sc IsW
   pub stood : (i : ℕ) → IsStanding v i → IsStanding w i ⊎ (i ≡ number)
   stood i st = by (stack_back v st.number st.stack st.is)
     where
-      in_base : IsIn (number ∷ []) i → IsStanding w i ⊎ (i ≡ number)
+      in_base : IsInSkeleton (number ∷ []) i → IsStanding w i ⊎ (i ≡ number)
       in_base (◌⊎◌.inl e) = ◌⊎◌.inr (sym e)
       in_base (◌⊎◌.inr n) = absurd n
 
-      which : (y : Process) → IsIn (own_instances y.todo) i → (numbered w.processes st.number ≡ Some y) ⊎ ((st.number ≡ suc (length w.processes)) × (y ≡ starter)) → IsStanding w i ⊎ (i ≡ number)
+      which : (y : Process) → IsInSkeleton (own_instances y.todo) i → (numbered w.processes st.number ≡ Some y) ⊎ ((st.number ≡ suc (length w.processes)) × (y ≡ starter)) → IsStanding w i ⊎ (i ≡ number)
       which y n (◌⊎◌.inl f) = ◌⊎◌.inl (record { number = st.number; stack = stack_of y; is = stack_forth w st.number y f; inside = n })
-      which y n (◌⊎◌.inr f) = in_base (subst (λ (z : Process). IsIn (own_instances z.todo) i) f.1 n)
+      which y n (◌⊎◌.inr f) = in_base (subst (λ (z : Process). IsInSkeleton (own_instances z.todo) i) f.1 n)
 
       by : ((st.stack.own ≡ []) × (st.stack.evaluations ≡ []) × (st.stack.live ≡ false)) ⊎ ((y : Process) × (numbered v.processes st.number ≡ Some y) × (st.stack ≡ stack_of y)) →
           IsStanding w i ⊎ (i ≡ number)
-      by (◌⊎◌.inl f) = absurd (subst (λ xs. IsIn xs i) f.0 st.inside)
-      by (◌⊎◌.inr f) = which f.0 (subst (λ (z : Stack). IsIn z.own i) f.2 st.inside) (numbered_last w.processes starter st.number f.0 f.1)
+      by (◌⊎◌.inl f) = absurd (subst (λ xs. IsInSkeleton xs i) f.0 st.inside)
+      by (◌⊎◌.inr f) = which f.0 (subst (λ (z : Stack). IsInSkeleton z.own i) f.2 st.inside) (numbered_last w.processes starter st.number f.0 f.1)
 
   pub blocks : (i : ℕ) → i < length (skeleton w).homes → (instance_at v i).block ≡ (instance_at w i).block
   blocks i h = ap (λ (x : Instance). x.block) (old_at i (let n = number_is in omega (arith, h, n)))
 
-  pub whole : (i : ℕ) → IsStanding v i → IsWhole w i → IsWhole v i
+  pub whole : (i : ℕ) → IsStanding v i → IsWholeInstance w i → IsWholeInstance v i
   whole i st h =
       record {
         number = h.number;

@@ -9,10 +9,10 @@ use Rattle.algol_tree.specs.Scopes.{Scopes}
 use Rattle.algol_meaning.specs.Value.{Reference, Cell, event}
 use Rattle.algol_meaning.specs.World.{State, able, waits_for, waits_any, procures, ended, cell_at, cell_in, event_in, or_no_instance, Process, process_at, lives, set_all_able, World}
 use Rattle.algol_meaning.specs.Critical.{own_instances}
-use Rattle.algol_meaning.specs.Events.{event_at, change_event, is_among, list_in, all_withdrawn}
+use Rattle.algol_meaning.specs.Events.{event_at, change_event, reference_is_among, list_in, all_withdrawn}
 use Rattle.algol_laws.proofs.Releasing.{able_instances, all_withdrawn_state}
-use Rattle.algol_standing.specs.Skeleton.{Evaluation, IsEvaluated, IsIn}
-use Rattle.algol_standing.specs.Worlds.{held_by, stack_of, IsStanding, IsOnPath, IsAmong, Awaits, AreListed, IsWhole, ProcessOk, IsSound}
+use Rattle.algol_standing.specs.Skeleton.{Evaluation, IsEvaluated, IsInSkeleton}
+use Rattle.algol_standing.specs.Worlds.{held_by, stack_of, IsStanding, IsOnPath, IsAmongParts, Awaits, WaitersAreListed, IsWholeInstance, ProcessOk, IsSound}
 use Rattle.algol_standing.proofs.Pairs.{AllPairs, numbered_back, numbered_forth, pairs_self, pairs_map, stack_forth}
 use Rattle.algol_standing.proofs.Alike.{InstanceAlike, instance_self, ProcessAlike, alike_ok}
 use Rattle.algol_standing.proofs.Unmoved.{Unmoved, unmoved_self, unmoved_alike, unmoved_ok}
@@ -23,7 +23,7 @@ use Rattle.algol_standing.proofs.Listed.{able_unmoved, state_kept, now_listed}
 
 -- the states of those who are listed are what they were
 listed_as : (w v : World) (r : Reference) (e : EventState) → ((k : ℕ) → IsListed e.waiters k → (process_at v k).state ≡ (process_at w k).state) →
-    ((k : ℕ) → IsListed e.procurers k → (process_at v k).state ≡ (process_at w k).state) → AreListed w r e → AreListed v r e
+    ((k : ℕ) → IsListed e.procurers k → (process_at v k).state ≡ (process_at w k).state) → WaitersAreListed w r e → WaitersAreListed v r e
 listed_as w v r e waiting procuring l =
     record {
       waiters = λ k n. subst (λ s. Awaits s r) (sym (waiting k n)) (l.waiters k n);
@@ -33,8 +33,8 @@ listed_as w v r e waiting procuring l =
     }
 
 -- no process moves
-module _ (sc : Scopes) (w : World) (ok : IsSound sc IsWhole w) (v : World) (instances : AllPairs InstanceAlike w.instances v.instances) (processes : AllPairs Unmoved w.processes v.processes) where
-  kept : (i : ℕ) → IsWhole w i → IsWhole v i
+module _ (sc : Scopes) (w : World) (ok : IsSound sc IsWholeInstance w) (v : World) (instances : AllPairs InstanceAlike w.instances v.instances) (processes : AllPairs Unmoved w.processes v.processes) where
+  kept : (i : ℕ) → IsWholeInstance w i → IsWholeInstance v i
   kept i h =
       let m = numbered_forth Unmoved w.processes v.processes h.number h.process processes h.is in
       record {
@@ -42,45 +42,45 @@ module _ (sc : Scopes) (w : World) (ok : IsSound sc IsWhole w) (v : World) (inst
         process = m.0;
         part = h.part;
         is = m.1;
-        among = subst (λ ps. IsAmong ps h.part) (sym m.2.todo) h.among;
+        among = subst (λ ps. IsAmongParts ps h.part) (sym m.2.todo) h.among;
         owns = h.owns;
         instance_is = h.instance_is;
         made = h.made;
       }
 
-  each : (k : ℕ) (y : Process) → numbered v.processes k ≡ Some y → ProcessOk sc IsWhole w y
+  each : (k : ℕ) (y : Process) → numbered v.processes k ≡ Some y → ProcessOk sc IsWholeInstance w y
   each k y e =
-      let m = numbered_back Unmoved w.processes v.processes k y processes e in unmoved_ok sc IsWhole w m.0 y m.2 (ok.processes k m.0 m.1)
+      let m = numbered_back Unmoved w.processes v.processes k y processes e in unmoved_ok sc IsWholeInstance w m.0 y m.2 (ok.processes k m.0 m.1)
 
-  holds : (k : ℕ) (y : Process) (e : Evaluation) → numbered v.processes k ≡ Some y → IsEvaluated (held_by y.todo) e → IsIn (own_instances y.todo) e.over × IsOnPath w e.over e.within
+  holds : (k : ℕ) (y : Process) (e : Evaluation) → numbered v.processes k ≡ Some y → IsEvaluated (held_by y.todo) e → IsInSkeleton (own_instances y.todo) e.over × IsOnPath w e.over e.within
   holds k y e g n =
       let m = numbered_back Unmoved w.processes v.processes k y processes g in
-      subst (λ ps. IsIn (own_instances ps) e.over × IsOnPath w e.over e.within) (sym m.2.todo)
+      subst (λ ps. IsInSkeleton (own_instances ps) e.over × IsOnPath w e.over e.within) (sym m.2.todo)
       (ok.skeleton_ok.evaluates k (stack_of m.0) e (stack_forth w k m.0 m.1) (subst (λ ps. IsEvaluated (held_by ps) e) m.2.todo n))
 
-  pub unmoved_sound : ((r : Reference) (e : EventState) → IsStanding w r.instance → cell_at v r ≡ event e → AreListed v r e) → IsSound sc IsWhole v
+  pub unmoved_sound : ((r : Reference) (e : EventState) → IsStanding w r.instance → cell_at v r ≡ event e → WaitersAreListed v r e) → IsSound sc IsWholeInstance v
   unmoved_sound listed =
-      alike_ok w v instances (pairs_map Unmoved ProcessAlike unmoved_alike w.processes v.processes processes) sc IsWhole kept ok each holds listed
+      alike_ok w v instances (pairs_map Unmoved ProcessAlike unmoved_alike w.processes v.processes processes) sc IsWholeInstance kept ok each holds listed
 
-module _ (sc : Scopes) (w : World) (ok : IsSound sc IsWhole w) where
+module _ (sc : Scopes) (w : World) (ok : IsSound sc IsWholeInstance w) where
   same_all : AllPairs Unmoved w.processes w.processes
   same_all = pairs_self Unmoved unmoved_self w.processes
 
   -- an event that changes, for which nobody waits who did not
-  pub changed_ok : (r : Reference) (c : Option (EventState → EventState)) → AreListed w r (after_change c (event_at w r)) → IsSound sc IsWhole (change_event w r c)
+  pub changed_ok : (r : Reference) (c : Option (EventState → EventState)) → WaitersAreListed w r (after_change c (event_at w r)) → IsSound sc IsWholeInstance (change_event w r c)
   changed_ok r None here = ok
   changed_ok r (Some change) here = unmoved_sound sc w ok v (changed_alike w r (Some change)) same_all listed
     where
       v : World
       v = change_event w r (Some change)
 
-      listed : (s : Reference) (d : EventState) → IsStanding w s.instance → cell_at v s ≡ event d → AreListed v s d
+      listed : (s : Reference) (d : EventState) → IsStanding w s.instance → cell_at v s ≡ event d → WaitersAreListed v s d
       listed s d st f = by (event_back w r s (change (event_at w r)) d f)
         where
-          by : ((r ≡ s) × (d ≡ change (event_at w r))) ⊎ ((r ≡ s → ⊥) × (cell_at w s ≡ event d)) → AreListed v s d
+          by : ((r ≡ s) × (d ≡ change (event_at w r))) ⊎ ((r ≡ s → ⊥) × (cell_at w s ≡ event d)) → WaitersAreListed v s d
           by (◌⊎◌.inl g) =
-              subst (λ t. AreListed v t d) g.0
-              (subst (λ x. AreListed v r x) (sym g.1) (listed_as w v r (change (event_at w r)) (λ k n. refl) (λ k n. refl) here))
+              subst (λ t. WaitersAreListed v t d) g.0
+              (subst (λ x. WaitersAreListed v r x) (sym g.1) (listed_as w v r (change (event_at w r)) (λ k n. refl) (λ k n. refl) here))
           by (◌⊎◌.inr g) = listed_as w v s d (λ k n. refl) (λ k n. refl) (ok.listed s d st g.1)
 
   -- the events of those who are withdrawn
@@ -91,16 +91,16 @@ module _ (sc : Scopes) (w : World) (ok : IsSound sc IsWhole w) where
     is_thinned : (s : Reference) (d : EventState) → cell_at thin s ≡ event d → d ≡ thinned (has_in_list w s) ps (event_at w s)
     is_thinned s d f = ap (λ (c : Cell). event_in c) (sym f) ∙ withdrawn_event w r s ps
 
-    now : (s : Reference) → IsStanding w s.instance → AreListed w s (event_at w s)
+    now : (s : Reference) → IsStanding w s.instance → WaitersAreListed w s (event_at w s)
     now s st = now_listed w s (λ e g. ok.listed s e st g)
 
-    pub withdrawn_ok : IsSound sc IsWhole thin
+    pub withdrawn_ok : IsSound sc IsWholeInstance thin
     withdrawn_ok = unmoved_sound sc w ok thin (withdrawn_instances w r ps) (withdrawn_unmoved w w r ps same_all) listed
       where
-        listed : (s : Reference) (d : EventState) → IsStanding w s.instance → cell_at thin s ≡ event d → AreListed thin s d
+        listed : (s : Reference) (d : EventState) → IsStanding w s.instance → cell_at thin s ≡ event d → WaitersAreListed thin s d
         listed s d st f =
             listed_as w thin s d (λ k n. all_withdrawn_state w r ps k) (λ k n. all_withdrawn_state w r ps k)
-            (subst (λ e. AreListed w s e) (sym (is_thinned s d f)) (thinned_listed w s (has_in_list w s) ps (event_at w s) (now s st)))
+            (subst (λ e. WaitersAreListed w s e) (sym (is_thinned s d f)) (thinned_listed w s (has_in_list w s) ps (event_at w s) (now s st)))
 
     -- none of them waits for an event to happen then, where it did not wait for that by itself
     pub withdrawn_gone : (s : Reference) (d : EventState) (k : ℕ) → IsStanding w s.instance → cell_at thin s ≡ event d → IsListed ps k →
@@ -116,7 +116,7 @@ module _ (sc : Scopes) (w : World) (ok : IsSound sc IsWhole w) where
         by : (t : State) → (process_at w k).state ≡ t → Awaits (process_at w k).state s → ⊥
         by (waits_for u) e a = alone (e ∙ ap waits_for (subst (λ t. Awaits t s) e a)) listed
         by (waits_any rs) e a =
-            gone (has_in_list w s) ps (event_at w s) k n (ap (λ t. is_among (list_in t) s) e ∙ subst (λ t. Awaits t s) e a) among
+            gone (has_in_list w s) ps (event_at w s) k n (ap (λ t. reference_is_among (list_in t) s) e ∙ subst (λ t. Awaits t s) e a) among
         by able e a = subst (λ t. Awaits t s) e a
         by (procures u) e a = subst (λ t. Awaits t s) e a
         by ended e a = subst (λ t. Awaits t s) e a
@@ -124,7 +124,7 @@ module _ (sc : Scopes) (w : World) (ok : IsSound sc IsWhole w) where
   -- those who are freed, for whom no event has a place in its lists
   pub able_ok : (ps : List ℕ) → ((k : ℕ) → IsListed ps k → lives ((process_at w k).state) ≡ true) →
       ((s : Reference) (d : EventState) (k : ℕ) → IsStanding w s.instance → cell_at w s ≡ event d → IsListed ps k → (IsListed d.waiters k → ⊥) × (IsListed d.procurers k → ⊥)) →
-      IsSound sc IsWhole (set_all_able w ps)
+      IsSound sc IsWholeInstance (set_all_able w ps)
   able_ok ps live free =
       unmoved_sound sc w ok v (subst (λ xs. AllPairs InstanceAlike w.instances xs) (sym (able_instances w ps)) (pairs_self InstanceAlike instance_self w.instances))
       (able_unmoved w w ps same_all live) listed
@@ -132,7 +132,7 @@ module _ (sc : Scopes) (w : World) (ok : IsSound sc IsWhole w) where
       v : World
       v = set_all_able w ps
 
-      listed : (s : Reference) (d : EventState) → IsStanding w s.instance → cell_at v s ≡ event d → AreListed v s d
+      listed : (s : Reference) (d : EventState) → IsStanding w s.instance → cell_at v s ≡ event d → WaitersAreListed v s d
       listed s d st f =
           listed_as w v s d (λ k n. state_kept w ps k ((process_at w k).state) refl (λ m. (free s d k st before m).0 n))
           (λ k n. state_kept w ps k ((process_at w k).state) refl (λ m. (free s d k st before m).1 n)) (ok.listed s d st before)

@@ -4,7 +4,7 @@ use Rattle.algol_tree.specs.Scopes.{Scopes}
 use Rattle.algol_meaning.specs.Value.{Reference}
 use Rattle.algol_meaning.specs.World.{Process, able, lives, World}
 use Rattle.algol_meaning.specs.Critical.{own_instances}
-use Rattle.algol_standing.specs.Worlds.{newest_own, IsOnPath, IsOwn, IsAmong, IsAwaited, IsFew, AreGiven, HasHead, ProcessOk}
+use Rattle.algol_standing.specs.Worlds.{newest_own, IsOnPath, IsOwn, IsAmongParts, IsAwaited, IsFew, PartsAreGiven, HasHead, ProcessOk}
 use Rattle.algol_standing.proofs.Alike.{ProcessAlike}
 
 pub record Unmoved (x y : Process) : Type 0 where
@@ -41,9 +41,9 @@ unmoved_alike x y f =
 pub unmoved_ok : (sc : Scopes) (Whole : World → ℕ → Type 0) (w : World) (x y : Process) → Unmoved x y → ProcessOk sc Whole w x → ProcessOk sc Whole w y
 unmoved_ok sc Whole w x y f k =
     record {
-      parts = λ part n. k.parts part (subst (λ ps. IsAmong ps part) f.todo n);
+      parts = λ part n. k.parts part (subst (λ ps. IsAmongParts ps part) f.todo n);
       heads = λ live. subst (λ ps. HasHead ps) (sym f.todo) (k.heads (sym (unmoved_lives x y f) ∙ live));
-      gives = subst (λ ps. AreGiven ps) (sym f.todo) k.gives;
+      gives = subst (λ ps. PartsAreGiven ps) (sym f.todo) k.gives;
       awaited = λ r n. by r n f.state;
       few = f.few k.few;
     }

@@ -7,10 +7,10 @@ use Rattle.b67_deeds.specs.Events.{EventState, left_by}
 use Rattle.b67_deeds.specs.Listed.{IsListed, AreOnce}
 use Rattle.algol_meaning.specs.Value.{Reference, Cell, event}
 use Rattle.algol_meaning.specs.World.{Process, or_no_process, process_at, cell_at, event_in, World}
-use Rattle.algol_meaning.specs.Events.{event_at, change_event, same_reference, first_that, is_among, list_in, forgotten, told_number, woken_by, withdrawn, all_withdrawn}
+use Rattle.algol_meaning.specs.Events.{event_at, change_event, same_reference, first_that, reference_is_among, list_in, forgotten, told_number, woken_by, withdrawn, all_withdrawn}
 use Rattle.algol_laws.proofs.Cells.{same_number, itself}
 use Rattle.algol_laws.proofs.Releasing.{forgotten_processes, withdrawn_state}
-use Rattle.algol_standing.specs.Worlds.{AreListed, IsFew}
+use Rattle.algol_standing.specs.Worlds.{WaitersAreListed, IsFew}
 use Rattle.algol_standing.proofs.Pairs.{AllPairs, numbered_forth, pairs_self, pairs_then, pairs_then_set}
 use Rattle.algol_standing.proofs.Alike.{InstanceAlike, instance_self, instance_then}
 use Rattle.algol_standing.proofs.Unmoved.{Unmoved}
@@ -102,7 +102,7 @@ gone leaves (j ∷ ps) e k (◌⊎◌.inl same) f m =
     (subst (λ i. IsListed (if leaves i then left_by i e else e).waiters k) same ((thinner leaves ps (if leaves j then left_by j e else e)).waiters k m)))
 gone leaves (j ∷ ps) e k (◌⊎◌.inr n) f m = gone leaves ps (if leaves j then left_by j e else e) k n f m
 
-pub thinned_listed : (v : World) (s : Reference) (leaves : ℕ → Bool) (ps : List ℕ) (e : EventState) → AreListed v s e → AreListed v s (thinned leaves ps e)
+pub thinned_listed : (v : World) (s : Reference) (leaves : ℕ → Bool) (ps : List ℕ) (e : EventState) → WaitersAreListed v s e → WaitersAreListed v s (thinned leaves ps e)
 thinned_listed v s leaves ps e l =
     let t = thinner leaves ps e in
     record {
@@ -119,7 +119,7 @@ module _ (k : ℕ) where
   left_changes w t = event_changes (left_by k) refl w t
 
   pub forgotten_event : (w : World) (rs : List Reference) (s : Reference) →
-      event_at (forgotten w k rs) s ≡ (if is_among rs s then left_by k (event_at w s) else event_at w s)
+      event_at (forgotten w k rs) s ≡ (if reference_is_among rs s then left_by k (event_at w s) else event_at w s)
   forgotten_event w [] s = refl
   forgotten_event w (t ∷ rs) s = forgotten_event (change_event w t (Some (left_by k))) rs s ∙ by (same_or_not t s)
     where
@@ -131,24 +131,24 @@ module _ (k : ℕ) where
       once false = refl
 
       by : (same_reference t s ≡ true) ⊎ (same_reference t s ≡ false) →
-          (if is_among rs s then left_by k (event_at v s) else event_at v s) ≡ (if is_among (t ∷ rs) s then left_by k (event_at w s) else event_at w s)
+          (if reference_is_among rs s then left_by k (event_at v s) else event_at v s) ≡ (if reference_is_among (t ∷ rs) s then left_by k (event_at w s) else event_at w s)
       by (◌⊎◌.inl e) =
-          ap (λ d. if is_among rs s then left_by k d else d)
+          ap (λ d. if reference_is_among rs s then left_by k d else d)
           (subst (λ (u : Reference). event_at v u ≡ left_by k (event_at w u)) (same_is t s e) (left_changes w t))
-          ∙ (once (is_among rs s) ∙ ap (λ b. if b then left_by k (event_at w s) else event_at w s) (sym (among_first t rs s e)))
+          ∙ (once (reference_is_among rs s) ∙ ap (λ b. if b then left_by k (event_at w s) else event_at w s) (sym (among_first t rs s e)))
       by (◌⊎◌.inr e) =
-          ap (λ d. if is_among rs s then left_by k d else d) (ap (λ (c : Cell). event_in c) (cell_apart w t s (left_by k (event_at w t)) (not_same t s e)))
+          ap (λ d. if reference_is_among rs s then left_by k d else d) (ap (λ (c : Cell). event_in c) (cell_apart w t s (left_by k (event_at w t)) (not_same t s e)))
           ∙ ap (λ b. if b then left_by k (event_at w s) else event_at w s) (sym (among_more t rs s e))
 
   -- every other cell is as it was
-  pub forgotten_other : (w : World) (rs : List Reference) (s : Reference) → is_among rs s ≡ false → cell_at (forgotten w k rs) s ≡ cell_at w s
+  pub forgotten_other : (w : World) (rs : List Reference) (s : Reference) → reference_is_among rs s ≡ false → cell_at (forgotten w k rs) s ≡ cell_at w s
   forgotten_other w [] s e = refl
   forgotten_other w (t ∷ rs) s e = by (same_or_not t s) (λ f. forgotten_other (change_event w t (Some (left_by k))) rs s f)
     where
       by : (same_reference t s ≡ true) ⊎ (same_reference t s ≡ false) →
-          (is_among rs s ≡ false → cell_at (forgotten (change_event w t (Some (left_by k))) k rs) s ≡ cell_at (change_event w t (Some (left_by k))) s) →
+          (reference_is_among rs s ≡ false → cell_at (forgotten (change_event w t (Some (left_by k))) k rs) s ≡ cell_at (change_event w t (Some (left_by k))) s) →
           cell_at (forgotten w k (t ∷ rs)) s ≡ cell_at w s
-      by (◌⊎◌.inl f) go = absurd (false_true (is_among (t ∷ rs) s) e (among_first t rs s f))
+      by (◌⊎◌.inl f) go = absurd (false_true (reference_is_among (t ∷ rs) s) e (among_first t rs s f))
       by (◌⊎◌.inr f) go = go (sym (among_more t rs s f) ∙ e) ∙ cell_apart w t s (left_by k (event_at w t)) (not_same t s f)
 
   -- a cell that holds an event still does
@@ -171,21 +171,21 @@ module _ (k : ℕ) where
 
 -- whether a process has the event in its list
 abbrev pub has_in_list : World → Reference → ℕ → Bool
-has_in_list w s k = is_among (list_in (process_at w k).state) s
+has_in_list w s k = reference_is_among (list_in (process_at w k).state) s
 
 pub withdrawn_event : (w : World) (r s : Reference) (ps : List ℕ) → event_at (all_withdrawn w r ps) s ≡ thinned (has_in_list w s) ps (event_at w s)
 withdrawn_event w r s [] = refl
 withdrawn_event w r s (k ∷ ps) =
     withdrawn_event (withdrawn w r k) r s ps
     ∙ (thinned_alike (has_in_list (withdrawn w r k) s) (has_in_list w s) ps (event_at (withdrawn w r k) s)
-    (λ j. ap (λ t. is_among (list_in t) s) (withdrawn_state w r k j))
+    (λ j. ap (λ t. reference_is_among (list_in t) s) (withdrawn_state w r k j))
     ∙ ap (λ e. thinned (has_in_list w s) ps e) (forgotten_event k w (list_in (process_at w k).state) s))
 
 pub withdrawn_other : (w : World) (r s : Reference) (ps : List ℕ) → ((k : ℕ) → IsListed ps k → has_in_list w s k ≡ false) →
     cell_at (all_withdrawn w r ps) s ≡ cell_at w s
 withdrawn_other w r s [] f = refl
 withdrawn_other w r s (k ∷ ps) f =
-    withdrawn_other (withdrawn w r k) r s ps (λ j n. ap (λ t. is_among (list_in t) s) (withdrawn_state w r k j) ∙ f j (◌⊎◌.inr n))
+    withdrawn_other (withdrawn w r k) r s ps (λ j n. ap (λ t. reference_is_among (list_in t) s) (withdrawn_state w r k j) ∙ f j (◌⊎◌.inr n))
     ∙ forgotten_other k w (list_in (process_at w k).state) s (f k (◌⊎◌.inl refl))
 
 withdrawn_there : (w : World) (r s : Reference) (ps : List ℕ) (d : EventState) → cell_at w s ≡ event d →

@@ -6,9 +6,9 @@ use Rattle.algol_tree.specs.Sorts.{is_formal, Parameter}
 use Rattle.algol_tree.specs.Scopes.{Scopes}
 use Rattle.algol_meaning.specs.Value.{Reference, Cell, named, reference}
 use Rattle.algol_meaning.specs.World.{NamedCell, Instance, Part, Process, World, cell_in}
-use Rattle.algol_meaning.specs.Events.{is_among, list_in}
-use Rattle.algol_calls.specs.Fits.{CellFits, parameter_sort, ExprFits, RestFits}
-use Rattle.algol_standing.specs.Worlds.{held_in_rest, IsAmong, IsSound}
+use Rattle.algol_meaning.specs.Events.{reference_is_among, list_in}
+use Rattle.algol_calls.specs.Fits.{CellFits, parameter_sort, CalledExprFits, RestFits}
+use Rattle.algol_standing.specs.Worlds.{held_in_rest, IsAmongParts, IsSound}
 use Rattle.algol_standing.specs.Lows.{IsLow, IsMaking}
 
 -- the first cells are those of the parameters
@@ -30,7 +30,7 @@ module _ (sc : Scopes) where
 
     abbrev pub LeadsRight : Cell → Type 0
     LeadsRight (reference r) = IsPlainAt r
-    LeadsRight (named n) = ExprFits sc n.actual
+    LeadsRight (named n) = CalledExprFits sc n.actual
     LeadsRight _ = Unit {0}
 
     abbrev pub AllLeadRight : List Cell → Type 0
@@ -46,9 +46,9 @@ module _ (sc : Scopes) where
       pub holds : AllLeadRight (held_in_rest part.rest)
 
     pub record ProcessFits (q : Process) : Type 0 where
-      pub parts : (part : Part) → IsAmong q.todo part → PartFits part
+      pub parts : (part : Part) → IsAmongParts q.todo part → PartFits part
       pub task : (r : Reference) → q.task ≡ Some r → IsPlainAt r
-      pub waits : (r : Reference) → is_among (list_in q.state) r ≡ true → IsPlainAt r
+      pub waits : (r : Reference) → reference_is_among (list_in q.state) r ≡ true → IsPlainAt r
 
     pub record WorldFits : Type 0 where
       pub instances : (i : ℕ) (x : Instance) → numbered w.instances i ≡ Some x → InstanceFits x

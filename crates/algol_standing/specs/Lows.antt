@@ -10,7 +10,7 @@ use Rattle.algol_paths.specs.Blocks.{IsSeenAround}
 use Rattle.algol_paths.specs.Texts.{InExpr, InRest}
 use Rattle.algol_paths.specs.Arrays.{all_to_make}
 use Rattle.algol_calls.specs.Fits.{has_simple}
-use Rattle.algol_standing.specs.Worlds.{held_in_rest, IsAmong, IsNoBlock}
+use Rattle.algol_standing.specs.Worlds.{held_in_rest, IsAmongParts, IsNoBlock}
 
 -- the instance i, whose block has the number b
 module _ (sc : Scopes) (b i : ℕ) where
@@ -44,7 +44,7 @@ module _ (sc : Scopes) (b i : ℕ) where
 
   pub record WorldLow (w : World) : Type 0 where
     pub instances : (j : ℕ) (x : Instance) → numbered w.instances j ≡ Some x → x.left ≡ false → InstanceLow x
-    pub parts : (p : ℕ) (q : Process) (part : Part) → numbered w.processes p ≡ Some q → IsAmong q.todo part → PartLow part
+    pub parts : (p : ℕ) (q : Process) (part : Part) → numbered w.processes p ≡ Some q → IsAmongParts q.todo part → PartLow part
     pub tasks : (p : ℕ) (q : Process) (r : Reference) → numbered w.processes p ≡ Some q → q.task ≡ Some r → LeadsLow r
 
 -- Nobody comes to what actions make in the instance: it is nobody's parent, what refers to it names one of its simple cells, and its actuals, and
@@ -58,7 +58,7 @@ pub record IsMaking (w : World) (i : ℕ) : Type 0 where
   pub process : Process
   pub part : Part
   pub is : numbered w.processes number ≡ Some process
-  pub among : IsAmong process.todo part
+  pub among : IsAmongParts process.todo part
   pub owns : is_evaluation part.purpose ≡ false
   pub instance_is : part.instance ≡ i
   pub makes : all_to_make part.rest ≡ [] → ⊥

@@ -11,13 +11,13 @@ use Rattle.b67_deeds.specs.Listed.{IsListed, AreOnce}
 use Rattle.algol_meaning.specs.Rest.{Place, own, there, element_of, Given, passed, Hole, enter, subscript, argument, left, right, negated, inverted, condition, Actuals, pass, in_value, Aim, place_subscript, Rest, giving_place, store, entering, starting, evaluating, locating, aiming, storing, choosing, looping, checking, counting, differing, stepping, selecting, calling, preparing, writing, bounding, inside_place, Answer, cell, place}
 use Rattle.algol_meaning.specs.World.{NamedCell, Instance, Part, Process, State, waits_for, procures, waits_any, lives, World, instance_at, process_at, cell_at}
 use Rattle.algol_meaning.specs.Critical.{is_evaluation, own_instances, referred_in, referred_by}
-use Rattle.algol_meaning.specs.Events.{is_among, list_in}
+use Rattle.algol_meaning.specs.Events.{reference_is_among, list_in}
 use Rattle.algol_meaning.specs.Asks.{nothing, ask}
-use Rattle.algol_paths.specs.Blocks.{IsSeen, IsSeenAround}
+use Rattle.algol_paths.specs.Blocks.{BlockIsSeen, IsSeenAround}
 use Rattle.algol_paths.specs.Texts.{InExpr, InRest}
 use Rattle.algol_paths.specs.Arrays.{all_to_make}
 use Rattle.algol_paths.specs.Laws.{KeepsToText}
-use Rattle.algol_standing.specs.Skeleton.{Evaluation, Stack, Home, Skeleton, Stands, OnPath, SkeletonOk}
+use Rattle.algol_standing.specs.Skeleton.{Evaluation, Stack, Home, Skeleton, SkeletonStands, OnPath, SkeletonOk}
 
 -- ---- what an instance refers to
 
@@ -117,7 +117,7 @@ skeleton w =
 
 -- the instance is that of a part of a live process
 abbrev pub IsStanding : World → ℕ → Type 0
-IsStanding w i = Stands (skeleton w) i
+IsStanding w i = SkeletonStands (skeleton w) i
 
 abbrev pub IsOnPath : World → ℕ → ℕ → Type 0
 IsOnPath w a b = OnPath (skeleton w) a b
@@ -127,27 +127,27 @@ abbrev pub IsOwn : List Part → ℕ → Type 0
 IsOwn [] i = ⊥
 IsOwn (part ∷ parts) i = ((is_evaluation part.purpose ≡ false) × (part.instance ≡ i)) ⊎ IsOwn parts i
 
-abbrev pub IsAmong : List Part → Part → Type 0
-IsAmong [] part = ⊥
-IsAmong (x ∷ parts) part = (x ≡ part) ⊎ IsAmong parts part
+abbrev pub IsAmongParts : List Part → Part → Type 0
+IsAmongParts [] part = ⊥
+IsAmongParts (x ∷ parts) part = (x ≡ part) ⊎ IsAmongParts parts part
 
 -- ---- blocks
 
 -- An instance of an outermost block has no parent. That of another has one of the block around its own.
-pub data IsPlaced (sc : Scopes) (w : World) (x : Instance) : Type 0 where
-  outermost : x.parent ≡ 0 → around sc.blocks x.block ≡ [] → IsPlaced sc w x
-  inside : 1 ≤ x.parent → around sc.blocks x.block ≡ (instance_at w x.parent).block ∷ around sc.blocks ((instance_at w x.parent).block) → IsPlaced sc w x
+pub data PartIsPlaced (sc : Scopes) (w : World) (x : Instance) : Type 0 where
+  outermost : x.parent ≡ 0 → around sc.blocks x.block ≡ [] → PartIsPlaced sc w x
+  inside : 1 ≤ x.parent → around sc.blocks x.block ≡ (instance_at w x.parent).block ∷ around sc.blocks ((instance_at w x.parent).block) → PartIsPlaced sc w x
 
 -- ---- waiting
 
 -- who waits in this state, waits for that event to happen, by itself or among several
 abbrev pub Awaits : State → Reference → Type 0
 Awaits (waits_for s) r = s ≡ r
-Awaits (waits_any rs) r = is_among rs r ≡ true
+Awaits (waits_any rs) r = reference_is_among rs r ≡ true
 Awaits _ r = ⊥
 
 -- who is in an event's list lives and waits for that event; nobody waits there twice
-pub record AreListed (w : World) (r : Reference) (e : EventState) : Type 0 where
+pub record WaitersAreListed (w : World) (r : Reference) (e : EventState) : Type 0 where
   pub waiters : (p : ℕ) → IsListed e.waiters p → Awaits ((process_at w p).state) r
   pub procurers : (p : ℕ) → IsListed e.procurers p → (process_at w p).state ≡ procures r
   pub once : AreOnce e.procurers
@@ -157,7 +157,7 @@ pub record AreListed (w : World) (r : Reference) (e : EventState) : Type 0 where
 abbrev pub IsAwaited : State → Reference → Type 0
 IsAwaited (waits_for s) r = s ≡ r
 IsAwaited (procures s) r = s ≡ r
-IsAwaited (waits_any rs) r = is_among rs r ≡ true
+IsAwaited (waits_any rs) r = reference_is_among rs r ≡ true
 IsAwaited _ r = ⊥
 
 -- no more events are waited for than may be, and the woken number is the place of one of so many
@@ -204,10 +204,10 @@ WaitsForPlace (locating inside_place) = Unit {0}
 WaitsForPlace (aiming inside_place e k) = Unit {0}
 WaitsForPlace _ = ⊥
 
-abbrev pub AreGiven : List Part → Type 0
-AreGiven [] = Unit {0}
-AreGiven (part ∷ []) = GivesNoOwn (is_evaluation part.purpose) part.rest
-AreGiven (part ∷ next ∷ parts) = GivesNoOwn (is_evaluation part.purpose) part.rest × (WaitsForPlace next.rest → GivesPlace part.rest) × AreGiven (next ∷ parts)
+abbrev pub PartsAreGiven : List Part → Type 0
+PartsAreGiven [] = Unit {0}
+PartsAreGiven (part ∷ []) = GivesNoOwn (is_evaluation part.purpose) part.rest
+PartsAreGiven (part ∷ next ∷ parts) = GivesNoOwn (is_evaluation part.purpose) part.rest × (WaitsForPlace next.rest → GivesPlace part.rest) × PartsAreGiven (next ∷ parts)
 
 -- ---- evaluations
 
@@ -223,31 +223,31 @@ pub record HasHead (todo : List Part) : Type 0 where
   pub outer : List Part
   pub is : todo ≡ part ∷ outer
   pub acts : ask part.rest ≡ nothing → ⊥
-  pub wait : (x : Part) → IsAmong outer x → ask x.rest ≡ nothing
+  pub wait : (x : Part) → IsAmongParts outer x → ask x.rest ≡ nothing
 
 -- ---- what is whole
 
 -- An instance has made all that its block declares: a part of its own has nothing left to make.
-pub record IsWhole (w : World) (i : ℕ) : Type 0 where
+pub record IsWholeInstance (w : World) (i : ℕ) : Type 0 where
   pub number : ℕ
   pub process : Process
   pub part : Part
   pub is : numbered w.processes number ≡ Some process
-  pub among : IsAmong process.todo part
+  pub among : IsAmongParts process.todo part
   pub owns : is_evaluation part.purpose ≡ false
   pub instance_is : part.instance ≡ i
   pub made : all_to_make part.rest ≡ []
 
 -- ---- all of it
 
--- `Whole w i` says that the instance has made all that its block declares, as `IsWhole` does.
+-- `Whole w i` says that the instance has made all that its block declares, as `IsWholeInstance` does.
 module _ (sc : Scopes) (Whole : World → ℕ → Type 0) (w : World) where
   abbrev pub block_at : ℕ → ℕ
   block_at i = (instance_at w i).block
 
   -- The actual stands in the text of its instance's block; in an instance that is not whole it stands in a bound.
   pub record KeepsActual (n : NameCell) : Type 0 where
-    pub seen : InExpr (IsSeen sc (block_at n.instance)) n.actual
+    pub seen : InExpr (BlockIsSeen sc (block_at n.instance)) n.actual
     pub narrow : Whole w n.instance ⊎ InExpr (IsSeenAround sc (block_at n.instance)) n.actual
 
   -- What a part has still to do keeps to the text of its block; an evaluation in an instance that is not whole, to what is around that, and it
@@ -259,10 +259,10 @@ module _ (sc : Scopes) (Whole : World → ℕ → Type 0) (w : World) where
     pub names : (n : NameCell) → IsNameHeld (held_in_rest part.rest) n → KeepsActual n
 
   pub record ProcessOk (q : Process) : Type 0 where
-    pub parts : (part : Part) → IsAmong q.todo part → PartOk part
+    pub parts : (part : Part) → IsAmongParts q.todo part → PartOk part
     pub heads : lives q.state ≡ true → HasHead q.todo
     -- each part waits for what the one inside it gives
-    pub gives : AreGiven q.todo
+    pub gives : PartsAreGiven q.todo
     -- who waits, waits for events on its path
     pub awaited : (r : Reference) → IsAwaited q.state r → IsOnPath w (newest_own q.todo) r.instance
     pub few : IsFew q.woken q.state
@@ -272,7 +272,7 @@ module _ (sc : Scopes) (Whole : World → ℕ → Type 0) (w : World) where
     -- it is left exactly where it does not stand
     pub left : (x.left ≡ false) ↔ IsStanding w i
     pub known : x.block < length sc.blocks
-    pub placed : IsPlaced sc w x
+    pub placed : PartIsPlaced sc w x
     pub whole : IsStanding w i → 1 ≤ x.parent → Whole w x.parent
     pub actuals : (n : NameCell) → IsStanding w i → IsNameAmong x.cells n → KeepsActual n
 
@@ -292,4 +292,4 @@ module _ (sc : Scopes) (Whole : World → ℕ → Type 0) (w : World) where
     pub tasks : (p c : ℕ) (q : Process) (r : Reference) → numbered w.processes p ≡ Some q → lives q.state ≡ true → q.critical ≡ Some c → q.task ≡ Some r →
         IsOnPath w c r.instance
     -- who is listed waits
-    pub listed : (r : Reference) (e : EventState) → IsStanding w r.instance → cell_at w r ≡ event e → AreListed w r e
+    pub listed : (r : Reference) (e : EventState) → IsStanding w r.instance → cell_at w r ≡ event e → WaitersAreListed w r e

@@ -15,7 +15,7 @@ use Rattle.algol_cells.specs.SeenCell as cells
 use Rattle.algol_cells.specs.SeenValue.{value}
 use Rattle.algol_cells.specs.declared.value.Value.{Value}
 use Rattle.algol_cells.specs.declared.cell.Reference as code
-use Rattle.algol_rest_expr.specs.SeenExpression.{names_of}
+use Rattle.algol_rest_expr.specs.SeenExpression.{event_names_of}
 use Rattle.algol_effect.specs.Effects.{choice_by, here_in, followed_in}
 use Rattle.algol_effect.specs.declared.effect.Effect.TheVariants as effects
 
@@ -59,7 +59,7 @@ pub ruleset waiting = (wakes_so, waits_so, goes_so)
 -- ---- names that are followed
 
 module _ (sc : Scopes) (w : World) (at : ℕ) where
-  appended : (es : List EventName) (e : EventName) → followed_in sc w at (names_of (es ++ e ∷ [])) ≡ followed_in sc w at (names_of es) ++ world.followed w (here_in sc w at e.name) ∷ []
+  appended : (es : List EventName) (e : EventName) → followed_in sc w at (event_names_of (es ++ e ∷ [])) ≡ followed_in sc w at (event_names_of es) ++ world.followed w (here_in sc w at e.name) ∷ []
   appended [] e = refl
   appended (x ∷ es) e = ap (λ (rs : List plain.Reference). world.followed w (here_in sc w at x.name) ∷ rs) (appended es e)
 
@@ -67,13 +67,13 @@ module _ (sc : Scopes) (w : World) (at : ℕ) where
   pub followed_more :
       (es : List EventName) (i : ℕ) (e : EventName) (rs : List code.Reference) (r h : code.Reference) → i < length es → e ≡ get_or es i e
       → cells.reference r ≡ world.followed w (cells.reference h) → cells.reference h ≡ here_in sc w at e.name
-      → map cells.reference rs ≡ followed_in sc w at (names_of (take i es))
-      → map cells.reference (rs ++ r ∷ []) ≡ followed_in sc w at (names_of (take (i + 1) es))
+      → map cells.reference rs ≡ followed_in sc w at (event_names_of (take i es))
+      → map cells.reference (rs ++ r ∷ []) ≡ followed_in sc w at (event_names_of (take (i + 1) es))
   followed_more es i e rs r h less is led there inv =
-      let before = followed_in sc w at (names_of (take i es)) in
+      let before = followed_in sc w at (event_names_of (take i es)) in
       map-append cells.reference rs (r ∷ [])
       ∙ ap (λ (xs : List plain.Reference). xs ++ cells.reference r ∷ []) inv
       ∙ ap (λ (x : plain.Reference). before ++ x ∷ []) (led ∙ ap (world.followed w) there)
       ∙ sym (appended (take i es) e)
-      ∙ ap (λ (f : EventName). followed_in sc w at (names_of (take i es ++ f ∷ []))) is
-      ∙ ap (λ (xs : List EventName). followed_in sc w at (names_of xs)) (sym (take_more es i e less))
+      ∙ ap (λ (f : EventName). followed_in sc w at (event_names_of (take i es ++ f ∷ []))) is
+      ∙ ap (λ (xs : List EventName). followed_in sc w at (event_names_of xs)) (sym (take_more es i e less))

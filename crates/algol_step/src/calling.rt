@@ -74,7 +74,7 @@ fn given_cells<'p>(
 
 /// The block of the procedure that a name is.
 fn block_of<'p>(world: &World<'p>, n: &Named) -> usize
-    ensures { result ≡ settling.block_of ((scoping.use_of (scoped world.now.scopes) n.now).sort) }
+    ensures { result ≡ settling.block_of_sort ((scoping.use_of (scoped world.now.scopes) n.now).sort) }
 {
     world.scopes.procedure(n).unwrap_or(0)
 }

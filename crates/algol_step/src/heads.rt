@@ -3,7 +3,7 @@
 ghost use Rattle.std.specs.Prelude.{◌≡◌, IfOk};
 ghost use Rattle.algol_meaning.specs.Asks as asks;
 ghost use Rattle.algol_cells.specs.SeenScope.{scoped};
-ghost use Rattle.algol_rest.specs.SeenRest.{rest, asked};
+ghost use Rattle.algol_rest.specs.SeenRest.{rest, rest_asked};
 ghost use Rattle.algol_effect.specs.Effects.{asked_choice, effect_choice};
 
 use crate::calling::{decide_enter, decide_start};
@@ -34,7 +34,7 @@ pub fn decide<'p>(
     part: &Part<'p>,
     ask: &Ask<'_, 'p>,
 ) -> Result<Effect<'p>, AllocError>
-    ensures { IfOk result (λ e. asked_choice world.now process part.now (asked ask.now) ≡ effect_choice world.now process part.now e) }
+    ensures { IfOk result (λ e. asked_choice world.now process part.now (rest_asked ask.now) ≡ effect_choice world.now process part.now e) }
 {
     match ask {
         Ask::Nothing => Ok(Effect::Nothing),

@@ -9,7 +9,7 @@ ghost use Rattle.algol_meaning.specs.Value as plain;
 ghost use Rattle.algol_cells.specs.SeenCell.{reference};
 ghost use Rattle.algol_cells.specs.SeenScope.{scoped};
 ghost use Rattle.algol_cells.specs.SeenValue.{value};
-ghost use Rattle.algol_rest_expr.specs.SeenExpression.{names_of};
+ghost use Rattle.algol_rest_expr.specs.SeenExpression.{event_names_of};
 ghost use Rattle.algol_world.specs.SeenWorld.{process_of, world_of};
 ghost use Rattle.algol_effect.specs.Effects.{asked_choice, effect_choice, followed_in};
 
@@ -33,7 +33,7 @@ fn decide_happened<'p>(
     part: &Part<'p>,
     es: &'p [EventName],
 ) -> Effect<'p>
-    ensures { asked_choice world.now process part.now (asks.event_deed (tests test.Happened) (names_of es.now)) ≡ effect_choice world.now process part.now result }
+    ensures { asked_choice world.now process part.now (asks.event_deed (tests test.Happened) (event_names_of es.now)) ≡ effect_choice world.now process part.now result }
 {
     match es.split_first() {
         None => Effect::Nothing,
@@ -52,7 +52,7 @@ fn decide_available<'p>(
     part: &Part<'p>,
     es: &'p [EventName],
 ) -> Effect<'p>
-    ensures { asked_choice world.now process part.now (asks.event_deed (tests test.Available) (names_of es.now)) ≡ effect_choice world.now process part.now result }
+    ensures { asked_choice world.now process part.now (asks.event_deed (tests test.Available) (event_names_of es.now)) ≡ effect_choice world.now process part.now result }
 {
     match es.split_first() {
         None => Effect::Nothing,
@@ -71,7 +71,7 @@ fn decide_fix<'p>(
     part: &Part<'p>,
     es: &'p [EventName],
 ) -> Effect<'p>
-    ensures { asked_choice world.now process part.now (asks.event_deed (tests test.Fix) (names_of es.now)) ≡ effect_choice world.now process part.now result }
+    ensures { asked_choice world.now process part.now (asks.event_deed (tests test.Fix) (event_names_of es.now)) ≡ effect_choice world.now process part.now result }
 {
     match es.split_first() {
         None => Effect::Nothing,
@@ -108,7 +108,7 @@ fn all_followed<'p>(
     part: &Part<'p>,
     es: &'p [EventName],
 ) -> Result<List<Reference<'p>>, AllocError>
-    ensures { IfOk result (λ rs. map reference rs ≡ followed_in (scoped world.now.scopes) (world_of world.now) part.now.instance (names_of es.now)) }
+    ensures { IfOk result (λ rs. map reference rs ≡ followed_in (scoped world.now.scopes) (world_of world.now) part.now.instance (event_names_of es.now)) }
 {
     let mut rs = Vec::new(alloc);
     'following: for e in es {
@@ -141,7 +141,7 @@ fn decide_wait<'p>(
     part: &Part<'p>,
     es: &'p [EventName],
 ) -> Result<Effect<'p>, AllocError>
-    ensures { IfOk result (λ e. asked_choice world.now process part.now (asks.event_deed (tests test.WaitAny) (names_of es.now)) ≡ effect_choice world.now process part.now e) }
+    ensures { IfOk result (λ e. asked_choice world.now process part.now (asks.event_deed (tests test.WaitAny) (event_names_of es.now)) ≡ effect_choice world.now process part.now e) }
 {
     let woken = woken_number(world, process);
     if woken > 0 {
@@ -163,7 +163,7 @@ pub fn decide_test<'p>(
     test: EventTest,
     es: &'p [EventName],
 ) -> Result<Effect<'p>, AllocError>
-    ensures { IfOk result (λ e. asked_choice world.now process part.now (asks.event_deed (tests test) (names_of es.now)) ≡ effect_choice world.now process part.now e) }
+    ensures { IfOk result (λ e. asked_choice world.now process part.now (asks.event_deed (tests test) (event_names_of es.now)) ≡ effect_choice world.now process part.now e) }
 {
     match test {
         EventTest::Happened => Ok(decide_happened(world, process, part, es)),

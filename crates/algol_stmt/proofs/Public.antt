@@ -13,11 +13,11 @@ use Rattle.algol_tree.specs.Programs.{IsProgram, Reads}
 use Rattle.algol_tree.specs.Refused.{RefusedProgram}
 use Rattle.algol_tree.specs.Due.{program, whole_program}
 use Rattle.algol_tree.specs.Reading.{to, refused, read}
-use Rattle.algol_tree.specs.Found.{Finds, Refuses}
+use Rattle.algol_tree.specs.Found.{ReaderFinds, ReaderRefuses}
 use Rattle.algol_expr.proofs.Turns.{read_nothing}
 use Rattle.algol_grammar.proofs.Exact.{exact}
 
-module _ (tokens : List Token) (tree : PProgram) (rest : List Token) (f : Finds program tokens (whole_program tree) rest) {t : Token} {ts : List Token} (is : rest ≡ t ∷ ts) where
+module _ (tokens : List Token) (tree : PProgram) (rest : List Token) (f : ReaderFinds program tokens (whole_program tree) rest) {t : Token} {ts : List Token} (is : rest ≡ t ∷ ts) where
   found_to : read 0 tokens (program ∷ []) [] ≡ to (t ∷ ts) (whole_program tree ∷ [])
   found_to = subst (λ r. read 0 tokens (program ∷ []) [] ≡ to r (whole_program tree ∷ [])) is (f.run [] [] ∙ read_nothing 0 rest (whole_program tree ∷ []))
 
@@ -38,7 +38,7 @@ refused_by tokens left spot code (inl q) e = subst (λ k. RefusedProgram tokens 
 refused_by tokens left spot code (inr q) e = subst (λ k. RefusedProgram tokens (At spot k)) (sym q)
     ((exact tokens).too_deep left spot (subst (λ k. read 0 tokens (program ∷ []) [] ≡ refused left spot k) q e))
 
-pub program_refused : (tokens : List Token) (e : Refusal) → Refuses (program ∷ []) [] tokens e → RefusedProgram tokens e
+pub program_refused : (tokens : List Token) (e : Refusal) → ReaderRefuses (program ∷ []) [] tokens e → RefusedProgram tokens e
 program_refused tokens NoMemory r = tt
 program_refused tokens (At spot code) r =
     let q = r.fails.run spot code refl [] [] in refused_by tokens r.left spot code ((exact tokens).only r.left spot code q) q

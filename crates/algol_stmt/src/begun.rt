@@ -4,8 +4,8 @@ ghost use Rattle.std.specs.Prelude.{◌≡◌, [], ◌∷◌, IfOk, IfErr};
 ghost use Rattle.algol_tree.specs.Ended.{EndsOnce};
 ghost use Rattle.algol_tree.specs.declared.refusal.Refusal.TheVariants.{NoMemory};
 ghost use Rattle.algol_tree.specs.Due as due;
-ghost use Rattle.algol_tree.specs.Found.{Refuses};
-ghost use Rattle.algol_part.specs.Openings.{Begins};
+ghost use Rattle.algol_tree.specs.Found.{ReaderRefuses};
+ghost use Rattle.algol_part.specs.Openings.{PartBegins};
 ghost use Rattle.algol_stmt.specs.Begun.{opening_of, beginning_of};
 
 use algol_part::{Beginning, Lead, Opening, read_beginning};
@@ -62,8 +62,8 @@ pub(crate) fn read_begun(
     depth: u32,
 ) -> Result<(Begun, &[Token]), Refusal>
     requires ended { EndsOnce tokens.now }
-    ensures found { IfOk result (λ r. Begins (due.statement depth) tokens.now (beginning_of r.0) r.1.now) }
-    ensures refused { IfErr result (λ e. Refuses (due.statement depth ∷ []) [] tokens.now e) }
+    ensures found { IfOk result (λ r. PartBegins (due.statement depth) tokens.now (beginning_of r.0) r.1.now) }
+    ensures refused { IfErr result (λ e. ReaderRefuses (due.statement depth ∷ []) [] tokens.now e) }
 {
     let (beginning, rest) = read_beginning(alloc, tokens, depth)?;
     let begun = boxed_beginning(alloc, beginning)?;

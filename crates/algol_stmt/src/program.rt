@@ -9,7 +9,7 @@ ghost use Rattle.algol_tree.specs.Refused.{RefusedProgram};
 ghost use Rattle.algol_tree.specs.Due as due;
 ghost use Rattle.algol_tree.specs.Due.{whole_program};
 ghost use Rattle.algol_tree.specs.Image.{program as plain};
-ghost use Rattle.algol_tree.specs.Found.{Finds, Refuses};
+ghost use Rattle.algol_tree.specs.Found.{ReaderFinds, ReaderRefuses};
 
 use crate::make::program;
 use crate::statement::{read_declarations, read_statements};
@@ -55,8 +55,8 @@ pub(crate) fn read_whole_program(
     tokens: &[Token],
 ) -> Result<(Program, &[Token]), Refusal>
     requires ended { EndsOnce tokens.now }
-    ensures found { IfOk result (λ r. Finds due.program tokens.now (whole_program (plain r.0)) r.1.now) }
-    ensures refused { IfErr result (λ e. Refuses (due.program ∷ []) [] tokens.now e) }
+    ensures found { IfOk result (λ r. ReaderFinds due.program tokens.now (whole_program (plain r.0)) r.1.now) }
+    ensures refused { IfErr result (λ e. ReaderRefuses (due.program ∷ []) [] tokens.now e) }
 {
     let (first, behind) = first_of(tokens);
     if is_word(first, Reserved::Begin) {

@@ -10,10 +10,10 @@ ghost use Rattle.algol_tree.specs.Due.{stmt, list, declared, one, statement, els
 ghost use Rattle.algol_tree.specs.DueStmt.{decl_behind, procedure_in};
 ghost use Rattle.algol_tree.specs.Image as image;
 ghost use Rattle.algol_tree.specs.Image.{stmt as plain, stmts as stmts_of, decls as decls_of};
-ghost use Rattle.algol_tree.specs.Found.{Completes, Extends, Lists, Passes, Refuses};
-ghost use Rattle.algol_part.specs.Brings.{Brings, Adds, AddsNone};
+ghost use Rattle.algol_tree.specs.Found.{Completes, Extends, Lists, TokenPasses, ReaderRefuses};
+ghost use Rattle.algol_part.specs.Brings.{Brings, PartAdds, AddsNone};
 ghost use Rattle.algol_part.specs.declared.opening.Opening.TheVariants as openings;
-ghost use Rattle.algol_part.specs.Openings.{still_due, so_far, ComesTo};
+ghost use Rattle.algol_part.specs.Openings.{still_due, so_far, ReaderComesTo};
 ghost use Rattle.algol_part.specs.Phrases.{statements_in};
 ghost use Rattle.algol_stmt.specs.Begun.{opening_of};
 
@@ -36,7 +36,7 @@ pub(crate) fn read_statement(
 ) -> Result<(Box<Stmt>, &[Token]), Refusal>
     requires ended { EndsOnce tokens.now }
     ensures found { IfOk result (λ r. Completes (due.statement depth) tokens.now (stmt (plain r.0.value)) r.1.now) }
-    ensures refused { IfErr result (λ e. Refuses (due.statement depth ∷ []) [] tokens.now e) }
+    ensures refused { IfErr result (λ e. ReaderRefuses (due.statement depth ∷ []) [] tokens.now e) }
 {
     let (begun, rest) = read_begun(alloc, tokens, depth)?;
     match begun {
@@ -54,8 +54,8 @@ fn read_opened(
     depth: u32,
 ) -> Result<(Box<Stmt>, &[Token]), Refusal>
     requires ended { EndsOnce tokens.now }
-    ensures found { IfOk result (λ r. ComesTo (still_due (opening_of opened) depth) (so_far (opening_of opened)) tokens.now [] (stmt (plain r.0.value) ∷ []) r.1.now) }
-    ensures refused { IfErr result (λ e. Refuses (still_due (opening_of opened) depth) (so_far (opening_of opened)) tokens.now e) }
+    ensures found { IfOk result (λ r. ReaderComesTo (still_due (opening_of opened) depth) (so_far (opening_of opened)) tokens.now [] (stmt (plain r.0.value) ∷ []) r.1.now) }
+    ensures refused { IfErr result (λ e. ReaderRefuses (still_due (opening_of opened) depth) (so_far (opening_of opened)) tokens.now e) }
 {
     match opened {
         Opened::Led(lead) => read_led(alloc, lead, tokens, depth),
@@ -75,8 +75,8 @@ fn read_led(
     depth: u32,
 ) -> Result<(Box<Stmt>, &[Token]), Refusal>
     requires ended { EndsOnce tokens.now }
-    ensures found { IfOk result (λ r. ComesTo (still_due (openings.Led lead.value) depth) (so_far (openings.Led lead.value)) tokens.now [] (stmt (plain r.0.value) ∷ []) r.1.now) }
-    ensures refused { IfErr result (λ e. Refuses (still_due (openings.Led lead.value) depth) (so_far (openings.Led lead.value)) tokens.now e) }
+    ensures found { IfOk result (λ r. ReaderComesTo (still_due (openings.Led lead.value) depth) (so_far (openings.Led lead.value)) tokens.now [] (stmt (plain r.0.value) ∷ []) r.1.now) }
+    ensures refused { IfErr result (λ e. ReaderRefuses (still_due (openings.Led lead.value) depth) (so_far (openings.Led lead.value)) tokens.now e) }
 {
     let (statement, rest) = read_statement(alloc, tokens, depth)?;
     Ok((led(alloc, lead, statement)?, rest))
@@ -91,8 +91,8 @@ fn read_block(
     depth: u32,
 ) -> Result<(Box<Stmt>, &[Token]), Refusal>
     requires ended { EndsOnce tokens.now }
-    ensures found { IfOk result (λ r. ComesTo (still_due (openings.Begin spot) depth) (so_far (openings.Begin spot)) tokens.now [] (stmt (plain r.0.value) ∷ []) r.1.now) }
-    ensures refused { IfErr result (λ e. Refuses (still_due (openings.Begin spot) depth) (so_far (openings.Begin spot)) tokens.now e) }
+    ensures found { IfOk result (λ r. ReaderComesTo (still_due (openings.Begin spot) depth) (so_far (openings.Begin spot)) tokens.now [] (stmt (plain r.0.value) ∷ []) r.1.now) }
+    ensures refused { IfErr result (λ e. ReaderRefuses (still_due (openings.Begin spot) depth) (so_far (openings.Begin spot)) tokens.now e) }
 {
     let (decls, rest) = read_declarations(alloc, tokens, depth)?;
     let (stmts, rest) = read_statements(alloc, rest, depth)?;
@@ -107,8 +107,8 @@ fn read_repeated(
     depth: u32,
 ) -> Result<(Box<Stmt>, &[Token]), Refusal>
     requires ended { EndsOnce tokens.now }
-    ensures found { IfOk result (λ r. ComesTo (still_due openings.Do depth) (so_far openings.Do) tokens.now [] (stmt (plain r.0.value) ∷ []) r.1.now) }
-    ensures refused { IfErr result (λ e. Refuses (still_due openings.Do depth) (so_far openings.Do) tokens.now e) }
+    ensures found { IfOk result (λ r. ReaderComesTo (still_due openings.Do depth) (so_far openings.Do) tokens.now [] (stmt (plain r.0.value) ∷ []) r.1.now) }
+    ensures refused { IfErr result (λ e. ReaderRefuses (still_due openings.Do depth) (so_far openings.Do) tokens.now e) }
 {
     let (body, rest) = read_statement(alloc, tokens, depth)?;
     let (end, rest) = read_until(alloc, rest)?;
@@ -124,8 +124,8 @@ fn read_cases(
     depth: u32,
 ) -> Result<(Box<Stmt>, &[Token]), Refusal>
     requires ended { EndsOnce tokens.now }
-    ensures found { IfOk result (λ r. ComesTo (still_due (openings.Case choice.value) depth) (so_far (openings.Case choice.value)) tokens.now [] (stmt (plain r.0.value) ∷ []) r.1.now) }
-    ensures refused { IfErr result (λ e. Refuses (still_due (openings.Case choice.value) depth) (so_far (openings.Case choice.value)) tokens.now e) }
+    ensures found { IfOk result (λ r. ReaderComesTo (still_due (openings.Case choice.value) depth) (so_far (openings.Case choice.value)) tokens.now [] (stmt (plain r.0.value) ∷ []) r.1.now) }
+    ensures refused { IfErr result (λ e. ReaderRefuses (still_due (openings.Case choice.value) depth) (so_far (openings.Case choice.value)) tokens.now e) }
 {
     let (cases, rest) = read_statements(alloc, tokens, depth)?;
     Ok((choosing(alloc, choice, cases)?, rest))
@@ -140,8 +140,8 @@ fn read_arms(
     depth: u32,
 ) -> Result<(Box<Stmt>, &[Token]), Refusal>
     requires ended { EndsOnce tokens.now }
-    ensures found { IfOk result (λ r. ComesTo (statement depth ∷ else_part depth ∷ []) (one (image.expr condition.value) ∷ []) tokens.now [] (stmt (plain r.0.value) ∷ []) r.1.now) }
-    ensures refused { IfErr result (λ e. Refuses (statement depth ∷ else_part depth ∷ []) (one (image.expr condition.value) ∷ []) tokens.now e) }
+    ensures found { IfOk result (λ r. ReaderComesTo (statement depth ∷ else_part depth ∷ []) (one (image.expr condition.value) ∷ []) tokens.now [] (stmt (plain r.0.value) ∷ []) r.1.now) }
+    ensures refused { IfErr result (λ e. ReaderRefuses (statement depth ∷ else_part depth ∷ []) (one (image.expr condition.value) ∷ []) tokens.now e) }
 {
     let (yes, rest) = read_statement(alloc, tokens, depth)?;
     let (next, after) = first_of(rest);
@@ -162,7 +162,7 @@ pub(crate) fn read_statements(
 ) -> Result<(List<Stmt>, &[Token]), Refusal>
     requires ended { EndsOnce tokens.now }
     ensures found { IfOk result (λ r. Brings (statements_in depth) tokens.now (list (stmts_of r.0)) r.1.now) }
-    ensures refused { IfErr result (λ e. Refuses (statements_in depth) [] tokens.now e) }
+    ensures refused { IfErr result (λ e. ReaderRefuses (statements_in depth) [] tokens.now e) }
 {
     let mut stmts = Vec::new(alloc);
     let mut rest = tokens;
@@ -188,7 +188,7 @@ pub(crate) fn read_declarations(
 ) -> Result<(List<Decl>, &[Token]), Refusal>
     requires ended { EndsOnce tokens.now }
     ensures found { IfOk result (λ r. Extends (due.declarations depth) tokens.now (declared no_decls) (declared (decls_of r.0)) r.1.now) }
-    ensures refused { IfErr result (λ e. Refuses (due.declarations depth ∷ []) (declared no_decls ∷ []) tokens.now e) }
+    ensures refused { IfErr result (λ e. ReaderRefuses (due.declarations depth ∷ []) (declared no_decls ∷ []) tokens.now e) }
 {
     let mut decls = Vec::new(alloc);
     let mut rest = tokens;
@@ -221,7 +221,7 @@ fn read_typed<'a>(
 ) -> Result<&'a [Token], Refusal>
     requires ended { EndsOnce tokens.now }
     ensures found { IfOk result (λ rest. Lists (due.typed kind depth ∷ []) tokens.now (declared (decls_of decls.old.items)) (declared (decls_of decls.new.items)) rest.now) }
-    ensures refused { IfErr result (λ e. Refuses (due.typed kind depth ∷ []) (declared (decls_of decls.old.items) ∷ []) tokens.now e) }
+    ensures refused { IfErr result (λ e. ReaderRefuses (due.typed kind depth ∷ []) (declared (decls_of decls.old.items) ∷ []) tokens.now e) }
 {
     let (first, behind) = first_of(tokens);
     if is_word(first, Reserved::Procedure) {
@@ -244,7 +244,7 @@ fn read_procedure(
     depth: u32,
 ) -> Result<(Decl, &[Token]), Refusal>
     requires ended { EndsOnce tokens.now }
-    ensures found { IfOk result (λ r. Adds (procedure_in kind depth) declared tokens.now (λ ds. decl_behind ds (image.decl r.0)) r.1.now) }
+    ensures found { IfOk result (λ r. PartAdds (procedure_in kind depth) declared tokens.now (λ ds. decl_behind ds (image.decl r.0)) r.1.now) }
     ensures refused { IfErr result (λ e. AddsNone (procedure_in kind depth) declared tokens.now e) }
 {
     let (heading, rest) = read_heading(alloc, kind, tokens)?;
@@ -263,9 +263,9 @@ fn read_procedure(
 /// The heading that the word FORWARD stands after, where a semicolon follows
 fn closed_forward(heading: Heading, tokens: &[Token]) -> Result<(Decl, &[Token]), Refusal>
     requires ended { EndsOnce tokens.now }
-    ensures passes { IfOk result (λ r. Passes (due.symbol symbols.Semicolon) tokens.now r.1.now) }
+    ensures passes { IfOk result (λ r. TokenPasses (due.symbol symbols.Semicolon) tokens.now r.1.now) }
     ensures built { IfOk result (λ r. image.decl r.0 ≡ trees.forward heading) }
-    ensures refused { IfErr result (λ e. Refuses (due.symbol symbols.Semicolon ∷ []) [] tokens.now e) }
+    ensures refused { IfErr result (λ e. ReaderRefuses (due.symbol symbols.Semicolon ∷ []) [] tokens.now e) }
 {
     let rest = expect_symbol(tokens, Symbol::Semicolon)?;
     Ok((forward(heading), rest))
@@ -278,9 +278,9 @@ fn closed_procedure(
     tokens: &[Token],
 ) -> Result<(Decl, &[Token]), Refusal>
     requires ended { EndsOnce tokens.now }
-    ensures passes { IfOk result (λ r. Passes (due.symbol symbols.Semicolon) tokens.now r.1.now) }
+    ensures passes { IfOk result (λ r. TokenPasses (due.symbol symbols.Semicolon) tokens.now r.1.now) }
     ensures built { IfOk result (λ r. image.decl r.0 ≡ trees.procedure heading (plain statement.value)) }
-    ensures refused { IfErr result (λ e. Refuses (due.symbol symbols.Semicolon ∷ []) [] tokens.now e) }
+    ensures refused { IfErr result (λ e. ReaderRefuses (due.symbol symbols.Semicolon ∷ []) [] tokens.now e) }
 {
     let rest = expect_symbol(tokens, Symbol::Semicolon)?;
     Ok((procedure(heading, statement), rest))

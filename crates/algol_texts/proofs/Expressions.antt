@@ -24,10 +24,10 @@ use Rattle.algol_tree.specs.Sorts.{Sort, procedure_in, is_named_in, sort_in, cla
 use Rattle.algol_tree.specs.Surroundings.{Surroundings, class_of, formals_of_class, formals_at}
 use Rattle.algol_tree.specs.Types.{read_type}
 use Rattle.algol_meaning.specs.Settle.{sorts_of, sort_at}
-use Rattle.algol_paths.specs.Blocks.{IsSeen}
+use Rattle.algol_paths.specs.Blocks.{BlockIsSeen}
 use Rattle.algol_paths.specs.Texts.{InExpr, InExprs}
 use Rattle.algol_calls.specs.Fits as fits
-use Rattle.algol_calls.specs.Fits.{wanted, AloneFits, IsNameOfIt, StandsFor, ExprFits, ExprsFit, ActualsFit}
+use Rattle.algol_calls.specs.Fits.{sorts_wanted, AloneFits, IsNameOfIt, ParameterStandsFor, CalledExprFits, ExprsFit, ActualsFit}
 use Rattle.algol_front_laws.specs.Declarations.{EachOnce}
 use Rattle.algol_front_laws.specs.Uses.{use_by_name}
 use Rattle.algol_told.proofs.Lists.{none-left, none-right, all-left, all-right, all-weaker, false-not-true}
@@ -135,14 +135,14 @@ module _ (sc : Scopes) (j : ℕ) (outer : List Spot) (a : Surroundings) (r : IsA
   module _ (once : EachOnce a) where
     -- ---- names that are read, and calls
 
-    pub array_leads : (n : Named) → IsUsed sc a n → wrong_by is_array n ≡ [] → fits.Leads sc n
+    pub array_leads : (n : Named) → IsUsed sc a n → wrong_by is_array n ≡ [] → fits.NameLeads sc n
     array_leads n u h =
         let k = its_known sc j outer a r (use_by_name a n) n u in
         leads sc j outer a r once n u
         (array_other sc.blocks u.declared.block u.declared.name u.declared.sort u.declared.class k.means (name_right sc j outer a r (use_by_name a n) n u is_array h))
 
     -- an event, or a task for the event of its end
-    pub event_in : (e : EventName) → IsUsed sc a e.name → (if e.task then wrong_by is_task e.name else wrong_by is_event e.name) ≡ [] → fits.Leads sc e.name
+    pub event_in : (e : EventName) → IsUsed sc a e.name → (if e.task then wrong_by is_task e.name else wrong_by is_event e.name) ≡ [] → fits.NameLeads sc e.name
     event_in e u h = leads sc j outer a r once e.name u (by e.task h)
       where
         its : IsKnown sc.blocks j a.depth u.declared
@@ -155,7 +155,7 @@ module _ (sc : Scopes) (j : ℕ) (outer : List Spot) (a : Surroundings) (r : IsA
             event_other sc.blocks u.declared.block u.declared.name u.declared.sort u.declared.class its.means (name_right sc j outer a r (use_by_name a e.name) e.name u is_event k)
 
     events_in : (es : List EventName) → AllByRecursion (IsUsed sc a) (map (λ (e : EventName). e.name) es) →
-        flat_map (λ (e : EventName). if e.task then wrong_by is_task e.name else wrong_by is_event e.name) es ≡ [] → AllByRecursion (fits.Leads sc) (map (λ (e : EventName). e.name) es)
+        flat_map (λ (e : EventName). if e.task then wrong_by is_task e.name else wrong_by is_event e.name) es ≡ [] → AllByRecursion (fits.NameLeads sc) (map (λ (e : EventName). e.name) es)
     events_in [] u h = tt
     events_in (e ∷ es) u h =
         (event_in e u.0 (none-left (if e.task then wrong_by is_task e.name else wrong_by is_event e.name) _ h), events_in es u.1 (none-right (if e.task then wrong_by is_task e.name else wrong_by is_event e.name) _ h))
@@ -185,7 +185,7 @@ module _ (sc : Scopes) (j : ℕ) (outer : List Spot) (a : Surroundings) (r : IsA
     call_by : (n : Named) (es : PExprs) (u : IsUsed sc a n) → is_procedure u.declared.class ≡ true →
         ((h : Heading) → class_of a n ≡ class.procedure h → length h.params ≡ exprs_count es) → AreGood sc (inside_actuals es (formals_at a n) a) →
         ((ns : List Named) (h : Heading) → length ns ≡ exprs_count es → AreSpecified h ns → AreGood sc (inside_actuals es (map (formal h) ns) a) → ActualsFit sc es (sorts_of (map (parameter h) ns))) →
-        fits.IsCallee sc n × ActualsFit sc es (wanted sc n)
+        fits.IsCallee sc n × ActualsFit sc es (sorts_wanted sc n)
     call_by n es u e many g actuals =
         let c = calls sc j outer a r once n u e in
         let good : AreGood sc (inside_actuals es (map (formal c.heading) c.heading.params) a) =
@@ -201,7 +201,7 @@ module _ (sc : Scopes) (j : ℕ) (outer : List Spot) (a : Surroundings) (r : IsA
     part_site e c v = record { part = actual_part e (Some (record { class = c; by_value = v })); around = a }
 
     abbrev NamesIt : PExpr → Type 0
-    NamesIt e = IsNameOfIt sc (name_alone e) × ExprFits sc e
+    NamesIt e = IsNameOfIt sc (name_alone e) × CalledExprFits sc e
 
     named_fits : (n : Named) (u : IsUsed sc a n) → IsOther u.declared.sort → NamesIt (tree.variable (tree.subscripted n tree.none))
     named_fits n u o = (name_of_it sc j outer a r once n u o, alone_told sc j outer a r once n u o.0)
@@ -227,7 +227,7 @@ module _ (sc : Scopes) (j : ℕ) (outer : List Spot) (a : Surroundings) (r : IsA
 
     -- `fits_too`: the expression fits where its part of the tree is good
     actual_fits : (e : PExpr) (s : Sort) (c : Class) (v : Bool) → IsGiven s c → IsGood sc (actual_site e c v) → IsGood sc (part_site e c v) → AreGood sc (inside_expr e a) →
-        (AreGood sc (sites e a) → ExprFits sc e) → StandsFor sc s e × ExprFits sc e
+        (AreGood sc (sites e a) → CalledExprFits sc e) → ParameterStandsFor sc s e × CalledExprFits sc e
     actual_fits e s c v (given_value kind) g i more fits_too = (λ formal. absurd (false-not-true formal), fits_too (value_good sc a e kind v i, more))
     actual_fits e s c v (given_name kind) g i more fits_too = (λ formal named. absurd (false-not-true (sym named)), fits_too (value_good sc a e kind v i, more))
     actual_fits e s c v (given_array lows kind) g i more fits_too = let its = array_fits e kind (length lows) v g i in (λ formal named. its.0, its.1)
@@ -236,7 +236,7 @@ module _ (sc : Scopes) (j : ℕ) (outer : List Spot) (a : Surroundings) (r : IsA
     -- ---- expressions
 
     mutual
-      pub expr_fits : (e : PExpr) → AreGood sc (sites e a) → ExprFits sc e
+      pub expr_fits : (e : PExpr) → AreGood sc (sites e a) → CalledExprFits sc e
       expr_fits (tree.number z spot) g = tt
       expr_fits (tree.truth z spot) g = tt
       expr_fits (tree.variable (tree.subscripted n tree.none)) g =
@@ -290,20 +290,20 @@ module _ (sc : Scopes) (j : ℕ) (outer : List Spot) (a : Surroundings) (r : IsA
     -- .. and a call by itself
     pub call_fits : (n : Named) (es : PExprs) (u : IsUsed sc a n) → is_procedure u.declared.class ≡ true →
         ((h : Heading) → class_of a n ≡ class.procedure h → length h.params ≡ exprs_count es) → AreGood sc (inside_actuals es (formals_at a n) a) →
-        fits.IsCallee sc n × ActualsFit sc es (wanted sc n)
+        fits.IsCallee sc n × ActualsFit sc es (sorts_wanted sc n)
     call_fits n es u e many g = call_by n es u e many g (λ ns h c s i. actuals_fit es ns h c s i)
 
   -- ---- names that are seen
 
   module _ (once : EachOnce a) where
     abbrev Seen : Named → Type 0
-    Seen n = IsSeen sc j n
+    Seen n = BlockIsSeen sc j n
 
     one_seen : KnownAs Seen
     one_seen n u = seen sc j outer a r once n u
 
     -- an expression names what is seen, and its calls fit
-    pub in_expr : (e : PExpr) → AreGood sc (sites e a) → InExpr Seen e × ExprFits sc e
+    pub in_expr : (e : PExpr) → AreGood sc (sites e a) → InExpr Seen e × CalledExprFits sc e
     in_expr e g = (sites_known Seen one_seen e g, expr_fits once e g)
 
     pub in_list : (es : PExprs) → AreGood sc (inside_list es a) → InExprs Seen es × ExprsFit sc es

@@ -9,18 +9,18 @@ use Rattle.algol_tree.specs.Plain.{PStmt, PStmts, PDecl, PDecls}
 use Rattle.algol_tree.specs.Scopes.{Scopes}
 use Rattle.algol_meaning.specs.Rest.{Item}
 use Rattle.algol_meaning.specs.Statements.{items, event_items, decl_items, decls_items, ending, items_of}
-use Rattle.algol_paths.specs.Blocks.{IsSeen, IsSeenAround, IsInner}
+use Rattle.algol_paths.specs.Blocks.{BlockIsSeen, IsSeenAround, IsInner}
 use Rattle.algol_paths.specs.Texts.{InPairs, InStmt, InStmts, InItems, InDeclared}
-use Rattle.algol_calls.specs.Fits.{PairsFit, StmtFits, StmtsFit, ItemsFit}
+use Rattle.algol_calls.specs.Fits.{PairsFit, CalledStmtFits, CalledStmtsFit, ItemsFit}
 use Rattle.algol_texts.proofs.Callees.{IsFine}
 
 module _ (sc : Scopes) (j : ℕ) where
   -- in the text of the block j
   abbrev pub InText : PStmt → Type 0
-  InText t = InStmt (IsSeen sc j) (IsInner sc j) t × StmtFits sc t
+  InText t = InStmt (BlockIsSeen sc j) (IsInner sc j) t × CalledStmtFits sc t
 
   abbrev pub AllInText : PStmts → Type 0
-  AllInText ss = InStmts (IsSeen sc j) (IsInner sc j) ss × StmtsFit sc ss
+  AllInText ss = InStmts (BlockIsSeen sc j) (IsInner sc j) ss × CalledStmtsFit sc ss
 
   -- the bounds of a declaration of its own
   abbrev pub HasBounds : PDecl → Type 0
@@ -33,10 +33,10 @@ module _ (sc : Scopes) (j : ℕ) where
 
   -- the items of its declarations, and what comes after them; the others
   abbrev Whole : List Item → Type 0
-  Whole k = InDeclared (IsSeen sc j) (IsInner sc j) (IsSeenAround sc j) k × ItemsFit sc k
+  Whole k = InDeclared (BlockIsSeen sc j) (IsInner sc j) (IsSeenAround sc j) k × ItemsFit sc k
 
   abbrev Stated : List Item → Type 0
-  Stated k = InItems (IsSeen sc j) (IsInner sc j) k × ItemsFit sc k
+  Stated k = InItems (BlockIsSeen sc j) (IsInner sc j) k × ItemsFit sc k
 
   stated : (ss : PStmts) (k : List Item) → AllInText ss → Stated k → Stated (items ss k)
   stated tree.no_stmts k i h = h
@@ -81,10 +81,10 @@ module _ (sc : Scopes) (j : ℕ) where
 -- The items of the block with the number of this one keep to its text, and their calls fit.
 abbrev pub IsTextOf : Scopes → Block → Type 0
 IsTextOf sc b =
-    InDeclared (IsSeen sc (number_at sc.blocks b.spot)) (IsInner sc (number_at sc.blocks b.spot)) (IsSeenAround sc (number_at sc.blocks b.spot)) (items_of (block_numbered sc.blocks (number_at sc.blocks b.spot)))
+    InDeclared (BlockIsSeen sc (number_at sc.blocks b.spot)) (IsInner sc (number_at sc.blocks b.spot)) (IsSeenAround sc (number_at sc.blocks b.spot)) (items_of (block_numbered sc.blocks (number_at sc.blocks b.spot)))
     × ItemsFit sc (items_of (block_numbered sc.blocks (number_at sc.blocks b.spot)))
 
 pub is_text : (sc : Scopes) (b : Block) → IsFine sc.blocks b → HaveBounds sc (number_at sc.blocks b.spot) b.decls → AllInText sc (number_at sc.blocks b.spot) b.stmts → IsTextOf sc b
 is_text sc b f bounds stmts =
     let k = number_at sc.blocks b.spot in
-    subst (λ (z : Block). InDeclared (IsSeen sc k) (IsInner sc k) (IsSeenAround sc k) (items_of z) × ItemsFit sc (items_of z)) (sym f.it_is) (items_in sc k b bounds stmts)
+    subst (λ (z : Block). InDeclared (BlockIsSeen sc k) (IsInner sc k) (IsSeenAround sc k) (items_of z) × ItemsFit sc (items_of z)) (sym f.it_is) (items_in sc k b bounds stmts)

@@ -15,8 +15,8 @@ use Rattle.algol_tree.specs.Sorts as sort
 use Rattle.algol_tree.specs.Sorts.{Sort, is_formal, is_by_name, procedure_in, Parameter, Declared, parameters_of}
 use Rattle.algol_tree.specs.Surroundings.{Surroundings, class_of}
 use Rattle.algol_meaning.specs.Settle.{sort_at}
-use Rattle.algol_paths.specs.Blocks.{IsSeen}
-use Rattle.algol_calls.specs.Fits.{parameter_sort, has_parameter, has_simple, LeftFits, ControlFits, Leads, IsSettled}
+use Rattle.algol_paths.specs.Blocks.{BlockIsSeen}
+use Rattle.algol_calls.specs.Fits.{parameter_sort, has_parameter, has_simple, LeftFits, ControlFits, NameLeads, IsSettled}
 use Rattle.algol_front_laws.specs.Declarations.{EachOnce}
 use Rattle.algol_front_laws.specs.Uses.{use_by_name}
 use Rattle.algol_told.proofs.Lists.{none-left, false-not-true}
@@ -83,7 +83,7 @@ module _ (sc : Scopes) (j : ℕ) (outer : List Spot) (a : Surroundings) (r : IsA
     used_so : use_of sc n ≡ result_use
     used_so = use_is sc n result_use (u.used ∙ ap (λ (s : Sort). Some (left_use (use_by_name a n u.declared) s)) p.sort_is)
 
-    result_seen : IsSeen sc j n
+    result_seen : BlockIsSeen sc j n
     result_seen =
         let k = its_known sc j outer a r (as_left n) n u in
         let inside : is_among sc.blocks own (j ∷ around sc.blocks j) ≡ true = subst (λ (m : ℕ). is_among sc.blocks own (m ∷ around sc.blocks m) ≡ true) r.block_is p.inside in
@@ -103,7 +103,7 @@ module _ (sc : Scopes) (j : ℕ) (outer : List Spot) (a : Surroundings) (r : IsA
         result_simple (block_numbered sc.blocks own) n.name (ap is_some p.callee.result_is ∙ p.typed) (p.callee.name_is ∙ (p.named ∙ there.named)) in
         (told_as sc n result_use used_so (is_same (parameter_sort (parameters_at sc.blocks own) n.name) sort.variable own_sort) (λ e. has_result), ap is_formal now ∙ sym (ap is_by_name now))
 
-  pub left_in : (n : Named) (e : PExpr) (listed : Bool) → IsGood sc (left_site n tree.none e listed) → IsSeen sc j n × LeftFits sc n tree.none
+  pub left_in : (n : Named) (e : PExpr) (listed : Bool) → IsGood sc (left_site n tree.none e listed) → BlockIsSeen sc j n × LeftFits sc n tree.none
   left_in n e listed g = by (left_means n e listed g u.declared.block u.declared.name u.declared.sort u.declared.class its.means (its_class sc j outer a r (as_left n) n u))
     where
       u : IsUse sc (as_left n) a n
@@ -112,12 +112,12 @@ module _ (sc : Scopes) (j : ℕ) (outer : List Spot) (a : Surroundings) (r : IsA
       its : IsKnown sc.blocks j a.depth u.declared
       its = its_known sc j outer a r (as_left n) n u
 
-      by : IsLeft u.declared.block u.declared.name u.declared.sort → IsSeen sc j n × LeftFits sc n tree.none
+      by : IsLeft u.declared.block u.declared.name u.declared.sort → BlockIsSeen sc j n × LeftFits sc n tree.none
       by (inl e) = let v = as_plain n u e.0 in (seen sc j outer a r once n v, left_alone sc j outer a r once n v e.1)
       by (inr p) = (result_seen n u p, result_fits n u p)
 
   -- an element
-  pub left_element : (n : Named) (x : PExpr) (xs : PExprs) (e : PExpr) (listed : Bool) → IsGood sc (left_site n (tree.more x xs) e listed) → IsSeen sc j n × Leads sc n
+  pub left_element : (n : Named) (x : PExpr) (xs : PExprs) (e : PExpr) (listed : Bool) → IsGood sc (left_site n (tree.more x xs) e listed) → BlockIsSeen sc j n × NameLeads sc n
   left_element n x xs e listed g =
       let u : IsUse sc (as_left n) a n = g.uses.0 in
       let k = its_known sc j outer a r (as_left n) n u in
@@ -128,7 +128,7 @@ module _ (sc : Scopes) (j : ℕ) (outer : List Spot) (a : Surroundings) (r : IsA
       (seen sc j outer a r once n v, leads sc j outer a r once n v other)
 
   -- the control variable of a FOR
-  pub control_in : (v : Named) → IsUsed sc a v → wrong_by sc j outer a r is_simple v ≡ [] → IsSeen sc j v × ControlFits sc v
+  pub control_in : (v : Named) → IsUsed sc a v → wrong_by sc j outer a r is_simple v ≡ [] → BlockIsSeen sc j v × ControlFits sc v
   control_in v u h =
       let k = its_known sc j outer a r (use_by_name a v) v u in
       let simple = simple_left sc.blocks u.declared.block u.declared.name u.declared.sort u.declared.class k.means (name_right sc j outer a r (use_by_name a v) v u is_simple h) in

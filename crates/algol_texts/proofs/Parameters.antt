@@ -13,7 +13,7 @@ use Rattle.algol_tree.specs.Classes as class
 use Rattle.algol_tree.specs.Classes.{Class, is_unspecified}
 use Rattle.algol_tree.specs.Plain as tree
 use Rattle.algol_tree.specs.Plain.{PDecl, PDecls}
-use Rattle.algol_tree.specs.Names.{if_so, is_one_of, repeated, result_names, specified, twice_in_heading}
+use Rattle.algol_tree.specs.Names.{if_so, name_is_one_of, repeated, result_names, specified, twice_in_heading}
 use Rattle.algol_tree.specs.Sorts as sort
 use Rattle.algol_tree.specs.Sorts.{Sort, is_formal, is_by_name, Declared, Parameter, same_name, is_named_in, sort_by, sort_in, class_by, class_in, specified_by, parameters_of}
 use Rattle.algol_meaning.proofs.Naming.{same_name-is, same_name-itself}
@@ -125,16 +125,16 @@ module _ (h : Heading) where
   )
 
   -- a name that is seen already is none of a list that repeats no name
-  none_named : (seen : List (List ℕ)) (ns : List Named) (name : List ℕ) → is_one_of seen name ≡ true → repeated seen ns ≡ [] → has_parameter (map parameter ns) name ≡ false
+  none_named : (seen : List (List ℕ)) (ns : List Named) (name : List ℕ) → name_is_one_of seen name ≡ true → repeated seen ns ≡ [] → has_parameter (map parameter ns) name ≡ false
   none_named seen [] name s e = refl
   none_named seen (n ∷ ns) name s e =
       by (same_name n.name name) refl
-      (none_named (n.name ∷ seen) ns name (either_so (same_name n.name name) (is_one_of seen name) s) (none-right (if_so (is_one_of seen n.name) n.spot) (repeated (n.name ∷ seen) ns) e))
+      (none_named (n.name ∷ seen) ns name (either_so (same_name n.name name) (name_is_one_of seen name) s) (none-right (if_so (name_is_one_of seen n.name) n.spot) (repeated (n.name ∷ seen) ns) e))
     where
       by : (b : Bool) → same_name n.name name ≡ b → has_parameter (map parameter ns) name ≡ false → (if b then true else has_parameter (map parameter ns) name) ≡ false
       by true f later =
-          let other : is_one_of seen n.name ≡ false = not_so (is_one_of seen n.name) n.spot (none-left (if_so (is_one_of seen n.name) n.spot) (repeated (n.name ∷ seen) ns) e) in
-          sym s ∙ ap (is_one_of seen) (sym (same_name-is n.name name f)) ∙ other
+          let other : name_is_one_of seen n.name ≡ false = not_so (name_is_one_of seen n.name) n.spot (none-left (if_so (name_is_one_of seen n.name) n.spot) (repeated (n.name ∷ seen) ns) e) in
+          sym s ∙ ap (name_is_one_of seen) (sym (same_name-is n.name name f)) ∙ other
       by false f later = later
 
   -- no parameter of a typed procedure has its name

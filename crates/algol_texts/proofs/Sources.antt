@@ -9,20 +9,20 @@ use Rattle.algol_laws.proofs.Growing.{none_left}
 use Rattle.algol_calls.specs.Texts.{AreTexts}
 use Rattle.algol_calls.specs.Texts.{HasTexts}
 use Rattle.algol_texts.proofs.Programs.{texts_of_accepted_fit, texts_of_sources_fit}
-use Rattle.algol_standing.specs.Worlds.{IsWhole}
+use Rattle.algol_standing.specs.Worlds.{IsWholeInstance}
 use Rattle.algol_standing.specs.Fitting.{IsOk}
 use Rattle.algol_standing.specs.Laws.{WorldStands}
 use Rattle.algol_texts.specs.Laws.{WorldsOfAcceptedStand, WorldsOfSourcesStand}
 use Rattle.algol_standing.proofs.Left.{what_is_referred_to_stands, references_lie_on_paths}
 use Rattle.algol_standing.proofs.Worlds.{first_world_stands, choices_keep_worlds}
 
-run_stands : (sc : Scopes) (h : List ℕ) (w after : World) → AreTexts sc → IsOk sc IsWhole w → run_from sc h (Some w) ≡ Some after → IsOk sc IsWhole after
+run_stands : (sc : Scopes) (h : List ℕ) (w after : World) → AreTexts sc → IsOk sc IsWholeInstance w → run_from sc h (Some w) ≡ Some after → IsOk sc IsWholeInstance after
 unfolding after_entry
-run_stands sc [] w after t ok e = let same : w ≡ after = cc in subst (λ (v : World). IsOk sc IsWhole v) same ok
+run_stands sc [] w after t ok e = let same : w ≡ after = cc in subst (λ (v : World). IsOk sc IsWholeInstance v) same ok
 run_stands sc (p ∷ h) w after t ok e = by (may_go w p) refl e (λ k f. run_stands sc h ((choice sc w p).world) after t k f)
   where
     by : (b : Bool) → may_go w p ≡ b → run_from sc h (if b then Some ((choice sc w p).world) else None) ≡ Some after →
-        (IsOk sc IsWhole ((choice sc w p).world) → run_from sc h (Some ((choice sc w p).world)) ≡ Some after → IsOk sc IsWhole after) → IsOk sc IsWhole after
+        (IsOk sc IsWholeInstance ((choice sc w p).world) → run_from sc h (Some ((choice sc w p).world)) ≡ Some after → IsOk sc IsWholeInstance after) → IsOk sc IsWholeInstance after
     by true goes f later = later (choices_keep_worlds sc w p t ok goes) f
     by false goes f later = absurd (none_left sc h after f)
 
@@ -30,7 +30,7 @@ world_stands : (p : PProgram) (h : List ℕ) (w : World) → HasTexts p → run 
 unfolding run
 world_stands p h w its e =
     let sc = scopes_of p in
-    let ok : IsOk sc IsWhole w = run_stands sc h (start sc) w its.texts (first_world_stands sc its.outer) e in
+    let ok : IsOk sc IsWholeInstance w = run_stands sc h (start sc) w its.texts (first_world_stands sc its.outer) e in
     record { ok = ok; none_left = what_is_referred_to_stands sc w ok; on_paths = references_lie_on_paths sc w ok }
 
 pub worlds_of_accepted_stand : WorldsOfAcceptedStand

@@ -18,7 +18,7 @@ use Rattle.algol_tree.specs.Surroundings.{Surroundings, formals_at, knowing, kno
 use Rattle.algol_tree.specs.Types.{read_type}
 use Rattle.algol_paths.specs.Blocks.{IsInner}
 use Rattle.algol_calls.specs.Fits as fits
-use Rattle.algol_calls.specs.Fits.{wanted, ActualsFit, has_variable}
+use Rattle.algol_calls.specs.Fits.{sorts_wanted, ActualsFit, has_variable}
 use Rattle.algol_front_laws.specs.Uses.{use_by_name}
 use Rattle.algol_told.proofs.Lists.{none-left, none-right, all-append, all-left, all-right}
 use Rattle.algol_texts.proofs.Parameters.{not_so, HasParameter}
@@ -106,7 +106,7 @@ module _ (sc : Scopes) where
 
   -- what a process runs
   started_fits : (j : ℕ) (outer : List Spot) (a : Surroundings) (r : IsAround sc.blocks j outer a) (n : Named) (es : PExprs) (task : Option Named) (listed : Bool) →
-      IsGood sc (here_stmt (tree.process (tree.called n es) task) listed a) → Good (inside_actuals es (formals_at a n) a) → fits.IsCallee sc n × ActualsFit sc es (wanted sc n)
+      IsGood sc (here_stmt (tree.process (tree.called n es) task) listed a) → Good (inside_actuals es (formals_at a n) a) → fits.IsCallee sc n × ActualsFit sc es (sorts_wanted sc n)
   started_fits j outer a r n es task listed g h =
       let u = g.uses.0 in
       let named = name_right sc j outer a r (use_by_name a n) n u untyped (none-left (wrong_by sc j outer a r untyped n) _ g.right) in

@@ -12,10 +12,10 @@ use Rattle.algol_tree.specs.Sorts as sort
 use Rattle.algol_tree.specs.Sorts.{Sort, is_formal, is_by_name, is_variable, procedure_in, Declared, parameters_of}
 use Rattle.algol_tree.specs.Surroundings.{Surroundings, class_of_declared, class_of}
 use Rattle.algol_tree.specs.Types.{read_type}
-use Rattle.algol_meaning.specs.Settle.{sorts_of, block_of, sort_at}
-use Rattle.algol_paths.specs.Blocks.{IsSeen}
+use Rattle.algol_meaning.specs.Settle.{sorts_of, block_of_sort, sort_at}
+use Rattle.algol_paths.specs.Blocks.{BlockIsSeen}
 use Rattle.algol_calls.specs.Fits as fits
-use Rattle.algol_calls.specs.Fits.{parameter_sort, has_simple, own_sort, IsTold, Leads, wanted, AloneFits, IsNameOfIt}
+use Rattle.algol_calls.specs.Fits.{parameter_sort, has_simple, own_sort, NameIsTold, NameLeads, sorts_wanted, AloneFits, IsNameOfIt}
 use Rattle.algol_front_laws.specs.Declarations.{EachOnce}
 use Rattle.algol_front_laws.specs.Uses.{use_by_name}
 use Rattle.algol_told.proofs.Lists.{of-contained, false-not-true}
@@ -80,7 +80,7 @@ module _ (blocks : List Block) (block : ℕ) (name : List ℕ) where
 -- ---- names by their uses
 
 pub told_as : (sc : Scopes) (n : Named) (u : Use) → use_of sc n ≡ u → IsSame (parameter_sort (parameters_at sc.blocks u.block) n.name) u.sort →
-    (is_variable u.sort ≡ true → has_simple (block_numbered sc.blocks u.block) n.name ≡ true) → IsTold sc n
+    (is_variable u.sort ≡ true → has_simple (block_numbered sc.blocks u.block) n.name ≡ true) → NameIsTold sc n
 told_as sc n u e h v =
     let own : own_sort sc n ≡ parameter_sort (parameters_at sc.blocks u.block) n.name = ap (λ (v : Use). parameter_sort (parameters_at sc.blocks v.block) n.name) e in
     let now : u.sort ≡ sort_at sc n = ap (λ (v : Use). v.sort) (sym e) in
@@ -90,7 +90,7 @@ told_as sc n u e h v =
       variable = λ f. subst (λ (x : Use). has_simple (block_numbered sc.blocks x.block) n.name ≡ true) (sym e) (v (ap is_variable now ∙ f));
     }
 
-pub seen_as : (sc : Scopes) (j : ℕ) (n : Named) (u : Use) → use_of sc n ≡ u → slice_get (j ∷ around sc.blocks j) u.up ≡ Some u.block → IsSeen sc j n
+pub seen_as : (sc : Scopes) (j : ℕ) (n : Named) (u : Use) → use_of sc n ≡ u → slice_get (j ∷ around sc.blocks j) u.up ≡ Some u.block → BlockIsSeen sc j n
 seen_as sc j n u e f = subst (λ (v : Use). slice_get (j ∷ around sc.blocks j) v.up ≡ Some v.block) (sym e) f
 
 -- The name is that of a procedure with this heading.
@@ -99,7 +99,7 @@ pub record Calls (sc : Scopes) (a : Surroundings) (n : Named) : Type 0 where
   pub class_is : class_of a n ≡ class.procedure heading
   pub callee : fits.IsCallee sc n
   pub called : procedure_in (sort_at sc n) ≡ Some (number_at sc.blocks heading.name.spot)
-  pub wanted_are : wanted sc n ≡ sorts_of (parameters_of heading)
+  pub wanted_are : sorts_wanted sc n ≡ sorts_of (parameters_of heading)
   pub specified : AreSpecified heading heading.params
 
 module _ (sc : Scopes) (j : ℕ) (outer : List Spot) (a : Surroundings) (r : IsAround sc.blocks j outer a) where
@@ -134,10 +134,10 @@ module _ (sc : Scopes) (j : ℕ) (outer : List Spot) (a : Surroundings) (r : IsA
     sorted : sort_at sc n ≡ d.sort
     sorted = ap (λ (v : Use). v.sort) used_as
 
-    pub seen : IsSeen sc j n
+    pub seen : BlockIsSeen sc j n
     seen = seen_as sc j n (use_by_name a n d) used_as its.found
 
-    pub told : IsTold sc n
+    pub told : NameIsTold sc n
     told =
         let there = its_found (use_by_name a n) n u in
         let whole : HasAll sc.blocks a.known d.block = each_at (HasAll sc.blocks a.known) (j ∷ around sc.blocks j) (a.depth - d.depth) d.block r.whole its.found in
@@ -146,7 +146,7 @@ module _ (sc : Scopes) (j : ℕ) (outer : List Spot) (a : Surroundings) (r : IsA
         told_as sc n (use_by_name a n d) used_as (subst (λ (name : List ℕ). IsSame (parameter_sort (parameters_at sc.blocks d.block) name) d.sort) there.named same)
         (λ e. subst (λ (name : List ℕ). has_simple (block_numbered sc.blocks d.block) name ≡ true) there.named (its.variable e))
 
-    pub leads : IsOther d.sort → Leads sc n
+    pub leads : IsOther d.sort → NameLeads sc n
     leads o = record { told = told; not_by_name = ap is_by_name sorted ∙ o.1 }
 
     pub labelled : d.sort ≡ sort.label → fits.IsLabel sc n
@@ -161,7 +161,7 @@ module _ (sc : Scopes) (j : ℕ) (outer : List Spot) (a : Surroundings) (r : IsA
     pub settled : is_formal d.sort ≡ false → fits.IsSettled sc n
     settled e = record { told = told; no_formal = ap is_formal sorted ∙ e }
 
-    pub left_alone : is_formal d.sort ≡ is_by_name d.sort → IsTold sc n × (is_formal (sort_at sc n) ≡ is_by_name (sort_at sc n))
+    pub left_alone : is_formal d.sort ≡ is_by_name d.sort → NameIsTold sc n × (is_formal (sort_at sc n) ≡ is_by_name (sort_at sc n))
     left_alone e = (told, ap is_formal sorted ∙ e ∙ ap is_by_name (sym sorted))
 
     pub calls : is_procedure d.class ≡ true → Calls sc a n
@@ -173,14 +173,14 @@ module _ (sc : Scopes) (j : ℕ) (outer : List Spot) (a : Surroundings) (r : IsA
           class_is = its_class (use_by_name a n) n u ∙ p.class_is;
           callee =
               record {
-                known = subst (λ (s : Sort). block_of s < length sc.blocks) (sym sort_then) p.callee.some;
+                known = subst (λ (s : Sort). block_of_sort s < length sc.blocks) (sym sort_then) p.callee.some;
                 around_is =
-                    ap (λ (s : Sort). around sc.blocks (block_of s)) sort_then ∙ p.callee.around_is
+                    ap (λ (s : Sort). around sc.blocks (block_of_sort s)) sort_then ∙ p.callee.around_is
                     ∙ ap (λ (v : Use). v.block ∷ around sc.blocks v.block) (sym used_as);
                 no_variable = ap is_variable sort_then;
                 no_formal = ap is_formal sort_then;
               };
           called = ap procedure_in sort_then;
-          wanted_are = ap (λ (s : Sort). sorts_of (parameters_at sc.blocks (block_of s))) sort_then ∙ ap sorts_of p.callee.parameters_are;
+          wanted_are = ap (λ (s : Sort). sorts_of (parameters_at sc.blocks (block_of_sort s))) sort_then ∙ ap sorts_of p.callee.parameters_are;
           specified = p.callee.specified;
         }

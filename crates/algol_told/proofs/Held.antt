@@ -16,7 +16,7 @@ use Rattle.algol_tree.specs.Surroundings.{Surroundings, announced, body_of, decl
 use Rattle.algol_tree.specs.Sites as site
 use Rattle.algol_tree.specs.Sites.{Site, inside_decl, sites_in_decls}
 use Rattle.algol_tree.specs.Couples.{Known, known_at, known_in_heading, known_names, known_there}
-use Rattle.algol_tree.specs.Names.{declared_twice, if_so, is_announced_by, is_one_of, names_here, repeated, result_names, result_names_of, specified, twice_here, twice_in_heading, unknown_in_heading, unknown_names}
+use Rattle.algol_tree.specs.Names.{declared_twice, if_so, is_announced_by, name_is_one_of, names_here, repeated, result_names, result_names_of, specified, twice_here, twice_in_heading, unknown_in_heading, unknown_names}
 use Rattle.algol_told.proofs.Lists.{all-append, all-both, all-left, all-right, false-not-true, none-left, none-right}
 use Rattle.algol_told.proofs.Known.{name-itself, nor-first, unseen}
 use Rattle.algol_told.proofs.Unbroken.{not-unknown}
@@ -44,14 +44,14 @@ module _ (blocks : List Block) (all : List Known) where
         AllByRecursion (λ (n : Named). look_up (map f ns ++ ds) n.name ≡ Some (f n)) ns
     first-found ds seen [] r = tt
     first-found ds seen (n ∷ ns) r =
-        let rest : repeated (n.name ∷ seen) ns ≡ [] = none-right (if_so (is_one_of seen n.name) n.spot) (repeated (n.name ∷ seen) ns) r in (
+        let rest : repeated (n.name ∷ seen) ns ≡ [] = none-right (if_so (name_is_one_of seen n.name) n.spot) (repeated (n.name ∷ seen) ns) r in (
           ap (λ (name : List ℕ). if same_name name n.name then Some (f n) else look_up (map f ns ++ ds) n.name) (name-of n)
               ∙ ap (λ (b : Bool). if b then Some (f n) else look_up (map f ns ++ ds) n.name) (name-itself n.name),
-          all-both (λ (m : Named). is_one_of (n.name ∷ seen) m.name ≡ false) (λ (m : Named). look_up (map f ns ++ ds) m.name ≡ Some (f m))
+          all-both (λ (m : Named). name_is_one_of (n.name ∷ seen) m.name ≡ false) (λ (m : Named). look_up (map f ns ++ ds) m.name ≡ Some (f m))
               (λ (m : Named). look_up (f n ∷ (map f ns ++ ds)) m.name ≡ Some (f m))
               (λ m u e.
               ap (λ (name : List ℕ). if same_name name m.name then Some (f n) else look_up (map f ns ++ ds) m.name) (name-of n)
-              ∙ ap (λ (b : Bool). if b then Some (f n) else look_up (map f ns ++ ds) m.name) (nor-first (same_name n.name m.name) (is_one_of seen m.name) u) ∙ e)
+              ∙ ap (λ (b : Bool). if b then Some (f n) else look_up (map f ns ++ ds) m.name) (nor-first (same_name n.name m.name) (name_is_one_of seen m.name) u) ∙ e)
               ns (unseen (n.name ∷ seen) ns rest) (first-found ds (n.name ∷ seen) ns rest),
         )
 

@@ -7,7 +7,7 @@ use Rattle.algol_tree.specs.declared.tree.Named.{Named}
 use Rattle.algol_tree.specs.declared.tree.Heading.{Heading}
 use Rattle.algol_tree.specs.Sorts.{Declared, same_name, look_up}
 use Rattle.algol_tree.specs.Blocks.{same_spot}
-use Rattle.algol_tree.specs.Names.{if_so, is_one_of, repeated, is_announced_by}
+use Rattle.algol_tree.specs.Names.{if_so, name_is_one_of, repeated, is_announced_by}
 use Rattle.algol_told.proofs.Lists.{none-left, none-right, contains-first, contains-later, all-weaker, all-both, of-contained}
 
 -- ---- the same names and places
@@ -67,30 +67,30 @@ nor-second : (b c : Bool) → (if b then true else c) ≡ false → c ≡ false
 nor-second true c h = absurd (not-true h)
 nor-second false c h = h
 
-among-more : (m : List ℕ) (seen : List (List ℕ)) (name : List ℕ) → is_one_of seen name ≡ true → is_one_of (m ∷ seen) name ≡ true
-among-more m seen name h = first-too (same_name m name) (is_one_of seen name) h
+among-more : (m : List ℕ) (seen : List (List ℕ)) (name : List ℕ) → name_is_one_of seen name ≡ true → name_is_one_of (m ∷ seen) name ≡ true
+among-more m seen name h = first-too (same_name m name) (name_is_one_of seen name) h
 
-pub among-first : (m : List ℕ) (seen : List (List ℕ)) (name : List ℕ) → m ≡ name → is_one_of (m ∷ seen) name ≡ true
-among-first m seen name h = ap (λ (b : Bool). if b then true else is_one_of seen name) (name-told m name h)
+pub among-first : (m : List ℕ) (seen : List (List ℕ)) (name : List ℕ) → m ≡ name → name_is_one_of (m ∷ seen) name ≡ true
+among-first m seen name h = ap (λ (b : Bool). if b then true else name_is_one_of seen name) (name-told m name h)
 
-pub among-behind : (before seen : List (List ℕ)) (name : List ℕ) → is_one_of seen name ≡ true → is_one_of (before ++ seen) name ≡ true
+pub among-behind : (before seen : List (List ℕ)) (name : List ℕ) → name_is_one_of seen name ≡ true → name_is_one_of (before ++ seen) name ≡ true
 among-behind [] seen name h = h
 among-behind (m ∷ before) seen name h = among-more m (before ++ seen) name (among-behind before seen name h)
 
 -- names that are not repeated are not those before
-pub unseen : (seen : List (List ℕ)) (ns : List Named) → repeated seen ns ≡ [] → AllByRecursion (λ (n : Named). is_one_of seen n.name ≡ false) ns
+pub unseen : (seen : List (List ℕ)) (ns : List Named) → repeated seen ns ≡ [] → AllByRecursion (λ (n : Named). name_is_one_of seen n.name ≡ false) ns
 unseen seen [] h = tt
 unseen seen (n ∷ ns) h = (
-  not-so (is_one_of seen n.name) n.spot (none-left (if_so (is_one_of seen n.name) n.spot) (repeated (n.name ∷ seen) ns) h),
-  all-weaker (λ (m : Named). is_one_of (n.name ∷ seen) m.name ≡ false) (λ (m : Named). is_one_of seen m.name ≡ false)
-      (λ m. nor-second (same_name n.name m.name) (is_one_of seen m.name)) ns
-      (unseen (n.name ∷ seen) ns (none-right (if_so (is_one_of seen n.name) n.spot) (repeated (n.name ∷ seen) ns) h)),
+  not-so (name_is_one_of seen n.name) n.spot (none-left (if_so (name_is_one_of seen n.name) n.spot) (repeated (n.name ∷ seen) ns) h),
+  all-weaker (λ (m : Named). name_is_one_of (n.name ∷ seen) m.name ≡ false) (λ (m : Named). name_is_one_of seen m.name ≡ false)
+      (λ m. nor-second (same_name n.name m.name) (name_is_one_of seen m.name)) ns
+      (unseen (n.name ∷ seen) ns (none-right (if_so (name_is_one_of seen n.name) n.spot) (repeated (n.name ∷ seen) ns) h)),
 )
 
-pub alone-fresh : (seen : List (List ℕ)) (n : Named) → repeated seen (n ∷ []) ≡ [] → is_one_of seen n.name ≡ false
+pub alone-fresh : (seen : List (List ℕ)) (n : Named) → repeated seen (n ∷ []) ≡ [] → name_is_one_of seen n.name ≡ false
 alone-fresh seen n h = (unseen seen (n ∷ []) h).0
 
-pub fresh-alone : (seen : List (List ℕ)) (n : Named) → is_one_of seen n.name ≡ false → repeated seen (n ∷ []) ≡ []
+pub fresh-alone : (seen : List (List ℕ)) (n : Named) → name_is_one_of seen n.name ≡ false → repeated seen (n ∷ []) ≡ []
 fresh-alone seen n h = ap (λ b. if_so b n.spot ++ []) h
 
 -- ---- lists of declarations
@@ -109,7 +109,7 @@ Within block depth e = (e.depth ≤ depth) × (e.depth ≡ depth → e.block ≡
 
 module _ (block depth : ℕ) where
   abbrev pub IsSeen : List (List ℕ) → Declared → Type 0
-  IsSeen seen e = e.depth ≡ depth → is_one_of seen e.name ≡ true
+  IsSeen seen e = e.depth ≡ depth → name_is_one_of seen e.name ≡ true
 
   abbrev pub IsAt : Declared → Declared → Type 0
   IsAt d e = e.depth ≡ depth → e.name ≡ d.name → e.spot ≡ d.spot
@@ -129,11 +129,11 @@ module _ (block depth : ℕ) where
         let low : (f n).depth ≤ depth = (let h = depth-of n in omega (arith, h)) in
         ((low, λ h. block-of n), put-within ns ds w)
 
-    apart : (n : Named) (seen : List (List ℕ)) → is_one_of seen n.name ≡ false → (ns : List Named) → AllByRecursion (λ (m : Named). is_one_of (n.name ∷ seen) m.name ≡ false) ns →
+    apart : (n : Named) (seen : List (List ℕ)) → name_is_one_of seen n.name ≡ false → (ns : List Named) → AllByRecursion (λ (m : Named). name_is_one_of (n.name ∷ seen) m.name ≡ false) ns →
         (ds : List Declared) → AllByRecursion (IsSeen seen) ds → AllByRecursion (IsAt (f n)) (map f ns ++ ds)
     apart n seen fresh [] u ds s =
         all-weaker (IsSeen seen) (IsAt (f n))
-        (λ e h deep same. absurd (not-true (sym (h deep) ∙ ap (is_one_of seen) (same ∙ name-of n) ∙ fresh))) ds s
+        (λ e h deep same. absurd (not-true (sym (h deep) ∙ ap (name_is_one_of seen) (same ∙ name-of n) ∙ fresh))) ds s
     apart n seen fresh (m ∷ ns) u ds s = (
       λ deep same. absurd (not-true (sym (among-first n.name seen m.name (sym (sym (name-of m) ∙ same ∙ name-of n))) ∙ u.0)),
       apart n seen fresh ns u.1 ds s,
@@ -143,8 +143,8 @@ module _ (block depth : ℕ) where
         AllByRecursion (IsSeen seen) ds → Tidied (map f ns ++ ds)
     put-names seen [] ds r w t s = t
     put-names seen (n ∷ ns) ds r w t s =
-        let fresh : is_one_of seen n.name ≡ false = (unseen seen (n ∷ ns) r).0 in
-        let rest : repeated (n.name ∷ seen) ns ≡ [] = none-right (if_so (is_one_of seen n.name) n.spot) (repeated (n.name ∷ seen) ns) r in (
+        let fresh : name_is_one_of seen n.name ≡ false = (unseen seen (n ∷ ns) r).0 in
+        let rest : repeated (n.name ∷ seen) ns ≡ [] = none-right (if_so (name_is_one_of seen n.name) n.spot) (repeated (n.name ∷ seen) ns) r in (
           put (f n) (block-of n) (depth-of n) (map f ns ++ ds) (put-within ns ds w) (apart n seen fresh ns (unseen (n.name ∷ seen) ns rest) ds s),
           put-names (n.name ∷ seen) ns ds rest w t
               (all-weaker (IsSeen seen) (IsSeen (n.name ∷ seen)) (λ e h deep. among-more n.name seen e.name (h deep)) ds s),

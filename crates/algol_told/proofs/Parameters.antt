@@ -21,7 +21,7 @@ use Rattle.algol_sorts.proofs.Sorts.{parameter-declared}
 use Rattle.algol_frames.specs.declared.scopes.Declared as laid
 use Rattle.algol_frames.specs.declared.scopes.Scopes.{Scopes}
 use Rattle.algol_scope.specs.Resolved.{AreOf, Meaning, couple, declaration_of, located, meaning}
-use Rattle.algol_told.specs.Parameters.{HasAt, ParametersAreTold, PartHas, TellsDecl, TellsParameter, TellsParameters, place_in}
+use Rattle.algol_told.specs.Parameters.{HasAt, ParametersAreTold, PartHas, TellsDecl, TellsParameter, TellsParameters, parameter_place_in}
 use Rattle.algol_told.proofs.Known.{name-is, name-itself}
 use Rattle.algol_told.proofs.Lists.{all-both, all-left, all-right, all-weaker, none-left, none-of, none-right}
 use Rattle.algol_told.proofs.Places.{IsSo, IsThere, declared-there, names-so, names_known}
@@ -37,7 +37,7 @@ module _ (h : Heading) (block depth : ℕ) (ds : List Declared) where
 
   record IsFirst (ps : List Named) (name : List ℕ) : Type 0 where
     pub first : Named
-    pub place : place_in ps name ≡ Some first.spot
+    pub place : parameter_place_in ps name ≡ Some first.spot
     pub called : first.name ≡ name
     pub found : look_up (map parameter ps ++ ds) name ≡ Some (parameter first)
 
@@ -49,7 +49,7 @@ module _ (h : Heading) (block depth : ℕ) (ds : List Declared) where
       decide true t q on =
           record {
             first = p;
-            place = ap (λ (c : Bool). if c then Some p.spot else place_in ps name) t;
+            place = ap (λ (c : Bool). if c then Some p.spot else parameter_place_in ps name) t;
             called = name-is p.name name t;
             found = ap (λ (c : Bool). if c then Some (parameter p) else look_up (map parameter ps ++ ds) name) t;
           }
@@ -57,7 +57,7 @@ module _ (h : Heading) (block depth : ℕ) (ds : List Declared) where
           let r = on q in
           record {
             first = r.first;
-            place = ap (λ (c : Bool). if c then Some p.spot else place_in ps name) t ∙ r.place;
+            place = ap (λ (c : Bool). if c then Some p.spot else parameter_place_in ps name) t ∙ r.place;
             called = r.called;
             found = ap (λ (c : Bool). if c then Some (parameter p) else look_up (map parameter ps ++ ds) name) t ∙ r.found;
           }

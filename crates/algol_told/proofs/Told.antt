@@ -25,7 +25,7 @@ use Rattle.algol_frames.specs.declared.scopes.Declared as found
 use Rattle.algol_frames.specs.declared.scopes.Scopes.{Scopes}
 use Rattle.algol_scope.specs.Noting.{parameters_by, parameters_here}
 use Rattle.algol_scope.specs.Resolved.{AreOf, Meaning, couple, declaration_of, located, meaning, meaning_at, meant, number_among, parameters_among, parameters_at}
-use Rattle.algol_told.specs.Telling.{EachPartIsTold, Tells, TellsAt}
+use Rattle.algol_told.specs.Telling.{EachPartIsTold, ScopesTell, TellsAt}
 use Rattle.algol_told.proofs.Lists.{all-both, each-of, none-left, none-of, none-right}
 use Rattle.algol_told.proofs.Walk.{HoldsAt, all-hold}
 use Rattle.algol_told.proofs.Places.{IsSo, IsThere, declared-there, each-there, names-so, names_known}
@@ -100,7 +100,7 @@ module _ (p : PProgram) (s : Scopes) (are : AreOf p s) where
       located o ≡
       Some
       (record { spot = d.spot; level = level_at d.depth; couple = couple_in (blocks_of_program p) (sites_of p) d.block d.spot }) →
-      meaning o ≡ Some (record { block = d.block; sort = sort_of d }) → Tells s a n
+      meaning o ≡ Some (record { block = d.block; sort = sort_of d }) → ScopesTell s a n
   tells-found a n d k f t None e l m = absurd (let clash : None ≡ Some (record { block = d.block; sort = sort_of d }) = m in cc)
   tells-found a n d k f t (Some x) e l m =
       let placed : record { spot = x.spot; level = x.level; couple = couple x.couple } ≡
@@ -124,17 +124,17 @@ module _ (p : PProgram) (s : Scopes) (are : AreOf p s) where
             };
       }
 
-  tells-one : (a : Surroundings) (n : Named) → Carries p a → is_some (declared_as a n) ≡ true → IsSo (IsThere (names_known p)) a n → Tells s a n
+  tells-one : (a : Surroundings) (n : Named) → Carries p a → is_some (declared_as a n) ≡ true → IsSo (IsThere (names_known p)) a n → ScopesTell s a n
   tells-one a n k h so = decide (declared_as a n) refl h
     where
-      decide : (o : Option Declared) → declared_as a n ≡ o → is_some o ≡ true → Tells s a n
+      decide : (o : Option Declared) → declared_as a n ≡ o → is_some o ≡ true → ScopesTell s a n
       decide None e q = absurd (let clash : false ≡ true = q in cc)
       decide (Some d) e q =
           tells-found a n d k e (so d e) (declaration_of s n.spot) refl (are.declarations n.spot ∙ declared-there p n.spot d (so d e))
           (are.meanings n.spot ∙ meaning-there p n.spot d (so d e))
 
   tells-names : (a : Surroundings) (ns : List Named) → Carries p a → places_if (λ (n : Named). not (is_some (declared_as a n))) ns ≡ [] →
-      AllByRecursion (IsSo (IsThere (names_known p)) a) ns → AllByRecursion (Tells s a) ns
+      AllByRecursion (IsSo (IsThere (names_known p)) a) ns → AllByRecursion (ScopesTell s a) ns
   tells-names a [] k h so = tt
   tells-names a (n ∷ ns) k h so =
       let here = if_so (not (is_some (declared_as a n))) n.spot in

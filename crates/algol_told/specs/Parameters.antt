@@ -18,15 +18,15 @@ use Rattle.algol_frames.specs.declared.scopes.Scopes.{Scopes}
 use Rattle.algol_scope.specs.Resolved.{AreOf, declaration_of}
 
 -- where the first parameter of that name stands
-abbrev pub place_in : List Named → List ℕ → Option Spot
-place_in [] name = None
-place_in (p ∷ ps) name = if same_name p.name name then Some p.spot else place_in ps name
+abbrev pub parameter_place_in : List Named → List ℕ → Option Spot
+parameter_place_in [] name = None
+parameter_place_in (p ∷ ps) name = if same_name p.name name then Some p.spot else parameter_place_in ps name
 
 -- The scopes tell under the name's place the parameter that it names: where that stands, and what it is declared as.
 pub record TellsParameter (s : Scopes) (h : Heading) (n : Named) : Type 0 where
   pub told : laid.Declared
   pub answers : declaration_of s n.spot ≡ Some told
-  pub place : place_in h.params n.name ≡ Some told.spot
+  pub place : parameter_place_in h.params n.name ≡ Some told.spot
   pub sort : told.sort ≡ parameter_by (class_in h.specs n.name) (is_named_in h.values n.name)
 
 -- .. under that of each parameter, and where VALUE or a specification names one; and none is declared or specified twice.

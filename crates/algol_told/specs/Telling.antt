@@ -23,7 +23,7 @@ pub record TellsHeading (s : Scopes) (d : Declared) (h : Heading) : Type 0 where
   pub parameters : parameters_of s d.spot ≡ Some (map parameter_of (formals_of h))
 
 -- The name has a declaration here, and the scopes tell it under the name's place.
-pub record Tells (s : Scopes) (a : Surroundings) (n : Named) : Type 0 where
+pub record ScopesTell (s : Scopes) (a : Surroundings) (n : Named) : Type 0 where
   pub declared : Declared
   pub found : declared_as a n ≡ Some declared
   pub told : laid.Declared
@@ -36,7 +36,7 @@ pub record Tells (s : Scopes) (a : Surroundings) (n : Named) : Type 0 where
 
 -- the names that a part uses
 abbrev pub TellsAt : Scopes → Site → Type 0
-TellsAt s x = AllByRecursion (Tells s x.around) (names_in x.part)
+TellsAt s x = AllByRecursion (ScopesTell s x.around) (names_in x.part)
 
 abbrev pub TellsAll : Scopes → List Site → Type 0
 TellsAll s xs = AllByRecursion (TellsAt s) xs

@@ -72,12 +72,12 @@ abbrev pub is_simple_name : Option Named → Surroundings → Bool
 is_simple_name None a = false
 is_simple_name (Some n) a = is_simple (class_of a n)
 
-abbrev pub is_by_name : Option Formal → Bool
-is_by_name None = false
-is_by_name (Some f) = is_simple f.class && not f.by_value
+abbrev pub formal_is_by_name : Option Formal → Bool
+formal_is_by_name None = false
+formal_is_by_name (Some f) = is_simple f.class && not f.by_value
 
 abbrev pub has_cell : PExpr → Option Formal → Surroundings → Bool
-has_cell e f a = is_by_name f && not (is_simple_name (name_alone e) a)
+has_cell e f a = formal_is_by_name f && not (is_simple_name (name_alone e) a)
 
 module _ (blocks : List Block) where
   -- the result of a typed procedure stands at its name

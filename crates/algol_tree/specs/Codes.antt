@@ -14,12 +14,12 @@ position (first ∷ more) (inl this) = 0
 position (first ∷ more) (inr later) = suc (position more later)
 
 -- the rows stand in the order in which the refusals are declared
-abbrev pub index : Code → ℕ
-index code = position generated.the_parts (generated.as_values code)
+abbrev pub code_index : Code → ℕ
+code_index code = position generated.the_parts (generated.as_values code)
 
 -- the letter and the number in the row of a refusal
 abbrev pub rule_letter : Code → ℕ
-rule_letter code = get_or (map (λ row. row.1) TABLE) (index code) 0
+rule_letter code = get_or (map (λ row. row.1) TABLE) (code_index code) 0
 
 abbrev pub rule_number : Code → ℕ
-rule_number code = get_or (map (λ row. row.2) TABLE) (index code) 0
+rule_number code = get_or (map (λ row. row.2) TABLE) (code_index code) 0

@@ -40,8 +40,8 @@ abbrev pub Make : Type 0
 Make = List Value → List Value
 
 -- a value of its own
-abbrev pub put : Value → Make
-put v vs = v ∷ vs
+abbrev pub value_put : Value → Make
+value_put v vs = v ∷ vs
 
 pub data Due : Type 0 where
   make : Make → Due  -- nothing is due: the newest values are made into one

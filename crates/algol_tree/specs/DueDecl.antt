@@ -10,7 +10,7 @@ use Rattle.algol_tree.specs.declared.tree.Kind.TheVariants as types
 use Rattle.algol_tree.specs.declared.tree.Spec.TheVariants as specs
 use Rattle.algol_tree.specs.Tokens.{is_word, is_symbol}
 use Rattle.algol_tree.specs.Headings.{type_of}
-use Rattle.algol_tree.specs.Due.{name_is, names, low, lows, specified, heading, Make, put, Due, make, symbol, spelled, named, names_more, printer_part, files_more, literal, number_negated, lows_more, values_part, spec, spec_typed, specs_more, Turn, takes, makes, skips, refuses, plain, followed, either, optional}
+use Rattle.algol_tree.specs.Due.{name_is, names, low, lows, specified, heading, Make, value_put, Due, make, symbol, spelled, named, names_more, printer_part, files_more, literal, number_negated, lows_more, values_part, spec, spec_typed, specs_more, Turn, takes, makes, skips, refuses, plain, followed, either, optional}
 
 -- how values are made into one
 
@@ -46,19 +46,19 @@ headed_with kind vs = vs
 -- name
 
 abbrev pub turn_named : Spot → TokenKind → Turn
-turn_named spot (kinds.Name name) = takes plain (make (put (name_is (record { name = name; spot = spot }))) ∷ [])
+turn_named spot (kinds.Name name) = takes plain (make (value_put (name_is (record { name = name; spot = spot }))) ∷ [])
 turn_named spot k = refuses
 
 -- name { "," name }
-abbrev pub names_in : List Due
-names_in = make (put (names [])) ∷ named ∷ make name_added ∷ names_more ∷ []
+abbrev pub names_in_list : List Due
+names_in_list = make (value_put (names [])) ∷ named ∷ make name_added ∷ names_more ∷ []
 
 abbrev pub turn_names_more : TokenKind → Turn
 turn_names_more k = either (is_symbol symbols.Comma k) (takes plain (named ∷ make name_added ∷ names_more ∷ [])) skips
 
 -- file { "," file }
 abbrev pub files_in : List Due
-files_in = make (put (names [])) ∷ named ∷ make name_added ∷ printer_part ∷ files_more ∷ []
+files_in = make (value_put (names [])) ∷ named ∷ make name_added ∷ printer_part ∷ files_more ∷ []
 
 abbrev pub turn_printer_part : TokenKind → Turn
 turn_printer_part k = either (is_symbol symbols.OpenRound k)
@@ -70,11 +70,11 @@ turn_files_more k = either (is_symbol symbols.Comma k) (takes plain (named ∷ m
 -- literal = [ "-" ] number
 
 abbrev pub turn_negated : TokenKind → Turn
-turn_negated (kinds.Number value) = takes plain (make (put (low (pos 0 -ℤ value))) ∷ [])
+turn_negated (kinds.Number value) = takes plain (make (value_put (low (pos 0 -ℤ value))) ∷ [])
 turn_negated k = refuses
 
 abbrev pub turn_literal : TokenKind → Turn
-turn_literal (kinds.Number value) = takes plain (make (put (low value)) ∷ [])
+turn_literal (kinds.Number value) = takes plain (make (value_put (low value)) ∷ [])
 turn_literal (kinds.Symbol symbols.Minus) = takes plain (number_negated ∷ [])
 turn_literal k = refuses
 
@@ -83,16 +83,16 @@ turn_lows_more k = either (is_symbol symbols.Comma k) (takes plain (literal ∷ 
 
 -- [ VALUE names ";" ]
 abbrev pub turn_values_part : TokenKind → Turn
-turn_values_part k = either (is_word reserved.Value k) (takes plain (names_in ++ symbol symbols.Semicolon ∷ [])) (makes (put (names [])))
+turn_values_part k = either (is_word reserved.Value k) (takes plain (names_in_list ++ symbol symbols.Semicolon ∷ [])) (makes (value_put (names [])))
 
 -- an array's specification after its word ARRAY
 abbrev pub rows_specified : Kind → List Due
-rows_specified kind = names_in ++ symbol symbols.OpenSquare ∷ make (put (lows [])) ∷ literal ∷ make low_added ∷ lows_more
+rows_specified kind = names_in_list ++ symbol symbols.OpenSquare ∷ make (value_put (lows [])) ∷ literal ∷ make low_added ∷ lows_more
     ∷ symbol symbols.CloseSquare ∷ symbol symbols.Semicolon ∷ make (spec_arrays kind) ∷ []
 
 -- a specification after its type: names ";" | ARRAY names "[" literal [ "," literal ] "]" ";"
 abbrev pub turn_spec_typed : Kind → Spot → TokenKind → Turn
-turn_spec_typed kind spot (kinds.Name name) = takes plain (make (put (names (record { name = name; spot = spot } ∷ []))) ∷ names_more
+turn_spec_typed kind spot (kinds.Name name) = takes plain (make (value_put (names (record { name = name; spot = spot } ∷ []))) ∷ names_more
     ∷ symbol symbols.Semicolon ∷ make (spec_simple kind) ∷ [])
 turn_spec_typed kind spot (kinds.Word reserved.Array) = takes plain (rows_specified kind)
 turn_spec_typed kind spot k = refuses
@@ -100,7 +100,7 @@ turn_spec_typed kind spot k = refuses
 -- the turn of a specification, or of what stands in its place
 abbrev pub turn_spec : TokenKind → Turn → Turn
 turn_spec k otherwise = optional (type_of k) (λ kind. spec_typed kind ∷ [])
-    (either (is_word reserved.Event k) (takes plain (names_in ++ symbol symbols.Semicolon ∷ make spec_events ∷ []))
+    (either (is_word reserved.Event k) (takes plain (names_in_list ++ symbol symbols.Semicolon ∷ make spec_events ∷ []))
     (either (is_word reserved.Array k) (takes plain (rows_specified types.Number)) otherwise))
 
 abbrev pub turn_specs_more : TokenKind → Turn
@@ -110,6 +110,6 @@ turn_specs_more k = followed (turn_spec k skips) (specs_more ∷ [])
 abbrev pub turn_behind_procedure : Option Kind → TokenKind → Turn
 turn_behind_procedure kind k = either (is_symbol symbols.Semicolon k) (takes plain (make (headed kind) ∷ []))
     (either (is_symbol symbols.OpenRound k)
-    (takes plain (names_in ++ symbol symbols.CloseRound ∷ symbol symbols.Semicolon ∷ values_part ∷ make (put (specified [])) ∷ spec ∷ specs_more
+    (takes plain (names_in_list ++ symbol symbols.CloseRound ∷ symbol symbols.Semicolon ∷ values_part ∷ make (value_put (specified [])) ∷ spec ∷ specs_more
     ∷ make (headed_with kind) ∷ []))
     refuses)

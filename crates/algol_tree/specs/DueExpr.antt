@@ -16,7 +16,7 @@ use Rattle.algol_tree.specs.Plain as trees
 use Rattle.algol_tree.specs.Plain.{PExpr, PExprs, subscripted, called, none, more}
 use Rattle.algol_tree.specs.Tokens.{is_word, is_symbol}
 use Rattle.algol_tree.specs.Operators.{Part, expr, level, not_part, rel, primary, operand}
-use Rattle.algol_tree.specs.Due.{one, many, event_named, event_names, Make, put, Due, make, word, symbol, spelled, part, more_of, relation, behind_name, exprs_more, opening, event, events_more, behind_event, whole_ends, Turn, takes, makes, skips, refuses, plain, nests, followed, begins, either}
+use Rattle.algol_tree.specs.Due.{one, many, event_named, event_names, Make, value_put, Due, make, word, symbol, spelled, part, more_of, relation, behind_name, exprs_more, opening, event, events_more, behind_event, whole_ends, Turn, takes, makes, skips, refuses, plain, nests, followed, begins, either}
 
 abbrev pub is_sign : TokenKind → Bool
 is_sign k = is_symbol symbols.Plus k || is_symbol symbols.Minus k
@@ -36,14 +36,14 @@ abbrev pub all_of : PExprs → PExprs → PExprs
 all_of none fs = fs
 all_of (more e es) fs = more e (all_of es fs)
 
-abbrev pub sign_of : TokenKind → PExpr → Spot → PExpr
-sign_of (kinds.Symbol symbols.Minus) e spot = trees.neg e spot
-sign_of k e spot = trees.plus e spot
+abbrev pub token_sign_of : TokenKind → PExpr → Spot → PExpr
+token_sign_of (kinds.Symbol symbols.Minus) e spot = trees.neg e spot
+token_sign_of k e spot = trees.plus e spot
 
 -- how values are made into one
 
 abbrev pub signed : TokenKind → Spot → Make
-signed k spot (one e ∷ vs) = one (sign_of k e spot) ∷ vs
+signed k spot (one e ∷ vs) = one (token_sign_of k e spot) ∷ vs
 signed k spot vs = vs
 
 abbrev pub negated : Spot → Make
@@ -54,17 +54,17 @@ abbrev pub grouped : Spot → Make
 grouped spot (one e ∷ vs) = one (trees.paren e spot) ∷ vs
 grouped spot vs = vs
 
-abbrev pub joined : Op → Make
-joined op (one b ∷ one a ∷ vs) = one (trees.two op a b) ∷ vs
-joined op vs = vs
+abbrev pub op_joined : Op → Make
+op_joined op (one b ∷ one a ∷ vs) = one (trees.two op a b) ∷ vs
+op_joined op vs = vs
 
-abbrev pub chosen : Spot → Make
-chosen spot (one b ∷ one a ∷ one c ∷ vs) = one (trees.if c a b spot) ∷ vs
-chosen spot vs = vs
+abbrev pub expr_chosen : Spot → Make
+expr_chosen spot (one b ∷ one a ∷ one c ∷ vs) = one (trees.if c a b spot) ∷ vs
+expr_chosen spot vs = vs
 
-abbrev pub listed : Make
-listed (one e ∷ many es ∷ vs) = many (behind es e) ∷ vs
-listed vs = vs
+abbrev pub list_made : Make
+list_made (one e ∷ many es ∷ vs) = many (behind es e) ∷ vs
+list_made vs = vs
 
 abbrev pub element : Named → Make
 element n (many es ∷ vs) = one (trees.variable (subscripted n es)) ∷ vs
@@ -74,9 +74,9 @@ abbrev pub applied : Named → Make
 applied n (many es ∷ vs) = one (trees.call (called n es)) ∷ vs
 applied n vs = vs
 
-abbrev pub asked : EventTest → Spot → Make
-asked test spot (event_named e ∷ vs) = one (trees.tested test (e ∷ []) spot) ∷ vs
-asked test spot vs = vs
+abbrev pub test_asked : EventTest → Spot → Make
+test_asked test spot (event_named e ∷ vs) = one (trees.tested test (e ∷ []) spot) ∷ vs
+test_asked test spot vs = vs
 
 abbrev pub event_added : Make
 event_added (event_named e ∷ event_names es ∷ vs) = event_names (es ++ e ∷ []) ∷ vs
@@ -100,17 +100,17 @@ turn_event spot (kinds.Name name) = takes plain (behind_event (record { name = n
 turn_event spot k = refuses
 
 abbrev pub turn_behind_event : Named → TokenKind → Turn
-turn_behind_event n k = either (is_symbol symbols.Period k) (takes plain (spelled (codes "EXCEPTIONEVENT") ∷ make (put (event_named (record { name = n; task = true }))) ∷ []))
-    (makes (put (event_named (record { name = n; task = false }))))
+turn_behind_event n k = either (is_symbol symbols.Period k) (takes plain (spelled (codes "EXCEPTIONEVENT") ∷ make (value_put (event_named (record { name = n; task = true }))) ∷ []))
+    (makes (value_put (event_named (record { name = n; task = false }))))
 
 -- "(" event ")", of which that is asked
 abbrev pub of_one : EventTest → ℕ → Spot → List Due
-of_one test d spot = opening symbols.OpenRound d ∷ event ∷ symbol symbols.CloseRound ∷ make (asked test spot) ∷ []
+of_one test d spot = opening symbols.OpenRound d ∷ event ∷ symbol symbols.CloseRound ∷ make (test_asked test spot) ∷ []
 
 -- "(" event { "," event } ")", for which a process waits
 abbrev pub of_several : ℕ → Spot → List Due
 of_several d spot =
-    opening symbols.OpenRound d ∷ make (put (event_names [])) ∷ event ∷ make event_added ∷ events_more ∷ symbol symbols.CloseRound ∷ make (waited spot) ∷ []
+    opening symbols.OpenRound d ∷ make (value_put (event_names [])) ∷ event ∷ make event_added ∷ events_more ∷ symbol symbols.CloseRound ∷ make (waited spot) ∷ []
 
 -- what stands after commas
 abbrev pub turn_events_more : TokenKind → Turn
@@ -119,9 +119,9 @@ turn_events_more k = either (is_symbol symbols.Comma k) (takes plain (event ∷ 
 -- the turn of a part at a token of that place and kind
 
 abbrev pub turn_primary : ℕ → Spot → TokenKind → Turn
-turn_primary d spot (kinds.Number value) = takes plain (make (put (one (trees.number value spot))) ∷ [])
-turn_primary d spot (kinds.Word reserved.True) = takes plain (make (put (one (trees.truth true spot))) ∷ [])
-turn_primary d spot (kinds.Word reserved.False) = takes plain (make (put (one (trees.truth false spot))) ∷ [])
+turn_primary d spot (kinds.Number value) = takes plain (make (value_put (one (trees.number value spot))) ∷ [])
+turn_primary d spot (kinds.Word reserved.True) = takes plain (make (value_put (one (trees.truth true spot))) ∷ [])
+turn_primary d spot (kinds.Word reserved.False) = takes plain (make (value_put (one (trees.truth false spot))) ∷ [])
 turn_primary d spot (kinds.Word reserved.Happened) = takes plain (of_one test.Happened d spot)
 turn_primary d spot (kinds.Word reserved.Available) = takes plain (of_one test.Available d spot)
 turn_primary d spot (kinds.Word reserved.Fix) = takes plain (of_one test.Fix d spot)
@@ -157,7 +157,7 @@ turn_eqv d spot k = followed (turn_imp d spot k) (more_of levels.Eqv d ∷ [])
 
 abbrev pub turn_expr : ℕ → Spot → TokenKind → Turn
 turn_expr d spot k = either (is_word reserved.If k)
-    (takes (nests d) (part expr (d + 1) ∷ word reserved.Then ∷ part (level levels.Eqv) (d + 1) ∷ word reserved.Else ∷ part expr (d + 1) ∷ make (chosen spot) ∷ []))
+    (takes (nests d) (part expr (d + 1) ∷ word reserved.Then ∷ part (level levels.Eqv) (d + 1) ∷ word reserved.Else ∷ part expr (d + 1) ∷ make (expr_chosen spot) ∷ []))
     (turn_eqv d spot k)
 
 abbrev pub turn_part : Part → ℕ → Spot → TokenKind → Turn
@@ -177,25 +177,25 @@ turn_whole d spot k = begins (followed (turn_expr d spot k) (whole_ends ∷ []))
 
 -- { operator operand }
 abbrev pub on_with : Level → ℕ → Op → List Due
-on_with l d op = part (operand l) d ∷ make (joined op) ∷ more_of l d ∷ []
+on_with l d op = part (operand l) d ∷ make (op_joined op) ∷ more_of l d ∷ []
 
 -- [ relop sum ]
 abbrev pub related : ℕ → Op → List Due
-related d op = part (level levels.Sum) d ∷ make (joined op) ∷ []
+related d op = part (level levels.Sum) d ∷ make (op_joined op) ∷ []
 
 -- expr { "," expr } and the symbol that closes them, after a list with nothing in it yet
 abbrev pub list_in : ℕ → Symbol → List Due
-list_in d closing = part expr d ∷ make listed ∷ exprs_more d ∷ symbol closing ∷ []
+list_in d closing = part expr d ∷ make list_made ∷ exprs_more d ∷ symbol closing ∷ []
 
 -- the same, made into one so
 abbrev pub exprs_in : ℕ → Symbol → Make → List Due
-exprs_in d closing m = make (put (many none)) ∷ part expr (d + 1) ∷ make listed ∷ exprs_more (d + 1) ∷ symbol closing ∷ make m ∷ []
+exprs_in d closing m = make (value_put (many none)) ∷ part expr (d + 1) ∷ make list_made ∷ exprs_more (d + 1) ∷ symbol closing ∷ make m ∷ []
 
 abbrev pub turn_behind_name : Named → ℕ → TokenKind → Turn
 turn_behind_name n d k = either (is_symbol symbols.OpenSquare k) (takes (nests d) (exprs_in d symbols.CloseSquare (element n)))
     (either (is_symbol symbols.OpenRound k) (takes (nests d) (exprs_in d symbols.CloseRound (applied n)))
-    (makes (put (one (trees.variable (subscripted n none))))))
+    (makes (value_put (one (trees.variable (subscripted n none))))))
 
 -- the turn of what stands after commas
 abbrev pub turn_exprs_more : ℕ → TokenKind → Turn
-turn_exprs_more d k = either (is_symbol symbols.Comma k) (takes plain (part expr d ∷ make listed ∷ exprs_more d ∷ [])) skips
+turn_exprs_more d k = either (is_symbol symbols.Comma k) (takes plain (part expr d ∷ make list_made ∷ exprs_more d ∷ [])) skips

@@ -15,9 +15,9 @@ use Rattle.algol_tree.specs.Plain.{PExprs, subscripted, called, none, PStmt, PSt
 use Rattle.algol_tree.specs.Tokens.{is_word, is_symbol}
 use Rattle.algol_tree.specs.Headings.{type_of}
 use Rattle.algol_tree.specs.Statements.{act_of, phrase_of}
-use Rattle.algol_tree.specs.DueExpr.{listed}
-use Rattle.algol_tree.specs.DueDecl.{names_in, files_in}
-use Rattle.algol_tree.specs.Due.{one, many, event_named, name_is, names, low, pairs, heading, task, place, phrases, stmt, list, declared, whole_program, Make, put, Due, make, word, symbol, event, whole, named, names_more, literal, behind_procedure, wholes_more, actuals_part, items_part, pairs_more, segments_more, task_part, to_part, angle, phrase, phrases_more, statement, behind_start, else_part, stmts_more, declarations, typed, procedure_body, Turn, takes, makes, skips, refuses, plain, nests, label, followed, either, optional}
+use Rattle.algol_tree.specs.DueExpr.{list_made}
+use Rattle.algol_tree.specs.DueDecl.{names_in_list, files_in}
+use Rattle.algol_tree.specs.Due.{one, many, event_named, name_is, names, low, pairs, heading, task, place, phrases, stmt, list, declared, whole_program, Make, value_put, Due, make, word, symbol, event, whole, named, names_more, literal, behind_procedure, wholes_more, actuals_part, items_part, pairs_more, segments_more, task_part, to_part, angle, phrase, phrases_more, statement, behind_start, else_part, stmts_more, declarations, typed, procedure_body, Turn, takes, makes, skips, refuses, plain, nests, label, followed, either, optional}
 
 -- a statement after others, a declaration after others
 abbrev pub stmt_behind : PStmts → PStmt → PStmts
@@ -133,16 +133,16 @@ programmed spot vs = vs
 
 -- expressions that stand in no other: expr { "," expr }
 abbrev pub wholes_in : List Due
-wholes_in = make (put (many none)) ∷ whole 0 ∷ make listed ∷ wholes_more ∷ []
+wholes_in = make (value_put (many none)) ∷ whole 0 ∷ make list_made ∷ wholes_more ∷ []
 
 abbrev pub turn_wholes_more : TokenKind → Turn
-turn_wholes_more k = either (is_symbol symbols.Comma k) (takes plain (whole 0 ∷ make listed ∷ wholes_more ∷ [])) skips
+turn_wholes_more k = either (is_symbol symbols.Comma k) (takes plain (whole 0 ∷ make list_made ∷ wholes_more ∷ [])) skips
 
 abbrev pub turn_actuals_part : TokenKind → Turn
-turn_actuals_part k = either (is_symbol symbols.OpenRound k) (takes plain (wholes_in ++ symbol symbols.CloseRound ∷ [])) (makes (put (many none)))
+turn_actuals_part k = either (is_symbol symbols.OpenRound k) (takes plain (wholes_in ++ symbol symbols.CloseRound ∷ [])) (makes (value_put (many none)))
 
 abbrev pub turn_items_part : TokenKind → Turn
-turn_items_part k = either (is_symbol symbols.Comma k) (takes plain wholes_in) (makes (put (many none)))
+turn_items_part k = either (is_symbol symbols.Comma k) (takes plain wholes_in) (makes (value_put (many none)))
 
 -- pair [ "," pair ]
 abbrev pub pair_in : List Due
@@ -153,20 +153,20 @@ turn_pairs_more k = either (is_symbol symbols.Comma k) (takes plain pair_in) ski
 
 -- segment { "," segment }
 abbrev pub segment_in : Kind → List Due
-segment_in kind = names_in ++ symbol symbols.OpenSquare ∷ make (put (pairs [])) ∷ pair_in ++ pairs_more ∷ symbol symbols.CloseSquare
+segment_in kind = names_in_list ++ symbol symbols.OpenSquare ∷ make (value_put (pairs [])) ∷ pair_in ++ pairs_more ∷ symbol symbols.CloseSquare
     ∷ make (rows_declared kind) ∷ segments_more kind ∷ []
 
 abbrev pub turn_segments_more : Kind → TokenKind → Turn
 turn_segments_more kind k = either (is_symbol symbols.Comma k) (takes plain (segment_in kind)) skips
 
 abbrev pub turn_task_part : TokenKind → Turn
-turn_task_part k = either (is_symbol symbols.OpenSquare k) (takes plain (named ∷ make with_task ∷ symbol symbols.CloseSquare ∷ [])) (makes (put (task None)))
+turn_task_part k = either (is_symbol symbols.OpenSquare k) (takes plain (named ∷ make with_task ∷ symbol symbols.CloseSquare ∷ [])) (makes (value_put (task None)))
 
 abbrev pub turn_to_part : TokenKind → Turn
 turn_to_part k = either (is_word reserved.To k) (takes plain []) skips
 
 abbrev pub turn_angle : Spot → TokenKind → Turn
-turn_angle spot k = either (is_symbol symbols.Less k) (takes plain (make (put (place spot)) ∷ [])) refuses
+turn_angle spot k = either (is_symbol symbols.Less k) (takes plain (make (value_put (place spot)) ∷ [])) refuses
 
 -- phrase { "," phrase }
 abbrev pub turn_phrase : TokenKind → Turn
@@ -177,15 +177,15 @@ turn_phrases_more k = either (is_symbol symbols.Comma k) (takes plain (phrase �
 
 -- statement { ";" statement } with END after it, made into one so
 abbrev pub stmts_in : ℕ → Make → List Due
-stmts_in d m = make (put (list no_stmts)) ∷ statement d ∷ make stmt_added ∷ stmts_more d ∷ word reserved.End ∷ make m ∷ []
+stmts_in d m = make (value_put (list no_stmts)) ∷ statement d ∷ make stmt_added ∷ stmts_more d ∷ word reserved.End ∷ make m ∷ []
 
 -- body and END, made into one so
 abbrev pub body_in : ℕ → Make → List Due
-body_in d m = make (put (declared no_decls)) ∷ declarations d ∷ stmts_in d m
+body_in d m = make (value_put (declared no_decls)) ∷ declarations d ∷ stmts_in d m
 
 -- the file and what is written to it
-abbrev pub written : List Due
-written = symbol symbols.OpenRound ∷ named ∷ symbol symbols.Comma ∷ angle ∷ make (put (phrases [])) ∷ phrase ∷ phrases_more
+abbrev pub write_due : List Due
+write_due = symbol symbols.OpenRound ∷ named ∷ symbol symbols.Comma ∷ angle ∷ make (value_put (phrases [])) ∷ phrase ∷ phrases_more
     ∷ symbol symbols.Greater ∷ items_part ∷ symbol symbols.CloseRound ∷ make writing ∷ []
 
 -- the turn of a statement, by its first token
@@ -201,7 +201,7 @@ turn_word d spot (kinds.Word reserved.Thru) otherwise = takes (nests d) (whole 0
 turn_word d spot (kinds.Word reserved.Case) otherwise = takes (nests d) (whole 0 ∷ word reserved.Of ∷ word reserved.Begin ∷ stmts_in (d + 1) choosing)
 turn_word d spot (kinds.Word reserved.Go) otherwise = takes plain (to_part ∷ named ∷ make going ∷ [])
 turn_word d spot (kinds.Word reserved.Process) otherwise = takes plain (named ∷ actuals_part ∷ task_part ∷ make processing ∷ [])
-turn_word d spot (kinds.Word reserved.Write) otherwise = takes plain written
+turn_word d spot (kinds.Word reserved.Write) otherwise = takes plain write_due
 turn_word d spot k otherwise = otherwise
 
 -- a statement that is not empty, or what stands in its place
@@ -211,7 +211,7 @@ turn_start d spot k otherwise =
     optional (act_of k) (λ act. symbol symbols.OpenRound ∷ event ∷ symbol symbols.CloseRound ∷ make (acting act) ∷ []) (turn_word d spot k otherwise)
 
 abbrev pub turn_statement : ℕ → Spot → TokenKind → Turn
-turn_statement d spot k = turn_start d spot k (makes (put (stmt trees.empty)))
+turn_statement d spot k = turn_start d spot k (makes (value_put (stmt trees.empty)))
 
 -- after the name n: ":" statement | [ subscripts ] ":=" expr | [ actuals ]
 abbrev pub turn_behind_start : Named → ℕ → TokenKind → Turn
@@ -220,7 +220,7 @@ turn_behind_start n d (kinds.Symbol symbols.Becomes) = takes plain (whole 0 ∷ 
 turn_behind_start n d (kinds.Symbol symbols.OpenSquare) =
     takes plain (wholes_in ++ symbol symbols.CloseSquare ∷ symbol symbols.Becomes ∷ whole 0 ∷ make (assigned_element n) ∷ [])
 turn_behind_start n d (kinds.Symbol symbols.OpenRound) = takes plain (wholes_in ++ symbol symbols.CloseRound ∷ make (calling n) ∷ [])
-turn_behind_start n d k = makes (put (stmt (trees.call_of (called n none))))
+turn_behind_start n d k = makes (value_put (stmt (trees.call_of (called n none))))
 
 abbrev pub turn_else_part : ℕ → TokenKind → Turn
 turn_else_part d k = either (is_word reserved.Else k) (takes plain (statement d ∷ make two_armed ∷ [])) (makes one_armed)
@@ -230,7 +230,7 @@ turn_stmts_more d k = either (is_symbol symbols.Semicolon k) (takes plain (state
 
 -- a declaration of names with its semicolon
 abbrev pub names_by : (List Named → PDecl) → List Due
-names_by f = names_in ++ make (names_declared f) ∷ symbol symbols.Semicolon ∷ []
+names_by f = names_in_list ++ make (names_declared f) ∷ symbol symbols.Semicolon ∷ []
 
 -- a procedure after its word
 abbrev pub procedure_in : Option Kind → ℕ → List Due
@@ -238,7 +238,7 @@ procedure_in kind d = named ∷ behind_procedure kind ∷ procedure_body d ∷ [
 
 -- after its type: names ";" | ARRAY segment { "," segment } ";" | PROCEDURE ..
 abbrev pub turn_typed : Kind → ℕ → Spot → TokenKind → Turn
-turn_typed kind d spot (kinds.Name n) = takes plain (make (put (names (record { name = n; spot = spot } ∷ []))) ∷ names_more
+turn_typed kind d spot (kinds.Name n) = takes plain (make (value_put (names (record { name = n; spot = spot } ∷ []))) ∷ names_more
     ∷ make (names_declared (trees.simple kind)) ∷ symbol symbols.Semicolon ∷ [])
 turn_typed kind d spot (kinds.Word reserved.Array) = takes plain (segment_in kind ++ symbol symbols.Semicolon ∷ [])
 turn_typed kind d spot (kinds.Word reserved.Procedure) = takes plain (procedure_in (Some kind) d)
@@ -258,18 +258,18 @@ abbrev pub turn_declarations : ℕ → TokenKind → Turn
 turn_declarations d k = followed (turn_declaration d k skips) (declarations d ∷ [])
 
 -- a body that begins so opens a level before that of its first token, so it is the greater number that counts
-abbrev pub entered : ℕ → Turn → Turn
-entered d (takes plain ds) = takes (nests d) (ds ++ make with_body ∷ symbol symbols.Semicolon ∷ [])
-entered d (takes l ds) = takes l (ds ++ make with_body ∷ symbol symbols.Semicolon ∷ [])
-entered d x = x
+abbrev pub turn_entered : ℕ → Turn → Turn
+turn_entered d (takes plain ds) = takes (nests d) (ds ++ make with_body ∷ symbol symbols.Semicolon ∷ [])
+turn_entered d (takes l ds) = takes l (ds ++ make with_body ∷ symbol symbols.Semicolon ∷ [])
+turn_entered d x = x
 
 -- ( FORWARD | statement ) ";"
 abbrev pub turn_procedure_body : ℕ → Spot → TokenKind → Turn
 turn_procedure_body d spot (kinds.Word reserved.Forward) = takes plain (make announced ∷ symbol symbols.Semicolon ∷ [])
-turn_procedure_body d spot (kinds.Symbol symbols.Semicolon) = takes (nests d) (make (put (stmt trees.empty)) ∷ make with_body ∷ [])
-turn_procedure_body d spot k = entered d (turn_start (d + 1) spot k refuses)
+turn_procedure_body d spot (kinds.Symbol symbols.Semicolon) = takes (nests d) (make (value_put (stmt trees.empty)) ∷ make with_body ∷ [])
+turn_procedure_body d spot k = turn_entered d (turn_start (d + 1) spot k refuses)
 
 abbrev pub turn_program : Spot → TokenKind → Turn
 turn_program spot k = either (is_word reserved.Begin k)
-    (takes (nests 0) (make (put (declared no_decls)) ∷ declarations 1 ∷ make (put (list no_stmts)) ∷ statement 1 ∷ make stmt_added ∷ stmts_more 1
+    (takes (nests 0) (make (value_put (declared no_decls)) ∷ declarations 1 ∷ make (value_put (list no_stmts)) ∷ statement 1 ∷ make stmt_added ∷ stmts_more 1
     ∷ word reserved.End ∷ symbol symbols.Period ∷ make (programmed spot) ∷ [])) refuses

@@ -6,7 +6,7 @@ use Rattle.algol_tree.specs.declared.token.Token.{Token}
 use Rattle.algol_tree.specs.declared.refusal.Code.{Code}
 use Rattle.algol_tree.specs.declared.refusal.Refusal.TheVariants as refusals
 use Rattle.algol_tree.specs.Plain.{PProgram}
-use Rattle.algol_tree.specs.Lexes.{Lexes, IsRefused}
+use Rattle.algol_tree.specs.Lexes.{Lexes, TextIsRefused}
 use Rattle.algol_tree.specs.Programs.{Reads}
 use Rattle.algol_tree.specs.Refused.{RefusedProgram}
 use Rattle.algol_tree.specs.declared.refusal.Fault.{Fault}
@@ -22,7 +22,7 @@ pub record Source (bytes : List ℕ) (tree : PProgram) : Type 0 where
 
 -- The text is refused at this spot for this reason: as a text, else as tokens of the grammar, else as a tree.
 pub data First (bytes : List ℕ) : Spot → Code → Type 0 where
-  in_text : (spot : Spot) (code : Code) → IsRefused bytes spot code → First bytes spot code
+  in_text : (spot : Spot) (code : Code) → TextIsRefused bytes spot code → First bytes spot code
   in_grammar : (spot : Spot) (code : Code) (tokens : List Token) →
       Lexes bytes tokens → RefusedProgram tokens (refusals.At spot code) → First bytes spot code
   in_tree : (fault : Fault) (tokens : List Token) (tree : PProgram) →

@@ -15,12 +15,12 @@ pub record IsRest (tokens rest : List Token) : Type 0 where
   pub shorter : length rest < length tokens
 
 -- What is due first is one token, and `rest` is what follows.
-pub record Passes (s : Due) (tokens rest : List Token) : Type 0 where
+pub record TokenPasses (s : Due) (tokens rest : List Token) : Type 0 where
   pub run : (due : List Due) (vs : List Value) → read 0 tokens (s ∷ due) vs ≡ read 0 rest due vs
   pub behind : IsRest tokens rest
 
 -- What is due first is read from these tokens up to `rest`, and makes this value.
-pub record Finds (s : Due) (tokens : List Token) (v : Value) (rest : List Token) : Type 0 where
+pub record ReaderFinds (s : Due) (tokens : List Token) (v : Value) (rest : List Token) : Type 0 where
   pub run : (due : List Due) (vs : List Value) → read 0 tokens (s ∷ due) vs ≡ read 0 rest due (v ∷ vs)
   pub behind : IsRest tokens rest
 
@@ -47,6 +47,6 @@ pub record Fails (from : List Due) (us : List Value) (tokens : List Token) (left
       read 0 tokens (from ++ due) (us ++ vs) ≡ refused left spot code
 
 -- The same, wherever it shows.
-pub record Refuses (from : List Due) (us : List Value) (tokens : List Token) (e : Refusal) : Type 0 where
+pub record ReaderRefuses (from : List Due) (us : List Value) (tokens : List Token) (e : Refusal) : Type 0 where
   pub left : ℕ
   pub fails : Fails from us tokens left e

@@ -66,9 +66,9 @@ pair p = record { low = p.low; high = expr p.high }
 abbrev pub pairs : List Pair → List PPair
 pairs ps = map pair ps
 
-abbrev pub listed : List PStmt → PStmts
-listed [] = tree.no_stmts
-listed (s ∷ ss) = tree.stmts s (listed ss)
+abbrev pub statements_listed : List PStmt → PStmts
+statements_listed [] = tree.no_stmts
+statements_listed (s ∷ ss) = tree.stmts s (statements_listed ss)
 
 abbrev pub listed_decls : List PDecl → PDecls
 listed_decls [] = tree.no_decls
@@ -90,7 +90,7 @@ stmt_level (Stmt-F.While c b) = tree.while (expr c) b.value
 stmt_level (Stmt-F.Until b c) = tree.until b.value (expr c)
 stmt_level (Stmt-F.For v a s l b) = tree.for v (expr a) (expr s) (expr l) b.value
 stmt_level (Stmt-F.Thru e b) = tree.thru (expr e) b.value
-stmt_level (Stmt-F.Case e ss) = tree.case (expr e) (listed ss)
+stmt_level (Stmt-F.Case e ss) = tree.case (expr e) (statements_listed ss)
 stmt_level (Stmt-F.Process c task) = tree.process (call c) task
 stmt_level (Stmt-F.Event act e) = tree.event act e
 stmt_level (Stmt-F.Write n spot phrases es) = tree.write n spot phrases (exprs es)
@@ -106,7 +106,7 @@ decl_level (Decl-F.Forward h) = tree.forward h
 decl_level (Decl-F.Procedure h s) = tree.procedure h s.value
 
 abbrev pub body_level : Body-F PDecl PStmt PBody → PBody
-body_level b = tree.body b.spot (listed_decls b.decls) (listed b.stmts)
+body_level b = tree.body b.spot (listed_decls b.decls) (statements_listed b.stmts)
 
 abbrev pub stmt : Stmt → PStmt
 stmt = fold-Stmt PDecl PStmt PBody decl_level stmt_level body_level
@@ -118,7 +118,7 @@ abbrev pub body : Body → PBody
 body = fold-Body PDecl PStmt PBody decl_level stmt_level body_level
 
 abbrev pub stmts : List Stmt → PStmts
-stmts ss = listed (map stmt ss)
+stmts ss = statements_listed (map stmt ss)
 
 abbrev pub decls : List Decl → PDecls
 decls ds = listed_decls (map decl ds)

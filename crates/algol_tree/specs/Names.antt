@@ -64,14 +64,14 @@ unknown_names x = unknown_in_part x.part x.around
 -- ---- names declared twice in one block: among its parameters, the name of a typed procedure whose block it is, and its
 -- declarations; a procedure whose FORWARD stands before is one declaration with it. Also a parameter that is specified twice.
 
-abbrev pub is_one_of : List (List ℕ) → List ℕ → Bool
-is_one_of [] name = false
-is_one_of (m ∷ ms) name = if same_name m name then true else is_one_of ms name
+abbrev pub name_is_one_of : List (List ℕ) → List ℕ → Bool
+name_is_one_of [] name = false
+name_is_one_of (m ∷ ms) name = if same_name m name then true else name_is_one_of ms name
 
 -- the names that stand in the list before, or are among these
 abbrev pub repeated : List (List ℕ) → List Named → List Spot
 repeated seen [] = []
-repeated seen (n ∷ ns) = if_so (is_one_of seen n.name) n.spot ++ repeated (n.name ∷ seen) ns
+repeated seen (n ∷ ns) = if_so (name_is_one_of seen n.name) n.spot ++ repeated (n.name ∷ seen) ns
 
 abbrev pub result_names : Heading → List (List ℕ)
 result_names h = if is_some h.kind then h.name.name ∷ [] else []

@@ -7,7 +7,7 @@ use Rattle.algol_tree.specs.declared.refusal.Code.TheVariants as codes
 use Rattle.algol_tree.specs.declared.refusal.Refusal.{Refusal}
 use Rattle.algol_tree.specs.declared.refusal.Refusal.TheVariants as refusals
 use Rattle.algol_tree.specs.Plain.{PExpr, PProgram}
-use Rattle.algol_tree.specs.Expressions.{IsWhole}
+use Rattle.algol_tree.specs.Expressions.{IsWholeExpression}
 use Rattle.algol_tree.specs.Programs.{IsProgram}
 
 -- What texts there are: a text is one where all tokens but the last `free` ones keep the limits; where there are no more of them, none is judged.
@@ -16,7 +16,7 @@ Language = ℕ → List Token → Type 0
 
 -- the texts that are one expression where d levels are open, and those that are a program, without the end of the text
 abbrev pub Expressions : ℕ → Language
-Expressions d free text = (e : PExpr) × IsWhole free d text e []
+Expressions d free text = (e : PExpr) × IsWholeExpression free d text e []
 
 abbrev pub Programs : Language
 Programs free text = (p : PProgram) × IsProgram free text p []

@@ -18,14 +18,14 @@ use Rattle.algol_tree.specs.declared.tree.PhraseText.TheVariants as phrases
 use Rattle.algol_tree.specs.declared.tree.Heading.{Heading}
 use Rattle.algol_tree.specs.Plain.{PExpr, subscripted, called, PExprs, none, more, PPair, PStmt, empty, label, assign, call_of, go_to, block, if_then, if_else, while, until, for, thru, case, process, event, write, PStmts, no_stmts, stmts, simple, files, events, tasks, labels, arrays, forward, procedure, PDecls, no_decls, decls, PBody, body}
 use Rattle.algol_tree.specs.Tokens.{IsWord, IsSymbol, IsName}
-use Rattle.algol_tree.specs.Expressions.{Opens, IsWhole, IsEvent}
+use Rattle.algol_tree.specs.Expressions.{TokenOpens, IsWholeExpression, IsEvent}
 use Rattle.algol_tree.specs.Headings.{type_of, IsTyped, elements_of, IsNames, IsFiles, IsLiteral, IsHeading}
 
 -- expr { "," expr }
 pub data IsWholes (free : ℕ) : List Token → PExprs → List Token → Type 0 where
-  one : (e : PExpr) (from rest : List Token) → IsWhole free 0 from e rest → IsWholes free from (more e none) rest
+  one : (e : PExpr) (from rest : List Token) → IsWholeExpression free 0 from e rest → IsWholes free from (more e none) rest
   comma : (t : Token) (e : PExpr) (es : PExprs) (from after rest : List Token) →
-      IsWhole free 0 from e (t ∷ after) → IsSymbol symbols.Comma t → IsWholes free after es rest → IsWholes free from (more e es) rest
+      IsWholeExpression free 0 from e (t ∷ after) → IsSymbol symbols.Comma t → IsWholes free after es rest → IsWholes free from (more e es) rest
 
 -- [ "(" expr { "," expr } ")" ], after a name
 pub data IsActuals (free : ℕ) : List Token → PExprs → List Token → Type 0 where
@@ -80,7 +80,7 @@ pub data IsItems (free : ℕ) : List Token → PExprs → List Token → Type 0 
 -- pair = literal ":" expr
 pub data IsPair (free : ℕ) : List Token → PPair → List Token → Type 0 where
   pair : (t : Token) (low : ℤ) (high : PExpr) (from after rest : List Token) →
-      IsLiteral from low (t ∷ after) → IsSymbol symbols.Colon t → IsWhole free 0 after high rest → IsPair free from (record { low = low; high = high }) rest
+      IsLiteral from low (t ∷ after) → IsSymbol symbols.Colon t → IsWholeExpression free 0 after high rest → IsPair free from (record { low = low; high = high }) rest
 
 -- pair [ "," pair ]
 pub data IsPairs (free : ℕ) : List Token → List PPair → List Token → Type 0 where
@@ -118,10 +118,10 @@ mutual
     nothing : (d : ℕ) (rest : List Token) → IsStmt free d rest empty rest
     -- name ":" statement; the name opens a level
     labelled : (t u : Token) (n : Named) (d : ℕ) (s : PStmt) (from rest : List Token) →
-        IsName n t → IsSymbol symbols.Colon u → Opens free d (t ∷ u ∷ from) → IsStmt free (d + 1) from s rest → IsStmt free d (t ∷ u ∷ from) (label n s) rest
+        IsName n t → IsSymbol symbols.Colon u → TokenOpens free d (t ∷ u ∷ from) → IsStmt free (d + 1) from s rest → IsStmt free d (t ∷ u ∷ from) (label n s) rest
     -- variable ":=" expr
     assignment : (t u : Token) (n : Named) (es : PExprs) (e : PExpr) (d : ℕ) (from after rest : List Token) →
-        IsName n t → IsSubscripts free from es (u ∷ after) → IsSymbol symbols.Becomes u → IsWhole free 0 after e rest →
+        IsName n t → IsSubscripts free from es (u ∷ after) → IsSymbol symbols.Becomes u → IsWholeExpression free 0 after e rest →
         IsStmt free d (t ∷ from) (assign (subscripted n es) e) rest
     -- name [ "(" expr { "," expr } ")" ]
     calling : (t : Token) (n : Named) (es : PExprs) (d : ℕ) (from rest : List Token) →
@@ -131,36 +131,36 @@ mutual
         IsWord reserved.Go t → IsTo from (u ∷ rest) → IsName n u → IsStmt free d (t ∷ from) (go_to n) rest
     -- BEGIN body END
     compound : (t u : Token) (d : ℕ) (b : PBody) (from rest : List Token) →
-        IsWord reserved.Begin t → Opens free d (t ∷ from) → IsBody free (d + 1) t.spot from b (u ∷ rest) → IsWord reserved.End u →
+        IsWord reserved.Begin t → TokenOpens free d (t ∷ from) → IsBody free (d + 1) t.spot from b (u ∷ rest) → IsWord reserved.End u →
         IsStmt free d (t ∷ from) (block b) rest
     -- IF expr THEN statement; an ELSE after it would belong to it
     one_armed : (t u : Token) (c : PExpr) (d : ℕ) (s : PStmt) (from mid rest : List Token) →
-        IsWord reserved.If t → Opens free d (t ∷ from) → IsWhole free 0 from c (u ∷ mid) → IsWord reserved.Then u → IsStmt free (d + 1) mid s rest →
+        IsWord reserved.If t → TokenOpens free d (t ∷ from) → IsWholeExpression free 0 from c (u ∷ mid) → IsWord reserved.Then u → IsStmt free (d + 1) mid s rest →
         IsStmt free d (t ∷ from) (if_then c s) rest
     -- IF expr THEN statement ELSE statement; the ELSE belongs to no IF within the first statement
     two_armed : (t u v : Token) (c : PExpr) (d : ℕ) (a b : PStmt) (from mid after rest : List Token) →
-        IsWord reserved.If t → Opens free d (t ∷ from) → IsWhole free 0 from c (u ∷ mid) → IsWord reserved.Then u → IsStmt free (d + 1) mid a (v ∷ after) →
+        IsWord reserved.If t → TokenOpens free d (t ∷ from) → IsWholeExpression free 0 from c (u ∷ mid) → IsWord reserved.Then u → IsStmt free (d + 1) mid a (v ∷ after) →
         open_if a ≡ false → IsWord reserved.Else v → IsStmt free (d + 1) after b rest → IsStmt free d (t ∷ from) (if_else c a b) rest
     -- WHILE expr DO statement
     looping : (t u : Token) (c : PExpr) (d : ℕ) (s : PStmt) (from mid rest : List Token) →
-        IsWord reserved.While t → Opens free d (t ∷ from) → IsWhole free 0 from c (u ∷ mid) → IsWord reserved.Do u → IsStmt free (d + 1) mid s rest →
+        IsWord reserved.While t → TokenOpens free d (t ∷ from) → IsWholeExpression free 0 from c (u ∷ mid) → IsWord reserved.Do u → IsStmt free (d + 1) mid s rest →
         IsStmt free d (t ∷ from) (while c s) rest
     -- DO statement UNTIL expr
     repeating : (t u : Token) (c : PExpr) (d : ℕ) (s : PStmt) (from mid rest : List Token) →
-        IsWord reserved.Do t → Opens free d (t ∷ from) → IsStmt free (d + 1) from s (u ∷ mid) → IsWord reserved.Until u → IsWhole free 0 mid c rest →
+        IsWord reserved.Do t → TokenOpens free d (t ∷ from) → IsStmt free (d + 1) from s (u ∷ mid) → IsWord reserved.Until u → IsWholeExpression free 0 mid c rest →
         IsStmt free d (t ∷ from) (until s c) rest
     -- FOR name ":=" expr STEP expr UNTIL expr DO statement
     counting : (t u v w x y : Token) (n : Named) (a b c : PExpr) (d : ℕ) (s : PStmt) (from step limit mid rest : List Token) →
-        IsWord reserved.For t → Opens free d (t ∷ u ∷ v ∷ from) → IsName n u → IsSymbol symbols.Becomes v → IsWhole free 0 from a (w ∷ step) →
-        IsWord reserved.Step w → IsWhole free 0 step b (x ∷ limit) → IsWord reserved.Until x → IsWhole free 0 limit c (y ∷ mid) →
+        IsWord reserved.For t → TokenOpens free d (t ∷ u ∷ v ∷ from) → IsName n u → IsSymbol symbols.Becomes v → IsWholeExpression free 0 from a (w ∷ step) →
+        IsWord reserved.Step w → IsWholeExpression free 0 step b (x ∷ limit) → IsWord reserved.Until x → IsWholeExpression free 0 limit c (y ∷ mid) →
         IsWord reserved.Do y → IsStmt free (d + 1) mid s rest → IsStmt free d (t ∷ u ∷ v ∷ from) (for n a b c s) rest
     -- THRU expr DO statement
     so_often : (t u : Token) (c : PExpr) (d : ℕ) (s : PStmt) (from mid rest : List Token) →
-        IsWord reserved.Thru t → Opens free d (t ∷ from) → IsWhole free 0 from c (u ∷ mid) → IsWord reserved.Do u → IsStmt free (d + 1) mid s rest →
+        IsWord reserved.Thru t → TokenOpens free d (t ∷ from) → IsWholeExpression free 0 from c (u ∷ mid) → IsWord reserved.Do u → IsStmt free (d + 1) mid s rest →
         IsStmt free d (t ∷ from) (thru c s) rest
     -- CASE expr OF BEGIN statement { ";" statement } END
     choosing : (t u v w : Token) (c : PExpr) (d : ℕ) (ss : PStmts) (from mid rest : List Token) →
-        IsWord reserved.Case t → Opens free d (t ∷ from) → IsWhole free 0 from c (u ∷ v ∷ mid) → IsWord reserved.Of u → IsWord reserved.Begin v →
+        IsWord reserved.Case t → TokenOpens free d (t ∷ from) → IsWholeExpression free 0 from c (u ∷ v ∷ mid) → IsWord reserved.Of u → IsWord reserved.Begin v →
         IsStmts free (d + 1) mid ss (w ∷ rest) → IsWord reserved.End w → IsStmt free d (t ∷ from) (case c ss) rest
     -- PROCESS call [ "[" name "]" ]
     processing : (t u : Token) (n : Named) (es : PExprs) (task : Option Named) (d : ℕ) (from mid rest : List Token) →
@@ -207,7 +207,7 @@ mutual
         IsHeading from h (t ∷ rest) → IsWord reserved.Forward t → IsDecl free d from (decls (forward h) no_decls) rest
     -- heading statement; the body opens a level at the first token after the heading, before what that token opens itself
     with_body : (h : Heading) (s : PStmt) (d : ℕ) (from mid rest : List Token) →
-        IsHeading from h mid → Opens free d mid → IsStmt free (d + 1) mid s rest → IsDecl free d from (decls (procedure h s) no_decls) rest
+        IsHeading from h mid → TokenOpens free d mid → IsStmt free (d + 1) mid s rest → IsDecl free d from (decls (procedure h s) no_decls) rest
 
   -- { declaration ";" }
   pub data IsDecls (free : ℕ) : ℕ → List Token → PDecls → List Token → Type 0 where

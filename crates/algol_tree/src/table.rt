@@ -1,7 +1,7 @@
 //! The table of the refusals: the letter and the number of each, as they are printed.
 
 ghost use Rattle.std.specs.Prelude.{◌≡◌, ◌<◌, length, get_or, map};
-ghost use Rattle.algol_tree.specs.Codes.{index, rule_letter, rule_number};
+ghost use Rattle.algol_tree.specs.Codes.{code_index, rule_letter, rule_number};
 
 use crate::refusal::Code;
 
@@ -35,7 +35,7 @@ const TABLE: [Row; 20] = [
 
 /// Where the row of a refusal stands in the table.
 fn index(code: Code) -> usize
-    ensures value { result ≡ index code }
+    ensures value { result ≡ code_index code }
     ensures within { result < 20 }
 {
     code as usize

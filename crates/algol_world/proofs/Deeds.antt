@@ -13,7 +13,7 @@ use Rattle.algol_meaning.specs.World as world
 use Rattle.algol_meaning.specs.World.{World, Part, Process, process_at, or_no_process, with_process}
 use Rattle.algol_meaning.specs.Rest.{done, value}
 use Rattle.algol_meaning.specs.Events.{event_at, released, change_event}
-use Rattle.algol_world.specs.Going.{chosen, going, resumed, stopping, releasing, letting_go, done_with, does_of, does_by}
+use Rattle.algol_world.specs.Going.{action_chosen, going, resumed, stopping, releasing, letting_go, done_with, does_of, does_by}
 use Rattle.algol_world.specs.Leaving.{is_nil}
 use Rattle.algol_world.proofs.Releasing.{released_stays}
 
@@ -56,54 +56,54 @@ module _ (sc : Scopes) (w : World) (p : ℕ) (able : (process_at w p).state ≡ 
   -- .. told so
   goes_told :
       (x : EventDeed) (r : Reference) (d : Deed) (b : Bool) → d.next ≡ deeds.goes → d.answer ≡ Some b → d.frees ≡ []
-      → chosen (letter_of x) (going sc ((released w r d).world) p (value (truth b))) ≡ does_of sc w p (process_at w p) ((process_at w p).todo) x r d
+      → action_chosen (letter_of x) (going sc ((released w r d).world) p (value (truth b))) ≡ does_of sc w p (process_at w p) ((process_at w p).todo) x r d
   goes_told x r d b n a f =
       ap
-      (λ (q : Process). chosen (letter_of x) (with_process ((released w r d).world) p (record q { todo = resumed sc q.todo (value (truth b)) })))
+      (λ (q : Process). action_chosen (letter_of x) (with_process ((released w r d).world) p (record q { todo = resumed sc q.todo (value (truth b)) })))
       (stays r d)
       ∙ under ((process_at w p).todo) has
     where
       under :
           (parts : List Part) → is_nil parts ≡ false
-          → chosen (letter_of x) (with_process ((released w r d).world) p (record (process_at w p) { todo = resumed sc parts (value (truth b)) }))
+          → action_chosen (letter_of x) (with_process ((released w r d).world) p (record (process_at w p) { todo = resumed sc parts (value (truth b)) }))
           ≡ does_of sc w p (process_at w p) parts x r d
       under [] h = cc
       under (part ∷ outer) h =
           rw (n, a)
           (ap
-          (λ (ps : List ℕ). record (chosen (letter_of x) (with_process ((released w r d).world) p (record (process_at w p) { todo = resumed sc (part ∷ outer) (value (truth b)) }))) { released = ps })
+          (λ (ps : List ℕ). record (action_chosen (letter_of x) (with_process ((released w r d).world) p (record (process_at w p) { todo = resumed sc (part ∷ outer) (value (truth b)) }))) { released = ps })
           (sym f))
 
   -- it waits, for the event to happen or to procure it
   stops_there :
       (x : EventDeed) (r : Reference) (d : Deed) (s : world.State)
-      → chosen (letter_of x) (stopping sc ((released w r d).world) p s)
-      ≡ chosen (letter_of x) (with_process ((released w r d).world) p (record (process_at w p) { todo = resumed sc ((process_at w p).todo) done; state = s }))
+      → action_chosen (letter_of x) (stopping sc ((released w r d).world) p s)
+      ≡ action_chosen (letter_of x) (with_process ((released w r d).world) p (record (process_at w p) { todo = resumed sc ((process_at w p).todo) done; state = s }))
   stops_there x r d s =
       ap
-      (λ (q : Process). chosen (letter_of x) (with_process ((released w r d).world) p (record q { todo = resumed sc q.todo done; state = s })))
+      (λ (q : Process). action_chosen (letter_of x) (with_process ((released w r d).world) p (record q { todo = resumed sc q.todo done; state = s })))
       (stays r d)
 
   waits :
       (x : EventDeed) (r : Reference) (d : Deed) → d.next ≡ deeds.waits
-      → chosen (letter_of x) (stopping sc ((released w r d).world) p (world.waits_for r)) ≡ does_of sc w p (process_at w p) ((process_at w p).todo) x r d
+      → action_chosen (letter_of x) (stopping sc ((released w r d).world) p (world.waits_for r)) ≡ does_of sc w p (process_at w p) ((process_at w p).todo) x r d
   waits x r d n = stops_there x r d (world.waits_for r) ∙ under ((process_at w p).todo) has
     where
       under :
           (parts : List Part) → is_nil parts ≡ false
-          → chosen (letter_of x) (with_process ((released w r d).world) p (record (process_at w p) { todo = resumed sc parts done; state = world.waits_for r }))
+          → action_chosen (letter_of x) (with_process ((released w r d).world) p (record (process_at w p) { todo = resumed sc parts done; state = world.waits_for r }))
           ≡ does_of sc w p (process_at w p) parts x r d
       under [] h = cc
       under (part ∷ outer) h = rw n refl
 
   procures :
       (x : EventDeed) (r : Reference) (d : Deed) → d.next ≡ deeds.procures
-      → chosen (letter_of x) (stopping sc ((released w r d).world) p (world.procures r)) ≡ does_of sc w p (process_at w p) ((process_at w p).todo) x r d
+      → action_chosen (letter_of x) (stopping sc ((released w r d).world) p (world.procures r)) ≡ does_of sc w p (process_at w p) ((process_at w p).todo) x r d
   procures x r d n = stops_there x r d (world.procures r) ∙ under ((process_at w p).todo) has
     where
       under :
           (parts : List Part) → is_nil parts ≡ false
-          → chosen (letter_of x) (with_process ((released w r d).world) p (record (process_at w p) { todo = resumed sc parts done; state = world.procures r }))
+          → action_chosen (letter_of x) (with_process ((released w r d).world) p (record (process_at w p) { todo = resumed sc parts done; state = world.procures r }))
           ≡ does_of sc w p (process_at w p) parts x r d
       under [] h = cc
       under (part ∷ outer) h = rw n refl
@@ -117,9 +117,9 @@ module _ (sc : Scopes) (w : World) (p : ℕ) (able : (process_at w p).state ≡ 
 
   pub wait_begins :
       (r : Reference) → (event_at w r).happened ≡ false
-      → chosen actions.Wait (stopping sc (change_event w r (Some (joined p))) p (world.waits_for r)) ≡ does_by sc w p (acts act.Wait) r
+      → action_chosen actions.Wait (stopping sc (change_event w r (Some (joined p))) p (world.waits_for r)) ≡ does_by sc w p (acts act.Wait) r
   wait_begins r h =
-      ap (λ (b : Bool). chosen actions.Wait (stopping sc (change_event w r (if b then None else Some (joined p))) p (world.waits_for r))) (sym h)
+      ap (λ (b : Bool). action_chosen actions.Wait (stopping sc (change_event w r (if b then None else Some (joined p))) p (world.waits_for r))) (sym h)
       ∙ waits (acts act.Wait) r (deed (acts act.Wait) p (event_at w r)) (ap (λ (b : Bool). if b then deeds.goes else deeds.waits) h)
 
   pub procures_it :
@@ -131,22 +131,22 @@ module _ (sc : Scopes) (w : World) (p : ℕ) (able : (process_at w p).state ≡ 
 
   pub waits_to_procure :
       (r : Reference) → (event_at w r).available ≡ false
-      → chosen actions.Procure (stopping sc (change_event w r (Some (queued p))) p (world.procures r)) ≡ does_by sc w p (acts act.Procure) r
+      → action_chosen actions.Procure (stopping sc (change_event w r (Some (queued p))) p (world.procures r)) ≡ does_by sc w p (acts act.Procure) r
   waits_to_procure r h =
-      ap (λ (b : Bool). chosen actions.Procure (stopping sc (change_event w r (Some (if b then taken else queued p))) p (world.procures r))) (sym h)
+      ap (λ (b : Bool). action_chosen actions.Procure (stopping sc (change_event w r (Some (if b then taken else queued p))) p (world.procures r))) (sym h)
       ∙ procures (acts act.Procure) r (deed (acts act.Procure) p (event_at w r)) (ap (λ (b : Bool). if b then deeds.goes else deeds.procures) h)
 
   pub fixes :
       (r : Reference) → (event_at w r).available ≡ true
-      → chosen actions.Fix (going sc (change_event w r (Some taken)) p (value (truth false))) ≡ does_by sc w p (tests test.Fix) r
+      → action_chosen actions.Fix (going sc (change_event w r (Some taken)) p (value (truth false))) ≡ does_by sc w p (tests test.Fix) r
   fixes r h =
-      ap (λ (b : Bool). chosen actions.Fix (going sc (change_event w r (if b then Some taken else None)) p (value (truth false)))) (sym h)
+      ap (λ (b : Bool). action_chosen actions.Fix (going sc (change_event w r (if b then Some taken else None)) p (value (truth false)))) (sym h)
       ∙ goes_told (tests test.Fix) r (deed (tests test.Fix) p (event_at w r)) false refl (ap (λ (b : Bool). Some (not b)) h) refl
 
   pub finds_it_taken :
-      (r : Reference) → (event_at w r).available ≡ false → chosen actions.Fix (going sc w p (value (truth true))) ≡ does_by sc w p (tests test.Fix) r
+      (r : Reference) → (event_at w r).available ≡ false → action_chosen actions.Fix (going sc w p (value (truth true))) ≡ does_by sc w p (tests test.Fix) r
   finds_it_taken r h =
-      ap (λ (b : Bool). chosen actions.Fix (going sc (change_event w r (if b then Some taken else None)) p (value (truth true)))) (sym h)
+      ap (λ (b : Bool). action_chosen actions.Fix (going sc (change_event w r (if b then Some taken else None)) p (value (truth true)))) (sym h)
       ∙ goes_told (tests test.Fix) r (deed (tests test.Fix) p (event_at w r)) true refl (ap (λ (b : Bool). Some (not b)) h) refl
 
   pub causes : (r : Reference) → releasing sc actions.Cause ((letting_go w r true).world) p ((letting_go w r true).processes) ≡ does_by sc w p (acts act.Cause) r

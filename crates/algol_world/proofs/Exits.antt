@@ -10,7 +10,7 @@ use Rattle.b67_deeds.specs.declared.Letter.TheVariants as actions
 use Rattle.algol_meaning.specs.Critical.{is_evaluation, some_depends}
 use Rattle.algol_meaning.specs.Events.{caused_by_end}
 use Rattle.algol_meaning.specs.Instances.{leave}
-use Rattle.algol_world.specs.Going.{chosen}
+use Rattle.algol_world.specs.Going.{action_chosen}
 use Rattle.algol_world.specs.Leaving.{left_todo, leaving_with, ending, failing, innermost_of, ended_by, leaves_of, leaves_by}
 use Rattle.algol_world.specs.declared.exiting.Innermost.{Innermost}
 use Rattle.algol_instances.proofs.Numbering.{set_same}
@@ -31,25 +31,25 @@ instance_in (Some x) = x.instance
 module _ (sc : Scopes) (w : World) (p : ℕ) (a : Answer) (x : Innermost) where
   evaluating_at :
       (o : Option Process) → numbered w.processes p ≡ o → Some x ≡ innermost_of ((or_no_process o).todo) → x.evaluates ≡ true
-      → chosen actions.Leave (with_process w p (record (or_no_process o) { todo = left_todo sc (or_no_process o).todo a }))
+      → action_chosen actions.Leave (with_process w p (record (or_no_process o) { todo = left_todo sc (or_no_process o).todo a }))
       ≡ leaves_of sc w p (or_no_process o) ((or_no_process o).todo) a
   evaluating_at None e s t = cc
   evaluating_at (Some q) e s t = under q.todo refl s
     where
       under :
           (parts : List Part) → q.todo ≡ parts → Some x ≡ innermost_of parts
-          → chosen actions.Leave (with_process w p (record q { todo = left_todo sc parts a })) ≡ leaves_of sc w p q parts a
+          → action_chosen actions.Leave (with_process w p (record q { todo = left_todo sc parts a })) ≡ leaves_of sc w p q parts a
       under [] d s = cc
       under (part ∷ []) d s =
           let ev : is_evaluation part.purpose ≡ true = sym (ap evaluates_in s) ∙ t in
           let same : record q { todo = part ∷ [] } ≡ q = ap (λ (parts : List Part). record q { todo = parts }) (sym d) in
           let at : numbered w.processes p ≡ Some (record q { todo = part ∷ [] }) = e ∙ ap Some (sym same) in
-          rw ev (ap (λ (qs : List Process). chosen actions.Leave (record w { processes = qs })) (set_same w.processes p (record q { todo = part ∷ [] }) at))
+          rw ev (ap (λ (qs : List Process). action_chosen actions.Leave (record w { processes = qs })) (set_same w.processes p (record q { todo = part ∷ [] }) at))
       under (part ∷ next ∷ parts) d s = let ev : is_evaluation part.purpose ≡ true = sym (ap evaluates_in s) ∙ t in rw ev refl
 
   depending_at :
       (q : Process) (parts : List Part) → Some x ≡ innermost_of parts → x.evaluates ≡ false → some_depends w.processes x.instance ≡ true
-      → chosen actions.Fault (failing w p fault.CriticalBlockExit) ≡ leaves_of sc w p q parts a
+      → action_chosen actions.Fault (failing w p fault.CriticalBlockExit) ≡ leaves_of sc w p q parts a
   depending_at q [] s t d = cc
   depending_at q (part ∷ outer) s t d =
       let ev : is_evaluation part.purpose ≡ false = sym (ap evaluates_in s) ∙ t in
@@ -101,7 +101,7 @@ module _ (sc : Scopes) (w : World) (p : ℕ) (a : Answer) (x : Innermost) where
   leaving_at :
       (o : Option Process) → numbered w.processes p ≡ o → Some x ≡ innermost_of ((or_no_process o).todo) → x.evaluates ≡ false
       → some_depends w.processes x.instance ≡ false → x.alone ≡ false
-      → chosen
+      → action_chosen
       actions.Leave
       (with_process (leave w (x.instance ∷ [])) p (record (or_no_process o) { todo = left_todo sc (or_no_process o).todo a }))
       ≡ leaves_of sc w p (or_no_process o) ((or_no_process o).todo) a
@@ -110,7 +110,7 @@ module _ (sc : Scopes) (w : World) (p : ℕ) (a : Answer) (x : Innermost) where
     where
       under :
           (parts : List Part) → Some x ≡ innermost_of parts
-          → chosen actions.Leave (with_process (leave w (x.instance ∷ [])) p (record q { todo = left_todo sc parts a })) ≡ leaves_of sc w p q parts a
+          → action_chosen actions.Leave (with_process (leave w (x.instance ∷ [])) p (record q { todo = left_todo sc parts a })) ≡ leaves_of sc w p q parts a
       under [] s = cc
       under (part ∷ []) s = let no : true ≡ false = sym (ap alone_in s) ∙ l in cc
       under (part ∷ next ∷ parts) s =
@@ -120,12 +120,12 @@ module _ (sc : Scopes) (w : World) (p : ℕ) (a : Answer) (x : Innermost) where
           rw (ev, dep, ← at) refl
 
   pub leaves_evaluation :
-      Some x ≡ innermost_of ((world.process_at w p).todo) → x.evaluates ≡ true → chosen actions.Leave (leaving_with sc w p a) ≡ leaves_by sc w p a
+      Some x ≡ innermost_of ((world.process_at w p).todo) → x.evaluates ≡ true → action_chosen actions.Leave (leaving_with sc w p a) ≡ leaves_by sc w p a
   leaves_evaluation s t = evaluating_at (numbered w.processes p) refl s t
 
   pub leaves_critical :
       Some x ≡ innermost_of ((world.process_at w p).todo) → x.evaluates ≡ false → some_depends w.processes x.instance ≡ true
-      → chosen actions.Fault (failing w p fault.CriticalBlockExit) ≡ leaves_by sc w p a
+      → action_chosen actions.Fault (failing w p fault.CriticalBlockExit) ≡ leaves_by sc w p a
   leaves_critical s t d = depending_at (world.process_at w p) ((world.process_at w p).todo) s t d
 
   pub leaves_last :
@@ -135,13 +135,13 @@ module _ (sc : Scopes) (w : World) (p : ℕ) (a : Answer) (x : Innermost) where
 
   pub leaves_further :
       Some x ≡ innermost_of ((world.process_at w p).todo) → x.evaluates ≡ false → some_depends w.processes x.instance ≡ false → x.alone ≡ false
-      → chosen actions.Leave (leaving_with sc (leave w (x.instance ∷ [])) p a) ≡ leaves_by sc w p a
+      → action_chosen actions.Leave (leaving_with sc (leave w (x.instance ∷ [])) p a) ≡ leaves_by sc w p a
   leaves_further s t d l = leaving_at (numbered w.processes p) refl s t d l
 
-pub leaves_none : (sc : Scopes) (w : World) (p : ℕ) (a : Answer) → None ≡ innermost_of ((world.process_at w p).todo) → chosen actions.Fault w ≡ leaves_by sc w p a
+pub leaves_none : (sc : Scopes) (w : World) (p : ℕ) (a : Answer) → None ≡ innermost_of ((world.process_at w p).todo) → action_chosen actions.Fault w ≡ leaves_by sc w p a
 leaves_none sc w p a s = under ((world.process_at w p).todo) s
   where
-    under : (parts : List Part) → None ≡ innermost_of parts → chosen actions.Fault w ≡ leaves_of sc w p (world.process_at w p) parts a
+    under : (parts : List Part) → None ≡ innermost_of parts → action_chosen actions.Fault w ≡ leaves_of sc w p (world.process_at w p) parts a
     under [] s = refl
     under (part ∷ outer) s = cc
 

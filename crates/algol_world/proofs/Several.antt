@@ -8,7 +8,7 @@ use Rattle.b67_list.specs.Numbered.{numbered, set_numbered}
 use Rattle.b67_deeds.specs.Events.{joined, left_by}
 use Rattle.algol_meaning.specs.Value.{Reference}
 use Rattle.algol_meaning.specs.World.{World, Instance, Process, waits_any, process_at, or_no_process, with_process}
-use Rattle.algol_meaning.specs.Events.{same_reference, is_among, first_that, change_event, joined_all, list_in, forgotten, woken_by, withdrawn}
+use Rattle.algol_meaning.specs.Events.{same_reference, reference_is_among, first_that, change_event, joined_all, list_in, forgotten, woken_by, withdrawn}
 use Rattle.algol_cells.specs.SeenCell as seen
 use Rattle.algol_cells.specs.declared.cell.Reference as code
 use Rattle.algol_instances.specs.SeenInstance.{holding, place_of_number}
@@ -71,7 +71,7 @@ numbered_past xs f (suc j) k e past =
 pub joined_processes : (w : World) (p : ℕ) (seen rs : List Reference) → (joined_all w p seen rs).processes ≡ w.processes
 joined_processes w p seen [] = refl
 joined_processes w p seen (r ∷ rs) =
-    by (is_among seen r) (joined_processes w p (r ∷ seen) rs) (joined_processes (change_event w r (Some (joined p))) p (r ∷ seen) rs)
+    by (reference_is_among seen r) (joined_processes w p (r ∷ seen) rs) (joined_processes (change_event w r (Some (joined p))) p (r ∷ seen) rs)
   where
     by :
         (b : Bool) → (joined_all w p (r ∷ seen) rs).processes ≡ w.processes
@@ -88,10 +88,10 @@ waits_so w after p rs e =
 
 -- with one event
 abbrev pub joined_one : World → ℕ → List Reference → Reference → World
-joined_one w p seen r = if is_among seen r then w else (change_event w r (Some (joined p)))
+joined_one w p seen r = if reference_is_among seen r then w else (change_event w r (Some (joined p)))
 
 joined_first : (w : World) (p : ℕ) (seen : List Reference) (r : Reference) (rs : List Reference) → joined_all w p seen (r ∷ rs) ≡ joined_all (joined_one w p seen r) p (r ∷ seen) rs
-joined_first w p seen r rs = by (is_among seen r)
+joined_first w p seen r rs = by (reference_is_among seen r)
   where
     by :
         (b : Bool)
@@ -100,7 +100,7 @@ joined_first w p seen r rs = by (is_among seen r)
     by true = refl
     by false = refl
 
-among_reverse : (xs : List Reference) (r : Reference) → is_among (reverse xs) r ≡ is_among xs r
+among_reverse : (xs : List Reference) (r : Reference) → reference_is_among (reverse xs) r ≡ reference_is_among xs r
 among_reverse xs r = sym (list_any-IsPermutation (λ s. same_reference s r) xs (reverse xs) (IsPermutation-reverse xs))
 
 -- one event more of a list that is gone through
@@ -146,9 +146,9 @@ not_found t n (r ∷ rs) e = by (t r) (not_found t (n + 1) rs) e
     by false f e = f e
 
 pub stays_joined :
-    (w after : World) (r : Reference) (rs : List Reference) (k : ℕ) → Some k ≡ first_that (λ s. same_reference s r) 1 rs → w ≡ (if is_among rs r then w else after)
+    (w after : World) (r : Reference) (rs : List Reference) (k : ℕ) → Some k ≡ first_that (λ s. same_reference s r) 1 rs → w ≡ (if reference_is_among rs r then w else after)
 stays_joined w after r rs k e = ap (λ (b : Bool). if b then w else after) (sym (found (λ s. same_reference s r) 1 k rs e))
 
 pub joins_once :
-    (w after : World) (r : Reference) (rs : List Reference) → None ≡ first_that (λ s. same_reference s r) 1 rs → after ≡ (if is_among rs r then w else after)
+    (w after : World) (r : Reference) (rs : List Reference) → None ≡ first_that (λ s. same_reference s r) 1 rs → after ≡ (if reference_is_among rs r then w else after)
 joins_once w after r rs e = ap (λ (b : Bool). if b then w else after) (sym (not_found (λ s. same_reference s r) 1 rs e))

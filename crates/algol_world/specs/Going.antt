@@ -14,8 +14,8 @@ use Rattle.algol_meaning.specs.Choice.{Choice}
 use Rattle.algol_meaning.specs.Events.{Released, released, event_at, set_event, joined_all, all_withdrawn}
 
 -- an action only
-abbrev pub chosen : Letter → World → Choice
-chosen action after = record { action = action; world = after; released = []; started = None }
+abbrev pub action_chosen : Letter → World → Choice
+action_chosen action after = record { action = action; world = after; released = []; started = None }
 
 module _ (sc : Scopes) where
   abbrev pub resumed : List Part → Answer → List Part
@@ -35,12 +35,12 @@ module _ (sc : Scopes) where
   waking w p a = with_process w p (record (process_at w p) { todo = resumed (process_at w p).todo a; woken = 0 })
 
   -- a part inside it comes to be
-  abbrev pub opening : World → ℕ → Part → World
-  opening w p inner = with_process w p (record (process_at w p) { todo = inner ∷ resumed (process_at w p).todo entered })
+  abbrev pub part_opening : World → ℕ → Part → World
+  part_opening w p inner = with_process w p (record (process_at w p) { todo = inner ∷ resumed (process_at w p).todo entered })
 
   -- an action that released these, after which the part goes on with nothing
   abbrev pub releasing : Letter → World → ℕ → List ℕ → Choice
-  releasing action w p ps = record (chosen action (going w p done)) { released = ps }
+  releasing action w p ps = record (action_chosen action (going w p done)) { released = ps }
 
 -- the process is in this state
 abbrev pub standing : World → ℕ → world.State → World
@@ -66,8 +66,8 @@ done_with w p x r = released w r (deed x p (event_at w r))
 module _ (sc : Scopes) (w : World) (p : ℕ) where
   -- a process without parts has no choice
   abbrev pub does_of : Process → List Part → EventDeed → Reference → Deed → Choice
-  does_of q [] x r d = chosen actions.Fault w
-  does_of q (part ∷ outer) x r d = choices.does sc w p q part outer x r d
+  does_of q [] x r d = action_chosen actions.Fault w
+  does_of q (part ∷ outer) x r d = choices.deed_does sc w p q part outer x r d
 
   abbrev pub does_by : EventDeed → Reference → Choice
   does_by x r = does_of (process_at w p) ((process_at w p).todo) x r (deed x p (event_at w r))

@@ -12,7 +12,7 @@ use Rattle.algol_meaning.specs.Events.{Released, caused_by_end}
 use Rattle.algol_meaning.specs.Instances.{leave}
 use Rattle.algol_meaning.specs.Choice as choices
 use Rattle.algol_meaning.specs.Choice.{Choice}
-use Rattle.algol_world.specs.Going.{chosen}
+use Rattle.algol_world.specs.Going.{action_chosen}
 use Rattle.algol_world.specs.declared.exiting.Innermost.{Innermost}
 
 module _ (sc : Scopes) where
@@ -54,8 +54,8 @@ ended_by w p i = ended_after (caused_by_end (leave w (i ∷ [])) p (process_at w
 
 -- the leaving of the innermost part with what it gives
 abbrev pub leaves_of : Scopes → World → ℕ → Process → List Part → Answer → Choice
-leaves_of sc w p q [] a = chosen actions.Fault w
-leaves_of sc w p q (part ∷ outer) a = choices.left sc w p q part outer a
+leaves_of sc w p q [] a = action_chosen actions.Fault w
+leaves_of sc w p q (part ∷ outer) a = choices.left_choice sc w p q part outer a
 
 abbrev pub leaves_by : Scopes → World → ℕ → Answer → Choice
 leaves_by sc w p a = leaves_of sc w p (process_at w p) ((process_at w p).todo) a

@@ -13,7 +13,7 @@ ghost use Rattle.algol_cells.specs.SeenCell.{reference};
 ghost use Rattle.algol_instances.specs.SeenInstance.{cell_or_none};
 ghost use Rattle.algol_world.specs.SeenWorld.{world_of, process_of};
 ghost use Rattle.algol_world.specs.SeenActed.{acted_choice};
-ghost use Rattle.algol_world.specs.Going.{chosen, going, releasing, does_by};
+ghost use Rattle.algol_world.specs.Going.{action_chosen, going, releasing, does_by};
 ghost use Rattle.algol_world.specs.Leaving.{is_nil};
 
 use crate::acted::Acted;
@@ -107,7 +107,7 @@ impl<'p> World<'p> {
 
     /// The process goes on after FIX, told whether the event was taken already.
     fn tells(&mut self, alloc: Global, number: usize, taken: bool) -> Result<Acted, AllocError>
-        ensures acted { IfOk result (λ a. acted_choice a (world_of self.new) ≡ chosen actions.Fix (going (scoped self.old.scopes) (world_of self.old) number (rest.value (plain.truth taken)))) }
+        ensures acted { IfOk result (λ a. acted_choice a (world_of self.new) ≡ action_chosen actions.Fix (going (scoped self.old.scopes) (world_of self.old) number (rest.value (plain.truth taken)))) }
         ensures same { self.new.scopes ≡ self.old.scopes }
     {
         self.goes(alloc, number, Answer::Value(Value::Truth(taken)))?;

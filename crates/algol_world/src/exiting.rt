@@ -5,7 +5,7 @@ ghost use Rattle.algol_tree.specs.Scopes as scoping;
 ghost use Rattle.algol_meaning.specs.World as world;
 ghost use Rattle.algol_meaning.specs.Events as events;
 ghost use Rattle.algol_cells.specs.SeenScope.{scoped};
-ghost use Rattle.algol_rest_expr.specs.SeenExpression.{answered};
+ghost use Rattle.algol_rest_expr.specs.SeenExpression.{rest_answered};
 ghost use Rattle.algol_world.specs.SeenWorld as views;
 ghost use Rattle.algol_world.specs.SeenWorld.{world_of, process_of};
 ghost use Rattle.algol_world.specs.SeenActed.{acted_choice};
@@ -115,7 +115,7 @@ impl<'p> World<'p> {
         answer: Answer<'p>,
     ) -> Result<Acted, AllocError>
         requires { (process_of self.old number).state ≡ world.able }
-        ensures left { IfOk result (λ a. acted_choice a (world_of self.new) ≡ leaves_by (scoped self.old.scopes) (world_of self.old) number (answered answer.entry)) }
+        ensures left { IfOk result (λ a. acted_choice a (world_of self.new) ≡ leaves_by (scoped self.old.scopes) (world_of self.old) number (rest_answered answer.entry)) }
         ensures same { self.new.scopes ≡ self.old.scopes }
     {
         match self.innermost(number) {

@@ -5,7 +5,7 @@ ghost use Rattle.algol_meaning.specs.World as world;
 ghost use Rattle.algol_meaning.specs.Instances as leaving;
 ghost use Rattle.algol_meaning.specs.Critical as critical;
 ghost use Rattle.algol_cells.specs.SeenScope.{scoped};
-ghost use Rattle.algol_rest_expr.specs.SeenExpression.{answered};
+ghost use Rattle.algol_rest_expr.specs.SeenExpression.{rest_answered};
 ghost use Rattle.algol_world.specs.SeenWorld.{purpose, process, state, world_of, process_of, process_or_none};
 ghost use Rattle.algol_world.specs.Leaving.{left_todo, leaving_with, failing, ending};
 
@@ -48,7 +48,7 @@ impl<'p> Process<'p> {
         scopes: &Scopes<'p>,
         answer: Answer<'p>,
     ) -> Result<(), AllocError>
-        ensures { IfOk result (λ _. process (scoped scopes.now) self.new ≡ record (process (scoped scopes.now) self.old) { todo = left_todo (scoped scopes.now) ((process (scoped scopes.now) self.old).todo) (answered answer.entry) }) }
+        ensures { IfOk result (λ _. process (scoped scopes.now) self.new ≡ record (process (scoped scopes.now) self.old) { todo = left_todo (scoped scopes.now) ((process (scoped scopes.now) self.old).todo) (rest_answered answer.entry) }) }
     {
         match self.todo.under(1) {
             None => {
@@ -102,7 +102,7 @@ impl<'p> World<'p> {
         number: usize,
         answer: Answer<'p>,
     ) -> Result<(), AllocError>
-        ensures went { IfOk result (λ _. world_of self.new ≡ leaving_with (scoped self.old.scopes) (world_of self.old) number (answered answer.entry)) }
+        ensures went { IfOk result (λ _. world_of self.new ≡ leaving_with (scoped self.old.scopes) (world_of self.old) number (rest_answered answer.entry)) }
         ensures same { self.new.scopes ≡ self.old.scopes }
     {
         match place(number) {

@@ -4,9 +4,9 @@ ghost use Rattle.std.specs.Prelude.{◌≡◌, ◌∷◌, IfOk};
 ghost use Rattle.algol_meaning.specs.Rest as rest;
 ghost use Rattle.algol_meaning.specs.World as world;
 ghost use Rattle.algol_cells.specs.SeenScope.{scoped};
-ghost use Rattle.algol_rest_expr.specs.SeenExpression.{answered};
+ghost use Rattle.algol_rest_expr.specs.SeenExpression.{rest_answered};
 ghost use Rattle.algol_world.specs.SeenWorld.{part, process, state, world_of};
-ghost use Rattle.algol_world.specs.Going.{resumed, going, stopping, waking, standing, opening};
+ghost use Rattle.algol_world.specs.Going.{resumed, going, stopping, waking, standing, part_opening};
 
 use crate::world::{Part, Process, State, World};
 use algol_cells::Scopes;
@@ -23,7 +23,7 @@ impl<'p> Process<'p> {
         scopes: &Scopes<'p>,
         answer: Answer<'p>,
     ) -> Result<(), AllocError>
-        ensures { IfOk result (λ _. process (scoped scopes.now) self.new ≡ record (process (scoped scopes.now) self.old) { todo = resumed (scoped scopes.now) ((process (scoped scopes.now) self.old).todo) (answered answer.entry) }) }
+        ensures { IfOk result (λ _. process (scoped scopes.now) self.new ≡ record (process (scoped scopes.now) self.old) { todo = resumed (scoped scopes.now) ((process (scoped scopes.now) self.old).todo) (rest_answered answer.entry) }) }
     {
         match self.todo.pop() {
             None => {
@@ -81,7 +81,7 @@ impl<'p> Process<'p> {
         scopes: &Scopes<'p>,
         answer: Answer<'p>,
     ) -> Result<(), AllocError>
-        ensures { IfOk result (λ _. process (scoped scopes.now) self.new ≡ record (process (scoped scopes.now) self.old) { todo = resumed (scoped scopes.now) ((process (scoped scopes.now) self.old).todo) (answered answer.entry); woken = 0 }) }
+        ensures { IfOk result (λ _. process (scoped scopes.now) self.new ≡ record (process (scoped scopes.now) self.old) { todo = resumed (scoped scopes.now) ((process (scoped scopes.now) self.old).todo) (rest_answered answer.entry); woken = 0 }) }
     {
         self.go_on(alloc, scopes, answer)?;
         self.woken = 0;
@@ -104,7 +104,7 @@ impl<'p> World<'p> {
         number: usize,
         answer: Answer<'p>,
     ) -> Result<(), AllocError>
-        ensures went { IfOk result (λ _. world_of self.new ≡ going (scoped self.old.scopes) (world_of self.old) number (answered answer.entry)) }
+        ensures went { IfOk result (λ _. world_of self.new ≡ going (scoped self.old.scopes) (world_of self.old) number (rest_answered answer.entry)) }
         ensures same { self.new.scopes ≡ self.old.scopes }
     {
         match place(number) {
@@ -154,7 +154,7 @@ impl<'p> World<'p> {
         number: usize,
         answer: Answer<'p>,
     ) -> Result<(), AllocError>
-        ensures went { IfOk result (λ _. world_of self.new ≡ waking (scoped self.old.scopes) (world_of self.old) number (answered answer.entry)) }
+        ensures went { IfOk result (λ _. world_of self.new ≡ waking (scoped self.old.scopes) (world_of self.old) number (rest_answered answer.entry)) }
         ensures same { self.new.scopes ≡ self.old.scopes }
     {
         match place(number) {
@@ -174,7 +174,7 @@ impl<'p> World<'p> {
 
     /// A part inside the innermost part of a process comes to be.
     pub fn opens(&mut self, alloc: Global, number: usize, inner: Part<'p>) -> Result<(), AllocError>
-        ensures went { IfOk result (λ _. world_of self.new ≡ opening (scoped self.old.scopes) (world_of self.old) number (part (scoped self.old.scopes) inner.entry)) }
+        ensures went { IfOk result (λ _. world_of self.new ≡ part_opening (scoped self.old.scopes) (world_of self.old) number (part (scoped self.old.scopes) inner.entry)) }
         ensures same { self.new.scopes ≡ self.old.scopes }
     {
         match place(number) {

@@ -9,7 +9,7 @@ ghost use Rattle.algol_cells.specs.SeenCell.{reference};
 ghost use Rattle.algol_instances.specs.SeenInstance.{holding, instance};
 ghost use Rattle.algol_world.specs.SeenWorld.{process, state, world_of};
 ghost use Rattle.algol_world.specs.SeenActed.{acted_choice};
-ghost use Rattle.algol_world.specs.Going.{chosen, waiting_for};
+ghost use Rattle.algol_world.specs.Going.{action_chosen, waiting_for};
 
 use crate::acted::Acted;
 use crate::event::take_event;
@@ -131,7 +131,7 @@ impl<'p> World<'p> {
         before: &[Reference<'p>],
         r: Reference<'p>,
     ) -> Result<(), AllocError>
-        ensures joined { IfOk result (λ _. world_of self.new ≡ if events.is_among (map reference before.now) (reference r.entry) then world_of self.old else (events.change_event (world_of self.old) (reference r.entry) (Some (joined number)))) }
+        ensures joined { IfOk result (λ _. world_of self.new ≡ if events.reference_is_among (map reference before.now) (reference r.entry) then world_of self.old else (events.change_event (world_of self.old) (reference r.entry) (Some (joined number)))) }
         ensures same { self.new.scopes ≡ self.old.scopes }
     {
         match place_among(before, r) {
@@ -165,7 +165,7 @@ impl<'p> World<'p> {
         number: usize,
         rs: List<Reference<'p>>,
     ) -> Result<Acted, AllocError>
-        ensures acted { IfOk result (λ a. acted_choice a (world_of self.new) ≡ chosen actions.WaitAny (waiting_for (world_of self.old) number (map reference rs.entry))) }
+        ensures acted { IfOk result (λ a. acted_choice a (world_of self.new) ≡ action_chosen actions.WaitAny (waiting_for (world_of self.old) number (map reference rs.entry))) }
         ensures same { self.new.scopes ≡ self.old.scopes }
     {
         self.join_all(alloc, number, rs.items())?;

@@ -23,7 +23,7 @@ use Rattle.b67_table.proofs.Lists.{numbered_set}
 use Rattle.b67_table.proofs.States.{able_all}
 use Rattle.b67_table.proofs.EventKept.{or_left, not_both, length_states, same_state, live_of, within_of, awaits_waits}
 use Rattle.b67_table.proofs.Waking.{able_live}
-use Rattle.b67_action.specs.Able.{times, one_if, able_in, newly, AbleAfter}
+use Rattle.b67_action.specs.Able.{number_times, one_if, able_in, newly, AbleAfter}
 
 -- ---- how often a process stands in a list
 
@@ -180,16 +180,16 @@ none_more n = omega arith
 
 -- no process is started
 pub able_by : (before after : Image) (p : ℕ) (released : List ℕ) (xs : List ProcessState) → after.states ≡ xs → after.started ≡ before.started
-    → ((q : ℕ) → q ≢ p → one_if (is_able (numbered xs q)) ≡ one_if (able_in before q) + times q released) → times p released ≡ 0 → AbleAfter before after p released
+    → ((q : ℕ) → q ≢ p → one_if (is_able (numbered xs q)) ≡ one_if (able_in before q) + number_times q released) → number_times p released ≡ 0 → AbleAfter before after p released
 able_by before after p released xs s n k own =
     let none : newly before.started after.started ≡ [] = newly_by before.started after.started (nat_lt before.started after.started) refl n in
     record {
       others = λ q h.
           let a : one_if (able_in after q) ≡ one_if (is_able (numbered xs q)) = ap (λ (ss : List ProcessState). one_if (is_able (numbered ss q))) s in
-          let b : times q (newly before.started after.started) ≡ 0 = ap (times q) none in
+          let b : number_times q (newly before.started after.started) ≡ 0 = ap (number_times q) none in
           omega (arith, a, b, k q h);
       own = own;
-      own_new = ap (times p) none;
+      own_new = ap (number_times p) none;
       grows = omega (arith, n);
     }
 
@@ -205,14 +205,14 @@ able_more code before after p v able s n =
     record {
       others = λ q h. by q (ℕ_discrete q (before.started + 1)) new;
       own = refl;
-      own_new = ap (times p) new ∙ apart p (inside p able);
+      own_new = ap (number_times p) new ∙ apart p (inside p able);
       grows = omega (arith, n);
     }
   where
     inside : (q : ℕ) → is_able (numbered before.states q) ≡ true → q ≢ before.started + 1
     inside q a e = absurd (omega (arith, (within_of before.states q (able_live (numbered before.states q) a)).1, v.states, e))
 
-    apart : (q : ℕ) → q ≢ before.started + 1 → times q ((before.started + 1) ∷ []) ≡ 0
+    apart : (q : ℕ) → q ≢ before.started + 1 → number_times q ((before.started + 1) ∷ []) ≡ 0
     apart q h = in_none q ((before.started + 1) ∷ []) (none (q == before.started + 1) refl)
       where
         none : (b : Bool) → (q == before.started + 1) ≡ b → list_any (λ x. q == x) ((before.started + 1) ∷ []) ≡ false
@@ -220,7 +220,7 @@ able_more code before after p v able s n =
         none false e = ap (λ (c : Bool). c || false) e
 
     by : (q : ℕ) → Dec (q ≡ before.started + 1) → newly before.started after.started ≡ (before.started + 1) ∷ []
-        → one_if (able_in after q) ≡ one_if (able_in before q) + times q [] + times q (newly before.started after.started)
+        → one_if (able_in after q) ≡ one_if (able_in before q) + number_times q [] + number_times q (newly before.started after.started)
     by q (yes e) new =
         let last : q ≡ suc (length before.states) = omega (arith, e, v.states) in
         let now : one_if (able_in after q) ≡ 1 =
@@ -230,11 +230,11 @@ able_more code before after p v able s n =
         let was : one_if (able_in before q) ≡ 0 =
         ap (λ (m : ℕ). one_if (is_able (numbered before.states m))) last ∙ ap (λ (o : Option ProcessState). one_if (is_able o)) (none_after before.states) in
         let once : one_if (q == before.started + 1) ≡ 1 = ap one_if (eq-eqb q (before.started + 1) e) in
-        let there : times q (newly before.started after.started) ≡ one_if (q == before.started + 1) + 0 = ap (times q) new in
+        let there : number_times q (newly before.started after.started) ≡ one_if (q == before.started + 1) + 0 = ap (number_times q) new in
         omega (arith, now, was, once, there)
     by q (no h) new =
         let now : one_if (able_in after q) ≡ one_if (able_in before q) =
         ap (λ (ss : List ProcessState). one_if (is_able (numbered ss q))) s
         ∙ ap (λ (o : Option ProcessState). one_if (is_able o)) (old_is before.states Able q (λ e. h (omega (arith, e, v.states)))) in
-        let there : times q (newly before.started after.started) ≡ 0 = ap (times q) new ∙ apart q h in
+        let there : number_times q (newly before.started after.started) ≡ 0 = ap (number_times q) new ∙ apart q h in
         omega (arith, now, there)

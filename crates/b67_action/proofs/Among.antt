@@ -10,10 +10,10 @@ use Rattle.b67_table.proofs.Lists.{numbered_same}
 use Rattle.b67_operators.specs.Leaves.{IsLinkedIn}
 use Rattle.b67_operators.proofs.Leaves.{here, set_here, in_process}
 use Rattle.b67_reach.specs.declared.Stop.{Stop}
-use Rattle.b67_reach.specs.Answers.{after, Performs, Acts}
-use Rattle.b67_reach.specs.Images.{Own, own, with_own}
+use Rattle.b67_reach.specs.Answers.{outcome_after, ProgramPerforms, ProgramActs}
+use Rattle.b67_reach.specs.Images.{Own, own_of_image, with_own}
 use Rattle.b67_reach.proofs.Looking.{acts_by}
-use Rattle.b67_action.specs.Among.{with_all, ActsIn, Comes}
+use Rattle.b67_action.specs.Among.{with_all, ActsIn, EffectComes}
 use Rattle.b67_action.specs.Own.{own_effect, DoesOwn, DoesOwnIn}
 
 module _ (st : Stacks) (rows : Rows) (all : List Registers) (p : ℕ) (r : Registers) (linked : IsLinkedIn st rows (numbered all p)) (index : r ≡ get_or all (p - 1) r) where
@@ -27,32 +27,32 @@ module _ (st : Stacks) (rows : Rows) (all : List Registers) (p : ℕ) (r : Regis
     has_in : numbered img.regs p ≡ Some r
     has_in = ap (λ (rs : List Registers). numbered rs p) u ∙ has
 
-    same_in : with_own (own st rows r) p img ≡ img
+    same_in : with_own (own_of_image st rows r) p img ≡ img
     same_in =
-        ap (λ (z : Stacks). with_own (own z rows r) p img) (sym s) ∙ ap (λ (z : Rows). with_own (own img.stacks z r) p img) (sym t)
+        ap (λ (z : Stacks). with_own (own_of_image z rows r) p img) (sym s) ∙ ap (λ (z : Rows). with_own (own_of_image img.stacks z r) p img) (sym t)
         ∙ ap (λ (rs : List Registers). record img { regs = rs }) (numbered_same img.regs p r has_in)
 
-    new_in : (stacks : Stacks) (more : Rows) (q : Registers) → with_own (own stacks more q) p img ≡ with_all stacks more (set all (p - 1) q) img
+    new_in : (stacks : Stacks) (more : Rows) (q : Registers) → with_own (own_of_image stacks more q) p img ≡ with_all stacks more (set all (p - 1) q) img
     new_in stacks more q =
         ap (λ (rs : List Registers). with_all stacks more (set_numbered rs p q) img) u ∙ ap (λ (rs : List Registers). with_all stacks more rs img) (sym (set_is q))
 
   pub acts_in : {A : Type 0} (program : Registers → ℕ → Program) (next : ℕ) (stacks : Stacks) (more : Rows) (q : Registers) (res : Result A Stop)
-      → Performs (program r next) (own st rows r) (own stacks more q) res → ActsIn program next st rows all p stacks more (set all (p - 1) q) res
+      → ProgramPerforms (program r next) (own_of_image st rows r) (own_of_image stacks more q) res → ActsIn program next st rows all p stacks more (set all (p - 1) q) res
   acts_in program next stacks more q res x = λ img s t u.
       in_process p program (numbered all p) r next img (with_all stacks more (set all (p - 1) q) img) res has
-      (subst (λ (z : Image). Acts p (program r next) img z res) (new_in img s t u stacks more q)
-      (acts_by p (program r next) (own st rows r) (own stacks more q) img res s t (has_in img s t u) x (same_in img s t u)))
+      (subst (λ (z : Image). ProgramActs p (program r next) img z res) (new_in img s t u stacks more q)
+      (acts_by p (program r next) (own_of_image st rows r) (own_of_image stacks more q) img res s t (has_in img s t u) x (same_in img s t u)))
 
   stays_in : {A : Type 0} (img : Image) (stacks : Stacks) (more : Rows) (q : Registers) (res : Result A Stop) → img.stacks ≡ st → img.rows ≡ rows → img.regs ≡ all
-      → OnErr res (own stacks more q ≡ own st rows r) → OnErr res (with_all stacks more (set all (p - 1) q) img ≡ img)
+      → OnErr res (own_of_image stacks more q ≡ own_of_image st rows r) → OnErr res (with_all stacks more (set all (p - 1) q) img ≡ img)
   stays_in img stacks more q (Ok a) s t u e = tt
   stays_in img stacks more q (Err stop) s t u e = sym (new_in img s t u stacks more q) ∙ ap (λ (o : Own). with_own o p img) e ∙ same_in img s t u
 
   pub does_in : {A : Type 0} (op : Operator) (next : ℕ) (stacks : Stacks) (more : Rows) (q : Registers) (res : Result A Stop)
-      → DoesOwn op next (own st rows r) (own stacks more q) res → DoesOwnIn op next st rows all p stacks more (set all (p - 1) q) res
+      → DoesOwn op next (own_of_image st rows r) (own_of_image stacks more q) res → DoesOwnIn op next st rows all p stacks more (set all (p - 1) q) res
   does_in op next stacks more q res x = λ img s t u.
-      subst (λ (o : Option Registers). Comes p (own_effect op next p o img) img (with_all stacks more (set all (p - 1) q) img) res) (sym has)
+      subst (λ (o : Option Registers). EffectComes p (own_effect op next p o img) img (with_all stacks more (set all (p - 1) q) img) res) (sym has)
       (record {
-        outcome = x.outcome p img s t (has_in img s t u) ∙ ap (λ (z : Image). after z res) (new_in img s t u stacks more q);
+        outcome = x.outcome p img s t (has_in img s t u) ∙ ap (λ (z : Image). outcome_after z res) (new_in img s t u stacks more q);
         stays = stays_in img stacks more q res s t u x.stays;
       })

@@ -15,16 +15,16 @@ use Rattle.b67_store.specs.Store.{Stacks, Rows, stack_at, word_at, with_stack, w
 use Rattle.b67_table.specs.declared.Cell.{Cell}
 use Rattle.b67_table.specs.declared.Reached.{Reached}
 use Rattle.b67_table.specs.declared.InterruptKind.{InterruptKind}
-use Rattle.b67_table.specs.Arrays.{as_indexed, is_array, array_in, array_by, array_of, index_in, index_or_fault, Subscripted, subscripted, index}
+use Rattle.b67_table.specs.Arrays.{as_indexed, is_array_descriptor, array_in, array_by, array_of, index_in, index_or_fault, Subscripted, subscripted, index_program as index}
 use Rattle.b67_table.specs.Chains.{place}
 use Rattle.b67_table.specs.Image.{with_registers, with_stacks}
-use Rattle.b67_table.specs.Look.{seen, found, ◌>->◌, valid}
+use Rattle.b67_table.specs.Look.{look_seen, found, ◌>->◌, valid}
 use Rattle.b67_table.specs.Moves.{replaced}
 use Rattle.b67_table.specs.Private.{floor}
 use Rattle.b67_table.specs.Program.{answer, see, ◌>>=◌}
 use Rattle.b67_table.specs.References.{cell_in, cell_place, couple_cell, irw_or_sirw, reached_in, one_sirw, reached, Two, popped_two, invalid}
-use Rattle.b67_reach.specs.Answers.{looked, Performs}
-use Rattle.b67_reach.specs.Images.{own}
+use Rattle.b67_reach.specs.Answers.{looked, ProgramPerforms}
+use Rattle.b67_reach.specs.Images.{own_of_image}
 use Rattle.b67_reach.proofs.Looking.{seen_then, after_found, performs_then, tells_look}
 use Rattle.b67_action.specs.OnRoom.{IsRoom, HoldsWord, IsArrayOf, Subscripts, Stores, PerformsOn}
 use Rattle.b67_action.proofs.OnRoom.{get_front, own_words, put_twice, words_then, popped_is, answered, put}
@@ -47,9 +47,9 @@ pub if_some_then : {A : Type 0} (P Q : A → Type 0) (o : Option A) → IfSome o
 if_some_then P Q None h k = tt
 if_some_then P Q (Some a) h k = k a h
 
-array_here : (st : Stacks) (mother : Bool) (w : Word) (d : Descriptor) → as_descriptor w ≡ Some d → is_array mother d ≡ true → seen st (array_in mother (as_descriptor w)) ≡ Ok d
+array_here : (st : Stacks) (mother : Bool) (w : Word) (d : Descriptor) → as_descriptor w ≡ Some d → is_array_descriptor mother d ≡ true → look_seen st (array_in mother (as_descriptor w)) ≡ Ok d
 array_here st mother w d e i =
-    ap (λ (o : Option Descriptor). seen st (array_in mother o)) e ∙ ap (λ (b : Bool). seen st (if b then found d else invalid)) i
+    ap (λ (o : Option Descriptor). look_seen st (array_in mother o)) e ∙ ap (λ (b : Bool). look_seen st (if b then found d else invalid)) i
 
 -- ---- words of a room
 
@@ -63,10 +63,10 @@ front_twice (x ∷ ws) (suc n) (suc k) h = ap (λ (z : List Word). x ∷ z) (fro
 
 module _ (r : Registers) (room : List Word) (is : IsRoom r room) where
   -- the word itself is an array's descriptor
-  pub array_itself : (mother : Bool) (w : Word) (d : Descriptor) → as_descriptor w ≡ Some d → is_array mother d ≡ true → IsArrayOf r room mother w d
+  pub array_itself : (mother : Bool) (w : Word) (d : Descriptor) → as_descriptor w ≡ Some d → is_array_descriptor mother d ≡ true → IsArrayOf r room mother w d
   array_itself mother w d e i = λ st there.
-      ap (λ (o : Option Irw). seen st (array_by r mother w (irw_or_sirw r o (as_sirw w)))) (no_irw w d e)
-      ∙ ap (λ (o : Option Sirw). seen st (array_by r mother w (irw_or_sirw r None o))) (no_sirw w d e)
+      ap (λ (o : Option Irw). look_seen st (array_by r mother w (irw_or_sirw r o (as_sirw w)))) (no_irw w d e)
+      ∙ ap (λ (o : Option Sirw). look_seen st (array_by r mother w (irw_or_sirw r None o))) (no_sirw w d e)
       ∙ array_here st mother w d e i
 
   module _ (i : Irw) (at : ℕ) (h : HoldsWord r room i.level i.index at) (st : Stacks) (there : stack_at st r.stack ≡ Some (take r.s room)) where
@@ -84,20 +84,20 @@ module _ (r : Registers) (room : List Word) (is : IsRoom r room) where
     abbrev found_there : Reached
     found_there = record { word = h.word; cell = cell }
 
-    reached_is : as_sirw h.word ≡ None → seen st (reached (Some cell)) ≡ Ok found_there
+    reached_is : as_sirw h.word ≡ None → look_seen st (reached (Some cell)) ≡ Ok found_there
     reached_is e =
-        ap (λ (o : Option Word). seen st (reached_in cell o >-> (λ (w : Reached). one_sirw (as_sirw w.word) w))) word_is
-        ∙ ap (λ (o : Option Sirw). seen st (one_sirw o found_there)) e
+        ap (λ (o : Option Word). look_seen st (reached_in cell o >-> (λ (w : Reached). one_sirw (as_sirw w.word) w))) word_is
+        ∙ ap (λ (o : Option Sirw). look_seen st (one_sirw o found_there)) e
 
   -- the word names a cell of its own stack, in which an array's descriptor stands
   pub array_named : (mother : Bool) (x w : Word) (d : Descriptor) (i : Irw) (at : ℕ) → as_irw x ≡ Some i → (h : HoldsWord r room i.level i.index at) → w ≡ h.word
-      → as_descriptor w ≡ Some d → is_array mother d ≡ true → IsArrayOf r room mother x d
+      → as_descriptor w ≡ Some d → is_array_descriptor mother d ≡ true → IsArrayOf r room mother x d
   array_named mother x w d i at names h same e a = λ st there.
       let f : as_descriptor h.word ≡ Some d = ap as_descriptor (sym same) ∙ e in
-      ap (λ (o : Option Irw). seen st (array_by r mother x (irw_or_sirw r o (as_sirw x)))) names
-      ∙ ap (λ (c : Option Cell). seen st (array_by r mother x c)) (cell_is i at h st there)
+      ap (λ (o : Option Irw). look_seen st (array_by r mother x (irw_or_sirw r o (as_sirw x)))) names
+      ∙ ap (λ (c : Option Cell). look_seen st (array_by r mother x c)) (cell_is i at h st there)
       ∙ seen_then st (reached (Some (cell i at h st there))) (λ (v : Reached). array_in mother (as_descriptor v.word))
-      ∙ ap (λ (q : Result Reached InterruptKind). after_found q (λ (v : Reached). seen st (array_in mother (as_descriptor v.word)))) (reached_is i at h st there (no_sirw h.word d f))
+      ∙ ap (λ (q : Result Reached InterruptKind). after_found q (λ (v : Reached). look_seen st (array_in mother (as_descriptor v.word)))) (reached_is i at h st there (no_sirw h.word d f))
       ∙ array_here st mother h.word d f a
 
   module _ (mother : Bool) (x y : Word) (enough : floor r + 2 ≤ r.s) (top : slice_get room (r.s - 1) ≡ Some x) (below : slice_get room (r.s - 2) ≡ Some y) (z : ℤ)
@@ -110,9 +110,9 @@ module _ (r : Registers) (room : List Word) (is : IsRoom r room) where
       subscript = z;
       found =
           seen_then st (popped_two r) (λ (t : Two). valid (as_whole t.y) >-> (λ (s : ℤ). array_of r mother t.x >-> (λ (a : Descriptor). found (record { array = a; subscript = s }))))
-          ∙ ap (λ (q : Result Two InterruptKind). after_found q (λ (t : Two). seen st (valid (as_whole t.y) >-> (λ (s : ℤ). array_of r mother t.x >-> (λ (a : Descriptor). found (record { array = a; subscript = s }))))))
+          ∙ ap (λ (q : Result Two InterruptKind). after_found q (λ (t : Two). look_seen st (valid (as_whole t.y) >-> (λ (s : ℤ). array_of r mother t.x >-> (λ (a : Descriptor). found (record { array = a; subscript = s }))))))
           (popped_is r room is st [] there x y enough top below)
-          ∙ ap (λ (o : Option ℤ). seen st (valid o >-> (λ (s : ℤ). array_of r mother x >-> (λ (a : Descriptor). found (record { array = a; subscript = s }))))) whole
+          ∙ ap (λ (o : Option ℤ). look_seen st (valid o >-> (λ (s : ℤ). array_of r mother x >-> (λ (a : Descriptor). found (record { array = a; subscript = s }))))) whole
           ∙ seen_then st (array_of r mother x) (λ (a : Descriptor). found (record { array = a; subscript = z }))
           ∙ ap (λ (q : Result Descriptor InterruptKind). after_found q (λ (a : Descriptor). Ok (record { array = a; subscript = z }))) (array st there);
       index = index;
@@ -150,7 +150,7 @@ module _ (r : Registers) (room : List Word) (is : IsRoom r room) where
           ∙ ap (λ (ws : List Word). with_stack st r.stack ws) (sym (take_more_set room (r.s - 2) w (omega (arith, two, is.within))))
           ∙ ap (λ (n : ℕ). with_stack st r.stack (take n (set room (r.s - 2) w))) size_is
 
-      pub replaced_on : Performs (answer (replaced r next 2 w)) (own st rows r) (own left rows fewer) (Ok (tt {0}))
+      pub replaced_on : ProgramPerforms (answer (replaced r next 2 w)) (own_of_image st rows r) (own_of_image left rows fewer) (Ok (tt {0}))
       replaced_on =
           answered r fewer st left rows (omega (arith, is.within, is.size)) (replaced r next 2 w) (λ p img s t has.
           ap (λ (n : ℕ). with_registers (with_stacks img (with_push (with_cut img.stacks r.stack (r.s - 2)) r.stack w)) p (record r { s = n; place = next })) size_is
@@ -166,7 +166,7 @@ module _ (r : Registers) (room : List Word) (is : IsRoom r room) where
     pub index_on : (q : Registers) (more : List Word) → PerformsOn (answer (replaced r next 2 indexed)) r room q more → PerformsOn (index r next) r room q more
     index_on q more x = λ st rows there.
         let s = k st there in
-        performs_then (see (subscripted r false)) _ (record { array = d; subscript = s.subscript }) (own st rows r) (own (with_stack st q.stack (take q.s more)) rows q) (Ok (tt {0}))
+        performs_then (see (subscripted r false)) _ (record { array = d; subscript = s.subscript }) (own_of_image st rows r) (own_of_image (with_stack st q.stack (take q.s more)) rows q) (Ok (tt {0}))
         (tells_look (subscripted r false) st rows (Ok (record { array = d; subscript = s.subscript })) (sym (ap looked s.found)))
-        (subst (λ (o : Option ℕ). Performs (index_or_fault o >>= (λ (m : ℕ). answer (replaced r next 2 (descriptor_word (record d { copy = true; indexed = true; length = m })))))
-        (own st rows r) (own (with_stack st q.stack (take q.s more)) rows q) (Ok (tt {0}))) (sym s.index) (x st rows there))
+        (subst (λ (o : Option ℕ). ProgramPerforms (index_or_fault o >>= (λ (m : ℕ). answer (replaced r next 2 (descriptor_word (record d { copy = true; indexed = true; length = m })))))
+        (own_of_image st rows r) (own_of_image (with_stack st q.stack (take q.s more)) rows q) (Ok (tt {0}))) (sym s.index) (x st rows there))

@@ -7,33 +7,33 @@ use Rattle.b67_segment.specs.declared.code.Code.{Code}
 use Rattle.b67_store.specs.Store.{row_at}
 use Rattle.b67_table.specs.Image.{Image}
 use Rattle.b67_table.specs.Intrinsics.{intrinsic_row, select}
-use Rattle.b67_table.specs.Look.{seen}
+use Rattle.b67_table.specs.Look.{look_seen}
 use Rattle.b67_table.specs.Names.{intrinsic_numbered}
 use Rattle.b67_table.specs.Outcome.{limited}
 use Rattle.b67_table.specs.Program.{Program, see, ◌>>=◌, does, effect_of}
 use Rattle.b67_table.specs.Rows.{enter}
 use Rattle.b67_table.specs.Table.{stack_length}
 use Rattle.b67_operators.specs.declared.calling.Called.{Called}
-use Rattle.b67_operators.specs.Entries.{called as entered, enter_called}
+use Rattle.b67_operators.specs.Entries.{procedure_called, enter_called}
 use Rattle.b67_operators.specs.Leaves.{program_in}
 use Rattle.b67_operators.proofs.Choices.{enters_what_it_calls}
 use Rattle.b67_operators.proofs.Leaves.{in_process}
 use Rattle.b67_intrinsics.specs.declared.hindrance.Hindrance.{Hindrance}
 use Rattle.b67_intrinsics.specs.declared.hindrance.Hindrance.TheVariants.{Stopped, NoMemory}
-use Rattle.b67_intrinsics.specs.Called.{called_in, Tries, IsLeft}
+use Rattle.b67_intrinsics.specs.Called.{called_in, Tries, ImageIsLeft}
 use Rattle.b67_reach.specs.declared.Stop.{Stop}
-use Rattle.b67_reach.specs.Answers.{looked, Acts}
+use Rattle.b67_reach.specs.Answers.{looked, ProgramActs}
 use Rattle.b67_reach.proofs.Looking.{tells_look, asked_on, acts_stop}
 use Rattle.b67_action.specs.Acting.{hindered, selects}
 use Rattle.b67_action.specs.Among.{entry_program}
 
 -- ---- answers that no memory hinders, and those that it may
 
-pub tries_plainly : (p : ℕ) (program : Program) (old new : Image) (res : Result (Unit {0}) Stop) → Acts p program old new res → Tries p program old new (hindered res)
+pub tries_plainly : (p : ℕ) (program : Program) (old new : Image) (res : Result (Unit {0}) Stop) → ProgramActs p program old new res → Tries p program old new (hindered res)
 tries_plainly p program old new (Ok u) x = x
 tries_plainly p program old new (Err stop) x = x
 
-same_left : (old new : Image) → new ≡ old → IsLeft old new
+same_left : (old new : Image) → new ≡ old → ImageIsLeft old new
 same_left old new e = record {
   rows = λ n. ap (λ (z : Image). row_at z.rows n) e;
   others = e ∙ ap (λ (z : Image). record old { rows = z.rows }) (sym e);
@@ -56,18 +56,18 @@ abbrev pub numbers : Called → Option Intrinsic
 numbers c = intrinsic_numbered c.pcw.number
 
 module _ (p : ℕ) (code : Code) (img : Image) (r : Registers) (next : ℕ) (o : Option Registers) (has : o ≡ Some r) where
-  pub enter_stops : (stop : Stop) → ◌≡◌ {A = Result Called Stop} (Err stop) (looked (seen img.stacks (entered r)))
+  pub enter_stops : (stop : Stop) → ◌≡◌ {A = Result Called Stop} (Err stop) (looked (look_seen img.stacks (procedure_called r)))
       → Tries p (program_in (enter code) o next) img img (Err (Stopped stop))
   enter_stops stop e =
       in_process p (enter code) o r next img img (Err stop) has
-      (tries_as p (enter code r next) (see (entered r) >>= enter_called code r next) img img (Err (Stopped stop)) (enters_what_it_calls code r next p img)
-      (acts_stop p (see (entered r)) (enter_called code r next) stop img img ((tells_look (entered r) img.stacks img.rows (Err stop) e).told img refl refl) refl))
+      (tries_as p (enter code r next) (see (procedure_called r) >>= enter_called code r next) img img (Err (Stopped stop)) (enters_what_it_calls code r next p img)
+      (acts_stop p (see (procedure_called r)) (enter_called code r next) stop img img ((tells_look (procedure_called r) img.stacks img.rows (Err stop) e).told img refl refl) refl))
 
-  module _ (c : Called) (e : Ok c ≡ looked (seen img.stacks (entered r))) where
+  module _ (c : Called) (e : Ok c ≡ looked (look_seen img.stacks (procedure_called r))) where
     pub does_called : does p (enter code r next) img ≡ does p (enter_called code r next c) img
     does_called =
         enters_what_it_calls code r next p img
-        ∙ ap (effect_of p img) (asked_on img (see (entered r)) (enter_called code r next) c ((tells_look (entered r) img.stacks img.rows (Ok c) e).told img refl refl))
+        ∙ ap (effect_of p img) (asked_on img (see (procedure_called r)) (enter_called code r next) c ((tells_look (procedure_called r) img.stacks img.rows (Ok c) e).told img refl refl))
 
     abbrev chosen : Bool → Program
     chosen b = cond b (called_in (intrinsic_row (numbers c)) code (Some r) next c.mark) (entry_program c r next)

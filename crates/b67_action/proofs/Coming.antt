@@ -29,7 +29,7 @@ use Rattle.b67_table.specs.Rows as rows
 use Rattle.b67_table.specs.Rows.{row, private_part, action}
 use Rattle.b67_table.specs.Table.{table, raw, operator_at, by_row, by_operator, by_registers, part_by, private_op, class_by, stack_length}
 use Rattle.b67_table.specs.Valid.{waits}
-use Rattle.b67_table.specs.Writes.{Write, written, waiting}
+use Rattle.b67_table.specs.Writes.{Write, write_made, waiting}
 use Rattle.b67_table.specs.Writes as writes
 use Rattle.b67_table.proofs.EventKept.{length_states, length_again}
 use Rattle.b67_table.proofs.Lists.{numbered_within, numbered_from}
@@ -37,51 +37,51 @@ use Rattle.b67_intrinsics.specs.declared.hindrance.Hindrance.{Hindrance}
 use Rattle.b67_intrinsics.specs.declared.hindrance.Hindrance.TheVariants.{Stopped, NoMemory}
 use Rattle.b67_reach.specs.declared.Stop.{Stop}
 use Rattle.b67_reach.specs.declared.Stop.TheVariants.{Interrupt, Fault, StackLimit}
-use Rattle.b67_reach.specs.Answers.{Acts}
+use Rattle.b67_reach.specs.Answers.{ProgramActs}
 use Rattle.b67_action.specs.declared.rows.Row.{Row}
 use Rattle.b67_action.specs.declared.rows.Row.TheVariants as ours
 use Rattle.b67_action.specs.Acting.{row_effect, ComesOrNot, CallsMaker}
-use Rattle.b67_action.specs.Among.{Comes}
+use Rattle.b67_action.specs.Among.{EffectComes}
 use Rattle.b67_action.specs.Done.{went, hindered_by, is_performed, MakesNext, Came}
-use Rattle.b67_action.specs.Rows.{Is}
+use Rattle.b67_action.specs.Rows.{IsTableRow}
 
 -- ---- programs and effects
 
-pub comes_by : {A : Type 0} (p : ℕ) (program : Program) (old new : Image) (res : Result A Stop) → Acts p program old new res → Comes p (does p program old) old new res
+pub comes_by : {A : Type 0} (p : ℕ) (program : Program) (old new : Image) (res : Result A Stop) → ProgramActs p program old new res → EffectComes p (does p program old) old new res
 comes_by p program old new res x = record { outcome = x.outcome; stays = x.stays }
 
 -- what was performed, whatever it answers
-pub acts_ok : {A : Type 0} (p : ℕ) (program : Program) (old new : Image) (res : Result A Stop) (a : A) → res ≡ Ok a → Acts p program old new res
-    → Acts {A = Unit {0}} p program old new (Ok (tt {0}))
+pub acts_ok : {A : Type 0} (p : ℕ) (program : Program) (old new : Image) (res : Result A Stop) (a : A) → res ≡ Ok a → ProgramActs p program old new res
+    → ProgramActs {A = Unit {0}} p program old new (Ok (tt {0}))
 acts_ok p program old new (Ok b) a e x = record { outcome = x.outcome; stays = tt }
 acts_ok p program old new (Err stop) a e x = cc
 
-pub comes_ok : {A B : Type 0} (p : ℕ) (effect : Effect Image) (old new : Image) (res : Result A Stop) (a : A) (b : B) → res ≡ Ok a → Comes p effect old new res
-    → Comes p effect old new (Ok b)
+pub comes_ok : {A B : Type 0} (p : ℕ) (effect : Effect Image) (old new : Image) (res : Result A Stop) (a : A) (b : B) → res ≡ Ok a → EffectComes p effect old new res
+    → EffectComes p effect old new (Ok b)
 comes_ok p effect old new (Ok c) a b e x = record { outcome = x.outcome; stays = tt }
 comes_ok p effect old new (Err stop) a b e x = cc
 
-pub comes_err : {A B : Type 0} (p : ℕ) (effect : Effect Image) (old new : Image) (res : Result A Stop) (stop : Stop) → res ≡ Err stop → Comes p effect old new res
-    → Comes {A = B} p effect old new (Err stop)
+pub comes_err : {A B : Type 0} (p : ℕ) (effect : Effect Image) (old new : Image) (res : Result A Stop) (stop : Stop) → res ≡ Err stop → EffectComes p effect old new res
+    → EffectComes {A = B} p effect old new (Err stop)
 comes_err p effect old new (Ok c) stop e x = cc
 comes_err {B = B} p effect old new (Err other) stop e x =
     let same : other ≡ stop = cc in
-    subst (λ (s : Stop). Comes {A = B} p effect old new (Err s)) same (record { outcome = x.outcome; stays = x.stays })
+    subst (λ (s : Stop). EffectComes {A = B} p effect old new (Err s)) same (record { outcome = x.outcome; stays = x.stays })
 
 -- ---- the row of an operator
 
 module _ (code : Code) (img : Image) (p : ℕ) (r : Registers) (op : Operator) (next : ℕ) where
-  own_is : (w : rows.Row) → class_by w ≡ Private → with_effect img p (floor r) (part_by w next (private_of img r)) ≡ by_row w code img p r next
+  own_is : (w : rows.TableRow) → class_by w ≡ Private → with_effect img p (floor r) (part_by w next (private_of img r)) ≡ by_row w code img p r next
   own_is (private_part change) e = refl
   own_is (action program) e = cc
 
-  pub effect_is : (w : Row) → Is (row op r.place) w → row_effect w code op next p (Some r) img ≡ by_row (row op r.place) code img p r next
+  pub effect_is : (w : Row) → IsTableRow (row op r.place) w → row_effect w code op next p (Some r) img ≡ by_row (row op r.place) code img p r next
   unfolding private_op
   effect_is ours.Own e = own_is (row op r.place) e
-  effect_is (ours.Words kind) e = sym (ap (λ (w : rows.Row). by_row w code img p r next) e)
-  effect_is ours.Exit e = sym (ap (λ (w : rows.Row). by_row w code img p r next) e)
-  effect_is ours.ReturnValue e = sym (ap (λ (w : rows.Row). by_row w code img p r next) e)
-  effect_is ours.Enter e = sym (ap (λ (w : rows.Row). by_row w code img p r next) e)
+  effect_is (ours.Words kind) e = sym (ap (λ (w : rows.TableRow). by_row w code img p r next) e)
+  effect_is ours.Exit e = sym (ap (λ (w : rows.TableRow). by_row w code img p r next) e)
+  effect_is ours.ReturnValue e = sym (ap (λ (w : rows.TableRow). by_row w code img p r next) e)
+  effect_is ours.Enter e = sym (ap (λ (w : rows.TableRow). by_row w code img p r next) e)
 
 -- ---- the table
 
@@ -120,7 +120,7 @@ module _ (code : Code) (img : Image) (p : ℕ) (r : Registers) (able : is_able (
   table_bad e = ap (limited (stack_length p)) (raw_is ∙ bad_is (operator_at code r) e code img p r)
 
 -- the table by the row that an operator has
-module _ (code : Code) (img : Image) (p : ℕ) (r : Registers) (has : numbered img.regs p ≡ Some r) (op : Operator) (next : ℕ) (w : Row) (is : Is (row op r.place) w) where
+module _ (code : Code) (img : Image) (p : ℕ) (r : Registers) (has : numbered img.regs p ≡ Some r) (op : Operator) (next : ℕ) (w : Row) (is : IsTableRow (row op r.place) w) where
   effect_in : row_effect w code op next p (numbered img.regs p) img ≡ by_row (row op r.place) code img p r next
   effect_in = ap (λ (o : Option Registers). row_effect w code op next p o img) has ∙ effect_is code img p r op next w is
 
@@ -148,7 +148,7 @@ module _ (code : Code) (img : Image) (p : ℕ) (r : Registers) (has : numbered i
 -- ---- the answer
 
 module _ (code : Code) (old new : Image) (p : ℕ) (effect : Effect Image) (t : table code old p ≡ limited (stack_length p) effect) where
-  pub came_on : (state : ProcessState) → Comes {A = Unit {0}} p effect old new (Ok (tt {0})) → numbered new.states p ≡ Some state → Came code old p (went state) new
+  pub came_on : (state : ProcessState) → EffectComes {A = Unit {0}} p effect old new (Ok (tt {0})) → numbered new.states p ≡ Some state → Came code old p (went state) new
   came_on states.Able x s = (t ∙ x.outcome, ap is_able s)
   came_on (states.WaitsFor at) x s = (t ∙ x.outcome, ap waits s)
   came_on states.WaitsAny x s = (t ∙ x.outcome, ap waits s)
@@ -182,7 +182,7 @@ went_performed states.Ended e = cc
 
 -- ---- states are not taken away
 
-grows_by : (p : ℕ) (w : Write) (img : Image) → length img.states ≤ length (written p w img).states
+grows_by : (p : ℕ) (w : Write) (img : Image) → length img.states ≤ length (write_made p w img).states
 grows_by p (writes.save place w) img = omega arith
 grows_by p (writes.cut stack n) img = omega arith
 grows_by p (writes.push stack w) img = omega arith
@@ -209,7 +209,7 @@ grows_by p (writes.end_process stack) img = omega (arith, length_states img.stat
 states_grow : (p : ℕ) (change : Change) (img : Image) → length img.states ≤ length (changed p change img).states
 states_grow p done img = omega arith
 states_grow p (look_up q more) img = states_grow p (more (told img q)) img
-states_grow p (write w next) img = omega (arith, grows_by p w img, states_grow p next (written p w img))
+states_grow p (write w next) img = omega (arith, grows_by p w img, states_grow p next (write_made p w img))
 
 effect_grows : (p : ℕ) (img new : Image) (e : Effect Change) → effect_of p img e ≡ gives new → length img.states ≤ length new.states
 effect_grows p img new (gives change) e =
@@ -223,7 +223,7 @@ own_grows p base img new (gives q) e =
 own_grows p base img new (faults kind) e = cc
 own_grows p base img new (interrupts kind) e = cc
 
-row_grows : (w : rows.Row) (code : Code) (img new : Image) (p : ℕ) (r : Registers) (next : ℕ) → by_row w code img p r next ≡ gives new → length img.states ≤ length new.states
+row_grows : (w : rows.TableRow) (code : Code) (img new : Image) (p : ℕ) (r : Registers) (next : ℕ) → by_row w code img p r next ≡ gives new → length img.states ≤ length new.states
 row_grows (private_part change) code img new p r next e = own_grows p (floor r) img new (change next (private_of img r)) e
 row_grows (action program) code img new p r next e = effect_grows p img new (asked img (program code r next)) e
 
@@ -243,16 +243,16 @@ able_there : (xs : List ProcessState) (p n : ℕ) (o : Option ProcessState) → 
 able_there xs p n None e a h = cc
 able_there xs p n (Some x) e a h = there xs p n x e h
 
-state_there : (w : rows.Row) (code : Code) (img new : Image) (p : ℕ) (r : Registers) (next : ℕ) → is_able (numbered img.states p) ≡ true
-    → Comes {A = Unit {0}} p (by_row w code img p r next) img new (Ok (tt {0})) → (1 ≤ p) × (p ≤ length new.states)
+state_there : (w : rows.TableRow) (code : Code) (img new : Image) (p : ℕ) (r : Registers) (next : ℕ) → is_able (numbered img.states p) ≡ true
+    → EffectComes {A = Unit {0}} p (by_row w code img p r next) img new (Ok (tt {0})) → (1 ≤ p) × (p ≤ length new.states)
 state_there w code img new p r next able x =
     able_there img.states p (length new.states) (numbered img.states p) refl able
     (row_grows w code img new p r next (given_of p (by_row w code img p r next) new x.outcome))
 
 -- after an operator the process has a state
-pub state_after : (code : Code) (img new : Image) (p : ℕ) (r : Registers) (op : Operator) (next : ℕ) (w : Row) → numbered img.regs p ≡ Some r → Is (row op r.place) w
-    → is_able (numbered img.states p) ≡ true → Comes {A = Unit {0}} p (row_effect w code op next p (numbered img.regs p) img) img new (Ok (tt {0}))
+pub state_after : (code : Code) (img new : Image) (p : ℕ) (r : Registers) (op : Operator) (next : ℕ) (w : Row) → numbered img.regs p ≡ Some r → IsTableRow (row op r.place) w
+    → is_able (numbered img.states p) ≡ true → EffectComes {A = Unit {0}} p (row_effect w code op next p (numbered img.regs p) img) img new (Ok (tt {0}))
     → (1 ≤ p) × (p ≤ length new.states)
 state_after code img new p r op next w has is able x =
     state_there (row op r.place) code img new p r next able
-    (subst (λ (e : Effect Image). Comes {A = Unit {0}} p e img new (Ok (tt {0}))) (effect_in code img p r has op next w is) x)
+    (subst (λ (e : Effect Image). EffectComes {A = Unit {0}} p e img new (Ok (tt {0}))) (effect_in code img p r has op next w is) x)

@@ -24,10 +24,10 @@ use Rattle.b67_action.specs.declared.done.Done.TheVariants.{Went}
 use Rattle.b67_action.specs.declared.rows.Row.{Row}
 use Rattle.b67_action.specs.declared.rows.Row.TheVariants as rows
 use Rattle.b67_action.specs.Acting.{row_effect, NextReleases, RowReleases, EntersPlainly, EnterReleases, CalleeReleases}
-use Rattle.b67_action.specs.Among.{Comes}
+use Rattle.b67_action.specs.Among.{EffectComes}
 use Rattle.b67_action.specs.Done.{Came}
 use Rattle.b67_action.specs.Onward.{HasGone, GoesBy, action_of}
-use Rattle.b67_action.specs.Rows.{Is}
+use Rattle.b67_action.specs.Rows.{IsTableRow}
 use Rattle.b67_action.proofs.Coming.{table_row, operator_is}
 use Rattle.b67_action.proofs.Kept.{stays_valid}
 use Rattle.b67_action.proofs.MakeAble.{performed_able}
@@ -72,7 +72,7 @@ enters_nobody img (Some r) x = (x.0, x.1, subst (λ (b : Bool). CalleeReleases b
 module _ (code : Code) (old new : Image) (p : ℕ) (r : Registers) (op : Operator) (next : ℕ) (v : IsValid code old)
     (able : is_able (numbered old.states p) ≡ true) (has : numbered old.regs p ≡ Some r) (here : found code r.segment r.ll r.place ≡ Some (op, next))
     (states : new.states ≡ old.states) (few : length new.rows ≤ row_limit) where
-  module _ (w : Row) (is : Is (row op r.place) w) (comes : Comes {A = Unit {0}} p (row_effect w code op next p (numbered old.regs p) old) old new (Ok (tt {0})))
+  module _ (w : Row) (is : IsTableRow (row op r.place) w) (comes : EffectComes {A = Unit {0}} p (row_effect w code op next p (numbered old.regs p) old) old new (Ok (tt {0})))
       (nobody : RowReleases w old (numbered old.regs p) [] []) where
     by_table : table code old p ≡ limited (stack_length p) (row_effect w code op next p (numbered old.regs p) old)
     by_table = table_row code old p r has op next w is able here

@@ -15,12 +15,12 @@ use Rattle.b67_table.proofs.Stacks.{set_set_here}
 use Rattle.b67_linkage.specs.Held.{IsLinked}
 use Rattle.b67_private.specs.declared.Stop.{Stop as PartStop}
 use Rattle.b67_private.specs.declared.Stop.TheVariants as parts
-use Rattle.b67_private.specs.Parts.{IsPart, own_outcome, part_in, part_with}
+use Rattle.b67_private.specs.Parts.{IsPrivatePart, own_outcome, part_in, part_with}
 use Rattle.b67_private.specs.Performing.{stopped as part_stopped}
 use Rattle.b67_private.proofs.Deeper.{is_short, deep, whole_is_enough}
 use Rattle.b67_private.proofs.Stretching.{deeper, own_outcome_same, from_deeper}
-use Rattle.b67_reach.specs.Images.{own}
-use Rattle.b67_action.specs.Own.{part_of, stop_by, DoesOwn}
+use Rattle.b67_reach.specs.Images.{own_of_image}
+use Rattle.b67_action.specs.Own.{part_of_process, stop_by, DoesOwn}
 use Rattle.b67_action.proofs.OwnOutcome.{own_stops, own_goes, own_left}
 use Rattle.b67_action.proofs.OwnWords.{own_words}
 
@@ -77,37 +77,37 @@ abbrev pub below : Stacks → Registers → List Word
 below st r = reverse (take (floor r) (words_of st r.stack))
 
 module _ (st : Stacks) (rows : Rows) (r : Registers) (linked : IsLinked st rows r) where
-  pub whole_is : part_with r (reverse (words_of st r.stack)) ≡ deep (below st r) (part_of st r)
+  pub whole_is : part_with r (reverse (words_of st r.stack)) ≡ deep (below st r) (part_of_process st r)
   whole_is =
       let ws = words_of st r.stack in
       ap (λ (us : List Word). part_with r us) (ap reverse (sym (take-append-drop (floor r) ws)) ∙ reverse-append (take (floor r) ws) (drop (floor r) ws))
 
-  pub enough : is_short (part_of st r) ≡ false
+  pub enough : is_short (part_of_process st r) ≡ false
   enough =
       let ws = words_of st r.stack in
-      whole_is_enough (part_of st r) (omega (arith, linked.size, linked.above, length-reverse (drop (floor r) ws), length-drop (floor r) ws))
+      whole_is_enough (part_of_process st r) (omega (arith, linked.size, linked.above, length-reverse (drop (floor r) ws), length-drop (floor r) ws))
 
   module _ (op : Operator) (next least : ℕ) (room : List Word) (lent : IsRoom (words_of st r.stack) least room) where
-    outcome_is : own_outcome op next (part_in r room) ≡ deeper (below st r) (own_outcome op next (part_of st r))
+    outcome_is : own_outcome op next (part_in r room) ≡ deeper (below st r) (own_outcome op next (part_of_process st r))
     outcome_is =
         ap (λ (m : Private). own_outcome op next m) (part_in_is st r least room linked.size lent ∙ whole_is)
-        ∙ own_outcome_same (below st r) op next (part_of st r) enough
+        ∙ own_outcome_same (below st r) op next (part_of_process st r) enough
 
-    pub room_goes : (b : Private) (stacks : Stacks) (more : Rows) → IsPart (part_of st r) → Fits r.ll op → next < 2 ^ 16 → own_outcome op next (part_in r room) ≡ gives b
-        → stacks ≡ with_stack st r.stack (reverse b.words) → more ≡ rows → DoesOwn op next (own st rows r) (own stacks more b.regs) (Ok (tt {0}))
+    pub room_goes : (b : Private) (stacks : Stacks) (more : Rows) → IsPrivatePart (part_of_process st r) → Fits r.ll op → next < 2 ^ 16 → own_outcome op next (part_in r room) ≡ gives b
+        → stacks ≡ with_stack st r.stack (reverse b.words) → more ≡ rows → DoesOwn op next (own_of_image st rows r) (own_of_image stacks more b.regs) (Ok (tt {0}))
     room_goes b stacks more part fits bound e f g =
-        let upper = from_deeper (below st r) (own_outcome op next (part_of st r)) b (sym outcome_is ∙ e) in
+        let upper = from_deeper (below st r) (own_outcome op next (part_of_process st r)) b (sym outcome_is ∙ e) in
         let q = upper.0 in
         let left = own_left op next st rows r q linked part fits bound upper.1 in
         let put : stacks ≡ with_stack st q.regs.stack (take (floor r) (words_of st q.regs.stack) ++ reverse q.words) =
         f
         ∙ ap (λ (ws : List Word). with_stack st r.stack ws) (above_below (words_of st r.stack) q.words b.words (floor r) (sym (ap (λ (x : Private). x.words) upper.2)))
         ∙ ap (λ (n : ℕ). with_stack st n (take (floor r) (words_of st n) ++ reverse q.words)) (sym left.0) in
-        subst (λ (x : Private). DoesOwn op next (own st rows r) (own stacks more x.regs) (Ok (tt {0}))) upper.2
+        subst (λ (x : Private). DoesOwn op next (own_of_image st rows r) (own_of_image stacks more x.regs) (Ok (tt {0}))) upper.2
         (own_goes op next st rows r q stacks more upper.1 put g)
 
     pub room_stops : {A : Type 0} (stop : PartStop) (b : Private) (stacks : Stacks) (more : Rows) → own_outcome op next (part_in r room) ≡ part_stopped stop → b ≡ part_in r room
-        → stacks ≡ with_stack st r.stack (reverse b.words) → more ≡ rows → DoesOwn {A = A} op next (own st rows r) (own stacks more b.regs) (Err (stop_by stop))
+        → stacks ≡ with_stack st r.stack (reverse b.words) → more ≡ rows → DoesOwn {A = A} op next (own_of_image st rows r) (own_of_image stacks more b.regs) (Err (stop_by stop))
     room_stops stop b stacks more e same f g =
         let ws = words_of st r.stack in
         let back : stacks ≡ st =
@@ -115,5 +115,5 @@ module _ (st : Stacks) (rows : Rows) (r : Registers) (linked : IsLinked st rows 
         ∙ ap (λ (x : Private). with_stack st r.stack (reverse x.words)) (same ∙ part_in_is st r least room linked.size lent)
         ∙ ap (λ (z : List Word). with_stack st r.stack z) (reverse-reverse ws)
         ∙ set_there st r.stack ws (words_there (stack_at st r.stack) linked.opened) in
-        own_stops op next st rows r stop (own stacks more b.regs) (stop_below (below st r) (own_outcome op next (part_of st r)) stop (sym outcome_is ∙ e))
-        (ap (λ (z : Stacks). own z more b.regs) back ∙ ap (λ (z : Rows). own st z b.regs) g ∙ ap (λ (x : Private). own st rows x.regs) same)
+        own_stops op next st rows r stop (own_of_image stacks more b.regs) (stop_below (below st r) (own_outcome op next (part_of_process st r)) stop (sym outcome_is ∙ e))
+        (ap (λ (z : Stacks). own_of_image z more b.regs) back ∙ ap (λ (z : Rows). own_of_image st z b.regs) g ∙ ap (λ (x : Private). own_of_image st rows x.regs) same)

@@ -15,9 +15,9 @@ use Rattle.b67_table.specs.declared.ProcessState.{ProcessState}
 use Rattle.b67_table.specs.Image.{Image, with_private, private_of, is_able, is_live}
 use Rattle.b67_table.specs.Outcome.{Outcome, gives}
 use Rattle.b67_table.specs.Private.{floor}
-use Rattle.b67_table.specs.Privacy.{Keeps}
+use Rattle.b67_table.specs.Privacy.{RegistersStay}
 use Rattle.b67_table.specs.Program.{Program}
-use Rattle.b67_table.specs.Rows.{Row, row, acts}
+use Rattle.b67_table.specs.Rows.{TableRow, row, acts}
 use Rattle.b67_table.specs.Runs.{Plains, stay, go}
 use Rattle.b67_table.specs.Table.{table, plain, class_at, class_by, is_private, private_at, private_in, private_next, is_new, operator_at}
 use Rattle.b67_table.specs.Valid.{IsProcess, IsValid}
@@ -35,19 +35,19 @@ use Rattle.b67_private.specs.declared.operators.Row.TheVariants as ready
 use Rattle.b67_private.specs.declared.operators.WordsRow.{WordsRow}
 use Rattle.b67_private.specs.Actions.{words_program}
 use Rattle.b67_private.specs.Lettered.{HasLetter}
-use Rattle.b67_private.specs.Parts.{IsPart, HasRoom, PlainParts, is_plain, own_next, part_with, part_in}
+use Rattle.b67_private.specs.Parts.{IsPrivatePart, HasRoom, PlainParts, is_plain, own_next, part_with, part_in}
 use Rattle.b67_private.specs.Parts as parts
 use Rattle.b67_private.specs.Performing.{Steps}
 use Rattle.b67_private.proofs.Above.{all_leave}
 use Rattle.b67_private.proofs.Plains.{stretches_are_own, Shallow, shallow_whole, shallow_plain}
 use Rattle.b67_private.proofs.ValidParts.{valid_whole}
-use Rattle.b67_reach.specs.Answers.{Acts}
-use Rattle.b67_reach.specs.Images.{own, with_own}
+use Rattle.b67_reach.specs.Answers.{ProgramActs}
+use Rattle.b67_reach.specs.Images.{own_of_image, with_own}
 use Rattle.b67_reach.proofs.Looking.{acts_by}
 use Rattle.b67_action.specs.Lettered.{LettersOn}
 use Rattle.b67_action.specs.OnRoom.{IsRoom, PerformsOn}
 use Rattle.b67_action.specs.Onward.{HasGone}
-use Rattle.b67_action.specs.Running.{IsLent, given_back, IsStretchOf, GoesOn, HasPlace, StepsTo, plain_step, act_step}
+use Rattle.b67_action.specs.Running.{IsLent, given_back, IsStretchOf, ActionGoesOn, HasPlace, StepsTo, plain_step, act_step}
 use Rattle.b67_action.proofs.Coming.{comes_by, operator_is}
 use Rattle.b67_action.proofs.Gone.{letter_by_row, gone}
 use Rattle.b67_action.proofs.Ready.{live_of, registers_there}
@@ -55,7 +55,7 @@ use Rattle.b67_action.proofs.Ready.{live_of, registers_there}
 -- ---- plain operators keep an image valid
 
 -- an action was performed, or none
-pub act_steps : (code : Code) (p : ℕ) (old new : Image) (o : Option Letter) → ((named : Letter) → o ≡ Some named → GoesOn code p named old new)
+pub act_steps : (code : Code) (p : ℕ) (old new : Image) (o : Option Letter) → ((named : Letter) → o ≡ Some named → ActionGoesOn code p named old new)
     → (o ≡ None → IsStretchOf code p 0 1 old new) → StepsTo (act_step o) code p old new
 act_steps code p old new (Some named) goes stays = goes named refl
 act_steps code p old new None goes stays = stays refl
@@ -100,7 +100,7 @@ unfolding class_at
 not_private code img p r op next program has here is =
     ap (λ (o : Option Registers). private_in code o) has
     ∙ ap (λ (o : Result (Operator × ℕ) BadCode). private_at r o) here
-    ∙ ap (λ (w : Row). is_private (class_by w)) is
+    ∙ ap (λ (w : TableRow). is_private (class_by w)) is
 
 pub not_plain : (code : Code) (img : Image) (p : ℕ) (r : Registers) (op : Operator) (next : ℕ) (program : Registers → ℕ → Program) → numbered img.regs p ≡ Some r
     → operator_at code r ≡ Ok (op, next) → row op r.place ≡ acts program → plain code img p ≡ false
@@ -116,9 +116,9 @@ numbered_twice xs (suc k) a b = set_set_here xs k a b
 
 pub given_twice : (img : Image) (p : ℕ) (a b : Registers) (us ws : List Word) → b.stack ≡ a.stack → given_back b ws p (given_back a us p img) ≡ given_back b ws p img
 given_twice img p a b us ws same =
-    ap (λ (n : ℕ). with_own (own (with_stack (with_stack img.stacks n (take a.s us)) b.stack (take b.s ws)) img.rows b) p (record img { regs = set_numbered img.regs p a }))
+    ap (λ (n : ℕ). with_own (own_of_image (with_stack (with_stack img.stacks n (take a.s us)) b.stack (take b.s ws)) img.rows b) p (record img { regs = set_numbered img.regs p a }))
     (sym same)
-    ∙ ap (λ (z : Stacks). with_own (own z img.rows b) p (record img { regs = set_numbered img.regs p a })) (set_set_here img.stacks b.stack (Some (take a.s us)) (Some (take b.s ws)))
+    ∙ ap (λ (z : Stacks). with_own (own_of_image z img.rows b) p (record img { regs = set_numbered img.regs p a })) (set_set_here img.stacks b.stack (Some (take a.s us)) (Some (take b.s ws)))
     ∙ ap (λ (rs : List Registers). record img { stacks = with_stack img.stacks b.stack (take b.s ws); regs = rs }) (numbered_twice img.regs p a b)
 
 -- a room holds what it held, or what was made in it
@@ -142,12 +142,12 @@ module _ (code : Code) (img : Image) (p : ℕ) (r : Registers) (room : List Word
       ∙ ap (λ (n : ℕ). Some (words_of img.stacks n)) (sym process.stack)
       ∙ ap (λ (ws : List Word). Some ws) l.words
 
-  same : with_own (own img.stacks img.rows r) p img ≡ img
+  same : with_own (own_of_image img.stacks img.rows r) p img ≡ img
   same = ap (λ (rs : List Registers). record img { regs = rs }) (numbered_same img.regs p r l.has)
 
   -- given back as it was lent
   pub back_same : given_back r room p img ≡ img
-  back_same = ap (λ (z : Stacks). with_own (own z img.rows r) p img) (set_there img.stacks r.stack (take r.s room) open_is) ∙ same
+  back_same = ap (λ (z : Stacks). with_own (own_of_image z img.rows r) p img) (set_there img.stacks r.stack (take r.s room) open_is) ∙ same
 
   pub lent_same : IsLent code (given_back r room p img) p r room
   lent_same = subst (λ (z : Image). IsLent code z p r room) (sym back_same) l
@@ -159,11 +159,11 @@ module _ (code : Code) (img : Image) (p : ℕ) (r : Registers) (room : List Word
   pub room_is : HasRoom r room → IsRoom r room
   room_is e = record { level = process.display.known; size = e.1; within = e.0 }
 
-  pub part_is : IsPart (part_in r room)
-  part_is = subst (λ (ws : List Word). IsPart (part_with r (reverse ws))) l.words (valid_whole code img p r l.valid live l.has)
+  pub part_is : IsPrivatePart (part_in r room)
+  part_is = subst (λ (ws : List Word). IsPrivatePart (part_with r (reverse ws))) l.words (valid_whole code img p r l.valid live l.has)
 
   -- what is given back is lent again, where it is valid
-  again : (q : Registers) (more : List Word) → Keeps r q → IsValid code (given_back q more p img) → IsLent code (given_back q more p img) p q more
+  again : (q : Registers) (more : List Word) → RegistersStay r q → IsValid code (given_back q more p img) → IsLent code (given_back q more p img) p q more
   again q more k v = record {
     valid = v;
     able = l.able;
@@ -173,7 +173,7 @@ module _ (code : Code) (img : Image) (p : ℕ) (r : Registers) (room : List Word
 
   -- ---- plain operators
 
-  module _ (q : Registers) (more : List Word) (n most : ℕ) (k : Keeps r q) (plains : PlainParts code (part_in r room) n (part_in q more))
+  module _ (q : Registers) (more : List Word) (n most : ℕ) (k : RegistersStay r q) (plains : PlainParts code (part_in r room) n (part_in q more))
       (stops : n < most → is_plain code (part_in q more) ≡ false) where
     whole : PlainParts code (part_with r (reverse (words_of img.stacks r.stack))) n (part_in q more)
     whole = subst (λ (ws : List Word). PlainParts code (part_with r (reverse ws)) n (part_in q more)) (sym l.words) plains
@@ -241,7 +241,7 @@ module _ (code : Code) (img : Image) (p : ℕ) (r : Registers) (room : List Word
     stops_by s place less = ap (is_plain code) s.1 ∙ s.0 place
 
     module _ (b : Bool) (s : StepsOn b) where
-      pub plain_keeps : Keeps r q
+      pub plain_keeps : RegistersStay r q
       plain_keeps = (all_leave code l.valid.segments (part_in r room) (part_in q more) (how_many b) part_is (parts_by b s)).keeps
 
       pub plain_lends : IsLent code (given_back q more p img) p q more
@@ -275,12 +275,12 @@ module _ (code : Code) (img : Image) (p : ℕ) (r : Registers) (room : List Word
     calm = record { states = refl; started = refl; fault = refl };
   }
 
-  module _ (q : Registers) (more : List Word) (op : Operator) (next : ℕ) (kind : WordsRow) (k : Keeps r q) (here : found code r.segment r.ll r.place ≡ Some (op, next))
+  module _ (q : Registers) (more : List Word) (op : Operator) (next : ℕ) (kind : WordsRow) (k : RegistersStay r q) (here : found code r.segment r.ll r.place ≡ Some (op, next))
       (is : row op r.place ≡ acts (words_program kind)) (x : PerformsOn (words_program kind r next) r room q more) where
-    acted : Acts {A = Unit {0}} p (program_in (words_program kind) (numbered img.regs p) next) img (given_back q more p img) (Ok (tt {0}))
+    acted : ProgramActs {A = Unit {0}} p (program_in (words_program kind) (numbered img.regs p) next) img (given_back q more p img) (Ok (tt {0}))
     acted =
         in_process p (words_program kind) (numbered img.regs p) r next img (given_back q more p img) (Ok (tt {0})) l.has
-        (acts_by p (words_program kind r next) (own img.stacks img.rows r) (own (with_stack img.stacks q.stack (take q.s more)) img.rows q) img (Ok (tt {0})) refl refl l.has
+        (acts_by p (words_program kind r next) (own_of_image img.stacks img.rows r) (own_of_image (with_stack img.stacks q.stack (take q.s more)) img.rows q) img (Ok (tt {0})) refl refl l.has
         (x img.stacks img.rows open_is) same)
 
     went : HasGone code img p (given_back q more p img) []
@@ -288,7 +288,7 @@ module _ (code : Code) (img : Image) (p : ℕ) (r : Registers) (room : List Word
         gone code img (given_back q more p img) p r op next l.valid l.able l.has here refl l.valid.rows.few (ready.Words kind) is
         ((λ o. comes_by p (program_in (words_program kind) (numbered img.regs p) next) img (given_back q more p img) (Ok (tt {0})) acted), refl)
 
-    pub action_goes : (named : Letter) → HasLetter op r.place (ready.Words kind) → LettersOn kind r room named → GoesOn code p named img (given_back q more p img)
+    pub action_goes : (named : Letter) → HasLetter op r.place (ready.Words kind) → LettersOn kind r room named → ActionGoesOn code p named img (given_back q more p img)
     action_goes named lettered on =
         let stands = operator_is code img p r l.able l.has (op, next) here in
         record {

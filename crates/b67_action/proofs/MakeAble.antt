@@ -29,9 +29,9 @@ use Rattle.b67_table.specs.Image.{Image, with_rows, with_private, with_effect, p
 use Rattle.b67_table.specs.Names.{intrinsic_numbered}
 use Rattle.b67_table.specs.Outcome as outcomes
 use Rattle.b67_table.specs.Private.{frame, floor}
-use Rattle.b67_table.specs.Writes.{written, able_again, waiting, states_after}
+use Rattle.b67_table.specs.Writes.{write_made, able_again, waiting, states_after}
 use Rattle.b67_table.specs.Writes as writes
-use Rattle.b67_table.specs.Program.{Change, done, changed, answer, asked, effect_of, registers, close_events, end_process, event_deed, wait_any, go_on, start, Program}
+use Rattle.b67_table.specs.Program.{Change, done, changed, answer, asked, effect_of, registers, close_events, end_process, event_deed, wait_any, go_on, change_start, Program}
 use Rattle.b67_table.specs.Linkage.{caused_by, leave_base, leave_other, entry}
 use Rattle.b67_table.specs.Arguments.{finished_at}
 use Rattle.b67_table.specs.Intrinsics.{gone_on, row_of_intrinsic, intrinsic_row, intrinsic, on_event}
@@ -47,7 +47,7 @@ use Rattle.b67_table.proofs.Waking.{able_live}
 use Rattle.b67_operators.specs.declared.calling.Called.{Called}
 use Rattle.b67_operators.specs.Entries.{enter_called}
 use Rattle.b67_operators.specs.Leaves.{task_waiters, released as released_by}
-use Rattle.b67_intrinsics.specs.Called.{arguments, event_tests, event_tests_in, Leads}
+use Rattle.b67_intrinsics.specs.Called.{arguments, event_tests, event_tests_in, IntrinsicLeads}
 use Rattle.b67_intrinsics.specs.Names.{Releases}
 use Rattle.b67_action.specs.declared.done.Done.{Done}
 use Rattle.b67_action.specs.declared.done.Done.TheVariants.{Went, Waits, Ended as has_ended, Fault, Interrupt, StackLimit, NoMemory}
@@ -57,7 +57,7 @@ use Rattle.b67_action.specs.Able.{one_if, AbleAfter, ActionsMakeAble}
 use Rattle.b67_action.specs.Acting.{CallReleases, CalleeReleases, RowReleases, NextReleases}
 use Rattle.b67_action.specs.Done.{Came, is_performed}
 use Rattle.b67_private.specs.Actions.{words_program}
-use Rattle.b67_action.specs.Rows.{Is}
+use Rattle.b67_action.specs.Rows.{IsTableRow}
 use Rattle.b67_action.proofs.Able.{waiters_once, freed_wait, freed_once, able_waits, woken_others, woken_own, other_waits, able_by, able_same, able_more}
 use Rattle.b67_action.proofs.Calling.{does_called}
 use Rattle.b67_letters.proofs.Calm.{Calm, calm_keeps, Each, each_asked, each_as, each_critical, arrays_have, entry_calm, other_calm, return_calm, go_to_calm, select_calm, arrays_row_calm, write_calm, event_calm, each_event, each_tell, each_several, each_start}
@@ -163,11 +163,11 @@ module _ (code : Code) (img : Image) (p : ℕ) (v : IsValid code img) (able : is
 
       event_able : (x : EventDeed) (at : Place) → A (deed_at x p at img.events).frees (event_deed x at finish)
       event_able x at =
-          let e = calm_keeps p finish (written p (writes.event_deed x at) img) tt in deed_able x at _ e.0 e.1
+          let e = calm_keeps p finish (write_made p (writes.event_deed x at) img) tt in deed_able x at _ e.0 e.1
 
       told_able : (x : EventTest) (at : Place) (told : Bool) → A (deed_at (tests x) p at img.events).frees (event_deed (tests x) at (finished_at r m (truth told ∷ []) next))
       told_able x at told =
-          let e = calm_keeps p (finished_at r m (truth told ∷ []) next) (written p (writes.event_deed (tests x) at) img) tt in deed_able (tests x) at _ e.0 e.1
+          let e = calm_keeps p (finished_at r m (truth told ∷ []) next) (write_made p (writes.event_deed (tests x) at) img) tt in deed_able (tests x) at _ e.0 e.1
 
       -- a process waits for several events, or it goes on
       goes_able : (n : ℕ) → A [] (gone_on r next m n)
@@ -178,22 +178,22 @@ module _ (code : Code) (img : Image) (p : ℕ) (v : IsValid code img) (able : is
 
       waits_able : (places : List Place) → A [] (wait_any places done)
       waits_able places =
-          able_by img (written p (writes.wait_any places) img) p [] (set_numbered img.states p WaitsAny) refl refl
+          able_by img (write_made p (writes.wait_any places) img) p [] (set_numbered img.states p WaitsAny) refl refl
           (λ q h. ap (λ (o : Option ProcessState). one_if (is_able o)) (get_numbered_other img.states p q WaitsAny h) ∙ one_more (one_if (is_able (numbered img.states q)))) refl
         where
           one_more : (n : ℕ) → n ≡ n + 0
           one_more n = omega arith
 
-      start_able : (s : Registers) (ws : List Word) → A [] (start s ws finish)
+      start_able : (s : Registers) (ws : List Word) → A [] (change_start s ws finish)
       start_able s ws =
-          let e = calm_keeps p finish (written p (writes.start s ws) img) tt in able_more code img _ p v able e.0 e.1
+          let e = calm_keeps p finish (write_made p (writes.start s ws) img) tt in able_more code img _ p v able e.0 e.1
 
       event_is : (x : EventDeed) (ws : List Word) → on_event x code r next m ws ≡ event_tests r m ws (λ (at : Place). answer (event_deed x at finish))
       event_is x [] = refl
       event_is x (w ∷ []) = refl
       event_is x (w ∷ u ∷ ws) = refl
 
-      on_one : (x : EventDeed) (at : Place) (released : List ℕ) → Leads img (event_tests_in (Some r) m img.stacks) (Ok at) → A released (event_deed x at finish)
+      on_one : (x : EventDeed) (at : Place) (released : List ℕ) → IntrinsicLeads img (event_tests_in (Some r) m img.stacks) (Ok at) → A released (event_deed x at finish)
           → Gives (A released) (asked img (on_event x code r next m (arguments img.stacks r)))
       on_one x at released leads k =
           subst (Gives (A released)) (sym (ap (asked img) (event_is x (arguments img.stacks r)) ∙ leads (λ (y : Place). answer (event_deed x y finish)))) k
@@ -246,16 +246,16 @@ module _ (code : Code) (img : Image) (p : ℕ) (v : IsValid code img) (able : is
     part_able new (faults kind) e = cc
     part_able new (interrupts kind) e = cc
 
-    own_able : (new : Image) (w : table.Row) → class_by w ≡ Private → by_row w code img p r next ≡ gives new → AbleAfter img new p []
+    own_able : (new : Image) (w : table.TableRow) → class_by w ≡ Private → by_row w code img p r next ≡ gives new → AbleAfter img new p []
     own_able new (private_part change) c e = part_able new (change next (private_of img r)) e
     own_able new (action program) c e = cc
 
     -- an action's program makes the new image
-    does_row : (new : Image) (w : table.Row) (program : Code → Registers → ℕ → Program) → w ≡ action program → by_row w code img p r next ≡ gives new
+    does_row : (new : Image) (w : table.TableRow) (program : Code → Registers → ℕ → Program) → w ≡ action program → by_row w code img p r next ≡ gives new
         → effect_of p img (asked img (program code r next)) ≡ gives new
-    does_row new w program e g = sym (ap (λ (x : table.Row). by_row x code img p r next) e) ∙ g
+    does_row new w program e g = sym (ap (λ (x : table.TableRow). by_row x code img p r next) e) ∙ g
 
-    row_able : (new : Image) (released : List ℕ) (op : Operator) (w : Row) → Is (row op r.place) w → RowReleases w img (Some r) [] released
+    row_able : (new : Image) (released : List ℕ) (op : Operator) (w : Row) → IsTableRow (row op r.place) w → RowReleases w img (Some r) [] released
         → by_row (row op r.place) code img p r next ≡ gives new → AbleAfter img new p released
     row_able new released op ours.Own is e g = subst (AbleAfter img new p) (sym e) (own_able new (row op r.place) is g)
     row_able new released op (ours.Words kind) is e g =

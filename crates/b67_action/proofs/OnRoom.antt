@@ -23,13 +23,13 @@ use Rattle.b67_table.specs.declared.Reached.{Reached}
 use Rattle.b67_table.specs.Arrays.{as_indexed, indexed_in}
 use Rattle.b67_table.specs.Chains.{place}
 use Rattle.b67_table.specs.Image.{Image, with_registers, with_stacks}
-use Rattle.b67_table.specs.Look.{Look, seen, found, stops, ◌>->◌, valid}
+use Rattle.b67_table.specs.Look.{Look, look_seen, found, stops, ◌>->◌, valid}
 use Rattle.b67_table.specs.Effect as effects
 use Rattle.b67_table.specs.Outcome.{limited}
 use Rattle.b67_table.specs.Private.{floor}
 use Rattle.b67_table.specs.Program.{Change, Program, done, answer, changed, registers, push, save, see, ◌>>=◌}
 use Rattle.b67_table.specs.References.{cell_in, cell_place, couple_cell, irw_or_sirw, reached_in, named, one_sirw, reached, operand_in, from_top, popped_two, Two, invalid}
-use Rattle.b67_table.specs.Rows.{value_call, value_or_entry, value_pushed, store, store_by, stored, turn}
+use Rattle.b67_table.specs.Rows.{value_call, value_or_entry, value_pushed, store, store_by, stored, branch_turn}
 use Rattle.b67_table.specs.Table.{length_in, stack_length}
 use Rattle.b67_table.proofs.Limit.{fits}
 use Rattle.b67_table.proofs.Lists.{set_there, numbered_set, numbered_within, numbered_from}
@@ -38,8 +38,8 @@ use Rattle.b67_deeds.specs.declared.Letter.TheVariants as letters
 use Rattle.b67_letters.specs.Letters.{told_by, entered_or, element_or_not, value_letter, stored_letter}
 use Rattle.b67_private.specs.declared.operators.WordsRow.TheVariants as words
 use Rattle.b67_private.specs.Lettered.{words_letter}
-use Rattle.b67_reach.specs.Answers.{looked, Performs}
-use Rattle.b67_reach.specs.Images.{own, with_own}
+use Rattle.b67_reach.specs.Answers.{looked, ProgramPerforms}
+use Rattle.b67_reach.specs.Images.{own_of_image, with_own}
 use Rattle.b67_reach.proofs.Looking.{performs_then, tells_look}
 use Rattle.b67_action.specs.OnRoom.{IsRoom, HoldsOperand}
 
@@ -97,24 +97,24 @@ set_front (x ∷ ws) (suc n) (suc k) (suc at) w h = ap (λ (z : List Word). x �
 -- ---- a change that nothing stops
 
 module _ (r q : Registers) (st new : Stacks) (rows : Rows) (short : q.s ≤ stack_limit) where
-  size_is : (p : ℕ) (img : Image) → numbered img.regs p ≡ Some r → stack_length p (with_own (own new rows q) p img) ≡ q.s
+  size_is : (p : ℕ) (img : Image) → numbered img.regs p ≡ Some r → stack_length p (with_own (own_of_image new rows q) p img) ≡ q.s
   size_is p img has = ap length_in (numbered_set img.regs p q (numbered_from img.regs p r has) (numbered_within img.regs p r has))
 
-  fits_in : (p : ℕ) (img : Image) → numbered img.regs p ≡ Some r → stack_length p (with_own (own new rows q) p img) ≤ stack_limit
+  fits_in : (p : ℕ) (img : Image) → numbered img.regs p ≡ Some r → stack_length p (with_own (own_of_image new rows q) p img) ≤ stack_limit
   fits_in p img has = omega (arith, size_is p img has, short)
 
   pub answered : (change : Change)
-      → ((p : ℕ) (img : Image) → img.stacks ≡ st → img.rows ≡ rows → numbered img.regs p ≡ Some r → changed p change img ≡ with_own (own new rows q) p img)
-      → Performs (answer change) (own st rows r) (own new rows q) (Ok (tt {0}))
+      → ((p : ℕ) (img : Image) → img.stacks ≡ st → img.rows ≡ rows → numbered img.regs p ≡ Some r → changed p change img ≡ with_own (own_of_image new rows q) p img)
+      → ProgramPerforms (answer change) (own_of_image st rows r) (own_of_image new rows q) (Ok (tt {0}))
   answered change h = record {
-    outcome = λ p img s t has. ap (λ (z : Image). limited (stack_length p) (effects.gives z)) (h p img s t has) ∙ fits (stack_length p) (with_own (own new rows q) p img) (fits_in p img has);
+    outcome = λ p img s t has. ap (λ (z : Image). limited (stack_length p) (effects.gives z)) (h p img s t has) ∙ fits (stack_length p) (with_own (own_of_image new rows q) p img) (fits_in p img has);
     stays = tt {0};
   }
 
   -- the stacks and the registers, of which the rows stay
-  pub put : (p : ℕ) (img : Image) (more : Stacks) → more ≡ new → img.rows ≡ rows → with_registers (with_stacks img more) p q ≡ with_own (own new rows q) p img
+  pub put : (p : ℕ) (img : Image) (more : Stacks) → more ≡ new → img.rows ≡ rows → with_registers (with_stacks img more) p q ≡ with_own (own_of_image new rows q) p img
   put p img more s t =
-      ap (λ (z : Stacks). with_registers (with_stacks img z) p q) s ∙ ap (λ (z : Rows). with_own (own new z q) p img) t
+      ap (λ (z : Stacks). with_registers (with_stacks img z) p q) s ∙ ap (λ (z : Rows). with_own (own_of_image new z q) p img) t
 
 -- ---- on a room
 
@@ -145,17 +145,17 @@ module _ (r : Registers) (room : List Word) (is : IsRoom r room) (st : Stacks) (
     abbrev found_there : Reached
     found_there = record { word = h.word; cell = cell }
 
-    named_is : seen st (named (couple_cell r level index)) ≡ Ok found_there
-    named_is = ap (λ (c : Option Cell). seen st (named c)) cell_is ∙ ap (λ (o : Option Word). seen st (reached_in cell o)) word_is
+    named_is : look_seen st (named (couple_cell r level index)) ≡ Ok found_there
+    named_is = ap (λ (c : Option Cell). look_seen st (named c)) cell_is ∙ ap (λ (o : Option Word). look_seen st (reached_in cell o)) word_is
 
-    reached_is : seen st (reached (couple_cell r level index)) ≡ Ok found_there
+    reached_is : look_seen st (reached (couple_cell r level index)) ≡ Ok found_there
     reached_is =
-        ap (λ (c : Option Cell). seen st (reached c)) cell_is
-        ∙ ap (λ (o : Option Word). seen st (reached_in cell o >-> (λ (w : Reached). one_sirw (as_sirw w.word) w))) word_is
-        ∙ ap (λ (o : Option Sirw). seen st (one_sirw o found_there)) (no_sirw h.word.tag h.word.bits h.operand)
+        ap (λ (c : Option Cell). look_seen st (reached c)) cell_is
+        ∙ ap (λ (o : Option Word). look_seen st (reached_in cell o >-> (λ (w : Reached). one_sirw (as_sirw w.word) w))) word_is
+        ∙ ap (λ (o : Option Sirw). look_seen st (one_sirw o found_there)) (no_sirw h.word.tag h.word.bits h.operand)
 
     -- which is read
-    pub value_reads : told_by value_letter (seen st (reached (couple_cell r level index))) ≡ Some letters.Read
+    pub value_reads : told_by value_letter (look_seen st (reached (couple_cell r level index))) ≡ Some letters.Read
     value_reads = ap (told_by value_letter) reached_is ∙ ap (λ (o : Option Pcw). Some (entered_or letters.Read o)) (no_pcw h.word.tag h.word.bits h.operand)
 
   -- ---- VALC
@@ -176,14 +176,14 @@ module _ (r : Registers) (room : List Word) (is : IsRoom r room) (st : Stacks) (
         ∙ ap (λ (v : Word). with_stack st r.stack (take r.s room ++ v ∷ [])) (sym same)
         ∙ ap (λ (ws : List Word). with_stack st r.stack ws) (sym (take_more_set room r.s w less))
 
-    pub value_on : Performs (value_call couple r next) (own st rows r) (own pushed rows counted) (Ok (tt {0}))
+    pub value_on : ProgramPerforms (value_call couple r next) (own_of_image st rows r) (own_of_image pushed rows counted) (Ok (tt {0}))
     value_on =
-        performs_then (see (reached (couple_cell r couple.level couple.index))) (λ (v : Reached). value_or_entry r next v (as_pcw v.word)) valued (own st rows r)
-        (own pushed rows counted) (Ok (tt {0}))
+        performs_then (see (reached (couple_cell r couple.level couple.index))) (λ (v : Reached). value_or_entry r next v (as_pcw v.word)) valued (own_of_image st rows r)
+        (own_of_image pushed rows counted) (Ok (tt {0}))
         (tells_look (reached (couple_cell r couple.level couple.index)) st rows (Ok valued) (sym (ap looked (reached_is couple.level couple.index at h))))
-        (subst (λ (o : Option Pcw). Performs (value_or_entry r next valued o) (own st rows r) (own pushed rows counted) (Ok (tt {0})))
+        (subst (λ (o : Option Pcw). ProgramPerforms (value_or_entry r next valued o) (own_of_image st rows r) (own_of_image pushed rows counted) (Ok (tt {0})))
         (sym (no_pcw h.word.tag h.word.bits h.operand))
-        (subst (λ (l : Look Word). Performs (see l >>= value_pushed r next) (own st rows r) (own pushed rows counted) (Ok (tt {0}))) (sym (operand_found h.word h.operand))
+        (subst (λ (l : Look Word). ProgramPerforms (see l >>= value_pushed r next) (own_of_image st rows r) (own_of_image pushed rows counted) (Ok (tt {0}))) (sym (operand_found h.word h.operand))
         (answered r counted st pushed rows (omega (arith, less, is.size)) (push r.stack h.word (registers counted done)) (λ p img s t has.
         put r counted st pushed rows (omega (arith, less, is.size)) p img (with_push img.stacks r.stack h.word)
         (ap (λ (z : Stacks). with_push z r.stack h.word) s ∙ push_is) t))))
@@ -200,12 +200,12 @@ module _ (r : Registers) (room : List Word) (is : IsRoom r room) (st : Stacks) (
     below_is : word_at st (place r.stack (r.s - 2)) ≡ Some y
     below_is = ap (λ (ws : List Word). slice_get ws (r.s - 2)) own_words ∙ get_front room r.s (r.s - 2) (omega (arith, enough)) ∙ below
 
-    pub popped_is : seen st (popped_two r) ≡ Ok two
+    pub popped_is : look_seen st (popped_two r) ≡ Ok two
     popped_is =
-        ap (λ (b : Bool). seen st ((if b then from_top r 0 else stops StackUnderflow) >-> (λ (u : Word). from_top r 1 >-> (λ (v : Word). found (record { x = u; y = v })))))
+        ap (λ (b : Bool). look_seen st ((if b then from_top r 0 else stops StackUnderflow) >-> (λ (u : Word). from_top r 1 >-> (λ (v : Word). found (record { x = u; y = v })))))
         (le-leb (floor r + 2) r.s enough)
-        ∙ ap (λ (o : Option Word). seen st (valid o >-> (λ (u : Word). from_top r 1 >-> (λ (v : Word). found (record { x = u; y = v }))))) top_is
-        ∙ ap (λ (o : Option Word). seen st (valid o >-> (λ (v : Word). found (record { x = x; y = v })))) below_is
+        ∙ ap (λ (o : Option Word). look_seen st (valid o >-> (λ (u : Word). from_top r 1 >-> (λ (v : Word). found (record { x = u; y = v }))))) top_is
+        ∙ ap (λ (o : Option Word). look_seen st (valid o >-> (λ (v : Word). found (record { x = x; y = v })))) below_is
 
     -- no descriptor is under the operand
     pub reference_stores : (i : Irw) → as_irw y ≡ Some i → words_letter (words.Store false) st r ≡ Some letters.Store
@@ -242,10 +242,10 @@ module _ (r : Registers) (room : List Word) (is : IsRoom r room) (st : Stacks) (
           ∙ put_twice front (take (r.s - 2) front)
           ∙ ap (λ (ws : List Word). with_stack st r.stack ws) (set_front room (r.s - 2) r.s at x (omega arith))
 
-      cell_stored : Performs (stores cell_there) (own st rows r) (own saved rows dropped) (Ok (tt {0}))
+      cell_stored : ProgramPerforms (stores cell_there) (own_of_image st rows r) (own_of_image saved rows dropped) (Ok (tt {0}))
       cell_stored =
-          subst (λ (l : Look Word). Performs (see l >>= (λ (old : Word). answer (stored false r next x (save (cell_place cell_there.cell) x)))) (own st rows r)
-          (own saved rows dropped) (Ok (tt {0})))
+          subst (λ (l : Look Word). ProgramPerforms (see l >>= (λ (old : Word). answer (stored false r next x (save (cell_place cell_there.cell) x)))) (own_of_image st rows r)
+          (own_of_image saved rows dropped) (Ok (tt {0})))
           (sym (operand_found h.word h.operand))
           (answered r dropped st saved rows short (stored false r next x (save (cell_place cell_there.cell) x)) (λ p img s t has.
           ap (λ (n : ℕ). with_registers (with_stacks img (with_cut (with_word img.stacks (cell_place cell_there.cell) x) r.stack (r.s - 2))) p (record r { s = n; place = next }))
@@ -253,27 +253,27 @@ module _ (r : Registers) (room : List Word) (is : IsRoom r room) (st : Stacks) (
           ∙ put r dropped st saved rows short p img (with_cut (with_word img.stacks (cell_place cell_there.cell) x) r.stack (r.s - 2))
           (ap (λ (z : Stacks). with_cut (with_word z (cell_place cell_there.cell) x) r.stack (r.s - 2)) s ∙ save_is) t))
 
-      word_stored : Performs (store_by false r next x y (as_indexed y)) (own st rows r) (own saved rows dropped) (Ok (tt {0}))
+      word_stored : ProgramPerforms (store_by false r next x y (as_indexed y)) (own_of_image st rows r) (own_of_image saved rows dropped) (Ok (tt {0}))
       word_stored =
-          subst (λ (o : Option Descriptor). Performs (store_by false r next x y (indexed_in o)) (own st rows r) (own saved rows dropped) (Ok (tt {0})))
+          subst (λ (o : Option Descriptor). ProgramPerforms (store_by false r next x y (indexed_in o)) (own_of_image st rows r) (own_of_image saved rows dropped) (Ok (tt {0})))
           (sym (no_descriptor y i names))
-          (subst (λ (o : Option Irw). Performs (see (named (irw_or_sirw r o (as_sirw y))) >>= stores) (own st rows r) (own saved rows dropped) (Ok (tt {0}))) (sym names)
-          (performs_then (see (named (couple_cell r i.level i.index))) stores cell_there (own st rows r) (own saved rows dropped) (Ok (tt {0}))
+          (subst (λ (o : Option Irw). ProgramPerforms (see (named (irw_or_sirw r o (as_sirw y))) >>= stores) (own_of_image st rows r) (own_of_image saved rows dropped) (Ok (tt {0}))) (sym names)
+          (performs_then (see (named (couple_cell r i.level i.index))) stores cell_there (own_of_image st rows r) (own_of_image saved rows dropped) (Ok (tt {0}))
           (tells_look (named (couple_cell r i.level i.index)) st rows (Ok cell_there) (sym (ap looked (named_is i.level i.index at h))))
           cell_stored))
 
-      pub store_on : Performs (store false r next) (own st rows r) (own saved rows dropped) (Ok (tt {0}))
+      pub store_on : ProgramPerforms (store false r next) (own_of_image st rows r) (own_of_image saved rows dropped) (Ok (tt {0}))
       store_on =
-          performs_then (see (popped_two r)) (λ (t : Two). see (operand_in t.x) >>= (λ (v : Word). store_by false r next v t.y (as_indexed t.y))) two (own st rows r)
-          (own saved rows dropped) (Ok (tt {0}))
+          performs_then (see (popped_two r)) (λ (t : Two). see (operand_in t.x) >>= (λ (v : Word). store_by false r next v t.y (as_indexed t.y))) two (own_of_image st rows r)
+          (own_of_image saved rows dropped) (Ok (tt {0}))
           (tells_look (popped_two r) st rows (Ok two) (sym (ap looked popped_is)))
-          (subst (λ (l : Look Word). Performs (see l >>= (λ (v : Word). store_by false r next v y (as_indexed y))) (own st rows r) (own saved rows dropped) (Ok (tt {0})))
+          (subst (λ (l : Look Word). ProgramPerforms (see l >>= (λ (v : Word). store_by false r next v y (as_indexed y))) (own_of_image st rows r) (own_of_image saved rows dropped) (Ok (tt {0})))
           (sym (operand_found x operand)) word_stored)
 
   -- ---- BRUN
 
   pub turn_on : (target next : ℕ)
-      → Performs (turn Brun target r next) (own st rows r) (own (with_stack st r.stack (take r.s room)) rows (record r { place = target })) (Ok (tt {0}))
+      → ProgramPerforms (branch_turn Brun target r next) (own_of_image st rows r) (own_of_image (with_stack st r.stack (take r.s room)) rows (record r { place = target })) (Ok (tt {0}))
   turn_on target next =
       answered r (record r { place = target }) st (with_stack st r.stack (take r.s room)) rows (omega (arith, is.within, is.size)) (registers (record r { place = target }) done) (λ p img s t has.
       put r (record r { place = target }) st (with_stack st r.stack (take r.s room)) rows (omega (arith, is.within, is.size)) p img img.stacks (s ∙ sym (set_there st r.stack (take r.s room) there)) t)

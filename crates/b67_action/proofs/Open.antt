@@ -10,8 +10,8 @@ use Rattle.b67_table.specs.Program.{Program}
 use Rattle.b67_table.proofs.Lists.{set_there}
 use Rattle.b67_table.proofs.Stacks.{set_set_here}
 use Rattle.b67_linkage.specs.Held.{IsLinked}
-use Rattle.b67_reach.specs.Answers.{Performs}
-use Rattle.b67_reach.specs.Images.{Own, own, with_own}
+use Rattle.b67_reach.specs.Answers.{ProgramPerforms}
+use Rattle.b67_reach.specs.Images.{Own, own_of_image, with_own}
 use Rattle.b67_action.specs.OnRoom as on
 use Rattle.b67_action.specs.OnRoom.{PerformsOn}
 use Rattle.b67_action.specs.Reaching.{IsOpen, IsInOpen, own_of}
@@ -78,30 +78,30 @@ module _ (st : Stacks) (rows : Rows) (r : Registers) (o : IsOpen st r) where
     module _ (more : Stacks) (others : Rows) (is : more ≡ with_stack st r.stack room) (rest : others ≡ rows) where
       pub own_same : own_of more others r ≡ own_of st rows r
       own_same =
-          ap (λ (z : Stacks). own z others r)
+          ap (λ (z : Stacks). own_of_image z others r)
           (cut_after st more r.stack room o.opened is (with_cut more r.stack r.s) r.s refl ∙ ap (λ (ws : List Word). with_stack st r.stack ws) (sym taken))
-          ∙ ap (λ (z : Rows). own (with_cut st r.stack r.s) z r) rest
+          ∙ ap (λ (z : Rows). own_of_image (with_cut st r.stack r.s) z r) rest
 
     -- what was performed in the room
     module _ (program : Program) (q : Registers) (left : List Word) (more : Stacks) (others : Rows) (same : q.stack ≡ r.stack) (is : more ≡ with_stack st r.stack left)
         (rest : others ≡ rows) where
-      pub performed_open : PerformsOn program r room q left → Performs {A = Unit {0}} program (own_of st rows r) (own_of more others q) (Ok (tt {0}))
+      pub performed_open : PerformsOn program r room q left → ProgramPerforms {A = Unit {0}} program (own_of st rows r) (own_of more others q) (Ok (tt {0}))
       performed_open x =
-          subst (λ (w : Own). Performs {A = Unit {0}} program (own_of st rows r) w (Ok (tt {0})))
-          (ap (λ (z : Stacks). own z rows q) (sym (stacks_left q left more same is)) ∙ ap (λ (z : Rows). own (with_cut more q.stack q.s) z q) (sym rest))
+          subst (λ (w : Own). ProgramPerforms {A = Unit {0}} program (own_of st rows r) w (Ok (tt {0})))
+          (ap (λ (z : Stacks). own_of_image z rows q) (sym (stacks_left q left more same is)) ∙ ap (λ (z : Rows). own_of_image (with_cut more q.stack q.s) z q) (sym rest))
           (x (with_cut st r.stack r.s) rows there)
 
 -- the two words on top are dropped, and a word is written into a row
 pub store_left : (st some more : Stacks) (rows others last : Rows) (r : Registers) (next : ℕ) (x : Word) (row at : ℕ) → IsOpen some r → own_of some others r ≡ own_of st rows r → more ≡ some
     → last ≡ with_row_word others row at x
-    → own (with_cut (with_cut st r.stack r.s) r.stack (r.s - 2)) (with_row_word rows row at x) (record r { s = r.s - 2; place = next }) ≡ own_of more last (record r { s = r.s - 2; place = next })
+    → own_of_image (with_cut (with_cut st r.stack r.s) r.stack (r.s - 2)) (with_row_word rows row at x) (record r { s = r.s - 2; place = next }) ≡ own_of more last (record r { s = r.s - 2; place = next })
 store_left st some more rows others last r next x row at o same e f =
     let q : Registers = record r { s = r.s - 2; place = next } in
-    ap (λ (z : Stacks). own (with_cut z r.stack (r.s - 2)) (with_row_word rows row at x) q) (sym (ap (λ (w : Own). w.stacks) same))
-    ∙ ap (λ (z : Stacks). own z (with_row_word rows row at x) q) (cut_less some others r o (r.s - 2) (omega arith))
-    ∙ ap (λ (z : Stacks). own (with_cut z r.stack (r.s - 2)) (with_row_word rows row at x) q) (sym e)
-    ∙ ap (λ (z : Rows). own (with_cut more r.stack (r.s - 2)) (with_row_word z row at x) q) (sym (ap (λ (w : Own). w.rows) same))
-    ∙ ap (λ (z : Rows). own (with_cut more r.stack (r.s - 2)) z q) (sym f)
+    ap (λ (z : Stacks). own_of_image (with_cut z r.stack (r.s - 2)) (with_row_word rows row at x) q) (sym (ap (λ (w : Own). w.stacks) same))
+    ∙ ap (λ (z : Stacks). own_of_image z (with_row_word rows row at x) q) (cut_less some others r o (r.s - 2) (omega arith))
+    ∙ ap (λ (z : Stacks). own_of_image (with_cut z r.stack (r.s - 2)) (with_row_word rows row at x) q) (sym e)
+    ∙ ap (λ (z : Rows). own_of_image (with_cut more r.stack (r.s - 2)) (with_row_word z row at x) q) (sym (ap (λ (w : Own). w.rows) same))
+    ∙ ap (λ (z : Rows). own_of_image (with_cut more r.stack (r.s - 2)) z q) (sym f)
 
 -- ---- a stack that was cut
 
@@ -119,8 +119,8 @@ module _ (st : Stacks) (rows : Rows) (r : Registers) (l : IsLinked st rows r) wh
       ∙ ap (λ (ws : List Word). with_stack st r.stack ws) (take_all (words_of st r.stack))
       ∙ set_there st r.stack (words_of st r.stack) (there_or (stack_at st r.stack) l.opened)
 
-  pub own_whole : own_of st rows r ≡ own st rows r
-  own_whole = ap (λ (z : Stacks). own z rows r) cut_whole
+  pub own_whole : own_of st rows r ≡ own_of_image st rows r
+  own_whole = ap (λ (z : Stacks). own_of_image z rows r) cut_whole
 
 -- how often a longer room may be lent, where one is too short
 abbrev pub loans_left : Bool → ℕ → ℕ
@@ -154,7 +154,7 @@ module _ (code : Code) (img : Image) (p : ℕ) (st : Stacks) (rows : Rows) (r : 
       (stacks_left st rows r o q left more same is ∙ ap (λ (n : ℕ). with_stack (with_cut st r.stack r.s) n (take q.s left)) same) rest
 
 -- what is left as it was, after its stack was cut
-pub own_cut_twice : (st : Stacks) (rows : Rows) (r : Registers) → IsOpen st r → (more : Stacks) (others : Rows) (q : Registers) → own more others q ≡ own_of st rows r
+pub own_cut_twice : (st : Stacks) (rows : Rows) (r : Registers) → IsOpen st r → (more : Stacks) (others : Rows) (q : Registers) → own_of_image more others q ≡ own_of st rows r
     → own_of more others q ≡ own_of st rows r
 own_cut_twice st rows r o more others q e =
-    ap (λ (w : Own). own_of w.stacks w.rows w.regs) e ∙ ap (λ (z : Stacks). own z rows r) (cut_less st rows r o r.s (omega arith))
+    ap (λ (w : Own). own_of w.stacks w.rows w.regs) e ∙ ap (λ (z : Stacks). own_of_image z rows r) (cut_less st rows r o r.s (omega arith))

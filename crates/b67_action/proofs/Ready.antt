@@ -20,16 +20,16 @@ use Rattle.b67_table.proofs.Lists.{numbered_within, numbered_from}
 use Rattle.b67_table.proofs.OwnValid.{process_stays}
 use Rattle.b67_linkage.proofs.Linked.{live_are_linked}
 use Rattle.b67_ops.specs.declared.TheConstants.{MOST_LEVEL}
-use Rattle.b67_private.specs.Parts.{IsPart}
+use Rattle.b67_private.specs.Parts.{IsPrivatePart}
 use Rattle.b67_private.proofs.ValidParts.{valid_part}
-use Rattle.b67_intrinsics.specs.Called.{IsLeft}
+use Rattle.b67_intrinsics.specs.Called.{ImageIsLeft}
 use Rattle.b67_operators.specs.Leaves.{IsLinkedIn}
 use Rattle.b67_reach.specs.declared.Parts.{Parts}
 use Rattle.b67_reach.specs.Images.{image_of}
 use Rattle.b67_reach.specs.Woken.{HasPlaces, KeepsPlaces}
 use Rattle.b67_action.specs.Acting.{IsActing}
-use Rattle.b67_action.specs.Done.{HasRoom}
-use Rattle.b67_action.specs.Own.{part_of}
+use Rattle.b67_action.specs.Done.{KernelHasRoom}
+use Rattle.b67_action.specs.Own.{part_of_process}
 
 pub some_is : {A : Type 0} (P : A → Type 0) (o : Option A) (a : A) → o ≡ Some a → IfSome o P → P a
 some_is {A = A} P o a e x = subst (λ (z : Option A). IfSome z P) e x
@@ -71,7 +71,7 @@ none_open None e = refl
 none_open (Some x) e = cc
 
 module _ (stacks : Stacks) (rows : Rows) (kernel : Events) (parts : Parts) (p : ℕ) (r : Registers) (v : IsValid parts.code (image_of stacks rows kernel parts))
-    (able : is_able (numbered parts.states.items p) ≡ true) (room : HasRoom kernel parts) (has : numbered parts.regs.items p ≡ Some r) where
+    (able : is_able (numbered parts.states.items p) ≡ true) (room : KernelHasRoom kernel parts) (has : numbered parts.regs.items p ≡ Some r) where
   next_free : stack_at stacks (parts.started + 1) ≡ None
   next_free =
       let n_is : suc parts.started ≡ parts.started + 1 = omega arith in
@@ -97,9 +97,9 @@ module _ (stacks : Stacks) (rows : Rows) (kernel : Events) (parts : Parts) (p : 
   pub level_known : r.ll ≤ MOST_LEVEL
   level_known = omega (arith, (live_are_linked parts.code (image_of stacks rows kernel parts) p r v live has).level)
 
-  pub part_known : IfSome (numbered parts.regs.items p) (λ (q : Registers). IsPart (part_of stacks q))
+  pub part_known : IfSome (numbered parts.regs.items p) (λ (q : Registers). IsPrivatePart (part_of_process stacks q))
   part_known =
-      if_some (λ (q : Registers). IsPart (part_of stacks q)) (numbered parts.regs.items p) r has
+      if_some (λ (q : Registers). IsPrivatePart (part_of_process stacks q)) (numbered parts.regs.items p) r has
       (valid_part parts.code (image_of stacks rows kernel parts) p r v live has)
 
 -- ---- rows that are the same at each number
@@ -123,7 +123,7 @@ counted_same (x ∷ a) (y ∷ b) h =
     sum_by-cons live_words x a ∙ sum ∙ sym (sum_by-cons live_words y b)
 
 -- an image in which no row is open that was not, and none is closed
-pub left_valid : (code : Code) (old new : Image) → IsValid code old → IsLeft old new → length new.rows ≤ row_limit → IsValid code new
+pub left_valid : (code : Code) (old new : Image) → IsValid code old → ImageIsLeft old new → length new.rows ≤ row_limit → IsValid code new
 left_valid code old new v k few = subst (λ (z : Image). IsValid code z) (sym k.others) (record {
   segments = v.segments;
   words = v.words;

@@ -25,7 +25,7 @@ use Rattle.b67_table.specs.declared.Reached.{Reached}
 use Rattle.b67_table.specs.declared.InterruptKind.{InterruptKind}
 use Rattle.b67_table.specs.declared.InterruptKind.TheVariants.{BadCode as bad_code}
 use Rattle.b67_table.specs.Chains.{place}
-use Rattle.b67_table.specs.Look.{Look, found, at, ◌>->◌, valid, seen}
+use Rattle.b67_table.specs.Look.{Look, found, at, ◌>->◌, valid, look_seen}
 use Rattle.b67_table.specs.References.{cell_of, reached}
 use Rattle.b67_control.specs.declared.Pcw.{Pcw}
 use Rattle.b67_control.specs.Control.{as_pcw}
@@ -35,7 +35,7 @@ use Rattle.b67_table.specs.Outcome as outcomes
 use Rattle.b67_table.specs.Private.{frame}
 use Rattle.b67_table.specs.Questions.{told}
 use Rattle.b67_table.specs.Questions as questions
-use Rattle.b67_table.specs.Writes.{written}
+use Rattle.b67_table.specs.Writes.{write_made}
 use Rattle.b67_table.specs.Writes as writes
 use Rattle.b67_table.specs.Program.{Change, done, answer, asked, effect_of, registers, close_events, end_process, event_deed, go_on, Program}
 use Rattle.b67_table.specs.Linkage.{caused_by, leave_base, leave_other, entry}
@@ -47,10 +47,10 @@ use Rattle.b67_table.specs.Table.{table as table_gives, raw, stack_length, by_ro
 use Rattle.b67_table.proofs.Limit.{new_of}
 use Rattle.b67_table.proofs.Keeping.{Gives}
 use Rattle.b67_operators.specs.declared.calling.Called.{Called}
-use Rattle.b67_operators.specs.Entries.{called as entered, called_by, enter_called}
+use Rattle.b67_operators.specs.Entries.{procedure_called, called_by, enter_called}
 use Rattle.b67_operators.specs.Leaves.{task_waiters, released as released_at}
 use Rattle.b67_reach.specs.Answers.{looked}
-use Rattle.b67_intrinsics.specs.Called.{arguments, event_tests, event_tests_in, Leads}
+use Rattle.b67_intrinsics.specs.Called.{arguments, event_tests, event_tests_in, IntrinsicLeads}
 use Rattle.b67_intrinsics.specs.Names.{Frees, Releases}
 use Rattle.b67_letters.specs.Releases.{change_releases, effect_releases, row_releases, fetched_releases, registers_releases, released_by, releases}
 use Rattle.b67_letters.proofs.Calm.{Calm, Each, each_asked, each_as, each_critical, arrays_have, entry_calm, other_calm, return_calm, go_to_calm, select_calm, arrays_row_calm, write_calm, event_calm, each_event, each_tell, each_several, each_start}
@@ -63,7 +63,7 @@ use Rattle.b67_action.specs.declared.rows.Row.TheVariants as ours
 use Rattle.b67_action.specs.Acting.{CallReleases, CalleeReleases, RowReleases, NextReleases}
 use Rattle.b67_action.specs.Done.{Came, is_performed}
 use Rattle.b67_private.specs.Actions.{words_program}
-use Rattle.b67_action.specs.Rows.{Is}
+use Rattle.b67_action.specs.Rows.{IsTableRow}
 use Rattle.b67_action.proofs.CalmWords.{words_calm}
 use Rattle.b67_action.proofs.MakeAble.{came_new}
 
@@ -98,7 +98,7 @@ module _ (code : Code) (img : Image) (p : ℕ) where
     base_releases : (cells : List Word) → Each (B (task_waiters r.task closed)) (leave_base r cells next)
     base_releases cells =
         each_critical (B (task_waiters r.task closed)) r.stack (0 ∷ []) _
-        (arrays_have (Then (task_waiters r.task closed)) (λ n more k i e. k (written p (writes.close_row n) i) e) (λ n more k i e. k (told i (questions.row n)) i e) cells
+        (arrays_have (Then (task_waiters r.task closed)) (λ n more k i e. k (write_made p (writes.close_row n) i) e) (λ n more k i e. k (told i (questions.row n)) i e) cells
         (close_events r.stack 0 (registers (record r { place = next }) (caused_by r.task (end_process r.stack done)))) (ends_release r.task) img refl)
 
     exit_releases : Each (B (released_at (Some r) img.events [])) (exit r next)
@@ -122,7 +122,7 @@ module _ (code : Code) (img : Image) (p : ℕ) where
       event_is x (w ∷ []) = refl
       event_is x (w ∷ u ∷ ws) = refl
 
-      on_one : (x : EventDeed) (event : Place) (released : List ℕ) → Leads img (event_tests_in (Some r) m img.stacks) (Ok event) → B released (event_deed x event finish)
+      on_one : (x : EventDeed) (event : Place) (released : List ℕ) → IntrinsicLeads img (event_tests_in (Some r) m img.stacks) (Ok event) → B released (event_deed x event finish)
           → Gives (B released) (asked img (on_event x code r next m (arguments img.stacks r)))
       on_one x event released leads k =
           subst (Gives (B released)) (sym (ap (asked img) (event_is x (arguments img.stacks r)) ∙ leads (λ (at : Place). answer (event_deed x at finish)))) k
@@ -132,7 +132,7 @@ module _ (code : Code) (img : Image) (p : ℕ) where
       freed_are x whoever released e =
           let ps = (deed_at x p e.0 img.events).frees in
           on_one x e.0 released e.1
-          (ap (λ (rest : List ℕ). ps ++ rest) (finish_mute (written p (writes.event_deed x e.0) img)) ∙ append-nil ps ∙ whoever e.0 ∙ sym e.2)
+          (ap (λ (rest : List ℕ). ps ++ rest) (finish_mute (write_made p (writes.event_deed x e.0) img)) ∙ append-nil ps ∙ whoever e.0 ∙ sym e.2)
 
       abbrev named : Intrinsic → Program
       named name = row_of_intrinsic name code r next m (arguments img.stacks r)
@@ -143,8 +143,8 @@ module _ (code : Code) (img : Image) (p : ℕ) where
       tells x none released e =
           mutely (tell_event x code r next m (arguments img.stacks r)) released e
           (each_tell r next m (Mute p) x (λ at told i.
-          ap (λ (ps : List ℕ). ps ++ change_releases p (finished_at r m (truth told ∷ []) next) (written p (writes.event_deed (tests x) at) i)) (none (state_at at i.events))
-          ∙ calm_mute p (finished_at r m (truth told ∷ []) next) tt (written p (writes.event_deed (tests x) at) i)) code (arguments img.stacks r))
+          ap (λ (ps : List ℕ). ps ++ change_releases p (finished_at r m (truth told ∷ []) next) (write_made p (writes.event_deed (tests x) at) i)) (none (state_at at i.events))
+          ∙ calm_mute p (finished_at r m (truth told ∷ []) next) tt (write_made p (writes.event_deed (tests x) at) i)) code (arguments img.stacks r))
 
       named_releases : (name : Intrinsic) (released : List ℕ) → Releases name img (Some r) m [] released → Gives (B released) (asked img (named name))
       named_releases names.GoTo released e = calmly (named names.GoTo) released e (go_to_calm r next m code (arguments img.stacks r))
@@ -152,16 +152,16 @@ module _ (code : Code) (img : Image) (p : ℕ) where
       named_releases names.Arrays released e = calmly (named names.Arrays) released e (arrays_row_calm r next m code (arguments img.stacks r))
       named_releases names.Event released e = calmly (named names.Event) released e (event_calm r next m code (arguments img.stacks r))
       named_releases names.Start released e =
-          mutely (named names.Start) released e (each_start r next m (Mute p) (λ s ws i. finish_mute (written p (writes.start s ws) i)) code (arguments img.stacks r))
+          mutely (named names.Start) released e (each_start r next m (Mute p) (λ s ws i. finish_mute (write_made p (writes.start s ws) i)) code (arguments img.stacks r))
       named_releases names.Write released e = calmly (named names.Write) released e (write_calm r next m code (arguments img.stacks r))
       named_releases names.Wait released e =
-          mutely (named names.Wait) released e (each_event r next m (Mute p) (acts act.Wait) (λ x i. finish_mute (written p (writes.event_deed (acts act.Wait) x) i)) code (arguments img.stacks r))
+          mutely (named names.Wait) released e (each_event r next m (Mute p) (acts act.Wait) (λ x i. finish_mute (write_made p (writes.event_deed (acts act.Wait) x) i)) code (arguments img.stacks r))
       named_releases names.Cause released e = freed_are (acts act.Cause) (λ at. refl) released e
       named_releases names.Reset released e =
-          mutely (named names.Reset) released e (each_event r next m (Mute p) (acts act.Reset) (λ x i. finish_mute (written p (writes.event_deed (acts act.Reset) x) i)) code (arguments img.stacks r))
+          mutely (named names.Reset) released e (each_event r next m (Mute p) (acts act.Reset) (λ x i. finish_mute (write_made p (writes.event_deed (acts act.Reset) x) i)) code (arguments img.stacks r))
       named_releases names.Happened released e = tells test.Happened (λ e. refl) released e
       named_releases names.Procure released e =
-          mutely (named names.Procure) released e (each_event r next m (Mute p) (acts act.Procure) (λ x i. finish_mute (written p (writes.event_deed (acts act.Procure) x) i)) code (arguments img.stacks r))
+          mutely (named names.Procure) released e (each_event r next m (Mute p) (acts act.Procure) (λ x i. finish_mute (write_made p (writes.event_deed (acts act.Procure) x) i)) code (arguments img.stacks r))
       named_releases names.Liberate released e = freed_are (acts act.Liberate) (λ at. refl) released e
       named_releases names.WaitAny released e =
           mutely (named names.WaitAny) released e
@@ -186,18 +186,18 @@ module _ (code : Code) (img : Image) (p : ℕ) where
     above_mark = at (place r.stack (r.f + 1)) (λ (w : Option Word). valid w)
 
     -- where all changes of what is called are such, those of ENTR are
-    enter_gives : (P : Change → Type 0) → ((c : Called) → seen img.stacks (entered r) ≡ Ok c → Gives P (asked img (enter_called code r next c))) → Gives P (asked img (enter code r next))
+    enter_gives : (P : Change → Type 0) → ((c : Called) → look_seen img.stacks (procedure_called r) ≡ Ok c → Gives P (asked img (enter_called code r next c))) → Gives P (asked img (enter code r next))
     enter_gives P k = gives_seen img P (marked r) _ (λ m is. gives_seen img P above_mark _ (λ w there. by_cell m is w there (cell_of r w) refl))
       where
-        found_so : (m : Mscw) → seen img.stacks (marked r) ≡ Ok m → (w : Word) → seen img.stacks above_mark ≡ Ok w → (o : Option Cell) → cell_of r w ≡ o → (c : Called)
-            → seen img.stacks (called_by r m w o) ≡ Ok c → seen img.stacks (entered r) ≡ Ok c
+        found_so : (m : Mscw) → look_seen img.stacks (marked r) ≡ Ok m → (w : Word) → look_seen img.stacks above_mark ≡ Ok w → (o : Option Cell) → cell_of r w ≡ o → (c : Called)
+            → look_seen img.stacks (called_by r m w o) ≡ Ok c → look_seen img.stacks (procedure_called r) ≡ Ok c
         found_so m is w there o e c found_it =
             then_seen img.stacks (marked r) m (λ (x : Mscw). above_mark >-> (λ (v : Word). called_by r x v (cell_of r v))) is
             ∙ then_seen img.stacks above_mark w (λ (v : Word). called_by r m v (cell_of r v)) there
-            ∙ ap (λ (x : Option Cell). seen img.stacks (called_by r m w x)) e
+            ∙ ap (λ (x : Option Cell). look_seen img.stacks (called_by r m w x)) e
             ∙ found_it
 
-        by_cell : (m : Mscw) → seen img.stacks (marked r) ≡ Ok m → (w : Word) → seen img.stacks above_mark ≡ Ok w → (o : Option Cell) → cell_of r w ≡ o
+        by_cell : (m : Mscw) → look_seen img.stacks (marked r) ≡ Ok m → (w : Word) → look_seen img.stacks above_mark ≡ Ok w → (o : Option Cell) → cell_of r w ≡ o
             → Gives P (asked img (enter_by code r next m w o))
         by_cell m is w there None e =
             gives_seen img P (valid (as_pcw w)) _ (λ pcw v.
@@ -215,24 +215,24 @@ module _ (code : Code) (img : Image) (p : ℕ) where
     same_called (Ok a) c d e f = cc
     same_called (Err kind) c d e f = cc
 
-    enter_releases : (released : List ℕ) (c : Called) → Ok c ≡ looked (seen img.stacks (entered r)) → CalleeReleases c.pcw.intrinsic c img (Some r) [] released
+    enter_releases : (released : List ℕ) (c : Called) → Ok c ≡ looked (look_seen img.stacks (procedure_called r)) → CalleeReleases c.pcw.intrinsic c img (Some r) [] released
         → Gives (B released) (asked img (enter code r next))
     enter_releases released c e k =
-        enter_gives (B released) (λ d f. subst (λ (x : Called). Gives (B released) (asked img (enter_called code r next x))) (same_called (seen img.stacks (entered r)) c d e f)
+        enter_gives (B released) (λ d f. subst (λ (x : Called). Gives (B released) (asked img (enter_called code r next x))) (same_called (look_seen img.stacks (procedure_called r)) c d e f)
         (callee_releases c released c.pcw.intrinsic k))
 
     -- ---- rows
 
     -- what the row's changes release
-    abbrev RowGives : List ℕ → table.Row → Type 0
+    abbrev RowGives : List ℕ → table.TableRow → Type 0
     RowGives released (private_part change) = released ≡ []
     RowGives released (action program) = Gives (B released) (asked img (program code r next))
 
-    own_gives : (released : List ℕ) (w : table.Row) → class_by w ≡ Private → released ≡ [] → RowGives released w
+    own_gives : (released : List ℕ) (w : table.TableRow) → class_by w ≡ Private → released ≡ [] → RowGives released w
     own_gives released (private_part change) c e = e
     own_gives released (action program) c e = cc
 
-    row_gives : (released : List ℕ) (op : Operator) (w : Row) → Is (row op r.place) w → RowReleases w img (Some r) [] released → RowGives released (row op r.place)
+    row_gives : (released : List ℕ) (op : Operator) (w : Row) → IsTableRow (row op r.place) w → RowReleases w img (Some r) [] released → RowGives released (row op r.place)
     row_gives released op ours.Own is e = own_gives released (row op r.place) is e
     row_gives released op (ours.Words kind) is e =
         subst (RowGives released) (sym is) (calmly (words_program kind r next) released e (words_calm r next kind))
@@ -244,7 +244,7 @@ module _ (code : Code) (img : Image) (p : ℕ) where
     row_gives released op ours.Enter is x = subst (RowGives released) (sym is) (enter_releases released x.0 x.1 x.2)
 
     -- where the row gives an image, these are whom it releases
-    row_says : (new : Image) (released : List ℕ) (w : table.Row) → RowGives released w → by_row w code img p r next ≡ gives new → row_releases w code img p r next ≡ released
+    row_says : (new : Image) (released : List ℕ) (w : table.TableRow) → RowGives released w → by_row w code img p r next ≡ gives new → row_releases w code img p r next ≡ released
     row_says new released (private_part change) k e = sym k
     row_says new released (action program) k e = by (asked img (program code r next)) k e
       where

@@ -5,9 +5,9 @@ use Rattle.b67_control.specs.declared.Mscw.{Mscw}
 use Rattle.b67_ops.specs.declared.intrinsic.Intrinsic.{Intrinsic}
 use Rattle.b67_ops.specs.declared.intrinsic.Intrinsic.TheVariants.{GoTo, Select, Arrays, Event, Start, Write, Wait, Cause, Reset, Happened, Procure, Liberate, WaitAny, CauseAndReset, Available, Fix}
 use Rattle.b67_table.specs.Image.{Image}
-use Rattle.b67_table.specs.Look.{seen}
+use Rattle.b67_table.specs.Look.{look_seen}
 use Rattle.b67_operators.specs.declared.calling.Called.{Called}
-use Rattle.b67_operators.specs.Entries.{called as entered}
+use Rattle.b67_operators.specs.Entries.{procedure_called}
 use Rattle.b67_intrinsics.specs.Names.{Releases}
 use Rattle.b67_reach.specs.declared.Stop.{Stop}
 use Rattle.b67_reach.specs.Answers.{looked}
@@ -52,7 +52,7 @@ module _ (img : Image) (regs : Option Registers) (m : Mscw) (before after : List
   pub called_named : (o : Option Intrinsic) (name : Intrinsic) → o ≡ Some name → Releases name img regs m before after → CallReleases o img regs m before after
   called_named o name e x = subst (λ (z : Option Intrinsic). CallReleases z img regs m before after) (sym e) x
 
-module _ (img : Image) (o : Option Registers) (r : Registers) (has : o ≡ Some r) (c : Called) (e : Ok c ≡ looked (seen img.stacks (entered r))) (before after : List ℕ) where
+module _ (img : Image) (o : Option Registers) (r : Registers) (has : o ≡ Some r) (c : Called) (e : Ok c ≡ looked (look_seen img.stacks (procedure_called r))) (before after : List ℕ) where
   pub enter_releases : (b : Bool) → c.pcw.intrinsic ≡ b → CalleeReleases b c img o before after → EnterReleases img o before after
   enter_releases b i x =
       subst (λ (z : Option Registers). EnterReleases img z before after) (sym has)

@@ -12,7 +12,7 @@ use Rattle.b67_table.specs.Runs as runs
 use Rattle.b67_table.specs.Table.{plain}
 use Rattle.b67_table.specs.Valid.{IsValid}
 use Rattle.b67_action.specs.declared.running.Ran.{Ran}
-use Rattle.b67_action.specs.Running.{StaysCalm, HasPlace, IsStretchOf, GoesOn, Walks, stay, go, IsOpenAt, HasCome, HasRunIn, HasRun}
+use Rattle.b67_action.specs.Running.{StaysCalm, HasPlace, IsStretchOf, ActionGoesOn, EntriesWalk, stay, go, IsOpenAt, HasCome, HasRunIn, HasRun}
 
 pub plains_then : (code : Code) (p : ℕ) (a b c : Image) (k n : ℕ) → Plains code p a k b → Plains code p b n c → Plains code p a (k + n) c
 plains_then code p a b c k n runs.stay more = subst (λ (x : ℕ). Plains code p b x c) none more
@@ -30,7 +30,7 @@ module _ (code : Code) (p : ℕ) (img : Image) where
   -- entries with these letters and so many operators in all, and so many plain operators of the next one
   pub record Going (noted : List Letter) (operators plain : ℕ) (new : Image) : Type 0 where
     pub between : Image
-    pub walks : Walks code p img noted operators between
+    pub walks : EntriesWalk code p img noted operators between
     pub plains : Plains code p between plain new
     pub valid : IsValid code new
     pub calm : StaysCalm img new
@@ -50,7 +50,7 @@ module _ (code : Code) (p : ℕ) (img : Image) where
     }
 
     -- an action that goes on
-    pub going_action : (l : Letter) → GoesOn code p l x y → Going (noted ++ l ∷ []) (operators + (plains + 1)) 0 y
+    pub going_action : (l : Letter) → ActionGoesOn code p l x y → Going (noted ++ l ∷ []) (operators + (plains + 1)) 0 y
     going_action l g = record { between = y; walks = go h.walks h.plains g; plains = runs.stay; valid = g.gone.valid; calm = calm_then img x y h.calm g.calm }
 
   pub come_none : (noted : List Letter) → IsValid code img → HasCome code p img (record { entries = 0; operators = 0; plain = 0 }) noted img
@@ -97,14 +97,14 @@ module _ (code : Code) (p : ℕ) (img : Image) where
 
 -- ---- one run, an action, and another run
 
-walks_then : (code : Code) (p : ℕ) (a b c : Image) (ls ks : List Letter) (m l : ℕ) → Walks code p a ls m b → Walks code p b ks l c → Walks code p a (ls ++ ks) (m + l) c
+walks_then : (code : Code) (p : ℕ) (a b c : Image) (ls ks : List Letter) (m l : ℕ) → EntriesWalk code p a ls m b → EntriesWalk code p b ks l c → EntriesWalk code p a (ls ++ ks) (m + l) c
 walks_then code p a b c ls ks m l h stay =
     let f : m ≡ m + 0 = omega arith in
-    subst (λ (xs : List Letter). Walks code p a xs (m + 0) c) (sym (append-nil ls)) (subst (λ (x : ℕ). Walks code p a ls x c) f h)
+    subst (λ (xs : List Letter). EntriesWalk code p a xs (m + 0) c) (sym (append-nil ls)) (subst (λ (x : ℕ). EntriesWalk code p a ls x c) f h)
 walks_then code p a b c ls ks m l h (go {b = d} {c = e} {ls = is} {l = named} {m = j} {k = o} w plains g) =
     let t : m + j + (o + 1) ≡ m + (j + (o + 1)) = omega arith in
-    subst (λ (xs : List Letter). Walks code p a xs (m + (j + (o + 1))) c) (append_assoc ls is (named ∷ []))
-    (subst (λ (x : ℕ). Walks code p a ((ls ++ is) ++ named ∷ []) x c) t (go (walks_then code p a b d ls is m j h w) plains g))
+    subst (λ (xs : List Letter). EntriesWalk code p a xs (m + (j + (o + 1))) c) (append_assoc ls is (named ∷ []))
+    (subst (λ (x : ℕ). EntriesWalk code p a ((ls ++ is) ++ named ∷ []) x c) t (go (walks_then code p a b d ls is m j h w) plains g))
 
 -- the rest of a list that was lent is as long as it was
 pub rest_size : (all part : List Letter) (n : ℕ) → n ≤ length all → length part ≡ length (take (length all - n) (drop n all)) → n + length part ≡ length all
@@ -127,13 +127,13 @@ noted_then letters second post n m l lt fits =
 
 module _ (code : Code) (p : ℕ) (img : Image) where
   -- where the letter of the action is the last that can be noted
-  pub run_last : (most : ℕ) (a : Ran) (first all : List Letter) (l : Letter) (x y : Image) → HasRun code p most img a first x → GoesOn code p l x y → a.entries + 1 ≡ length all
+  pub run_last : (most : ℕ) (a : Ran) (first all : List Letter) (l : Letter) (x y : Image) → HasRun code p most img a first x → ActionGoesOn code p l x y → a.entries + 1 ≡ length all
       → take (a.entries + 1) all ≡ take a.entries first ++ l ∷ []
       → HasRun code p most img (record { entries = a.entries + 1; operators = a.operators + (a.plain + 1); plain = 0 }) all y
   run_last most a first all l x y h g full noted = record {
     between = y;
     few = omega (arith, full);
-    walks = subst (λ (ls : List Letter). Walks code p img ls (a.operators + (a.plain + 1)) y) (sym noted) (go h.walks h.plains g);
+    walks = subst (λ (ls : List Letter). EntriesWalk code p img ls (a.operators + (a.plain + 1)) y) (sym noted) (go h.walks h.plains g);
     plains = runs.stay;
     last = λ some all. refl;
     stops = λ less is_open. absurd (omega (arith, is_open (omega arith), full));
@@ -142,7 +142,7 @@ module _ (code : Code) (p : ℕ) (img : Image) where
   }
 
   -- whose letters are noted one after another
-  pub run_then : (most : ℕ) (a b : Ran) (first second all : List Letter) (l : Letter) (x y z : Image) → HasRun code p most img a first x → GoesOn code p l x y
+  pub run_then : (most : ℕ) (a b : Ran) (first second all : List Letter) (l : Letter) (x y z : Image) → HasRun code p most img a first x → ActionGoesOn code p l x y
       → HasRun code p (most - (a.operators + (a.plain + 1))) y b second z → a.entries + 1 + b.entries ≤ length all
       → 1 ≤ length second → a.entries + 1 + length second ≡ length all
       → take (a.entries + 1 + b.entries) all ≡ (take a.entries first ++ l ∷ []) ++ take b.entries second
@@ -150,7 +150,7 @@ module _ (code : Code) (p : ℕ) (img : Image) where
   run_then most a b first second all l x y z h g k few some size noted = record {
     between = k.between;
     few = few;
-    walks = subst (λ (ls : List Letter). Walks code p img ls (a.operators + (a.plain + 1) + b.operators) k.between) (sym noted)
+    walks = subst (λ (ls : List Letter). EntriesWalk code p img ls (a.operators + (a.plain + 1) + b.operators) k.between) (sym noted)
         (walks_then code p img y k.between (take a.entries first ++ l ∷ []) (take b.entries second) (a.operators + (a.plain + 1)) b.operators (go h.walks h.plains g) k.walks);
     plains = k.plains;
     last = λ one full. k.last (omega (arith, full, size, some)) (omega (arith, full, size));

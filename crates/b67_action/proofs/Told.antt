@@ -7,7 +7,7 @@ use Rattle.b67_control.specs.declared.Registers.{Registers}
 use Rattle.b67_control.specs.declared.Descriptor.{Descriptor}
 use Rattle.b67_control.specs.Control.{as_descriptor, descriptor_word}
 use Rattle.b67_store.specs.Store.{Stacks, Row, Rows, row_at, row_words, row_words_or, with_row_word, with_cut, stack_limit}
-use Rattle.b67_table.specs.Arrays.{as_indexed, index_in, index_or_fault, if_row, word_in, element, Subscripted, subscripted, subscripted_element, index_and_load, index_mother}
+use Rattle.b67_table.specs.Arrays.{as_indexed, index_in, index_or_fault, if_row, word_in_row, element, Subscripted, subscripted, subscripted_element, index_and_load, index_mother}
 use Rattle.b67_table.specs.Effect as effects
 use Rattle.b67_table.specs.Image.{Image}
 use Rattle.b67_table.specs.Look.{Look, valid}
@@ -23,8 +23,8 @@ use Rattle.b67_deeds.specs.declared.Letter.TheVariants.{ElementStore, Store}
 use Rattle.b67_letters.specs.Letters.{told_by, element_or_not, stored_letter}
 use Rattle.b67_private.specs.declared.operators.WordsRow.TheVariants as words
 use Rattle.b67_private.specs.Lettered.{words_letter}
-use Rattle.b67_reach.specs.Answers.{whole, looked, Tells, Performs}
-use Rattle.b67_reach.specs.Images.{Own, own, with_own}
+use Rattle.b67_reach.specs.Answers.{whole_outcome, looked, TestTells, ProgramPerforms}
+use Rattle.b67_reach.specs.Images.{Own, own_of_image, with_own}
 use Rattle.b67_reach.proofs.Looking.{performs_then, tells_then, tells_look}
 use Rattle.b67_action.specs.OnRoom.{Stores, Subscripts}
 use Rattle.b67_action.proofs.OnRoom.{operand_found}
@@ -43,36 +43,36 @@ module _ (st : Stacks) (rows : Rows) (r : Registers) (mother : Bool) (d : Descri
   abbrev pair : Subscripted
   pair = record { array = d; subscript = s.subscript }
 
-  element_is : Tells (row d.address (λ (o : Option Row). if_row o (index_or_fault (index_in s.subscript d.length))) >>= (λ (n : ℕ). element d.address n)) st rows (Ok w)
+  element_is : TestTells (row d.address (λ (o : Option Row). if_row o (index_or_fault (index_in s.subscript d.length))) >>= (λ (n : ℕ). element d.address n)) st rows (Ok w)
   element_is = record {
     told = λ img e t.
         let k = in_row (row_at rows d.address) at w there in
         let here : row_at img.rows d.address ≡ Some k.0 = ap (λ (z : Rows). row_at z d.address) t ∙ k.1 in
-        ap (λ (o : Option Row). whole (asked img (if_row o (index_or_fault (index_in s.subscript d.length)) >>= (λ (n : ℕ). element d.address n)))) here
-        ∙ ap (λ (o : Option ℕ). whole (asked img (index_or_fault o >>= (λ (n : ℕ). element d.address n)))) s.index
-        ∙ ap (λ (o : Option Row). whole (asked img (see (valid (word_in o at))))) here
-        ∙ ap (λ (o : Option Word). whole (asked img (see (valid o)))) k.2;
+        ap (λ (o : Option Row). whole_outcome (asked img (if_row o (index_or_fault (index_in s.subscript d.length)) >>= (λ (n : ℕ). element d.address n)))) here
+        ∙ ap (λ (o : Option ℕ). whole_outcome (asked img (index_or_fault o >>= (λ (n : ℕ). element d.address n)))) s.index
+        ∙ ap (λ (o : Option Row). whole_outcome (asked img (see (valid (word_in_row o at))))) here
+        ∙ ap (λ (o : Option Word). whole_outcome (asked img (see (valid o)))) k.2;
   }
 
-  element_told : Tells (subscripted_element r mother) st rows (Ok w)
+  element_told : TestTells (subscripted_element r mother) st rows (Ok w)
   element_told =
       tells_then (see (subscripted r mother)) _ pair st rows (Ok w)
       (tells_look (subscripted r mother) st rows (Ok pair) (sym (ap looked s.found))) element_is
 
 module _ (st : Stacks) (rows : Rows) (r : Registers) (next : ℕ) (d : Descriptor) (at : ℕ) (w : Word) (there : slice_get (row_words rows d.address) at ≡ Some w) (new : Own) where
-  pub element_loaded : Subscripts st r false d at → (w.tag == 0) ≡ true → Performs {A = Unit {0}} (answer (replaced r next 2 w)) (own st rows r) new (Ok (tt {0}))
-      → Performs {A = Unit {0}} (index_and_load r next) (own st rows r) new (Ok (tt {0}))
+  pub element_loaded : Subscripts st r false d at → (w.tag == 0) ≡ true → ProgramPerforms {A = Unit {0}} (answer (replaced r next 2 w)) (own_of_image st rows r) new (Ok (tt {0}))
+      → ProgramPerforms {A = Unit {0}} (index_and_load r next) (own_of_image st rows r) new (Ok (tt {0}))
   element_loaded s operand x =
-      performs_then (subscripted_element r false) _ w (own st rows r) new (Ok (tt {0})) (element_told st rows r false d at s w there)
-      (subst (λ (l : Look Word). Performs {A = Unit {0}} (see l >>= (λ (v : Word). answer (replaced r next 2 v))) (own st rows r) new (Ok (tt {0})))
+      performs_then (subscripted_element r false) _ w (own_of_image st rows r) new (Ok (tt {0})) (element_told st rows r false d at s w there)
+      (subst (λ (l : Look Word). ProgramPerforms {A = Unit {0}} (see l >>= (λ (v : Word). answer (replaced r next 2 v))) (own_of_image st rows r) new (Ok (tt {0})))
       (sym (operand_found w operand)) x)
 
   pub row_loaded : (copy : Descriptor) → Subscripts st r true d at → as_descriptor w ≡ Some copy
-      → Performs {A = Unit {0}} (answer (replaced r next 2 (descriptor_word (record copy { copy = true })))) (own st rows r) new (Ok (tt {0}))
-      → Performs {A = Unit {0}} (index_mother r next) (own st rows r) new (Ok (tt {0}))
+      → ProgramPerforms {A = Unit {0}} (answer (replaced r next 2 (descriptor_word (record copy { copy = true })))) (own_of_image st rows r) new (Ok (tt {0}))
+      → ProgramPerforms {A = Unit {0}} (index_mother r next) (own_of_image st rows r) new (Ok (tt {0}))
   row_loaded copy s e x =
-      performs_then (subscripted_element r true) _ w (own st rows r) new (Ok (tt {0})) (element_told st rows r true d at s w there)
-      (subst (λ (o : Option Descriptor). Performs {A = Unit {0}} (see (valid o) >>= (λ (c : Descriptor). answer (replaced r next 2 (descriptor_word (record c { copy = true }))))) (own st rows r)
+      performs_then (subscripted_element r true) _ w (own_of_image st rows r) new (Ok (tt {0})) (element_told st rows r true d at s w there)
+      (subst (λ (o : Option Descriptor). ProgramPerforms {A = Unit {0}} (see (valid o) >>= (λ (c : Descriptor). answer (replaced r next 2 (descriptor_word (record c { copy = true }))))) (own_of_image st rows r)
       new (Ok (tt {0}))) (sym e) x)
 
 -- ---- STOD
@@ -84,7 +84,7 @@ module _ (old new : Own) (short : new.regs.s ≤ stack_limit) where
 
   answered_by : (change : Change)
       → ((p : ℕ) (img : Image) → img.stacks ≡ old.stacks → img.rows ≡ old.rows → numbered img.regs p ≡ Some old.regs → changed p change img ≡ with_own new p img)
-      → Performs {A = Unit {0}} (answer change) old new (Ok (tt {0}))
+      → ProgramPerforms {A = Unit {0}} (answer change) old new (Ok (tt {0}))
   answered_by change h = record {
     outcome = λ p img s t has. ap (λ (z : Image). limited (stack_length p) (effects.gives z)) (h p img s t has)
         ∙ fits (stack_length p) (with_own new p img) (omega (arith, size_is p img has, short));
@@ -101,38 +101,38 @@ module _ (st : Stacks) (rows : Rows) (r : Registers) (next : ℕ) (x : Word) (d 
   dropped = record r { s = r.s - 2; place = next }
 
   abbrev after : Own
-  after = own (with_cut st r.stack (r.s - 2)) (with_row_word rows d.address d.length x) dropped
+  after = own_of_image (with_cut st r.stack (r.s - 2)) (with_row_word rows d.address d.length x) dropped
 
   -- an element is stored
   pub element_letter : words_letter (words.Store false) st r ≡ Some ElementStore
   element_letter = ap (told_by stored_letter) s.found ∙ ap (λ (o : Option Descriptor). Some (element_or_not ElementStore Store o)) s.element
 
-  read_is : (w : Word) → slice_get (row_words rows d.address) d.length ≡ Some w → Tells (element d.address d.length) st rows (Ok w)
+  read_is : (w : Word) → slice_get (row_words rows d.address) d.length ≡ Some w → TestTells (element d.address d.length) st rows (Ok w)
   read_is w i = record {
     told = λ img e t.
         let k = in_row (row_at rows d.address) d.length w i in
-        ap (λ (z : Rows). whole (asked img (see (valid (word_in (row_at z d.address) d.length))))) t
-        ∙ ap (λ (o : Option Row). whole (asked img (see (valid (word_in o d.length))))) k.1
-        ∙ ap (λ (o : Option Word). whole (asked img (see (valid o)))) k.2;
+        ap (λ (z : Rows). whole_outcome (asked img (see (valid (word_in_row (row_at z d.address) d.length))))) t
+        ∙ ap (λ (o : Option Row). whole_outcome (asked img (see (valid (word_in_row o d.length))))) k.1
+        ∙ ap (λ (o : Option Word). whole_outcome (asked img (see (valid o)))) k.2;
   }
 
   none_more : r.s - 2 + 0 ≡ r.s - 2
   none_more = omega arith
 
-  written : Performs {A = Unit {0}} (answer (stored false r next x (write_row d.address d.length x))) (own st rows r) after (Ok (tt {0}))
+  written : ProgramPerforms {A = Unit {0}} (answer (stored false r next x (write_row d.address d.length x))) (own_of_image st rows r) after (Ok (tt {0}))
   written =
-      answered_by (own st rows r) after (omega (arith, short)) (stored false r next x (write_row d.address d.length x)) (λ p img e t has.
-      ap (λ (n : ℕ). with_own (own (with_cut img.stacks r.stack (r.s - 2)) (with_row_word img.rows d.address d.length x) (record r { s = n; place = next })) p img) none_more
-      ∙ ap (λ (z : Stacks). with_own (own (with_cut z r.stack (r.s - 2)) (with_row_word img.rows d.address d.length x) dropped) p img) e
-      ∙ ap (λ (z : Rows). with_own (own (with_cut st r.stack (r.s - 2)) (with_row_word z d.address d.length x) dropped) p img) t)
+      answered_by (own_of_image st rows r) after (omega (arith, short)) (stored false r next x (write_row d.address d.length x)) (λ p img e t has.
+      ap (λ (n : ℕ). with_own (own_of_image (with_cut img.stacks r.stack (r.s - 2)) (with_row_word img.rows d.address d.length x) (record r { s = n; place = next })) p img) none_more
+      ∙ ap (λ (z : Stacks). with_own (own_of_image (with_cut z r.stack (r.s - 2)) (with_row_word img.rows d.address d.length x) dropped) p img) e
+      ∙ ap (λ (z : Rows). with_own (own_of_image (with_cut st r.stack (r.s - 2)) (with_row_word z d.address d.length x) dropped) p img) t)
 
-  pub element_stored : Performs {A = Unit {0}} (store false r next) (own st rows r) after (Ok (tt {0}))
+  pub element_stored : ProgramPerforms {A = Unit {0}} (store false r next) (own_of_image st rows r) after (Ok (tt {0}))
   element_stored =
       let old = some_word (slice_get (row_words rows d.address) d.length) there in
-      performs_then (see (popped_two r)) (λ (t : Two). see (operand_in t.x) >>= (λ (v : Word). store_by false r next v t.y (as_indexed t.y))) (record { x = x; y = s.below }) (own st rows r)
+      performs_then (see (popped_two r)) (λ (t : Two). see (operand_in t.x) >>= (λ (v : Word). store_by false r next v t.y (as_indexed t.y))) (record { x = x; y = s.below }) (own_of_image st rows r)
       after (Ok (tt {0}))
       (tells_look (popped_two r) st rows (Ok (record { x = x; y = s.below })) (sym (ap looked s.found)))
-      (subst (λ (l : Look Word). Performs {A = Unit {0}} (see l >>= (λ (v : Word). store_by false r next v s.below (as_indexed s.below))) (own st rows r) after (Ok (tt {0})))
+      (subst (λ (l : Look Word). ProgramPerforms {A = Unit {0}} (see l >>= (λ (v : Word). store_by false r next v s.below (as_indexed s.below))) (own_of_image st rows r) after (Ok (tt {0})))
       (sym (operand_found x s.operand))
-      (subst (λ (o : Option Descriptor). Performs {A = Unit {0}} (store_by false r next x s.below o) (own st rows r) after (Ok (tt {0}))) (sym s.element)
-      (performs_then (element d.address d.length) _ old.0 (own st rows r) after (Ok (tt {0})) (read_is old.0 old.1) written)))
+      (subst (λ (o : Option Descriptor). ProgramPerforms {A = Unit {0}} (store_by false r next x s.below o) (own_of_image st rows r) after (Ok (tt {0}))) (sym s.element)
+      (performs_then (element d.address d.length) _ old.0 (own_of_image st rows r) after (Ok (tt {0})) (read_is old.0 old.1) written)))

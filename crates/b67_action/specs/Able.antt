@@ -10,8 +10,8 @@ use Rattle.b67_table.specs.Valid.{IsValid}
 use Rattle.b67_action.specs.Acting.{NextReleases}
 
 -- how often a number stands in a list
-abbrev pub times : ℕ → List ℕ → ℕ
-times p list = times_in p list
+abbrev pub number_times : ℕ → List ℕ → ℕ
+number_times p list = times_in p list
 
 abbrev pub one_if : Bool → ℕ
 one_if b = if b then 1 else 0
@@ -26,9 +26,9 @@ newly before after = if nat_lt before after then after ∷ [] else []
 -- Who is able after an action of a process: the released and the started are, each of them once and none that was so before, and of all
 -- others but the actor those who were. The actor neither releases nor starts itself.
 pub record AbleAfter (before after : Image) (p : ℕ) (released : List ℕ) : Type 0 where
-  pub others : (q : ℕ) → q ≢ p → one_if (able_in after q) ≡ one_if (able_in before q) + times q released + times q (newly before.started after.started)
-  pub own : times p released ≡ 0
-  pub own_new : times p (newly before.started after.started) ≡ 0
+  pub others : (q : ℕ) → q ≢ p → one_if (able_in after q) ≡ one_if (able_in before q) + number_times q released + number_times q (newly before.started after.started)
+  pub own : number_times p released ≡ 0
+  pub own_new : number_times p (newly before.started after.started) ≡ 0
   pub grows : before.started ≤ after.started
 
 -- so it is where the table gives a new image of a valid one, with those whom the operator releases

@@ -11,7 +11,7 @@ use Rattle.b67_store.specs.Store.{Stacks, Rows}
 use Rattle.b67_table.specs.Effect.{Effect}
 use Rattle.b67_table.specs.Image.{Image}
 use Rattle.b67_table.specs.Intrinsics.{select}
-use Rattle.b67_table.specs.Look.{seen}
+use Rattle.b67_table.specs.Look.{look_seen}
 use Rattle.b67_table.specs.Names.{intrinsic_numbered}
 use Rattle.b67_table.specs.Program.{Program, does}
 use Rattle.b67_table.specs.Rows.{exit, return_value, enter}
@@ -19,10 +19,10 @@ use Rattle.b67_table.specs.Table.{operator_at}
 use Rattle.b67_going.specs.Starts.{HasNext}
 use Rattle.b67_intrinsics.specs.declared.hindrance.Hindrance.{Hindrance}
 use Rattle.b67_intrinsics.specs.declared.hindrance.Hindrance.TheVariants.{Stopped, NoMemory}
-use Rattle.b67_intrinsics.specs.Called.{IsLeft, called}
+use Rattle.b67_intrinsics.specs.Called.{ImageIsLeft, intrinsic_called}
 use Rattle.b67_intrinsics.specs.Names.{Releases}
 use Rattle.b67_operators.specs.declared.calling.Called.{Called}
-use Rattle.b67_operators.specs.Entries.{CallsProcedure, called as entered}
+use Rattle.b67_operators.specs.Entries.{CallsProcedure, procedure_called}
 use Rattle.b67_operators.specs.Leaves.{IsLinkedIn, program_in, released}
 use Rattle.b67_reach.specs.declared.Parts.{Parts}
 use Rattle.b67_reach.specs.declared.Stop.{Stop}
@@ -30,11 +30,11 @@ use Rattle.b67_reach.specs.Answers.{looked}
 use Rattle.b67_reach.specs.Woken.{HasPlaces}
 use Rattle.b67_action.specs.declared.rows.Row.{Row}
 use Rattle.b67_action.specs.declared.rows.Row.TheVariants as rows
-use Rattle.b67_action.specs.Among.{Comes}
+use Rattle.b67_action.specs.Among.{EffectComes}
 use Rattle.b67_action.specs.Done.{makes}
 use Rattle.b67_action.specs.Own.{own_effect}
 use Rattle.b67_private.specs.Actions.{words_program}
-use Rattle.b67_action.specs.Rows.{HasRow}
+use Rattle.b67_action.specs.Rows.{ActionHasRow}
 
 -- ---- what is asked
 
@@ -61,12 +61,12 @@ EntersPlainly stacks (Some r) = CallsProcedure stacks r
 
 -- SELECT's program
 abbrev pub selects : Code → Mscw → Registers → ℕ → Program
-selects code m r next = called select code r next m
+selects code m r next = intrinsic_called select code r next m
 
 -- a process with these registers calls an intrinsic that makes something
 abbrev pub CallsMaker : Stacks → Option Registers → Type 0
 CallsMaker stacks None = ⊥
-CallsMaker stacks (Some r) = (c : Called) × (Ok c ≡ looked (seen stacks (entered r))) × (c.pcw.intrinsic ≡ true) × (makes (intrinsic_numbered c.pcw.number) ≡ true)
+CallsMaker stacks (Some r) = (c : Called) × (Ok c ≡ looked (look_seen stacks (procedure_called r))) × (c.pcw.intrinsic ≡ true) × (makes (intrinsic_numbered c.pcw.number) ≡ true)
 
 -- an answer that no memory hinders
 abbrev pub hindered : Result (Unit {0}) Stop → Result (Unit {0}) Hindrance
@@ -85,9 +85,9 @@ row_effect rows.Enter code op next p regs img = does p (program_in (enter code) 
 
 -- an effect comes to what is answered, or there is no memory and no row is open that was not, and none is closed
 abbrev pub ComesOrNot : ℕ → Effect Image → Image → Image → Result (Unit {0}) Hindrance → Type 0
-ComesOrNot p effect old new (Ok u) = Comes {A = Unit {0}} p effect old new (Ok u)
-ComesOrNot p effect old new (Err (Stopped stop)) = Comes {A = Unit {0}} p effect old new (Err stop)
-ComesOrNot p effect old new (Err NoMemory) = IsLeft old new
+ComesOrNot p effect old new (Ok u) = EffectComes {A = Unit {0}} p effect old new (Ok u)
+ComesOrNot p effect old new (Err (Stopped stop)) = EffectComes {A = Unit {0}} p effect old new (Err stop)
+ComesOrNot p effect old new (Err NoMemory) = ImageIsLeft old new
 
 -- ---- whom an operator releases
 
@@ -105,7 +105,7 @@ CalleeReleases true c img regs before after = CallReleases (intrinsic_numbered c
 abbrev pub EnterReleases : Image → Option Registers → List ℕ → List ℕ → Type 0
 EnterReleases img None before after = ⊥
 EnterReleases img (Some r) before after =
-    (c : Called) × (Ok c ≡ looked (seen img.stacks (entered r))) × CalleeReleases c.pcw.intrinsic c img (Some r) before after
+    (c : Called) × (Ok c ≡ looked (look_seen img.stacks (procedure_called r))) × CalleeReleases c.pcw.intrinsic c img (Some r) before after
 
 abbrev pub RowReleases : Row → Image → Option Registers → List ℕ → List ℕ → Type 0
 RowReleases rows.Own img regs before after = after ≡ before
@@ -122,5 +122,5 @@ pub record NextReleases (code : Code) (img : Image) (p : ℕ) (after : List ℕ)
   pub next : ℕ
   pub stands : operator_at code regs ≡ Ok (op, next)
   pub row : Row
-  pub is : HasRow op regs.place row
+  pub is : ActionHasRow op regs.place row
   pub releases : RowReleases row img (numbered img.regs p) [] after

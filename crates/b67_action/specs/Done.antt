@@ -12,16 +12,16 @@ use Rattle.b67_table.specs.declared.ProcessState.{ProcessState}
 use Rattle.b67_table.specs.declared.ProcessState.TheVariants as states
 use Rattle.b67_table.specs.Image.{Image, is_able}
 use Rattle.b67_table.specs.Limits.{most_processes}
-use Rattle.b67_table.specs.Look.{seen}
+use Rattle.b67_table.specs.Look.{look_seen}
 use Rattle.b67_table.specs.Names.{intrinsic_numbered}
 use Rattle.b67_table.specs.Outcome as outcomes
 use Rattle.b67_table.specs.Table.{table, operator_at}
 use Rattle.b67_table.specs.Valid.{waits}
 use Rattle.b67_operators.specs.declared.calling.Called.{Called}
-use Rattle.b67_operators.specs.Entries.{called}
+use Rattle.b67_operators.specs.Entries.{procedure_called}
 use Rattle.b67_intrinsics.specs.declared.hindrance.Hindrance.{Hindrance}
 use Rattle.b67_intrinsics.specs.declared.hindrance.Hindrance.TheVariants as hindrances
-use Rattle.b67_intrinsics.specs.Called.{IsLeft}
+use Rattle.b67_intrinsics.specs.Called.{ImageIsLeft}
 use Rattle.b67_reach.specs.declared.Parts.{Parts}
 use Rattle.b67_reach.specs.declared.Stop.TheVariants as stops
 use Rattle.b67_reach.specs.Answers.{looked}
@@ -60,7 +60,7 @@ pub record CallsNext (code : Code) (img : Image) (p : ℕ) (callee : Called) : T
   pub has : numbered img.regs p ≡ Some regs
   pub next : ℕ
   pub enters : operator_at code regs ≡ Ok (Plain Entr, next)
-  pub finds : Ok callee ≡ looked (seen img.stacks (called regs))
+  pub finds : Ok callee ≡ looked (look_seen img.stacks (procedure_called regs))
 
 -- the process's next operator calls an intrinsic that makes something
 pub record MakesNext (code : Code) (img : Image) (p : ℕ) : Type 0 where
@@ -78,7 +78,7 @@ Came code old p Ended new = (table code old p ≡ outcomes.gives new) × (number
 Came code old p (Fault kind) new = (table code old p ≡ outcomes.faults kind) × (new ≡ old)
 Came code old p (Interrupt kind) new = (table code old p ≡ outcomes.interrupts kind) × (new ≡ old)
 Came code old p StackLimit new = (table code old p ≡ outcomes.limit) × (new ≡ old)
-Came code old p NoMemory new = MakesNext code old p × IsLeft old new
+Came code old p NoMemory new = MakesNext code old p × ImageIsLeft old new
 
 -- the operator was performed
 abbrev pub is_performed : Done → Bool
@@ -88,6 +88,6 @@ is_performed Ended = true
 is_performed _ = false
 
 -- there is room for the most processes to wait and to be released
-pub record HasRoom (kernel : Events) (parts : Parts) : Type 0 where
+pub record KernelHasRoom (kernel : Events) (parts : Parts) : Type 0 where
   pub waiting : most_processes ≤ kernel.room
   pub released : HasPlaces kernel.room parts.woken

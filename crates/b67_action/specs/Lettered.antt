@@ -6,13 +6,13 @@ use Rattle.b67_control.specs.declared.Registers.{Registers}
 use Rattle.b67_ops.specs.declared.Operator.{Operator}
 use Rattle.b67_store.specs.Store.{Stacks, stack_at}
 use Rattle.b67_table.specs.Image.{Image}
-use Rattle.b67_table.specs.Look.{seen}
+use Rattle.b67_table.specs.Look.{look_seen}
 use Rattle.b67_table.specs.Names.{intrinsic_numbered}
 use Rattle.b67_table.specs.Private.{frame}
 use Rattle.b67_deeds.specs.declared.Letter.{Letter}
 use Rattle.b67_deeds.specs.declared.Letter.TheVariants.{Enter, Leave}
 use Rattle.b67_deeds.specs.declared.Letter.TheVariants as letters
-use Rattle.b67_letters.specs.Letters.{told_by, left_letter, intrinsic_letter, called_letter, called, operator_letter}
+use Rattle.b67_letters.specs.Letters.{told_by, left_letter, intrinsic_letter, called_letter, control_called, operator_letter}
 use Rattle.b67_private.specs.declared.operators.WordsRow.{WordsRow}
 use Rattle.b67_private.specs.Lettered.{words_letter}
 use Rattle.b67_action.specs.declared.done.Done.{Done}
@@ -26,7 +26,7 @@ by_called woken pcw = if pcw.intrinsic then intrinsic_letter woken (intrinsic_nu
 
 -- of ENTR, by what it calls
 abbrev pub enter_letter : Image → Registers → Option Letter
-enter_letter img r = told_by (called_letter img r.stack) (seen img.stacks (called r))
+enter_letter img r = told_by (called_letter img r.stack) (look_seen img.stacks (control_called r))
 
 -- of a row: one of a private operator has none
 abbrev pub row_letter : Row → Image → Registers → Option Letter
@@ -50,6 +50,6 @@ letter_in NoMemory found = None
 letter_in done found = found
 
 -- of what was not performed: a fault has its own
-abbrev pub letter_by : Done → Option Letter
-letter_by (Fault kind) = Some letters.Fault
-letter_by done = None
+abbrev pub letter_by_done : Done → Option Letter
+letter_by_done (Fault kind) = Some letters.Fault
+letter_by_done done = None

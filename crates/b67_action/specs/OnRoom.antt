@@ -8,12 +8,12 @@ use Rattle.b67_control.specs.declared.Descriptor.{Descriptor}
 use Rattle.b67_control.specs.Display.{levels}
 use Rattle.b67_store.specs.Store.{Stacks, Rows, stack_at, with_stack, stack_limit}
 use Rattle.b67_table.specs.Arrays.{array_of, as_indexed, index_in, subscripted}
-use Rattle.b67_table.specs.Look.{seen}
+use Rattle.b67_table.specs.Look.{look_seen}
 use Rattle.b67_table.specs.Private.{display_at}
 use Rattle.b67_table.specs.Program.{Program}
 use Rattle.b67_table.specs.References.{popped_two}
-use Rattle.b67_reach.specs.Images.{own}
-use Rattle.b67_reach.specs.Answers.{Performs}
+use Rattle.b67_reach.specs.Images.{own_of_image as own}
+use Rattle.b67_reach.specs.Answers.{ProgramPerforms}
 
 -- the room is a stack's, whose words S counts
 pub record IsRoom (r : Registers) (room : List Word) : Type 0 where
@@ -26,7 +26,7 @@ pub record IsRoom (r : Registers) (room : List Word) : Type 0 where
 abbrev pub PerformsOn : Program → Registers → List Word → Registers → List Word → Type 0
 PerformsOn program r room new words =
     (stacks : Stacks) (rows : Rows) → stack_at stacks r.stack ≡ Some (take r.s room)
-    → Performs program (own stacks rows r) (own (with_stack stacks new.stack (take new.s words)) rows new) (Ok (tt {0}))
+    → ProgramPerforms program (own stacks rows r) (own (with_stack stacks new.stack (take new.s words)) rows new) (Ok (tt {0}))
 
 -- a word stands at this place of its own stack, in the cell that a couple names
 pub record HoldsWord (r : Registers) (room : List Word) (level index at : ℕ) : Type 0 where
@@ -53,12 +53,12 @@ pub record HoldsOperand (r : Registers) (room : List Word) (level index at : ℕ
 
 -- wherever the process's stack has the words that are the room's, a word is or reaches this array
 abbrev pub IsArrayOf : Registers → List Word → Bool → Word → Descriptor → Type 0
-IsArrayOf r room mother w array = (stacks : Stacks) → stack_at stacks r.stack ≡ Some (take r.s room) → seen stacks (array_of r mother w) ≡ Ok array
+IsArrayOf r room mother w array = (stacks : Stacks) → stack_at stacks r.stack ≡ Some (take r.s room) → look_seen stacks (array_of r mother w) ≡ Ok array
 
 -- in these stacks the words on top of a process's are this array and a subscript within it
 pub record Subscripts (stacks : Stacks) (r : Registers) (mother : Bool) (array : Descriptor) (at : ℕ) : Type 0 where
   pub subscript : ℤ
-  pub found : seen stacks (subscripted r mother) ≡ Ok (record { array = array; subscript = subscript })
+  pub found : look_seen stacks (subscripted r mother) ≡ Ok (record { array = array; subscript = subscript })
   pub index : index_in subscript array.length ≡ Some at
 
 -- so they are wherever the process's stack has the words that are the room's
@@ -68,7 +68,7 @@ SubscriptsOn r room mother array at = (stacks : Stacks) → stack_at stacks r.st
 -- in these stacks the words on top of a process's are this operand, and under it the indexed descriptor of an element
 pub record Stores (stacks : Stacks) (r : Registers) (x : Word) (d : Descriptor) : Type 0 where
   pub below : Word
-  pub found : seen stacks (popped_two r) ≡ Ok (record { x = x; y = below })
+  pub found : look_seen stacks (popped_two r) ≡ Ok (record { x = x; y = below })
   pub operand : (x.tag == 0) ≡ true
   pub element : as_indexed below ≡ Some d
 

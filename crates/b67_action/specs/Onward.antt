@@ -13,7 +13,7 @@ use Rattle.b67_action.specs.declared.rows.Row.{Row}
 use Rattle.b67_action.specs.declared.rows.Row.TheVariants as rows
 use Rattle.b67_action.specs.Able.{AbleAfter}
 use Rattle.b67_action.specs.Acting.{row_effect, RowReleases}
-use Rattle.b67_action.specs.Among.{Comes}
+use Rattle.b67_action.specs.Among.{EffectComes}
 use Rattle.b67_action.specs.Done.{Came}
 
 -- the next operator of a process was performed, released these, and the process goes on
@@ -34,4 +34,4 @@ action_of _ = None
 -- an action of a process is performed, and releases nobody
 abbrev pub GoesBy : Option Row → Code → ℕ → ℕ → Option Registers → Image → Image → Type 0
 GoesBy None code next p regs old new = ⊥
-GoesBy (Some w) code next p regs old new = ((op : Operator) → Comes {A = Unit {0}} p (row_effect w code op next p regs old) old new (Ok (tt {0}))) × RowReleases w old regs [] []
+GoesBy (Some w) code next p regs old new = ((op : Operator) → EffectComes {A = Unit {0}} p (row_effect w code op next p regs old) old new (Ok (tt {0}))) × RowReleases w old regs [] []

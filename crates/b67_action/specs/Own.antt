@@ -15,17 +15,17 @@ use Rattle.b67_private.specs.declared.Stop.{Stop as PartStop}
 use Rattle.b67_private.specs.declared.Stop.TheVariants as parts
 use Rattle.b67_reach.specs.declared.Stop.{Stop}
 use Rattle.b67_reach.specs.declared.Stop.TheVariants.{Interrupt, Fault, StackLimit}
-use Rattle.b67_reach.specs.Answers.{after}
+use Rattle.b67_reach.specs.Answers.{outcome_after}
 use Rattle.b67_reach.specs.Images.{Own, with_own}
-use Rattle.b67_action.specs.Among.{with_all, Comes}
+use Rattle.b67_action.specs.Among.{with_all, EffectComes}
 
 -- a process with these registers, and the words of its stack from a base on
 abbrev pub part_from : ℕ → Stacks → Registers → Private
 part_from base stacks r = record { regs = r; words = reverse (drop base (words_of stacks r.stack)) }
 
 -- its private part
-abbrev pub part_of : Stacks → Registers → Private
-part_of stacks r = part_from (floor r) stacks r
+abbrev pub part_of_process : Stacks → Registers → Private
+part_of_process stacks r = part_from (floor r) stacks r
 
 abbrev pub stop_by : PartStop → Stop
 stop_by (parts.Fault kind) = Fault kind
@@ -36,7 +36,7 @@ stop_by parts.StackLimit = StackLimit
 -- stopped so, and they stay.
 pub record DoesOwn {A : Type 0} (op : Operator) (next : ℕ) (old new : Own) (answer : Result A Stop) : Type 0 where
   pub outcome : (p : ℕ) (img : Image) → img.stacks ≡ old.stacks → img.rows ≡ old.rows → numbered img.regs p ≡ Some old.regs
-      → limited (stack_length p) (with_effect img p (floor old.regs) (private_op op old.regs.place next (private_of img old.regs))) ≡ after (with_own new p img) answer
+      → limited (stack_length p) (with_effect img p (floor old.regs) (private_op op old.regs.place next (private_of img old.regs))) ≡ outcome_after (with_own new p img) answer
   pub stays : OnErr answer (new ≡ old)
 
 -- the effect of a private operator on the image, in a process with these registers
@@ -47,4 +47,4 @@ own_effect op next p (Some r) img = with_effect img p (floor r) (private_op op r
 -- in every image in which the processes have these stacks, rows and registers
 abbrev pub DoesOwnIn : {A : Type 0} → Operator → ℕ → Stacks → Rows → List Registers → ℕ → Stacks → Rows → List Registers → Result A Stop → Type 0
 DoesOwnIn op next stacks rows all p new more regs answer =
-    (img : Image) → img.stacks ≡ stacks → img.rows ≡ rows → img.regs ≡ all → Comes p (own_effect op next p (numbered all p) img) img (with_all new more regs img) answer
+    (img : Image) → img.stacks ≡ stacks → img.rows ≡ rows → img.regs ≡ all → EffectComes p (own_effect op next p (numbered all p) img) img (with_all new more regs img) answer

@@ -9,12 +9,12 @@ use Rattle.b67_private.specs.Actions.{words_program, IsHeldWords}
 use Rattle.b67_action.specs.declared.rows.Row.{Row}
 use Rattle.b67_action.specs.declared.rows.Row.TheVariants as rows
 
-abbrev pub Is : table.Row → Row → Type 0
-Is w rows.Own = class_by w ≡ Private
-Is w (rows.Words kind) = w ≡ acts (words_program kind)
-Is w rows.Exit = w ≡ acts exit
-Is w rows.ReturnValue = w ≡ acts return_value
-Is w rows.Enter = w ≡ table.action enter
+abbrev pub IsTableRow : table.TableRow → Row → Type 0
+IsTableRow w rows.Own = class_by w ≡ Private
+IsTableRow w (rows.Words kind) = w ≡ acts (words_program kind)
+IsTableRow w rows.Exit = w ≡ acts exit
+IsTableRow w rows.ReturnValue = w ≡ acts return_value
+IsTableRow w rows.Enter = w ≡ table.action enter
 
 -- the couple of a row can be held by a reference
 abbrev pub IsHeldRow : Row → Type 0
@@ -25,5 +25,5 @@ IsHeldRow rows.ReturnValue = Unit {0}
 IsHeldRow rows.Enter = Unit {0}
 
 -- an operator at this place has this row
-abbrev pub HasRow : Operator → ℕ → Row → Type 0
-HasRow op here r = Is (row op here) r
+abbrev pub ActionHasRow : Operator → ℕ → Row → Type 0
+ActionHasRow op here r = IsTableRow (row op here) r

@@ -11,7 +11,7 @@ use Rattle.b67_table.specs.Table.{plain}
 use Rattle.b67_table.specs.Valid.{IsValid}
 use Rattle.b67_deeds.specs.declared.Letter.{Letter}
 use Rattle.b67_letters.specs.Letters.{letter}
-use Rattle.b67_reach.specs.Images.{own, with_own}
+use Rattle.b67_reach.specs.Images.{own_of_image, with_own}
 use Rattle.b67_action.specs.declared.running.Ran.{Ran}
 use Rattle.b67_action.specs.Onward.{HasGone}
 
@@ -26,7 +26,7 @@ pub record IsLent (code : Code) (img : Image) (p : ℕ) (r : Registers) (room : 
 
 -- the image with these registers for the process's own, and these words of a room for its stack's
 abbrev pub given_back : Registers → List Word → ℕ → Image → Image
-given_back r room p img = with_own (own (with_stack img.stacks r.stack (take r.s room)) img.rows r) p img
+given_back r room p img = with_own (own_of_image (with_stack img.stacks r.stack (take r.s room)) img.rows r) p img
 
 -- ---- a run
 
@@ -43,7 +43,7 @@ pub record IsStretchOf (code : Code) (p n most : ℕ) (old new : Image) : Type 0
   pub calm : StaysCalm old new
 
 -- the next operator is an action of this letter that went on, and released and started nobody
-pub record GoesOn (code : Code) (p : ℕ) (l : Letter) (old new : Image) : Type 0 where
+pub record ActionGoesOn (code : Code) (p : ℕ) (l : Letter) (old new : Image) : Type 0 where
   pub action : plain code old p ≡ false
   pub letter_is : letter code old p ≡ Some l
   pub gone : HasGone code old p new []
@@ -54,33 +54,33 @@ abbrev pub HasPlace : Registers → List Word → Type 0
 HasPlace r room = (r.s < length room) ⊎ (length room ≡ stack_limit)
 
 -- one operator of a run: a plain one, an action of a letter that went on, or none, where what comes next is not plain, or where a room has no place for it
-pub data Step : Type 0 where
-  Plain : Step
-  Action : Letter → Step
-  Neither : Step
-  NoneIn : Registers → List Word → Step
+pub data OperatorStep : Type 0 where
+  Plain : OperatorStep
+  Action : Letter → OperatorStep
+  Neither : OperatorStep
+  NoneIn : Registers → List Word → OperatorStep
 
-abbrev pub StepsTo : Step → Code → ℕ → Image → Image → Type 0
+abbrev pub StepsTo : OperatorStep → Code → ℕ → Image → Image → Type 0
 StepsTo Plain code p old new = IsStretchOf code p 1 1 old new
-StepsTo (Action l) code p old new = GoesOn code p l old new
+StepsTo (Action l) code p old new = ActionGoesOn code p l old new
 StepsTo Neither code p old new = IsStretchOf code p 0 1 old new
 StepsTo (NoneIn r room) code p old new = IsStretchOf code p 0 0 old new × (HasPlace r room → plain code new p ≡ false)
 
 -- whether a plain operator was performed on the room, as a step
-abbrev pub plain_step : Registers → List Word → Bool → Step
+abbrev pub plain_step : Registers → List Word → Bool → OperatorStep
 plain_step r room true = Plain
 plain_step r room false = NoneIn r room
 
 -- whether an action was, and its letter
-abbrev pub act_step : Option Letter → Step
+abbrev pub act_step : Option Letter → OperatorStep
 act_step (Some l) = Action l
 act_step None = Neither
 
 -- entries with these letters, and so many operators in all: each some plain operators, and then an action of its letter that went on
-pub data Walks (code : Code) (p : ℕ) : Image → List Letter → ℕ → Image → Type 0 where
-  stay : {a : Image} → Walks code p a [] 0 a
-  go : {a b c d : Image} {ls : List Letter} {l : Letter} {m k : ℕ} → Walks code p a ls m b → Plains code p b k c → GoesOn code p l c d
-      → Walks code p a (ls ++ l ∷ []) (m + (k + 1)) d
+pub data EntriesWalk (code : Code) (p : ℕ) : Image → List Letter → ℕ → Image → Type 0 where
+  stay : {a : Image} → EntriesWalk code p a [] 0 a
+  go : {a b c d : Image} {ls : List Letter} {l : Letter} {m k : ℕ} → EntriesWalk code p a ls m b → Plains code p b k c → ActionGoesOn code p l c d
+      → EntriesWalk code p a (ls ++ l ∷ []) (m + (k + 1)) d
 
 -- a run is open where no entry was performed, or letters of others can be noted
 abbrev pub IsOpenAt : ℕ → List Letter → Type 0
@@ -91,7 +91,7 @@ IsOpenAt entries noted = 1 ≤ entries → entries < length noted
 pub record HasCome (code : Code) (p : ℕ) (old : Image) (ran : Ran) (noted : List Letter) (new : Image) : Type 0 where
   pub between : Image
   pub few : ran.entries ≤ length noted
-  pub walks : Walks code p old (take ran.entries noted) ran.operators between
+  pub walks : EntriesWalk code p old (take ran.entries noted) ran.operators between
   pub plains : Plains code p between ran.plain new
   pub last : 1 ≤ ran.entries → ran.entries ≡ length noted → ran.plain ≡ 0
   pub valid : IsValid code new
@@ -108,7 +108,7 @@ pub record HasRunIn (r : Registers) (room : List Word) (code : Code) (p most : �
 pub record HasRun (code : Code) (p most : ℕ) (old : Image) (ran : Ran) (noted : List Letter) (new : Image) : Type 0 where
   pub between : Image
   pub few : ran.entries ≤ length noted
-  pub walks : Walks code p old (take ran.entries noted) ran.operators between
+  pub walks : EntriesWalk code p old (take ran.entries noted) ran.operators between
   pub plains : Plains code p between ran.plain new
   pub last : 1 ≤ ran.entries → ran.entries ≡ length noted → ran.plain ≡ 0
   pub stops : ran.operators + ran.plain < most → IsOpenAt ran.entries noted → plain code new p ≡ false

@@ -4,15 +4,15 @@ ghost use Rattle.b67_list.specs.Numbered.{numbered};
 ghost use Rattle.b67_ops.specs.Spelling.{Fits};
 ghost use Rattle.b67_table.specs.Effect.{Effect};
 ghost use Rattle.b67_table.specs.Image.{Image};
-ghost use Rattle.b67_private.specs.Parts.{IsPart};
+ghost use Rattle.b67_private.specs.Parts.{IsPrivatePart};
 ghost use Rattle.b67_intrinsics.specs.declared.hindrance.Hindrance.TheVariants.{NoMemory};
 ghost use Rattle.b67_reach.specs.Images.{image_of};
 ghost use Rattle.b67_reach.specs.Woken.{KeepsPlaces};
 ghost use Rattle.b67_action.specs.declared.rows.Row.TheVariants.{Enter};
 ghost use Rattle.b67_action.specs.Acting.{IsActing, row_effect, ComesOrNot, CallsMaker, RowReleases};
-ghost use Rattle.b67_action.specs.Among.{Comes};
+ghost use Rattle.b67_action.specs.Among.{EffectComes};
 ghost use Rattle.b67_action.specs.Lettered.{row_letter};
-ghost use Rattle.b67_action.specs.Own.{part_of};
+ghost use Rattle.b67_action.specs.Own.{part_of_process};
 ghost use Rattle.b67_action.specs.Rows.{IsHeldRow};
 
 use crate::entering::{enter, hindered};
@@ -30,7 +30,7 @@ use b67_store::Core;
 
 // The answer of an operator, without its letter.
 fn plainly(answer: Result<Letter, Stop>) -> Result<(), Stop>
-    ensures comes { (p : ℕ) (effect : Effect Image) (old new : Image) → Comes p effect old new answer → Comes p effect old new result }
+    ensures comes { (p : ℕ) (effect : Effect Image) (old new : Image) → EffectComes p effect old new answer → EffectComes p effect old new result }
 {
     match answer {
         Ok(_) => Ok(()),
@@ -49,11 +49,11 @@ fn perform_plainly<C: Core>(
     next: u16,
 ) -> Result<(), Stop>
     requires acting { IsActing (C.Core.stacks core.old) (C.Core.rows core.old) kernel.old parts.old process }
-    requires part { IfSome (numbered parts.old.regs.items process) (λ r. IsPart (part_of (C.Core.stacks core.old) r)) }
+    requires part { IfSome (numbered parts.old.regs.items process) (λ r. IsPrivatePart (part_of_process (C.Core.stacks core.old) r)) }
     requires fits { IfSome (numbered parts.old.regs.items process) (λ r. Fits r.ll op.now) }
     requires held { IsHeldRow row }
     requires plain { row ≢ Enter }
-    ensures comes { Comes process (row_effect row parts.old.code op.now next process (numbered parts.old.regs.items process) (image_of (C.Core.stacks core.old) (C.Core.rows core.old) kernel.old parts.old)) (image_of (C.Core.stacks core.old) (C.Core.rows core.old) kernel.old parts.old) (image_of (C.Core.stacks core.new) (C.Core.rows core.new) kernel.new parts.new) result }
+    ensures comes { EffectComes process (row_effect row parts.old.code op.now next process (numbered parts.old.regs.items process) (image_of (C.Core.stacks core.old) (C.Core.rows core.old) kernel.old parts.old)) (image_of (C.Core.stacks core.old) (C.Core.rows core.old) kernel.old parts.old) (image_of (C.Core.stacks core.new) (C.Core.rows core.new) kernel.new parts.new) result }
     ensures woken { OnOk result (RowReleases row (image_of (C.Core.stacks core.old) (C.Core.rows core.old) kernel.old parts.old) (numbered parts.old.regs.items process) parts.old.woken.processes.items parts.new.woken.processes.items) }
     ensures capacity { KeepsPlaces parts.old.woken parts.new.woken }
     ensures processes { kernel.new.room ≡ kernel.old.room }
@@ -81,7 +81,7 @@ pub fn perform<C: Core>(
     letter: &mut Option<Letter>,
 ) -> Result<(), Hindrance>
     requires acting { IsActing (C.Core.stacks core.old) (C.Core.rows core.old) kernel.old parts.old process }
-    requires part { IfSome (numbered parts.old.regs.items process) (λ r. IsPart (part_of (C.Core.stacks core.old) r)) }
+    requires part { IfSome (numbered parts.old.regs.items process) (λ r. IsPrivatePart (part_of_process (C.Core.stacks core.old) r)) }
     requires fits { IfSome (numbered parts.old.regs.items process) (λ r. Fits r.ll op.now) }
     requires held { IsHeldRow row }
     ensures comes { ComesOrNot process (row_effect row parts.old.code op.now next process (numbered parts.old.regs.items process) (image_of (C.Core.stacks core.old) (C.Core.rows core.old) kernel.old parts.old)) (image_of (C.Core.stacks core.old) (C.Core.rows core.old) kernel.old parts.old) (image_of (C.Core.stacks core.new) (C.Core.rows core.new) kernel.new parts.new) result }

@@ -1,9 +1,9 @@
 // Arrays, seen from the lent room of a process's own stack: what the two words on top name.
 ghost use Rattle.std.specs.Prelude.{◌≡◌, ◌+◌, ◌<◌, ◌≤◌, IfSome, Some, true, false, length};
 ghost use Rattle.b67_control.specs.Control.{as_descriptor, Fits_descriptor};
-ghost use Rattle.b67_table.specs.Arrays.{is_array, index, index_in};
+ghost use Rattle.b67_table.specs.Arrays.{is_array_descriptor, index_program, index_in};
 ghost use Rattle.b67_table.specs.Moves.{replaced};
-ghost use Rattle.b67_table.specs.Privacy.{Keeps};
+ghost use Rattle.b67_table.specs.Privacy.{RegistersStay};
 ghost use Rattle.b67_table.specs.Program.{answer};
 ghost use Rattle.b67_action.specs.OnRoom.{IsRoom, PerformsOn, IsArrayOf, SubscriptsOn, StoresOn};
 
@@ -15,7 +15,7 @@ use b67_word::Word;
 // The descriptor of an array, with or without mother, that a word is.
 #[inline(always)]
 fn array_in(mother: bool, word: Word) -> Option<Descriptor>
-    ensures found { IfSome result (λ array. (as_descriptor word ≡ Some array) × (is_array mother array ≡ true)) }
+    ensures found { IfSome result (λ array. (as_descriptor word ≡ Some array) × (is_array_descriptor mother array ≡ true)) }
     ensures fits { IfSome result Fits_descriptor }
 {
     let array = Descriptor::unpack(word)?;
@@ -108,7 +108,7 @@ pub fn replace_two(regs: &mut Registers, room: &mut [Word], word: Word, next: u1
     requires two { 2 ≤ regs.old.s }
     ensures done { PerformsOn (answer (replaced regs.old next 2 word)) regs.old room.old regs.new room.new }
     ensures fewer { regs.new.s + 1 ≡ regs.old.s }
-    ensures keeps { Keeps regs.old regs.new }
+    ensures keeps { RegistersStay regs.old regs.new }
 {
     let below = regs.s as usize - 2;
     room[below] = word;
@@ -120,10 +120,10 @@ pub fn replace_two(regs: &mut Registers, room: &mut [Word], word: Word, next: u1
 #[inline(always)]
 pub fn index(regs: &mut Registers, room: &mut [Word], next: u16) -> bool
     requires room { IsRoom regs.old room.old }
-    ensures done { result ≡ true → PerformsOn (index regs.old next) regs.old room.old regs.new room.new }
+    ensures done { result ≡ true → PerformsOn (index_program regs.old next) regs.old room.old regs.new room.new }
     ensures none { result ≡ false → (regs.new ≡ regs.old) × (room.new ≡ room.old) }
     ensures held { regs.new.s ≤ length room.old }
-    ensures keeps { Keeps regs.old regs.new }
+    ensures keeps { RegistersStay regs.old regs.new }
 {
     let Some((array, at)) = subscripted(regs, room, false) else {
         return false;

@@ -1,7 +1,7 @@
 // What an action comes to.
 ghost use Rattle.std.specs.Prelude.{◌≡◌};
 ghost use Rattle.b67_action.specs.Done.{went, hindered_by};
-ghost use Rattle.b67_action.specs.Lettered.{letter_by};
+ghost use Rattle.b67_action.specs.Lettered.{letter_by_done};
 
 use b67_deeds::Letter;
 use b67_intrinsics::Hindrance;
@@ -54,7 +54,7 @@ pub fn hindered_by(hindrance: Hindrance) -> Done
 
 /// The letter of what was not performed: a fault has its own.
 pub fn letter_by(done: Done) -> Option<Letter>
-    ensures { result ≡ letter_by done }
+    ensures { result ≡ letter_by_done done }
 {
     match done {
         Done::Fault(_) => Some(Letter::Fault),

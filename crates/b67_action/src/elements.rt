@@ -5,14 +5,14 @@ ghost use Rattle.b67_control.specs.Display.{levels};
 ghost use Rattle.b67_store.specs.Store.{stack_limit, with_cut};
 ghost use Rattle.b67_table.specs.Arrays.{index_and_load, index_mother};
 ghost use Rattle.b67_table.specs.Moves.{replaced};
-ghost use Rattle.b67_table.specs.Privacy.{Keeps};
+ghost use Rattle.b67_table.specs.Privacy.{RegistersStay};
 ghost use Rattle.b67_table.specs.Program.{answer};
 ghost use Rattle.b67_table.specs.Rows.{store};
 ghost use Rattle.b67_private.specs.Actions.{words_program};
 ghost use Rattle.b67_private.specs.Lettered.{words_letter};
 ghost use Rattle.b67_private.specs.declared.operators.WordsRow.TheVariants.{Store as StoreRow};
 ghost use Rattle.b67_deeds.specs.declared.Letter.TheVariants.{ElementStore};
-ghost use Rattle.b67_reach.specs.Answers.{Performs};
+ghost use Rattle.b67_reach.specs.Answers.{ProgramPerforms};
 ghost use Rattle.b67_action.specs.OnRoom.{Stores, Subscripts};
 ghost use Rattle.b67_action.specs.Reaching.{IsOpen, own_of};
 
@@ -43,9 +43,9 @@ fn named<C: Core>(core: &mut C, regs: &Registers, mother: bool) -> Option<(Descr
 fn put<C: Core>(core: &mut C, regs: &mut Registers, word: Word, next: u16)
     requires open { IsOpen (C.Core.stacks core.old) regs.old }
     requires two { 2 ≤ regs.old.s }
-    ensures done { Performs (answer (replaced regs.old next 2 word)) (own_of (C.Core.stacks core.old) (C.Core.rows core.old) regs.old) (own_of (C.Core.stacks core.new) (C.Core.rows core.new) regs.new) (Ok result) }
+    ensures done { ProgramPerforms (answer (replaced regs.old next 2 word)) (own_of (C.Core.stacks core.old) (C.Core.rows core.old) regs.old) (own_of (C.Core.stacks core.new) (C.Core.rows core.new) regs.new) (Ok result) }
     ensures open { IsOpen (C.Core.stacks core.new) regs.new }
-    ensures keeps { Keeps regs.old regs.new }
+    ensures keeps { RegistersStay regs.old regs.new }
 {
     let room = core.room(regs.stack, regs.s);
     replace_two(regs, room, word, next);
@@ -55,10 +55,10 @@ fn put<C: Core>(core: &mut C, regs: &mut Registers, word: Word, next: u16)
 #[inline(always)]
 fn load_element<C: Core>(core: &mut C, regs: &mut Registers, next: u16) -> bool
     requires open { IsOpen (C.Core.stacks core.old) regs.old }
-    ensures done { result ≡ true → Performs {A = Unit {0}} (index_and_load regs.old next) (own_of (C.Core.stacks core.old) (C.Core.rows core.old) regs.old) (own_of (C.Core.stacks core.new) (C.Core.rows core.new) regs.new) (Ok (tt {0})) }
+    ensures done { result ≡ true → ProgramPerforms {A = Unit {0}} (index_and_load regs.old next) (own_of (C.Core.stacks core.old) (C.Core.rows core.old) regs.old) (own_of (C.Core.stacks core.new) (C.Core.rows core.new) regs.new) (Ok (tt {0})) }
     ensures none { result ≡ false → own_of (C.Core.stacks core.new) (C.Core.rows core.new) regs.new ≡ own_of (C.Core.stacks core.old) (C.Core.rows core.old) regs.old }
     ensures open { IsOpen (C.Core.stacks core.new) regs.new }
-    ensures keeps { Keeps regs.old regs.new }
+    ensures keeps { RegistersStay regs.old regs.new }
 {
     let Some((array, at)) = named(core, regs, false) else {
         return false;
@@ -77,10 +77,10 @@ fn load_element<C: Core>(core: &mut C, regs: &mut Registers, next: u16) -> bool
 #[inline(always)]
 fn load_row<C: Core>(core: &mut C, regs: &mut Registers, next: u16) -> bool
     requires open { IsOpen (C.Core.stacks core.old) regs.old }
-    ensures done { result ≡ true → Performs {A = Unit {0}} (index_mother regs.old next) (own_of (C.Core.stacks core.old) (C.Core.rows core.old) regs.old) (own_of (C.Core.stacks core.new) (C.Core.rows core.new) regs.new) (Ok (tt {0})) }
+    ensures done { result ≡ true → ProgramPerforms {A = Unit {0}} (index_mother regs.old next) (own_of (C.Core.stacks core.old) (C.Core.rows core.old) regs.old) (own_of (C.Core.stacks core.new) (C.Core.rows core.new) regs.new) (Ok (tt {0})) }
     ensures none { result ≡ false → own_of (C.Core.stacks core.new) (C.Core.rows core.new) regs.new ≡ own_of (C.Core.stacks core.old) (C.Core.rows core.old) regs.old }
     ensures open { IsOpen (C.Core.stacks core.new) regs.new }
-    ensures keeps { Keeps regs.old regs.new }
+    ensures keeps { RegistersStay regs.old regs.new }
 {
     let Some((mother, at)) = named(core, regs, true) else {
         return false;
@@ -113,11 +113,11 @@ fn to_store<C: Core>(core: &mut C, regs: &Registers) -> Option<Storing>
 #[inline(always)]
 fn store_element<C: Core>(core: &mut C, regs: &mut Registers, next: u16) -> bool
     requires open { IsOpen (C.Core.stacks core.old) regs.old }
-    ensures done { result ≡ true → Performs {A = Unit {0}} (store false regs.old next) (own_of (C.Core.stacks core.old) (C.Core.rows core.old) regs.old) (own_of (C.Core.stacks core.new) (C.Core.rows core.new) regs.new) (Ok (tt {0})) }
+    ensures done { result ≡ true → ProgramPerforms {A = Unit {0}} (store false regs.old next) (own_of (C.Core.stacks core.old) (C.Core.rows core.old) regs.old) (own_of (C.Core.stacks core.new) (C.Core.rows core.new) regs.new) (Ok (tt {0})) }
     ensures letter { result ≡ true → words_letter (StoreRow false) (with_cut (C.Core.stacks core.old) regs.old.stack regs.old.s) regs.old ≡ Some ElementStore }
     ensures none { result ≡ false → own_of (C.Core.stacks core.new) (C.Core.rows core.new) regs.new ≡ own_of (C.Core.stacks core.old) (C.Core.rows core.old) regs.old }
     ensures open { IsOpen (C.Core.stacks core.new) regs.new }
-    ensures keeps { Keeps regs.old regs.new }
+    ensures keeps { RegistersStay regs.old regs.new }
 {
     let Some(stored) = to_store(core, regs) else {
         return false;
@@ -142,11 +142,11 @@ pub fn reach_at_once<C: Core>(
     next: u16,
 ) -> Option<Letter>
     requires open { IsOpen (C.Core.stacks core.old) regs.old }
-    ensures done { IfSome result (λ l. Performs {A = Unit {0}} (words_program kind regs.old next) (own_of (C.Core.stacks core.old) (C.Core.rows core.old) regs.old) (own_of (C.Core.stacks core.new) (C.Core.rows core.new) regs.new) (Ok (tt {0}))) }
+    ensures done { IfSome result (λ l. ProgramPerforms {A = Unit {0}} (words_program kind regs.old next) (own_of (C.Core.stacks core.old) (C.Core.rows core.old) regs.old) (own_of (C.Core.stacks core.new) (C.Core.rows core.new) regs.new) (Ok (tt {0}))) }
     ensures letter { IfSome result (λ l. words_letter kind (with_cut (C.Core.stacks core.old) regs.old.stack regs.old.s) regs.old ≡ Some l) }
     ensures none { result ≡ None → own_of (C.Core.stacks core.new) (C.Core.rows core.new) regs.new ≡ own_of (C.Core.stacks core.old) (C.Core.rows core.old) regs.old }
     ensures open { IsOpen (C.Core.stacks core.new) regs.new }
-    ensures keeps { Keeps regs.old regs.new }
+    ensures keeps { RegistersStay regs.old regs.new }
 {
     match kind {
         WordsRow::IndexAndLoad => if_went(load_element(core, regs, next), Letter::ElementRead),

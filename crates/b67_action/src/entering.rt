@@ -13,7 +13,7 @@ ghost use Rattle.b67_intrinsics.specs.Called.{called_in, Tries};
 ghost use Rattle.b67_intrinsics.specs.Names.{Releases};
 ghost use Rattle.b67_reach.specs.Images.{image_of};
 ghost use Rattle.b67_reach.specs.Woken.{KeepsPlaces};
-ghost use Rattle.b67_reach.specs.Answers.{Acts};
+ghost use Rattle.b67_reach.specs.Answers.{ProgramActs};
 ghost use Rattle.b67_action.specs.Acting.{IsActing, IsEntering, selects, hindered, CallsMaker, CallReleases, EnterReleases};
 ghost use Rattle.b67_action.specs.Among.{ActsIn};
 ghost use Rattle.b67_action.specs.Done.{makes};
@@ -108,7 +108,7 @@ fn call_plainly<C: Core>(
     requires acting { IsActing (C.Core.stacks core.old) (C.Core.rows core.old) kernel.old parts.old process }
     requires entering { IsEntering (numbered parts.old.regs.items process) }
     requires plain { makes (Some name) ≡ false }
-    ensures acts { Acts process (called_in (row_of_intrinsic name) parts.old.code (numbered parts.old.regs.items process) next mark.now) (image_of (C.Core.stacks core.old) (C.Core.rows core.old) kernel.old parts.old) (image_of (C.Core.stacks core.new) (C.Core.rows core.new) kernel.new parts.new) result }
+    ensures acts { ProgramActs process (called_in (row_of_intrinsic name) parts.old.code (numbered parts.old.regs.items process) next mark.now) (image_of (C.Core.stacks core.old) (C.Core.rows core.old) kernel.old parts.old) (image_of (C.Core.stacks core.new) (C.Core.rows core.new) kernel.new parts.new) result }
     ensures woken { OnOk result (Releases name (image_of (C.Core.stacks core.old) (C.Core.rows core.old) kernel.old parts.old) (numbered parts.old.regs.items process) mark.now parts.old.woken.processes.items parts.new.woken.processes.items) }
     ensures capacity { KeepsPlaces parts.old.woken parts.new.woken }
     ensures processes { kernel.new.room ≡ kernel.old.room }

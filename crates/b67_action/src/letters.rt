@@ -4,7 +4,7 @@ ghost use Rattle.b67_list.specs.Numbered.{numbered};
 ghost use Rattle.b67_control.specs.Display.{levels};
 ghost use Rattle.b67_events.specs.Events.{Events};
 ghost use Rattle.b67_store.specs.Store.{stack_limit};
-ghost use Rattle.b67_table.specs.Look.{◌>->◌, seen};
+ghost use Rattle.b67_table.specs.Look.{◌>->◌, look_seen};
 ghost use Rattle.b67_table.specs.Private.{frame};
 ghost use Rattle.b67_table.specs.References.{couple_cell, cell_of, reached, popped, popped_two};
 ghost use Rattle.b67_letters.specs.Letters.{told_by, value_letter, place_letter, loaded_letter, stored_letter, left_letter, wait_letter, letter_of};
@@ -32,7 +32,7 @@ use b67_table::frame;
 // VALC, by what the couple's reference reaches.
 fn value_letter<C: Core>(core: &C, regs: &Registers, couple: Couple) -> Option<Letter>
     requires couple { couple.level < levels }
-    ensures { result ≡ told_by value_letter (seen (C.Core.stacks core.now) (reached (couple_cell regs.now couple.level couple.index))) }
+    ensures { result ≡ told_by value_letter (look_seen (C.Core.stacks core.now) (reached (couple_cell regs.now couple.level couple.index))) }
 {
     match reached(core, couple_cell(regs, couple.level, couple.index)) {
         Ok(found) => Some(entered_or(Letter::Read, found.word)),
@@ -43,7 +43,7 @@ fn value_letter<C: Core>(core: &C, regs: &Registers, couple: Couple) -> Option<L
 // EVAL, by what the reference on top reaches.
 fn place_letter<C: Core>(core: &C, regs: &Registers) -> Option<Letter>
     requires linked { IsLinked (C.Core.stacks core.now) (C.Core.rows core.now) regs.now }
-    ensures { result ≡ told_by place_letter (seen (C.Core.stacks core.now) (popped regs.now >-> (λ x. reached (cell_of regs.now x)))) }
+    ensures { result ≡ told_by place_letter (look_seen (C.Core.stacks core.now) (popped regs.now >-> (λ x. reached (cell_of regs.now x)))) }
 {
     match evaluated(core, regs) {
         Ok(found) => Some(entered_or(Letter::Resolve, found.word)),
@@ -55,7 +55,7 @@ fn place_letter<C: Core>(core: &C, regs: &Registers) -> Option<Letter>
 fn loaded_letter<C: Core>(core: &C, regs: &Registers) -> Option<Letter>
     requires level { regs.now.ll < levels }
     requires room { regs.now.s ≤ stack_limit }
-    ensures { result ≡ told_by loaded_letter (seen (C.Core.stacks core.now) (popped regs.now)) }
+    ensures { result ≡ told_by loaded_letter (look_seen (C.Core.stacks core.now) (popped regs.now)) }
 {
     match popped(core, regs) {
         Ok(x) => Some(element_or_not(Letter::ElementRead, Letter::Read, x)),
@@ -67,7 +67,7 @@ fn loaded_letter<C: Core>(core: &C, regs: &Registers) -> Option<Letter>
 fn stored_letter<C: Core>(core: &C, regs: &Registers) -> Option<Letter>
     requires level { regs.now.ll < levels }
     requires room { regs.now.s ≤ stack_limit }
-    ensures { result ≡ told_by stored_letter (seen (C.Core.stacks core.now) (popped_two regs.now)) }
+    ensures { result ≡ told_by stored_letter (look_seen (C.Core.stacks core.now) (popped_two regs.now)) }
 {
     match popped_two(core, regs) {
         Ok(two) => Some(element_or_not(Letter::ElementStore, Letter::Store, two.1)),

@@ -8,7 +8,7 @@ ghost use Rattle.b67_letters.specs.Letters.{letter};
 ghost use Rattle.b67_letters.specs.Releases.{releases};
 ghost use Rattle.b67_reach.specs.Images.{image_of};
 ghost use Rattle.b67_action.specs.Able.{AbleAfter};
-ghost use Rattle.b67_action.specs.Done.{is_performed, Came, HasRoom};
+ghost use Rattle.b67_action.specs.Done.{is_performed, Came, KernelHasRoom};
 ghost use Rattle.b67_action.specs.Lettered.{letter_in};
 
 use crate::acting::perform;
@@ -36,7 +36,7 @@ pub fn action<C: Core>(
 ) -> (Done, Option<Letter>)
     requires valid { IsValid parts.old.code (image_of (C.Core.stacks core.old) (C.Core.rows core.old) kernel.old parts.old) }
     requires able { is_able (numbered parts.old.states.items process) ≡ true }
-    requires room { HasRoom kernel.old parts.old }
+    requires room { KernelHasRoom kernel.old parts.old }
     requires table { IfSome (numbered parts.old.regs.items process) (λ r. IfSome table (λ t. AreDecoded parts.old.code r.segment r.ll t.now)) }
     ensures came { Came parts.old.code (image_of (C.Core.stacks core.old) (C.Core.rows core.old) kernel.old parts.old) process result.0 (image_of (C.Core.stacks core.new) (C.Core.rows core.new) kernel.new parts.new) }
     ensures letter { result.1 ≡ letter_in result.0 (letter parts.old.code (image_of (C.Core.stacks core.old) (C.Core.rows core.old) kernel.old parts.old) process) }
@@ -44,7 +44,7 @@ pub fn action<C: Core>(
     ensures nobody { is_performed result.0 ≡ false → parts.new.woken.processes.items ≡ [] }
     ensures able { is_performed result.0 ≡ true → AbleAfter (image_of (C.Core.stacks core.old) (C.Core.rows core.old) kernel.old parts.old) (image_of (C.Core.stacks core.new) (C.Core.rows core.new) kernel.new parts.new) process parts.new.woken.processes.items }
     ensures valid { IsValid parts.old.code (image_of (C.Core.stacks core.new) (C.Core.rows core.new) kernel.new parts.new) }
-    ensures room { HasRoom kernel.new parts.new }
+    ensures room { KernelHasRoom kernel.new parts.new }
     ensures processes { kernel.new.room ≡ kernel.old.room }
     ensures code { parts.new.code ≡ parts.old.code }
 {

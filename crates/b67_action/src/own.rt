@@ -5,9 +5,9 @@ ghost use Rattle.b67_ops.specs.Spelling.{Fits};
 ghost use Rattle.b67_store.specs.Store.{stack_at, words_of, with_stack, stack_limit};
 ghost use Rattle.b67_linkage.specs.Held.{IsLinked};
 ghost use Rattle.b67_operators.specs.Leaves.{IsLinkedIn};
-ghost use Rattle.b67_private.specs.Parts.{IsPart};
-ghost use Rattle.b67_reach.specs.Images.{own};
-ghost use Rattle.b67_action.specs.Own.{part_of, stop_by, DoesOwn, DoesOwnIn};
+ghost use Rattle.b67_private.specs.Parts.{IsPrivatePart};
+ghost use Rattle.b67_reach.specs.Images.{own_of_image};
+ghost use Rattle.b67_action.specs.Own.{part_of_process, stop_by, DoesOwn, DoesOwnIn};
 
 use b67_linkage::{cut_words, push_word};
 use b67_ops::Operator;
@@ -80,9 +80,9 @@ pub fn perform_own<C: Core>(
     next: u16,
 ) -> Result<(), Stop>
     requires linked { IsLinked (C.Core.stacks core.old) (C.Core.rows core.old) regs.old }
-    requires part { IsPart (part_of (C.Core.stacks core.old) regs.old) }
+    requires part { IsPrivatePart (part_of_process (C.Core.stacks core.old) regs.old) }
     requires fits { Fits regs.old.ll op.now }
-    ensures { DoesOwn op.now next (own (C.Core.stacks core.old) (C.Core.rows core.old) regs.old) (own (C.Core.stacks core.new) (C.Core.rows core.new) regs.new) result }
+    ensures { DoesOwn op.now next (own_of_image (C.Core.stacks core.old) (C.Core.rows core.old) regs.old) (own_of_image (C.Core.stacks core.new) (C.Core.rows core.new) regs.new) result }
 {
     let stack = regs.stack;
     let least = room_for(regs);
@@ -104,7 +104,7 @@ pub fn perform_own_in<C: Core>(
     next: u16,
 ) -> Result<(), Stop>
     requires linked { IsLinkedIn (C.Core.stacks core.old) (C.Core.rows core.old) (numbered all.old.items process) }
-    requires part { IfSome (numbered all.old.items process) (λ r. IsPart (part_of (C.Core.stacks core.old) r)) }
+    requires part { IfSome (numbered all.old.items process) (λ r. IsPrivatePart (part_of_process (C.Core.stacks core.old) r)) }
     requires fits { IfSome (numbered all.old.items process) (λ r. Fits r.ll op.now) }
     ensures does { DoesOwnIn op.now next (C.Core.stacks core.old) (C.Core.rows core.old) all.old.items process (C.Core.stacks core.new) (C.Core.rows core.new) all.new.items result }
     ensures room { vec_capacity all.old ≤ vec_capacity all.new }

@@ -3,14 +3,14 @@ ghost use Rattle.std.specs.Prelude.{◌≡◌, ◌⊎◌, ◌+◌, ◌<◌, ◌�
 ghost use Rattle.b67_segment.specs.Decoded.{AreDecoded};
 ghost use Rattle.b67_store.specs.Store.{with_cut, stack_limit};
 ghost use Rattle.b67_table.specs.Image.{Image};
-ghost use Rattle.b67_table.specs.Privacy.{Keeps};
+ghost use Rattle.b67_table.specs.Privacy.{RegistersStay};
 ghost use Rattle.b67_linkage.specs.Held.{IsLinked};
 ghost use Rattle.b67_private.specs.Actions.{words_program, IsHeldWords};
 ghost use Rattle.b67_private.specs.Lettered.{words_letter};
-ghost use Rattle.b67_reach.specs.Answers.{Performs};
-ghost use Rattle.b67_reach.specs.Images.{own, with_own};
-ghost use Rattle.b67_action.specs.Reaching.{IsIn, IsInOpen, IsOpen, own_of, enters};
-ghost use Rattle.b67_action.specs.Running.{GoesOn, IsOpenAt, HasCome, HasRun};
+ghost use Rattle.b67_reach.specs.Answers.{ProgramPerforms};
+ghost use Rattle.b67_reach.specs.Images.{own_of_image, with_own};
+ghost use Rattle.b67_action.specs.Reaching.{ProcessIsIn, IsInOpen, IsOpen, own_of, enters};
+ghost use Rattle.b67_action.specs.Running.{ActionGoesOn, IsOpenAt, HasCome, HasRun};
 
 use crate::elements::reach_at_once;
 use crate::own::room_for;
@@ -79,7 +79,7 @@ fn run_lent<C: Core>(
     ensures counted { result.ran.entries ≤ result.ran.operators }
     ensures size { length letters.new ≡ length letters.old }
     ensures most { result.ran.operators + result.ran.plain ≤ most }
-    ensures keeps { Keeps regs.old regs.new }
+    ensures keeps { RegistersStay regs.old regs.new }
 {
     let least = room_for(regs);
     let room = core.room(regs.stack, least);
@@ -107,7 +107,7 @@ fn run_here<C: Core>(
     ensures counted { result.entries ≤ result.operators }
     ensures size { length letters.new ≡ length letters.old }
     ensures most { result.operators + result.plain ≤ most }
-    ensures keeps { Keeps regs.old regs.new }
+    ensures keeps { RegistersStay regs.old regs.new }
 {
     let none = Ran {
         entries: 0,
@@ -132,9 +132,9 @@ fn reach_by_cut<C: Core>(
     requires linked { IsLinked (with_cut (C.Core.stacks core.old) regs.old.stack regs.old.s) (C.Core.rows core.old) regs.old }
     requires open { IsOpen (C.Core.stacks core.old) regs.old }
     requires held { IsHeldWords kind }
-    ensures done { IfSome result (λ l. Performs {A = Unit {0}} (words_program kind regs.old next) (own_of (C.Core.stacks core.old) (C.Core.rows core.old) regs.old) (own (C.Core.stacks core.new) (C.Core.rows core.new) regs.new) (Ok (tt {0}))) }
+    ensures done { IfSome result (λ l. ProgramPerforms {A = Unit {0}} (words_program kind regs.old next) (own_of (C.Core.stacks core.old) (C.Core.rows core.old) regs.old) (own_of_image (C.Core.stacks core.new) (C.Core.rows core.new) regs.new) (Ok (tt {0}))) }
     ensures letter { IfSome result (λ l. words_letter kind (with_cut (C.Core.stacks core.old) regs.old.stack regs.old.s) regs.old ≡ Some l) }
-    ensures none { result ≡ None → own (C.Core.stacks core.new) (C.Core.rows core.new) regs.new ≡ own_of (C.Core.stacks core.old) (C.Core.rows core.old) regs.old }
+    ensures none { result ≡ None → own_of_image (C.Core.stacks core.new) (C.Core.rows core.new) regs.new ≡ own_of (C.Core.stacks core.old) (C.Core.rows core.old) regs.old }
 {
     cut_words(core, regs.stack, regs.s);
     perform(core, regs, kind, next).ok()
@@ -151,10 +151,10 @@ fn reach<C: Core>(
     requires stands { (img : Image) × (p : ℕ) × IsInOpen code.now img p (C.Core.stacks core.old) (C.Core.rows core.old) regs.old }
     requires open { IsOpen (C.Core.stacks core.old) regs.old }
     requires table { IfSome table (λ t. AreDecoded code.now regs.old.segment regs.old.ll t.now) }
-    ensures went { IfSome result (λ l. (img : Image) (p : ℕ) → IsInOpen code.now img p (C.Core.stacks core.old) (C.Core.rows core.old) regs.old → GoesOn code.now p l img (with_own (own_of (C.Core.stacks core.new) (C.Core.rows core.new) regs.new) p img)) }
+    ensures went { IfSome result (λ l. (img : Image) (p : ℕ) → IsInOpen code.now img p (C.Core.stacks core.old) (C.Core.rows core.old) regs.old → ActionGoesOn code.now p l img (with_own (own_of (C.Core.stacks core.new) (C.Core.rows core.new) regs.new) p img)) }
     ensures none { result ≡ None → own_of (C.Core.stacks core.new) (C.Core.rows core.new) regs.new ≡ own_of (C.Core.stacks core.old) (C.Core.rows core.old) regs.old }
     ensures open { IsOpen (C.Core.stacks core.new) regs.new }
-    ensures keeps { Keeps regs.old regs.new }
+    ensures keeps { RegistersStay regs.old regs.new }
 {
     let Some((row, next)) = row_at(table, regs.place) else {
         return None;
@@ -193,7 +193,7 @@ fn run_open<C: Core>(
     ensures counted { result.entries ≤ result.operators }
     ensures size { length letters.new ≡ length letters.old }
     ensures most { result.operators + result.plain ≤ most }
-    ensures keeps { Keeps regs.old regs.new }
+    ensures keeps { RegistersStay regs.old regs.new }
 {
     let mut ran = run_here(core, regs, code, table, letters, most);
     'running: while (ran.entries as usize) < letters.len() && ran.operators + ran.plain < most {
@@ -227,14 +227,14 @@ pub fn run_own<C: Core>(
     letters: &mut [Letter],
     most: u32,
 ) -> Ran
-    requires stands { (img : Image) × (p : ℕ) × IsIn code.now img p (C.Core.stacks core.old) (C.Core.rows core.old) regs.old }
+    requires stands { (img : Image) × (p : ℕ) × ProcessIsIn code.now img p (C.Core.stacks core.old) (C.Core.rows core.old) regs.old }
     requires table { IfSome table (λ t. AreDecoded code.now regs.old.segment regs.old.ll t.now) }
-    ensures ran { (img : Image) (p : ℕ) → IsIn code.now img p (C.Core.stacks core.old) (C.Core.rows core.old) regs.old → HasRun code.now p most img result letters.new (with_own (own (C.Core.stacks core.new) (C.Core.rows core.new) regs.new) p img) }
+    ensures ran { (img : Image) (p : ℕ) → ProcessIsIn code.now img p (C.Core.stacks core.old) (C.Core.rows core.old) regs.old → HasRun code.now p most img result letters.new (with_own (own_of_image (C.Core.stacks core.new) (C.Core.rows core.new) regs.new) p img) }
     ensures entries { result.entries ≤ length letters.new }
     ensures counted { result.entries ≤ result.operators }
     ensures size { length letters.new ≡ length letters.old }
     ensures most { result.operators + result.plain ≤ most }
-    ensures keeps { Keeps regs.old regs.new }
+    ensures keeps { RegistersStay regs.old regs.new }
 {
     let ran = run_open(core, regs, code, table, letters, most);
     cut_words(core, regs.stack, regs.s);

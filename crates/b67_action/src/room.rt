@@ -1,8 +1,8 @@
 // VALC, STOD, BRUN back and INDX on the lent room of a process's own stack, where they read and write its cells only.
 ghost use Rattle.std.specs.Prelude.{◌≡◌, ◌<◌, ◌≤◌, None, IfSome, false, true, if◌then◌else◌, Some, length};
 ghost use Rattle.b67_control.specs.Display.{levels};
-ghost use Rattle.b67_table.specs.Privacy.{Keeps};
-ghost use Rattle.b67_table.specs.Rows.{value_call, store, turn};
+ghost use Rattle.b67_table.specs.Privacy.{RegistersStay};
+ghost use Rattle.b67_table.specs.Rows.{value_call, store, branch_turn};
 ghost use Rattle.b67_private.specs.Actions.{words_program, IsHeldWords};
 ghost use Rattle.b67_private.specs.declared.operators.WordsRow.TheVariants.{Store, ValueCall};
 ghost use Rattle.b67_action.specs.Lettered.{LettersOn};
@@ -42,7 +42,7 @@ fn value(regs: &mut Registers, room: &mut [Word], couple: Couple, next: u16) -> 
     ensures letter { result ≡ true → LettersOn (ValueCall couple) regs.old room.old letters.Read }
     ensures none { result ≡ false → (regs.new ≡ regs.old) × (room.new ≡ room.old) }
     ensures held { regs.new.s ≤ length room.old }
-    ensures keeps { Keeps regs.old regs.new }
+    ensures keeps { RegistersStay regs.old regs.new }
 {
     let Some(at) = operand_at(regs, room, couple.level, couple.index) else {
         return false;
@@ -65,7 +65,7 @@ fn store(regs: &mut Registers, room: &mut [Word], next: u16) -> bool
     ensures letter { result ≡ true → LettersOn (Store false) regs.old room.old letters.Store }
     ensures none { result ≡ false → (regs.new ≡ regs.old) × (room.new ≡ room.old) }
     ensures held { regs.new.s ≤ length room.old }
-    ensures keeps { Keeps regs.old regs.new }
+    ensures keeps { RegistersStay regs.old regs.new }
 {
     if floor(regs) + 2 > regs.s {
         return false;
@@ -91,10 +91,10 @@ fn store(regs: &mut Registers, room: &mut [Word], next: u16) -> bool
 #[inline(always)]
 fn turn(regs: &mut Registers, room: &[Word], kind: BranchKind, target: u16, next: u16) -> bool
     requires room { IsRoom regs.old room.now }
-    ensures done { result ≡ true → PerformsOn (turn kind target regs.old next) regs.old room.now regs.new room.now }
+    ensures done { result ≡ true → PerformsOn (branch_turn kind target regs.old next) regs.old room.now regs.new room.now }
     ensures none { result ≡ false → regs.new ≡ regs.old }
     ensures held { regs.new.s ≤ length room.now }
-    ensures keeps { Keeps regs.old regs.new }
+    ensures keeps { RegistersStay regs.old regs.new }
 {
     match kind {
         BranchKind::Brun => {
@@ -127,7 +127,7 @@ pub fn perform_on_room(
     ensures letter { IfSome result (λ l. LettersOn row regs.old room.old l) }
     ensures none { result ≡ None → (regs.new ≡ regs.old) × (room.new ≡ room.old) }
     ensures held { regs.new.s ≤ length room.old }
-    ensures keeps { Keeps regs.old regs.new }
+    ensures keeps { RegistersStay regs.old regs.new }
 {
     match row {
         WordsRow::ValueCall(couple) => if_went(value(regs, room, couple, next), Letter::Read),

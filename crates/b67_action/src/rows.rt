@@ -6,7 +6,7 @@ ghost use Rattle.b67_ops.specs.declared.Operator.TheVariants.{Plain};
 ghost use Rattle.b67_ops.specs.declared.PlainKind.TheVariants.{Entr};
 ghost use Rattle.b67_action.specs.declared.rows.Row.TheVariants.{Enter};
 ghost use Rattle.b67_action.specs.Lettered.{HasLetter};
-ghost use Rattle.b67_action.specs.Rows.{HasRow, IsHeldRow};
+ghost use Rattle.b67_action.specs.Rows.{ActionHasRow, IsHeldRow};
 
 use b67_ops::Operator;
 use b67_private::WordsRow;
@@ -25,7 +25,7 @@ pub enum Row {
 // The row of an operator at its place.
 pub fn row_of(op: &Operator, place: u16) -> Row
     requires { FitsAs IsHeldCouple op.now }
-    ensures row { HasRow op.now place result }
+    ensures row { ActionHasRow op.now place result }
     ensures letter { HasLetter op.now place result }
     ensures held { IsHeldRow result }
     ensures enters { result ≡ Enter → op.now ≡ Plain Entr }

@@ -3,7 +3,7 @@ ghost use Rattle.std.specs.Prelude.{◌≡◌, ◌+◌, ◌-◌, ◌≤◌, ℕ,
 ghost use Rattle.b67_segment.specs.Decoded.{found, AreDecoded};
 ghost use Rattle.b67_store.specs.Store.{stack_limit};
 ghost use Rattle.b67_table.specs.Image.{Image};
-ghost use Rattle.b67_table.specs.Privacy.{Keeps};
+ghost use Rattle.b67_table.specs.Privacy.{RegistersStay};
 ghost use Rattle.b67_private.specs.Parts.{HasRoom};
 ghost use Rattle.b67_private.specs.Prepared.{IsRowOf};
 ghost use Rattle.b67_private.specs.declared.operators.Row.TheVariants.{Words};
@@ -36,7 +36,7 @@ fn plain_by_row(regs: &mut Registers, room: &mut [Word], code: &Code, row: Row, 
     ensures steps { (img : Image) (p : ℕ) → IsLent code.now img p regs.old room.old → StepsTo (plain_step regs.new room.new result) code.now p img (given_back regs.new room.new p img) }
     ensures lends { (img : Image) (p : ℕ) → IsLent code.now img p regs.old room.old → IsLent code.now (given_back regs.new room.new p img) p regs.new room.new }
     ensures held { regs.new.s ≤ length room.old }
-    ensures keeps { Keeps regs.old regs.new }
+    ensures keeps { RegistersStay regs.old regs.new }
 {
     perform(regs, room, row, next).is_ok()
 }
@@ -55,7 +55,7 @@ fn plain_fetched(
     ensures steps { (img : Image) (p : ℕ) → IsLent code.now img p regs.old room.old → StepsTo (plain_step regs.new room.new result) code.now p img (given_back regs.new room.new p img) }
     ensures lends { (img : Image) (p : ℕ) → IsLent code.now img p regs.old room.old → IsLent code.now (given_back regs.new room.new p img) p regs.new room.new }
     ensures held { regs.new.s ≤ length room.old }
-    ensures keeps { Keeps regs.old regs.new }
+    ensures keeps { RegistersStay regs.old regs.new }
 {
     perform_fetched(regs, room, code, table)
 }
@@ -77,7 +77,7 @@ fn act_by_row(
     ensures steps { (img : Image) (p : ℕ) → IsLent code.now img p regs.old room.old → StepsTo (act_step result) code.now p img (given_back regs.new room.new p img) }
     ensures lends { (img : Image) (p : ℕ) → IsLent code.now img p regs.old room.old → IsLent code.now (given_back regs.new room.new p img) p regs.new room.new }
     ensures held { regs.new.s ≤ length room.old }
-    ensures keeps { Keeps regs.old regs.new }
+    ensures keeps { RegistersStay regs.old regs.new }
     ensures allowed { IfSome result (λ l. allowed ≡ true) }
 {
     if !allowed {
@@ -125,7 +125,7 @@ pub fn go_on_room(
     ensures size { length letters.new ≡ length letters.old }
     ensures most { result.operators + result.plain ≤ most }
     ensures held { regs.new.s ≤ length room.old }
-    ensures keeps { Keeps regs.old regs.new }
+    ensures keeps { RegistersStay regs.old regs.new }
 {
     // the plain operators after the last entry are those that are done beyond its own
     let mut entries = so_far.entries;
@@ -181,7 +181,7 @@ pub fn run_on_room(
     ensures counted { result.entries ≤ result.operators }
     ensures size { length letters.new ≡ length letters.old }
     ensures most { result.operators + result.plain ≤ most }
-    ensures keeps { Keeps regs.old regs.new }
+    ensures keeps { RegistersStay regs.old regs.new }
 {
     let none = Ran {
         entries: 0,

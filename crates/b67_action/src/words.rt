@@ -4,8 +4,8 @@ ghost use Rattle.b67_control.specs.Control.{Fits_pcw};
 ghost use Rattle.b67_list.specs.Numbered.{numbered};
 ghost use Rattle.b67_linkage.specs.Held.{IsLinked};
 ghost use Rattle.b67_operators.specs.Leaves.{IsLinkedIn};
-ghost use Rattle.b67_reach.specs.Images.{own};
-ghost use Rattle.b67_reach.specs.Answers.{Performs};
+ghost use Rattle.b67_reach.specs.Images.{own_of_image};
+ghost use Rattle.b67_reach.specs.Answers.{ProgramPerforms};
 ghost use Rattle.b67_action.specs.Among.{ActsIn, entry_program};
 ghost use Rattle.b67_private.specs.Actions.{words_program, IsHeldWords};
 ghost use Rattle.b67_private.specs.Lettered.{words_letter};
@@ -29,7 +29,7 @@ pub fn perform<C: Core>(
     requires linked { IsLinked (C.Core.stacks core.old) (C.Core.rows core.old) regs.old }
     requires held { IsHeldWords row }
     ensures letter { IfOk result (λ l. words_letter row (C.Core.stacks core.old) regs.old ≡ Some l) }
-    ensures performs { Performs (words_program row regs.old next) (own (C.Core.stacks core.old) (C.Core.rows core.old) regs.old) (own (C.Core.stacks core.new) (C.Core.rows core.new) regs.new) result }
+    ensures performs { ProgramPerforms (words_program row regs.old next) (own_of_image (C.Core.stacks core.old) (C.Core.rows core.old) regs.old) (own_of_image (C.Core.stacks core.new) (C.Core.rows core.new) regs.new) result }
 {
     match row {
         WordsRow::ValueCall(couple) => value_call(core, regs, next, couple),

@@ -15,8 +15,8 @@ use Rattle.b67_asm_text.specs.declared.phrase.Stand.{Stand}
 use Rattle.b67_asm_text.specs.declared.phrase.Stand.TheVariants.{Before, Due, Quoted, Sized, After, Closed, Wrong}
 use Rattle.b67_asm_text.specs.declared.item.Reading.{Reading}
 use Rattle.b67_asm_text.specs.declared.item.Reading.TheVariants.{Blank, NoItem, Segment, Level, Label, Operator, Format}
-use Rattle.b67_asm_text.specs.Phrases.{Read, after, are_in_range, before, closed, due, ended, is_printable, longer, next, next_at, phrases_at, phrases_in, quoted, read_from, read_phrases, sized, sized_phrase, start, widened}
-use Rattle.b67_asm_text.specs.Items.{format_from, format_of, format_or, reading, reading_of}
+use Rattle.b67_asm_text.specs.Phrases.{Read, after_phrase, are_in_range, before, closed, due, ended, is_printable, longer, next, next_at, phrases_at, phrases_in, quoted, read_from, read_phrases, sized, sized_phrase, reader_start, widened}
+use Rattle.b67_asm_text.specs.Items.{format_from, format_of, format_or, record_reading, reading_of}
 use Rattle.b67_asm_text.specs.Records.{code_part, unblanked}
 use Rattle.b67_asm.specs.Writable.{CanBeWritten}
 use Rattle.b67_asm.proofs.Unbroken.{AllFit}
@@ -65,7 +65,7 @@ due_well byte phrases =
     (λ f. cond_both (byte == 73) (Sized false None) (if byte == 88 then Sized true None else Wrong) P (λ g. tt)
     (λ g. cond_both (byte == 88) (Sized true None) Wrong P (λ h. tt) (λ h. tt))))
 
-after_well : (byte : ℕ) → AfterOne (after byte)
+after_well : (byte : ℕ) → AfterOne (after_phrase byte)
 unfolding StandsWell
 after_well byte =
     cond_both (is_blank byte) After (if byte == 44 then Due else (if byte == 62 then Closed else Wrong)) AfterOne (λ e text phrases some. some)
@@ -137,7 +137,7 @@ all_read : (r : Read) (bytes : List ℕ) → IsRead r → IsRead (read_from r by
 all_read r [] h = h
 all_read r (byte ∷ bytes) h = all_read (next r byte) bytes (next_read r.stand r byte refl h h.stands)
 
-start_read : IsRead start
+start_read : IsRead reader_start
 unfolding StandsWell
 start_read = record { phrases = All-nil IsPhrase; stands = tt }
 
@@ -163,8 +163,8 @@ closed_has Wrong text found phrases well all h = let clash : None ≡ Some phras
 
 read_has : (bytes : List ℕ) (phrases : List Phrase) → read_phrases bytes ≡ Some phrases → ArePhrases phrases
 read_has bytes phrases h =
-    let r = read_from start bytes in
-    let is = all_read start bytes start_read in
+    let r = read_from reader_start bytes in
+    let is = all_read reader_start bytes start_read in
     closed_has r.stand r.text r.phrases phrases is.stands is.phrases h
 
 phrases_has : (text : List ℕ) (phrases : List Phrase) → phrases_in text ≡ Some phrases → ArePhrases phrases
@@ -198,8 +198,8 @@ forms_from (byte ∷ text) (Some phrases) is fits =
     let own : IsForm form = record { phrases = has.are; can = record { some = has.some; fits = here.0 } } in
     All-cons IsForm form [] own (All-nil IsForm)
 
-forms_of : (bytes : List ℕ) → AllFit (reading bytes ∷ []) → All IsForm (format_of bytes)
-unfolding reading format_of
+forms_of : (bytes : List ℕ) → AllFit (record_reading bytes ∷ []) → All IsForm (format_of bytes)
+unfolding record_reading format_of
 forms_of bytes fits = forms_from (unblanked (code_part bytes)) (phrases_in (unblanked (code_part bytes))) refl fits
 
 first_fits : (first : Reading) (rest : List Reading) → AllFit (first ∷ rest) → AllFit (first ∷ []) × AllFit rest
@@ -211,8 +211,8 @@ first_fits (Label name) rest h = (tt, h)
 first_fits (Operator written) rest h = (tt, h)
 first_fits (Format fits) rest h = ((h.0, tt), h.1)
 
-pub forms_in : (lines : List (List ℕ)) → AllFit (map reading lines) → All IsForm (flat_map format_of lines)
+pub forms_in : (lines : List (List ℕ)) → AllFit (map record_reading lines) → All IsForm (flat_map format_of lines)
 forms_in [] h = All-nil IsForm
 forms_in (line ∷ lines) h =
-    let p = first_fits (reading line) (map reading lines) h in
+    let p = first_fits (record_reading line) (map record_reading lines) h in
     All-append IsForm (format_of line) (flat_map format_of lines) (forms_of line p.0) (forms_in lines p.1)

@@ -14,7 +14,7 @@ use Rattle.b67_asm_text.specs.declared.item.Reading.TheVariants.{Blank, NoItem, 
 use Rattle.b67_asm.specs.declared.label.Standing.{Standing}
 use Rattle.b67_asm.specs.Labels.{found_in, labels_from, label_named, place_after}
 use Rattle.b67_asm.specs.Rules.{is_segment}
-use Rattle.b67_asm.specs.Steps.{Adds, AtSegment, Gathers, Table}
+use Rattle.b67_asm.specs.Steps.{LabelAdds, AtSegment, Gathers, LabelTable}
 use Rattle.b67_asm.proofs.Tables.{or_none}
 use Rattle.b67_asm.proofs.Lines.{line_at, is_segment-true}
 
@@ -36,8 +36,8 @@ passes (Label name) no_label no_operator plain rest line at = absurd (no_label n
 passes (Operator written) no_label no_operator plain rest line at = absurd (no_operator written refl)
 passes (Format fits) no_label no_operator plain rest line at = refl
 
-module _ (old : Table) (line at : ℕ) (reading : Reading) where
-  pub gathers_label : (new : Table) (name bytes : List ℕ) → reading ≡ Label name → bytes ≡ name → Adds old new bytes (record { line = line; place = at }) → Gathers old new line at reading at
+module _ (old : LabelTable) (line at : ℕ) (reading : Reading) where
+  pub gathers_label : (new : LabelTable) (name bytes : List ℕ) → reading ≡ Label name → bytes ≡ name → LabelAdds old new bytes (record { line = line; place = at }) → Gathers old new line at reading at
   gathers_label new name bytes is same adds rest other =
       let standing : Standing = record { line = line; place = at } in
       let later = label_named (labels_from (line + 1) at rest) other in
@@ -58,13 +58,13 @@ module _ (old : Table) (line at : ℕ) (reading : Reading) where
 -- ---- line by line
 
 -- a table has the labels of some first lines
-pub record Gathered (lines : List Reading) (from : ℕ) (table : Table) (at next : ℕ) : Type 0 where
+pub record Gathered (lines : List Reading) (from : ℕ) (table : LabelTable) (at next : ℕ) : Type 0 where
   pub later : from ≤ next
   pub within : next ≤ length lines
   pub most : at ≤ 12 * next
   pub labels : (name : List ℕ) → option_or (found_in table name) (label_named (labels_from (next + 1) at (drop next lines)) name) ≡ label_named (labels_from (from + 1) 0 (drop from lines)) name
 
-empty_found : (table : Table) → IsEmpty table → (name : List ℕ) → found_in table name ≡ None
+empty_found : (table : LabelTable) → IsEmpty table → (name : List ℕ) → found_in table name ≡ None
 empty_found table empty name =
     subst (λ (es : List (Bor (List ℕ) × Standing)). lookup (is_at (λ (k : Bor (List ℕ)). slice_cmp nat_cmp name k.now)) es ≡ None) (sym empty) refl
 
@@ -72,7 +72,7 @@ none_left : (line at : ℕ) (rest : List Reading) → AtSegment rest → labels_
 none_left line at [] stops = refl
 none_left line at (reading ∷ rest) stops = subst (λ (r : Reading). labels_from line at (r ∷ rest) ≡ []) (sym (is_segment-true reading stops)) refl
 
-pub gathered_none : (lines : List Reading) (from : ℕ) (table : Table) → from ≤ length lines → IsEmpty table → Gathered lines from table 0 from
+pub gathered_none : (lines : List Reading) (from : ℕ) (table : LabelTable) → from ≤ length lines → IsEmpty table → Gathered lines from table 0 from
 gathered_none lines from table within empty = record {
   later = omega arith;
   within = within;
@@ -80,8 +80,8 @@ gathered_none lines from table within empty = record {
   labels = λ name. ap (λ (o : Option Standing). option_or o (label_named (labels_from (from + 1) 0 (drop from lines)) name)) (empty_found table empty name);
 }
 
-module _ (lines : List Reading) (from : ℕ) (old : Table) (at next : ℕ) (gathered : Gathered lines from old at next) where
-  pub gathered_more : (new : Table) (after : ℕ) (reading : Reading) → next < length lines → reading ≡ get_or lines next reading → Gathers old new (next + 1) at reading after → after ≤ at + 12 →
+module _ (lines : List Reading) (from : ℕ) (old : LabelTable) (at next : ℕ) (gathered : Gathered lines from old at next) where
+  pub gathered_more : (new : LabelTable) (after : ℕ) (reading : Reading) → next < length lines → reading ≡ get_or lines next reading → Gathers old new (next + 1) at reading after → after ≤ at + 12 →
       Gathered lines from new after (next + 1)
   gathered_more new after reading inside is gathers most = record {
     later = omega (arith, gathered.later);

@@ -17,7 +17,7 @@ use Rattle.b67_asm_text.specs.Mnemonics.{kind_named}
 use Rattle.b67_asm_text.specs.Numbers.{number_in}
 use Rattle.b67_asm_text.specs.Operands.{written_in}
 use Rattle.b67_asm_text.specs.Phrases.{phrases_in}
-use Rattle.b67_asm_text.specs.Items.{alone, format_or, item_of, label_in, labelled, level_item, operator_item, plain_item, reading, reading_of, readings, with_operand, written_item}
+use Rattle.b67_asm_text.specs.Items.{alone, format_or, item_of, label_in, labelled, level_item, operator_item, plain_item, record_reading, reading_of, readings, with_operand, written_item}
 use Rattle.b67_asm.specs.Steps.{HasBlockLevel, HaveBlockLevels}
 
 level_has : (number : Option ℕ) → HasBlockLevel (level_item number)
@@ -74,11 +74,11 @@ text_has : (text : List ℕ) → HasBlockLevel (reading_of text)
 text_has [] = tt
 text_has (byte ∷ text) = format_has (phrases_in (byte ∷ text)) (byte ∷ text)
 
-reading_has : (bytes : List ℕ) → HasBlockLevel (reading bytes)
-unfolding reading
+reading_has : (bytes : List ℕ) → HasBlockLevel (record_reading bytes)
+unfolding record_reading
 reading_has bytes = text_has (unblanked (code_part bytes))
 
-all_have : (lines : List (List ℕ)) → HaveBlockLevels (map reading lines)
+all_have : (lines : List (List ℕ)) → HaveBlockLevels (map record_reading lines)
 all_have [] = tt
 all_have (line ∷ lines) = (reading_has line, all_have lines)
 
@@ -101,7 +101,7 @@ some_few (x ∷ xs) =
     (λ e. (omega (arith, h.0, same), omega (arith, h.1, same)))
 
 pub lines_few : (bytes : List ℕ) → length bytes < 2 ^ 32 - 1 → length (readings bytes) < 2 ^ 32
-lines_few bytes few = omega (arith, length-map (records bytes) reading, (some_few bytes).1, few)
+lines_few bytes few = omega (arith, length-map (records bytes) record_reading, (some_few bytes).1, few)
 
 -- the level of one of the lines
 pub level_at : (lines : List Reading) (at : ℕ) (line : Reading) → HaveBlockLevels lines → at < length lines → line ≡ get_or lines at line → HasBlockLevel line

@@ -16,7 +16,7 @@ use Rattle.b67_asm.specs.declared.refusal.Rule.{Rule}
 use Rattle.b67_asm.specs.declared.refusal.Rule.TheVariants.{BadLine, Range}
 use Rattle.b67_asm.specs.declared.refusal.NotAssembled.TheVariants.{Refused}
 use Rattle.b67_asm.specs.Labels.{place_after}
-use Rattle.b67_asm.specs.Rules.{Inside, broken_before, broken_in, first_before, first_in, is_segment, label_broken, moved, or_next, resolved}
+use Rattle.b67_asm.specs.Rules.{Inside, broken_before, broken_in, first_before, first_in, is_segment, label_broken, line_moved, or_next, resolved}
 use Rattle.b67_asm.specs.Assembling.{AreCode, operators_from, segments_from, with_operator}
 use Rattle.b67_asm.specs.Steps.{HasBlockLevel, HasTaken, IsBlockLevel, RefusesLine, inside_of}
 
@@ -36,7 +36,7 @@ before_skips line (Operator written) rest h = refl
 before_skips line (Format fits) rest h = refl
 
 pub in_skips : (inside : Inside) (line : ℕ) (reading : Reading) (rest : List Reading) → is_segment reading ≡ false →
-    first_in inside line (reading ∷ rest) ≡ or_next line (broken_in inside line reading) (first_in (moved inside reading) (line + 1) rest)
+    first_in inside line (reading ∷ rest) ≡ or_next line (broken_in inside line reading) (first_in (line_moved inside reading) (line + 1) rest)
 in_skips inside line Blank rest h = refl
 in_skips inside line NoItem rest h = refl
 in_skips inside line Segment rest h = absurd cc
@@ -70,13 +70,13 @@ module _ (labels : List ℕ → Option Standing) (level : ℕ) (old : List Place
       RefusesLine (Refused record { line = line; rule = rule }) labels level old line reading
   refused_by rule h e rest =
       in_skips (inside_of labels level old) line reading rest h
-      ∙ ap (λ (b : Option Rule). or_next line b (first_in (moved (inside_of labels level old) reading) (line + 1) rest)) e
+      ∙ ap (λ (b : Option Rule). or_next line b (first_in (line_moved (inside_of labels level old) reading) (line + 1) rest)) e
 
-  pub goes_by : (inside : Inside) → is_segment reading ≡ false → broken_in (inside_of labels level old) line reading ≡ None → moved (inside_of labels level old) reading ≡ inside →
+  pub goes_by : (inside : Inside) → is_segment reading ≡ false → broken_in (inside_of labels level old) line reading ≡ None → line_moved (inside_of labels level old) reading ≡ inside →
       (rest : List Reading) → first_in (inside_of labels level old) line (reading ∷ rest) ≡ first_in inside (line + 1) rest
   goes_by inside h e m rest =
       in_skips (inside_of labels level old) line reading rest h
-      ∙ ap (λ (b : Option Rule). or_next line b (first_in (moved (inside_of labels level old) reading) (line + 1) rest)) e
+      ∙ ap (λ (b : Option Rule). or_next line b (first_in (line_moved (inside_of labels level old) reading) (line + 1) rest)) e
       ∙ ap (λ (i : Inside). first_in i (line + 1) rest) m
 
 -- a line that breaks a rule
@@ -101,7 +101,7 @@ module _ (labels : List ℕ → Option Standing) (level : ℕ) (old : List Place
 module _ (labels : List ℕ → Option Standing) (level : ℕ) (b : Built) (line : ℕ) (known : b.level ≡ Some level) (block : IsBlockLevel level) (room : size b.operators ≤ MOST_SEGMENT_SYLLABLES) where
   -- it leaves its segment as it is
   stays : (reading : Reading) → is_segment reading ≡ false → broken_in (inside_of labels level b.operators) line reading ≡ None →
-      moved (inside_of labels level b.operators) reading ≡ inside_of labels level b.operators →
+      line_moved (inside_of labels level b.operators) reading ≡ inside_of labels level b.operators →
       ((rest : List Reading) → operators_from labels level (reading ∷ rest) ≡ operators_from labels level rest) → HasTaken labels level b b line reading level
   stays reading plain none same adds = record {
     level_is = known;
@@ -164,7 +164,7 @@ operator_taken labels level old new line written operator r room e place l block
   takes =
       λ rest.
       let p : Placed = record { level = level; operator = operator } in
-      let inside : moved (inside_of labels level old.operators) (Operator written) ≡ inside_of labels level new.operators =
+      let inside : line_moved (inside_of labels level old.operators) (Operator written) ≡ inside_of labels level new.operators =
       ap (at_place labels level) (sym place) in
       let added : operators_from labels level (Operator written ∷ rest) ≡ p ∷ operators_from labels level rest =
       ap (λ (o : Result Op Rule). with_operator level o (operators_from labels level rest)) r in (

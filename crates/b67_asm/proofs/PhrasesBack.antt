@@ -15,7 +15,7 @@ use Rattle.b67_listing.specs.Listings.{IsPhrase}
 use Rattle.b67_asm_text.specs.declared.number.TheConstants.{TOO_GREAT}
 use Rattle.b67_asm_text.specs.declared.phrase.Stand.{Stand}
 use Rattle.b67_asm_text.specs.declared.phrase.Stand.TheVariants.{Before, Due, Quoted, Sized, After, Closed, Wrong}
-use Rattle.b67_asm_text.specs.Phrases.{Read, after, are_in_range, columns, ended, fit_in, has_no_width, is_printable, longer, phrases_at, phrases_in, quoted, read_from, sized_phrase}
+use Rattle.b67_asm_text.specs.Phrases.{Read, after_phrase, are_in_range, columns, ended, fit_in, has_no_width, is_printable, longer, phrases_at, phrases_in, quoted, read_from, sized_phrase}
 use Rattle.b67_asm.specs.Formats.{AreBlanks, PhraseStands, PhrasesStand, FormatStands}
 
 -- ---- which phrases are read back
@@ -132,7 +132,7 @@ module _ (blanks : Bool) (text : List ℕ) (phrases : List Phrase) where
 
   -- and the byte that ends it
   width_back : (n end : ℕ) (rest : List ℕ) → 1 ≤ n → n < 65536 → is_digit end ≡ false →
-      read_from (stands (Sized blanks None) text phrases) (decimal n ++ end ∷ rest) ≡ read_from (stands (after end) text (phrases ++ sized_phrase blanks n ∷ [])) rest
+      read_from (stands (Sized blanks None) text phrases) (decimal n ++ end ∷ rest) ≡ read_from (stands (after_phrase end) text (phrases ++ sized_phrase blanks n ∷ [])) rest
   width_back n end rest some fits ends =
       let r = stands (Sized blanks (Some n)) text phrases in
       width_read n (end ∷ rest) some fits
@@ -146,7 +146,7 @@ kept (Blanks width) = []
 
 -- a phrase and the byte that ends it
 phrase_back : (phrase : Phrase) (end : ℕ) (rest text : List ℕ) (phrases : List Phrase) → CanBeRead phrase → is_digit end ≡ false →
-    read_from (stands Due text phrases) (phrase_text phrase ++ end ∷ rest) ≡ read_from (stands (after end) (kept phrase) (phrases ++ phrase ∷ [])) rest
+    read_from (stands Due text phrases) (phrase_text phrase ++ end ∷ rest) ≡ read_from (stands (after_phrase end) (kept phrase) (phrases ++ phrase ∷ [])) rest
 unfolding CanBeRead kept
 phrase_back (Text own) end rest text phrases can ends =
     ap (read_from (stands Quoted [] phrases)) (append_assoc own (34 ∷ []) (end ∷ rest))
@@ -189,7 +189,7 @@ blanks_before (b ∷ blanks) rest are =
 
 -- a phrase after blanks, and the byte that ends it
 phrase_here : (blanks : List ℕ) (phrase : Phrase) (end : ℕ) (rest text : List ℕ) (done : List Phrase) → AreBlanks blanks → CanBeRead phrase → is_digit end ≡ false →
-    read_from (stands Due text done) (blanks ++ (phrase_text phrase ++ end ∷ rest)) ≡ read_from (stands (after end) (kept phrase) (done ++ phrase ∷ [])) rest
+    read_from (stands Due text done) (blanks ++ (phrase_text phrase ++ end ∷ rest)) ≡ read_from (stands (after_phrase end) (kept phrase) (done ++ phrase ∷ [])) rest
 phrase_here [] phrase end rest text done are can ends = phrase_back phrase end rest text done can ends
 phrase_here (b ∷ blanks) phrase end rest text done are can ends =
     ap (λ (s : Stand). read_from (stands s [] done) (blanks ++ (phrase_text phrase ++ end ∷ rest)))

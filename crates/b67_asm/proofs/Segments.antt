@@ -16,7 +16,7 @@ use Rattle.b67_asm.specs.declared.refusal.Rule.{Rule}
 use Rattle.b67_asm.specs.declared.refusal.Rule.TheVariants.{EmptySegment}
 use Rattle.b67_asm.specs.declared.refusal.Refusal.{Refusal}
 use Rattle.b67_asm.specs.Labels.{labels_from, label_named}
-use Rattle.b67_asm.specs.Rules.{Inside, begun, broken_before, first_before, first_in, is_empty, is_segment, nowhere, or_next}
+use Rattle.b67_asm.specs.Rules.{Inside, segment_begun, broken_before, first_before, first_in, is_empty, is_segment, nowhere, or_next}
 use Rattle.b67_asm.specs.declared.refusal.NotAssembled.{NotAssembled}
 use Rattle.b67_asm.specs.Assembling.{AreCode, IsFirst, operators_from, segments_from}
 use Rattle.b67_asm.specs.Steps.{AtSegment, HasPassed, HasRead, HasRest, HasTaken, HasTakenLines, IsBlockLevel, RefusesLine, inside_of}
@@ -167,7 +167,7 @@ module _ (lines : List Reading) (from : ℕ) (labels : List ℕ → Option Stand
   pub same_begun : Known → is_empty (drop from lines) ≡ false →
       first_in nowhere from (Segment ∷ drop from lines) ≡ first_in (inside_of labels OUTER_LEVEL []) (from + 1) (drop from lines)
   same_begun known some =
-      cond-false (is_empty (drop from lines)) (Some (empty_at from)) (first_in (begun (from + 1) (drop from lines)) (from + 1) (drop from lines)) some
+      cond-false (is_empty (drop from lines)) (Some (empty_at from)) (first_in (segment_begun (from + 1) (drop from lines)) (from + 1) (drop from lines)) some
       ∙ ap (λ (f : List ℕ → Option Standing). first_in (inside_of f OUTER_LEVEL []) (from + 1) (drop from lines)) (found known)
 
   pub has_read : (b : Built) (next : ℕ) (segment : Made) → Known → is_empty (drop from lines) ≡ false → HasTakenLines labels lines from b next → Spells (filled b.operators) segment →
@@ -193,7 +193,7 @@ module _ (lines : List Reading) (from : ℕ) (labels : List ℕ → Option Stand
 pub empty_refused : (lines : List Reading) (from : ℕ) → is_empty (drop from lines) ≡ true →
     first_in nowhere from (Segment ∷ drop from lines) ≡ Some record { line = from; rule = EmptySegment }
 empty_refused lines from none =
-    cond-true (is_empty (drop from lines)) (Some (empty_at from)) (first_in (begun (from + 1) (drop from lines)) (from + 1) (drop from lines)) none
+    cond-true (is_empty (drop from lines)) (Some (empty_at from)) (first_in (segment_begun (from + 1) (drop from lines)) (from + 1) (drop from lines)) none
 
 -- ---- segments one after another
 

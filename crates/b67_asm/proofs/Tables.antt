@@ -12,10 +12,10 @@ use Rattle.std.proofs.lemmas.Bool.{cases_Bool, cond-true, cond-false}
 use Rattle.std.proofs.lemmas.Map.Text.{btree_map_updates_str}
 use Rattle.std.proofs.lemmas.Slice.Eq.{bytes_eq-Decides}
 use Rattle.b67_asm.specs.declared.label.Standing.{Standing}
-use Rattle.b67_asm.specs.Steps.{Table, Puts}
+use Rattle.b67_asm.specs.Steps.{LabelTable, LabelPuts}
 
-pub puts_standing : (name : Bor (List ℕ)) (old new : Table) (standing : Standing) →
-    tree.UpdatesBy (λ x y. slice_cmp nat_cmp x.now y.now) (λ k. slice_cmp nat_cmp name.now k.now) old new (Some standing) → Puts old new name.now standing
+pub puts_standing : (name : Bor (List ℕ)) (old new : LabelTable) (standing : Standing) →
+    tree.UpdatesBy (λ x y. slice_cmp nat_cmp x.now y.now) (λ k. slice_cmp nat_cmp name.now k.now) old new (Some standing) → LabelPuts old new name.now standing
 puts_standing name old new standing u = λ q. btree_map_updates_str name.now old new (Some standing) u q
 
 pub ruleset puts = puts_standing

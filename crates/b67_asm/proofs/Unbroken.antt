@@ -15,7 +15,7 @@ use Rattle.b67_asm.specs.declared.refusal.Rule.{Rule}
 use Rattle.b67_asm.specs.declared.refusal.Rule.TheVariants.{BadLine, Range, SegmentTooLong, EmptySegment}
 use Rattle.b67_asm.specs.declared.refusal.Refusal.{Refusal}
 use Rattle.b67_asm.specs.Labels.{labels_from, label_named, place_after}
-use Rattle.b67_asm.specs.Rules.{Inside, begun, broken_before, broken_in, first_before, first_broken, first_in, first_line, has_segment, is_empty, label_broken, moved, nowhere, operator_broken, or_next, resolved}
+use Rattle.b67_asm.specs.Rules.{Inside, segment_begun, broken_before, broken_in, first_before, first_broken, first_in, first_line, has_segment, is_empty, label_broken, line_moved, nowhere, operator_broken, or_next, resolved}
 use Rattle.b67_asm.specs.Assembling.{operators_from, segments_from, with_operator}
 use Rattle.b67_asm.proofs.Widths.{width_resolved}
 
@@ -143,7 +143,7 @@ unbroken_in inside line [] h = record { segments = tt; formats = tt }
 unbroken_in inside line (Blank ∷ rest) h = let r = unbroken_in inside (line + 1) rest h in record { segments = r.segments; formats = r.formats }
 unbroken_in inside line (NoItem ∷ rest) h = absurd (let r : Refusal = record { line = line; rule = BadLine } in let clash : Some r ≡ None = h in cc)
 unbroken_in inside line (Segment ∷ rest) h =
-    let own = begun (line + 1) rest in
+    let own = segment_begun (line + 1) rest in
     let e : Refusal = record { line = line; rule = EmptySegment } in
     elim (cases_Bool (is_empty rest)) [
       | inl none ↦ let clash : Some e ≡ None = sym (cond-true (is_empty rest) (Some e) (first_in own (line + 1) rest) none) ∙ h in absurd cc
@@ -153,12 +153,12 @@ unbroken_in inside line (Segment ∷ rest) h =
           record { segments = (fills (label_named (labels_from (line + 1) 0 rest)) (line + 1) rest some later, r.segments); formats = r.formats }
     ]
 unbroken_in inside line (Level next ∷ rest) h =
-    let r = unbroken_in (moved inside (Level next)) (line + 1) rest h in record { segments = r.segments; formats = r.formats }
+    let r = unbroken_in (line_moved inside (Level next)) (line + 1) rest h in record { segments = r.segments; formats = r.formats }
 unbroken_in inside line (Label name ∷ rest) h =
     let r = unbroken_in inside (line + 1) rest (not_here line (label_broken line (inside.labels name)) (first_in inside (line + 1) rest) h).1 in
     record { segments = r.segments; formats = r.formats }
 unbroken_in inside line (Operator written ∷ rest) h =
-    let after = moved inside (Operator written) in
+    let after = line_moved inside (Operator written) in
     let r = unbroken_in after (line + 1) rest (not_here line (broken_in inside line (Operator written)) (first_in after (line + 1) rest) h).1 in
     record { segments = r.segments; formats = r.formats }
 unbroken_in inside line (Format fits ∷ rest) h =

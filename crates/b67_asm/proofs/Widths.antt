@@ -9,7 +9,7 @@ use Rattle.b67_ops.specs.declared.Couple.{Couple}
 use Rattle.b67_ops.specs.declared.Operator.{Operator as Op}
 use Rattle.b67_ops.specs.declared.Operator.TheVariants as ops
 use Rattle.b67_ops.specs.declared.table.OperatorKind.TheVariants as kinds
-use Rattle.b67_ops.specs.Spelling.{filling, kind_of, spelling, index_bits, IsSeen, Fits}
+use Rattle.b67_ops.specs.Spelling.{filling, kind_of, spelling, index_bits, CoupleIsSeen, Fits}
 use Rattle.b67_segment.specs.Operators.{Placed, size}
 use Rattle.b67_segment.proofs.Among.{size-append}
 use Rattle.b67_asm_text.specs.declared.item.Written.{Written}
@@ -60,7 +60,7 @@ resolved_is labels level (Whole other) operator h =
 resolved_is labels level (ToLabel kind name) operator h = branch_only level kind (labels name) operator h
 resolved_is labels level (TooGreat kind) operator h = absurd cc
 
-seen_is : (level : ℕ) (couple : Couple) → is_seen level couple ≡ true → IsSeen level couple
+seen_is : (level : ℕ) (couple : Couple) → is_seen level couple ≡ true → CoupleIsSeen level couple
 seen_is level couple h =
     let p = and_parts (nat_le couple.level level) (nat_lt couple.index (2 ^ index_bits level)) h in
     record { level_seen = leb-true couple.level level p.0; index_fits = ltb-true couple.index (2 ^ index_bits level) p.1 }

@@ -63,5 +63,5 @@ IsFirst (Refused refusal) first = first ≡ Some refusal
 IsFirst NoMemory first = Unit {0}
 
 -- a refusal of a text, or want of memory
-abbrev pub Refuses : NotAssembled → List ℕ → Type 0
-Refuses e bytes = IsFirst e (first_broken (readings bytes))
+abbrev pub AssemblerRefuses : NotAssembled → List ℕ → Type 0
+AssemblerRefuses e bytes = IsFirst e (first_broken (readings bytes))

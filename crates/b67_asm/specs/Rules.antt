@@ -79,10 +79,10 @@ broken_before (Format fits) = if fits then None else Some Range
 broken_before reading = Some NoSegment
 
 -- where the line after this one stands
-abbrev pub moved : Inside → Reading → Inside
-moved inside (Level level) = record { labels = inside.labels; level = level; place = inside.place }
-moved inside (Operator written) = record { labels = inside.labels; level = inside.level; place = place_after inside.place written }
-moved inside reading = inside
+abbrev pub line_moved : Inside → Reading → Inside
+line_moved inside (Level level) = record { labels = inside.labels; level = level; place = inside.place }
+line_moved inside (Operator written) = record { labels = inside.labels; level = inside.level; place = place_after inside.place written }
+line_moved inside reading = inside
 
 abbrev pub is_segment : Reading → Bool
 is_segment Segment = true
@@ -100,8 +100,8 @@ is_empty [] = true
 is_empty (reading ∷ rest) = if is_segment reading then true else (if is_meant reading then false else is_empty rest)
 
 -- the begin of a segment that has these lines, the first of which has this number
-abbrev pub begun : ℕ → List Reading → Inside
-begun line rest = record { labels = label_named (labels_from line 0 rest); level = OUTER_LEVEL; place = 0 }
+abbrev pub segment_begun : ℕ → List Reading → Inside
+segment_begun line rest = record { labels = label_named (labels_from line 0 rest); level = OUTER_LEVEL; place = 0 }
 
 -- a rule that is broken on a line, or what comes after
 abbrev pub or_next : ℕ → Option Rule → Option Refusal → Option Refusal
@@ -112,8 +112,8 @@ or_next line (Some rule) next = Some record { line = line; rule = rule }
 abbrev pub first_in : Inside → ℕ → List Reading → Option Refusal
 first_in inside line [] = None
 first_in inside line (Segment ∷ rest) =
-    if is_empty rest then Some record { line = line; rule = EmptySegment } else first_in (begun (line + 1) rest) (line + 1) rest
-first_in inside line (reading ∷ rest) = or_next line (broken_in inside line reading) (first_in (moved inside reading) (line + 1) rest)
+    if is_empty rest then Some record { line = line; rule = EmptySegment } else first_in (segment_begun (line + 1) rest) (line + 1) rest
+first_in inside line (reading ∷ rest) = or_next line (broken_in inside line reading) (first_in (line_moved inside reading) (line + 1) rest)
 
 -- where no segment has begun, so that nothing is looked for
 abbrev pub nowhere : Inside

@@ -19,19 +19,19 @@ use Rattle.b67_asm.specs.declared.refusal.NotAssembled.{NotAssembled}
 use Rattle.b67_asm.specs.Rules.{Inside, first_before, first_broken, first_in, is_segment, nowhere}
 use Rattle.b67_asm.specs.Assembling.{AreCode, IsFirst, operators_from, segments_from}
 
-abbrev pub Table : Type 0
-Table = BTreeMap (Bor (List ℕ)) Standing
+abbrev pub LabelTable : Type 0
+LabelTable = BTreeMap (Bor (List ℕ)) Standing
 
 -- the second table has this label for the name, and for each other name what the first has
-abbrev pub Puts : Table → Table → List ℕ → Standing → Type 0
-Puts old new name standing = (other : List ℕ) → found_in new other ≡ update bytes_eq (found_in old) name (Some standing) other
+abbrev pub LabelPuts : LabelTable → LabelTable → List ℕ → Standing → Type 0
+LabelPuts old new name standing = (other : List ℕ) → found_in new other ≡ update bytes_eq (found_in old) name (Some standing) other
 
 -- the second table has this label too, where the first has none of its name
-abbrev pub Adds : Table → Table → List ℕ → Standing → Type 0
-Adds old new name standing = (other : List ℕ) → found_in new other ≡ option_or (found_in old other) (if bytes_eq name other then Some standing else None)
+abbrev pub LabelAdds : LabelTable → LabelTable → List ℕ → Standing → Type 0
+LabelAdds old new name standing = (other : List ℕ) → found_in new other ≡ option_or (found_in old other) (if bytes_eq name other then Some standing else None)
 
 -- a table has a name's first label in a line and those after it, where an older table has it in the lines before
-abbrev pub Gathers : Table → Table → ℕ → ℕ → Reading → ℕ → Type 0
+abbrev pub Gathers : LabelTable → LabelTable → ℕ → ℕ → Reading → ℕ → Type 0
 Gathers old new line at reading next =
     (rest : List Reading) (name : List ℕ) →
     option_or (found_in new name) (label_named (labels_from (line + 1) next rest) name)
@@ -55,8 +55,8 @@ abbrev pub inside_of : (List ℕ → Option Standing) → ℕ → List Placed �
 inside_of labels level operators = record { labels = labels; level = level; place = size operators }
 
 -- a line of a segment was taken, with what it adds to the operators, and the level after it
-abbrev pub Takes : (List ℕ → Option Standing) → ℕ → List Placed → ℕ → Reading → List Placed → ℕ → Type 0
-Takes labels level old line reading new next =
+abbrev pub LineTakes : (List ℕ → Option Standing) → ℕ → List Placed → ℕ → Reading → List Placed → ℕ → Type 0
+LineTakes labels level old line reading new next =
     (rest : List Reading) →
     (first_in (inside_of labels level old) line (reading ∷ rest) ≡ first_in (inside_of labels next new) (line + 1) rest)
     × (old ++ operators_from labels level (reading ∷ rest) ≡ new ++ operators_from labels next rest)
@@ -65,7 +65,7 @@ pub record HasTaken (labels : List ℕ → Option Standing) (level : ℕ) (old n
   pub level_is : new.level ≡ Some next
   pub block : IsBlockLevel next
   pub room : size new.operators ≤ MOST_SEGMENT_SYLLABLES
-  pub takes : Takes labels level old.operators line reading new.operators next
+  pub takes : LineTakes labels level old.operators line reading new.operators next
 
 -- a refusal of this line of a segment, whatever lines come after it, or want of memory
 abbrev pub RefusesLine : NotAssembled → (List ℕ → Option Standing) → ℕ → List Placed → ℕ → Reading → Type 0

@@ -3,7 +3,7 @@
 ghost use Rattle.std.specs.Prelude.{◌≡◌, ◌+◌, ◌-◌, ◌^◌, ◌<◌, ◌≤◌, length, drop, IfOk, IfErr};
 ghost use Rattle.std.specs.List.{All};
 ghost use Rattle.b67_segment.specs.declared.TheConstants.{MOST_SEGMENT_WORDS};
-ghost use Rattle.b67_asm.specs.Assembling.{Assembles, IsFirst, Refuses};
+ghost use Rattle.b67_asm.specs.Assembling.{Assembles, IsFirst, AssemblerRefuses};
 ghost use Rattle.b67_asm.specs.Rules.{first_before, first_broken, first_in, first_line, has_segment, nowhere};
 ghost use Rattle.b67_asm.specs.Writable.{IsWritable};
 ghost use Rattle.b67_asm.specs.Steps.{AtSegment, HasAll, HasPassed, HasRest, HaveBlockLevels};
@@ -104,7 +104,7 @@ pub fn assemble(alloc: Global, bytes: &[u8]) -> Result<Code, NotAssembled>
     ensures assembled { IfOk result (Assembles bytes.now) }
     ensures writable { IfOk result IsWritable }
     ensures short { IfOk result (λ code. All (λ segment. length segment.words ≤ MOST_SEGMENT_WORDS) code.segments) }
-    ensures refused { IfErr result (λ e. Refuses e bytes.now) }
+    ensures refused { IfErr result (λ e. AssemblerRefuses e bytes.now) }
 {
     let text = read_text(alloc, bytes)?;
     let segments = read_lines(alloc, text.lines.as_slice())?;

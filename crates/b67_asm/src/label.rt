@@ -3,7 +3,7 @@
 ghost use Rattle.std.specs.Prelude.{◌≡◌, ◌+◌, ◌^◌, ◌<◌, ◌≤◌, ℕ, List, drop, length, false, IfOk, OnOk};
 ghost use Rattle.b67_asm.specs.Labels.{found_in, kind_written, labels_from, label_named, place_after, width_of};
 ghost use Rattle.b67_asm.specs.Rules.{is_segment};
-ghost use Rattle.b67_asm.specs.Steps.{Adds, Gathers, Puts};
+ghost use Rattle.b67_asm.specs.Steps.{LabelAdds, Gathers, LabelPuts};
 
 use b67_asm_text::{Reading, Written};
 use b67_ops::OperatorKind;
@@ -63,7 +63,7 @@ pub(crate) fn found_in(labels: &Labels<'_>, name: &[u8]) -> Option<Standing>
 /// A label of a name goes into a table that has none of it.
 #[tactic(auto, using(crate::proofs::Tables::puts))]
 fn insert<'t>(labels: &mut Labels<'t>, name: &'t [u8], standing: Standing) -> Result<(), AllocError>
-    ensures { OnOk result (Puts labels.old labels.new name.now standing) }
+    ensures { OnOk result (LabelPuts labels.old labels.new name.now standing) }
 {
     labels.insert(name, standing)?;
     Ok(())
@@ -71,7 +71,7 @@ fn insert<'t>(labels: &mut Labels<'t>, name: &'t [u8], standing: Standing) -> Re
 
 /// A label goes after those that a table has: the first of a name stays.
 fn put<'t>(labels: &mut Labels<'t>, name: &'t [u8], standing: Standing) -> Result<(), AllocError>
-    ensures { OnOk result (Adds labels.old labels.new name.now standing) }
+    ensures { OnOk result (LabelAdds labels.old labels.new name.now standing) }
 {
     if labels.contains_key(name) {
         return Ok(());

@@ -2,7 +2,7 @@
 
 ghost use Rattle.std.specs.Prelude.{◌≡◌};
 ghost use Rattle.b67_asm.specs.declared.refusal.NotAssembled.TheVariants.{Refused, NoMemory};
-ghost use Rattle.b67_asm.specs.Codes.{number_of};
+ghost use Rattle.b67_asm.specs.Codes.{rule_number_of};
 
 use std::alloc::{AllocError, AllocFailed};
 
@@ -29,7 +29,7 @@ pub enum Rule {
 impl Rule {
     /// The number of the rule. Of the rules that a line breaks the one with the lowest number is told.
     pub fn number(self) -> u8
-        ensures { result ≡ number_of self }
+        ensures { result ≡ rule_number_of self }
     {
         match self {
             Rule::BadLine => 1,

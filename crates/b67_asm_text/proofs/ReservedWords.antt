@@ -7,7 +7,7 @@ use Rattle.std.proofs.lemmas.Slice.Eq.{bytes_eq-Decides}
 use Rattle.algol_tree.specs.declared.token.Reserved.{Reserved}
 use Rattle.algol_tree.specs.declared.token.Reserved.TheVariants as words
 use Rattle.algol_tree.specs.Spelling.{written, IsReserved}
-use Rattle.b67_asm_text.specs.Names.{is_one_of, is_reserved}
+use Rattle.b67_asm_text.specs.Names.{word_is_one_of, is_reserved}
 
 all : List Reserved
 all =
@@ -18,24 +18,24 @@ all =
     ∷ words.True ∷ words.Until ∷ words.Value ∷ words.Wait ∷ words.While ∷ words.Write ∷ []
 
 -- the table has them as they are written
-in_table : (word : List ℕ) → is_reserved word ≡ is_one_of written all word
+in_table : (word : List ℕ) → is_reserved word ≡ word_is_one_of written all word
 unfolding is_reserved all
 in_table word = refl
 
-is_written : (ws : List Reserved) (word : List ℕ) → is_one_of written ws word ≡ true → IsReserved word
+is_written : (ws : List Reserved) (word : List ℕ) → word_is_one_of written ws word ≡ true → IsReserved word
 is_written [] word h = absurd (let clash : false ≡ true = h in cc)
 is_written (w ∷ ws) word h =
     elim (cases_Bool (bytes_eq (written w) word)) [
       | inl same ↦ (w, sym ((bytes_eq-Decides (written w) word).0 same))
-      | inr other ↦ is_written ws word (sym (ap (λ b. b || is_one_of written ws word) other) ∙ h)
+      | inr other ↦ is_written ws word (sym (ap (λ b. b || word_is_one_of written ws word) other) ∙ h)
     ]
 
-each : (w : Reserved) → is_one_of written all (written w) ≡ true
+each : (w : Reserved) → word_is_one_of written all (written w) ≡ true
 unfolding all
-each w = elim w as (λ v. is_one_of written all (written v) ≡ true) [ words.And ↦ refl | _ ↦ refl ]
+each w = elim w as (λ v. word_is_one_of written all (written v) ≡ true) [ words.And ↦ refl | _ ↦ refl ]
 
 pub reserved_is : (word : List ℕ) → IsTrue (is_reserved word) ↔ IsReserved word
 reserved_is word = (
   λ h. is_written all word (sym (in_table word) ∙ h),
-  λ r. in_table word ∙ ap (is_one_of written all) r.1 ∙ each r.0,
+  λ r. in_table word ∙ ap (word_is_one_of written all) r.1 ∙ each r.0,
 )

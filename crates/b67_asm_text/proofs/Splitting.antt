@@ -7,7 +7,7 @@ use Rattle.std.proofs.lemmas.List.{append-nil, drop-drop}
 use Rattle.std.proofs.lemmas.List.Splits.{slice_split_first, slice_split-cons_no}
 use Rattle.b67_segment.specs.declared.code.Format.{Format}
 use Rattle.b67_asm_text.specs.declared.item.Reading.{Reading}
-use Rattle.b67_asm_text.specs.Items.{format_from, format_of, reading}
+use Rattle.b67_asm_text.specs.Items.{format_from, format_of, record_reading}
 use Rattle.b67_asm_text.specs.Phrases.{phrases_in}
 use Rattle.b67_asm_text.specs.Records.{code_part, is_line_feed, records, unblanked}
 
@@ -40,11 +40,11 @@ records_last (x ∷ xs) h =
 
 -- one more record was read
 module _ (rest line next : List ℕ) (split : records rest ≡ line ∷ records next) where
-  pub lines_more : (old new all : List Reading) → new ≡ old ++ reading line ∷ [] → old ++ map reading (records rest) ≡ all → new ++ map reading (records next) ≡ all
+  pub lines_more : (old new all : List Reading) → new ≡ old ++ record_reading line ∷ [] → old ++ map record_reading (records rest) ≡ all → new ++ map record_reading (records next) ≡ all
   lines_more old new all e h =
-      ap (λ (rs : List Reading). rs ++ map reading (records next)) e
-      ∙ append_assoc old (reading line ∷ []) (map reading (records next))
-      ∙ ap (λ (rs : List (List ℕ)). old ++ map reading rs) (sym split)
+      ap (λ (rs : List Reading). rs ++ map record_reading (records next)) e
+      ∙ append_assoc old (record_reading line ∷ []) (map record_reading (records next))
+      ∙ ap (λ (rs : List (List ℕ)). old ++ map record_reading rs) (sym split)
       ∙ h
 
   pub formats_more : (old new all : List Format) → new ≡ old ++ format_of line → old ++ flat_map format_of (records rest) ≡ all → new ++ flat_map format_of (records next) ≡ all
@@ -56,8 +56,8 @@ module _ (rest line next : List ℕ) (split : records rest ≡ line ∷ records 
 
 -- the last record was read
 module _ (rest : List ℕ) (split : records rest ≡ rest ∷ []) where
-  pub lines_all : (old new all : List Reading) → new ≡ old ++ reading rest ∷ [] → old ++ map reading (records rest) ≡ all → new ≡ all
-  lines_all old new all e h = e ∙ ap (λ (rs : List (List ℕ)). old ++ map reading rs) (sym split) ∙ h
+  pub lines_all : (old new all : List Reading) → new ≡ old ++ record_reading rest ∷ [] → old ++ map record_reading (records rest) ≡ all → new ≡ all
+  lines_all old new all e h = e ∙ ap (λ (rs : List (List ℕ)). old ++ map record_reading rs) (sym split) ∙ h
 
   pub formats_all : (old new all : List Format) → new ≡ old ++ format_of rest → old ++ flat_map format_of (records rest) ≡ all → new ≡ all
   formats_all old new all e h =

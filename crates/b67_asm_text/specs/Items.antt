@@ -80,8 +80,8 @@ reading_of [] = Blank
 reading_of (byte ∷ text) = format_or (phrases_in (byte ∷ text)) (byte ∷ text)
 
 -- what a record is
-unfoldable pub reading : List ℕ → Reading
-reading bytes = reading_of (unblanked (code_part bytes))
+unfoldable pub record_reading : List ℕ → Reading
+record_reading bytes = reading_of (unblanked (code_part bytes))
 
 -- the format that a record is, if it is one
 abbrev pub format_from : Option (List Phrase) → List Form
@@ -93,7 +93,7 @@ format_of bytes = format_from (phrases_in (unblanked (code_part bytes)))
 
 -- what the records of a text are, in their order, and its formats
 abbrev pub readings : List ℕ → List Reading
-readings bytes = map reading (records bytes)
+readings bytes = map record_reading (records bytes)
 
 abbrev pub formats : List ℕ → List Form
 formats bytes = flat_map format_of (records bytes)

@@ -24,12 +24,12 @@ with_word make None = None
 with_word make (Some word) = Some (Some (make word))
 
 -- a number, none where it is not below a limit
-abbrev pub below : ℕ → Option ℕ → Option (Option ℕ)
-below limit None = None
-below limit (Some number) = if nat_lt number limit then Some (Some number) else Some None
+abbrev pub operand_below : ℕ → Option ℕ → Option (Option ℕ)
+operand_below limit None = None
+operand_below limit (Some number) = if nat_lt number limit then Some (Some number) else Some None
 
 abbrev pub number_below : ℕ → List ℕ → Option (Option ℕ)
-number_below limit text = below limit (number_in text)
+number_below limit text = operand_below limit (number_in text)
 
 abbrev pub IsBelow : ℕ → Option (Option ℕ) → Type 0
 IsBelow limit None = Unit {0}
@@ -37,14 +37,14 @@ IsBelow limit (Some None) = Unit {0}
 IsBelow limit (Some (Some number)) = number < limit
 
 -- the couple of a level and an index, none where no level has it
-abbrev pub couple_of : ℕ → ℕ → Option Couple
-couple_of level index =
+abbrev pub couple_of_operand : ℕ → ℕ → Option Couple
+couple_of_operand level index =
     if nat_le level MOST_LEVEL && nat_lt index (2 ^ MOST_INDEX_BITS) then Some record { level = level; index = index } else None
 
 abbrev pub couple_from : Option ℕ → Option ℕ → Option (Option Couple)
 couple_from None index = None
 couple_from (Some level) None = None
-couple_from (Some level) (Some index) = Some (couple_of level index)
+couple_from (Some level) (Some index) = Some (couple_of_operand level index)
 
 -- how many bytes stand before the first comma, and what stands after it
 abbrev pub comma_place : List ℕ → ℕ
@@ -80,11 +80,11 @@ to_label kinds.Lt48 text = None
 to_label kinds.Mpcw text = None
 to_label (kinds.Plain kind) text = None
 
-abbrev pub written : OperatorKind → List ℕ → Option (Option Operator) → Option Written
-written kind text (Some (Some operator)) = Some (Whole operator)
-written kind text (Some None) = Some (TooGreat kind)
-written kind text None = to_label kind text
+abbrev pub operand_written : OperatorKind → List ℕ → Option (Option Operator) → Option Written
+operand_written kind text (Some (Some operator)) = Some (Whole operator)
+operand_written kind text (Some None) = Some (TooGreat kind)
+operand_written kind text None = to_label kind text
 
 -- an operator with its operand
 unfoldable pub written_in : OperatorKind → List ℕ → Option Written
-written_in kind text = written kind text (operator_in kind text)
+written_in kind text = operand_written kind text (operator_in kind text)

@@ -23,8 +23,8 @@ pub record Read : Type 0 where
   pub text : List ℕ
   pub phrases : List Phrase
 
-abbrev pub seen : Reader → Read
-seen reader = record { stand = reader.stand; text = reader.text.items; phrases = reader.phrases.items }
+abbrev pub phrases_seen : Reader → Read
+phrases_seen reader = record { stand = reader.stand; text = reader.text.items; phrases = reader.phrases.items }
 
 -- before the first bracket
 abbrev pub before : ℕ → Stand
@@ -39,8 +39,8 @@ due byte =
     else (if byte == 88 then Sized true None else Wrong)))
 
 -- after a phrase: a comma before another one, or the last bracket
-abbrev pub after : ℕ → Stand
-after byte = if is_blank byte then After else (if byte == 44 then Due else (if byte == 62 then Closed else Wrong))
+abbrev pub after_phrase : ℕ → Stand
+after_phrase byte = if is_blank byte then After else (if byte == 44 then Due else (if byte == 62 then Closed else Wrong))
 
 -- after the last bracket
 abbrev pub closed : ℕ → Stand
@@ -68,7 +68,7 @@ sized_phrase blanks width = if blanks then Blanks width else Number width
 -- a width has ended before a byte
 abbrev pub ended : Read → Bool → Option ℕ → ℕ → Read
 ended r blanks None byte = record { stand = Wrong; text = r.text; phrases = r.phrases }
-ended r blanks (Some width) byte = record { stand = after byte; text = r.text; phrases = r.phrases ++ sized_phrase blanks width ∷ [] }
+ended r blanks (Some width) byte = record { stand = after_phrase byte; text = r.text; phrases = r.phrases ++ sized_phrase blanks width ∷ [] }
 
 abbrev pub sized : Read → Bool → Option ℕ → ℕ → Read
 sized r blanks width byte =
@@ -83,7 +83,7 @@ next_at Before r byte = stood r (before byte)
 next_at Due r byte = record { stand = due byte; text = []; phrases = r.phrases }
 next_at Quoted r byte = quoted r byte
 next_at (Sized blanks width) r byte = sized r blanks width byte
-next_at After r byte = stood r (after byte)
+next_at After r byte = stood r (after_phrase byte)
 next_at Closed r byte = stood r (closed byte)
 next_at Wrong r byte = r
 
@@ -95,8 +95,8 @@ abbrev pub read_from : Read → List ℕ → Read
 read_from r [] = r
 read_from r (byte ∷ bytes) = read_from (next r byte) bytes
 
-abbrev pub start : Read
-start = record { stand = Before; text = []; phrases = [] }
+abbrev pub reader_start : Read
+reader_start = record { stand = Before; text = []; phrases = [] }
 
 -- the phrases, where they have ended
 abbrev pub phrases_at : Stand → List Phrase → Option (List Phrase)
@@ -109,15 +109,15 @@ phrases_at After phrases = None
 phrases_at Wrong phrases = None
 
 abbrev pub read_phrases : List ℕ → Option (List Phrase)
-read_phrases bytes = phrases_at (read_from start bytes).stand (read_from start bytes).phrases
+read_phrases bytes = phrases_at (read_from reader_start bytes).stand (read_from reader_start bytes).phrases
 
 -- the phrases of a format, after the word FORMAT
 unfoldable pub phrases_in : List ℕ → Option (List Phrase)
 phrases_in text = if bytes_eq (take FORMAT_BYTES text) (codes "FORMAT") then read_phrases (drop FORMAT_BYTES text) else None
 
-abbrev pub shown : Option (Vec Phrase Global) → Option (List Phrase)
-shown None = None
-shown (Some phrases) = Some phrases.items
+abbrev pub phrases_shown : Option (Vec Phrase Global) → Option (List Phrase)
+phrases_shown None = None
+phrases_shown (Some phrases) = Some phrases.items
 
 -- how many columns a phrase takes
 abbrev pub columns : Phrase → ℕ

@@ -5,7 +5,7 @@ ghost use Rattle.std.specs.Borrow.{Bor};
 ghost use Rattle.std.specs.List.{list_all};
 ghost use Rattle.std.specs.Str.{bytes_eq};
 ghost use Rattle.algol_tree.specs.Spelling.{is_letter_or_digit, is_name, IsReserved};
-ghost use Rattle.b67_asm_text.specs.Names.{can_name, is_among, is_reserved};
+ghost use Rattle.b67_asm_text.specs.Names.{can_name, name_is_among, is_reserved};
 
 use crate::bytes::{is_letter, is_letter_or_digit};
 use algol_tree::MOST_NAME_BYTES;
@@ -101,7 +101,7 @@ fn is_reserved(word: &[u8]) -> bool
 
 /// Tests that these bytes are one of some words.
 fn is_among(words: &[&'static str], bytes: &[u8]) -> bool
-    ensures { result ≡ is_among words.now bytes.now }
+    ensures { result ≡ name_is_among words.now bytes.now }
 {
     'words: for word in words {
         if word.as_bytes() == bytes {

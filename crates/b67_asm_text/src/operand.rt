@@ -3,7 +3,7 @@
 ghost use Rattle.std.specs.Prelude.{◌≡◌, ◌≤◌, ◌^◌, ◌<◌, length, not, IfOk};
 ghost use Rattle.std.specs.List.{prefix_len};
 ghost use Rattle.b67_ops.specs.declared.table.OperatorKind.TheVariants as kinds;
-ghost use Rattle.b67_asm_text.specs.Operands.{IsBelow, couple_in, couple_of, number_below, operator_in, past_comma, comma_place, to_label, written_in};
+ghost use Rattle.b67_asm_text.specs.Operands.{IsBelow, couple_in, couple_of_operand, number_below, operator_in, past_comma, comma_place, to_label, written_in};
 
 use crate::item::Written;
 use crate::name::is_name;
@@ -168,7 +168,7 @@ fn past_comma(text: &[u8]) -> &[u8]
 
 /// The couple of a level and an index, none where these have too many bits.
 fn couple_of(level: u32, index: u32) -> Option<Couple>
-    ensures { result ≡ couple_of level index }
+    ensures { result ≡ couple_of_operand level index }
 {
     if level <= u32::from(MOST_LEVEL) && index < 1 << MOST_INDEX_BITS {
         Some(Couple {

@@ -1,7 +1,7 @@
 //! The phrases of a format, read byte by byte.
 
 ghost use Rattle.std.specs.Prelude.{◌≡◌, [], OnOk, IfOk, ℕ, List};
-ghost use Rattle.b67_asm_text.specs.Phrases.{after, are_in_range, before, closed, columns, due, fit_in, has_no_width, longer, next, phrases_in, quoted, read_phrases, read_from, seen, shown, sized, sized_phrase, start};
+ghost use Rattle.b67_asm_text.specs.Phrases.{after_phrase, are_in_range, before, closed, columns, due, fit_in, has_no_width, longer, next, phrases_in, quoted, read_phrases, read_from, phrases_seen, phrases_shown, sized, sized_phrase, reader_start};
 
 use crate::bytes::{is_blank, is_digit, is_printable};
 use crate::number::TOO_GREAT;
@@ -66,7 +66,7 @@ fn due(byte: u8) -> Stand
 
 /// Where a phrase has ended.
 fn after(byte: u8) -> Stand
-    ensures { result ≡ after byte }
+    ensures { result ≡ after_phrase byte }
 {
     if is_blank(byte) {
         return Stand::After;
@@ -129,7 +129,7 @@ struct Reader {
 impl Reader {
     /// One more byte of a text.
     fn quoted(&mut self, alloc: Global, byte: u8) -> Result<(), AllocError>
-        ensures { OnOk result (seen self.new ≡ quoted (seen self.old) byte) }
+        ensures { OnOk result (phrases_seen self.new ≡ quoted (phrases_seen self.old) byte) }
     {
         if byte == b'"' {
             let text = Vec::from_slice(alloc, self.text.as_slice())?;
@@ -147,7 +147,7 @@ impl Reader {
 
     /// One more byte of a width, or the one after it.
     fn sized(&mut self, blanks: bool, width: Option<u32>, byte: u8) -> Result<(), AllocError>
-        ensures { OnOk result (seen self.new ≡ sized (seen self.old) blanks width byte) }
+        ensures { OnOk result (phrases_seen self.new ≡ sized (phrases_seen self.old) blanks width byte) }
     {
         if is_digit(byte) {
             self.stand = longer(blanks, width, byte);
@@ -164,7 +164,7 @@ impl Reader {
 
     /// One more byte.
     fn next(&mut self, alloc: Global, byte: u8) -> Result<(), AllocError>
-        ensures { OnOk result (seen self.new ≡ next (seen self.old) byte) }
+        ensures { OnOk result (phrases_seen self.new ≡ next (phrases_seen self.old) byte) }
     {
         match self.stand {
             Stand::Before => self.stand = before(byte),
@@ -184,7 +184,7 @@ impl Reader {
 
 /// The phrases of a format, which stand between brackets with commas between them.
 fn read_phrases(alloc: Global, text: &[u8]) -> Result<Option<Vec<Phrase>>, AllocError>
-    ensures { IfOk result (λ found. shown found ≡ read_phrases text.now) }
+    ensures { IfOk result (λ found. phrases_shown found ≡ read_phrases text.now) }
 {
     let mut reader = Reader {
         stand: Stand::Before,
@@ -211,7 +211,7 @@ const FORMAT_BYTES: usize = 6;
 /// The phrases of a format, after the word FORMAT.
 #[tactic(auto, using(std::proofs::lemmas::List::take_min, std::proofs::lemmas::List::drop_min), unfolding(crate::specs::Phrases::phrases_in))]
 pub(crate) fn phrases_in(alloc: Global, text: &[u8]) -> Result<Option<Vec<Phrase>>, AllocError>
-    ensures { IfOk result (λ found. shown found ≡ phrases_in text.now) }
+    ensures { IfOk result (λ found. phrases_shown found ≡ phrases_in text.now) }
 {
     let (word, rest) = text.split_at(FORMAT_BYTES.min(text.len()));
     if word != b"FORMAT".as_slice() {

@@ -3,7 +3,7 @@
 ghost use Rattle.std.specs.Prelude.{◌≡◌, ◌≤◌, ◌++◌, ◌∷◌, [], length, Some, IfOk, OnOk};
 ghost use Rattle.std.specs.List.{position_or_len};
 ghost use Rattle.b67_asm_text.specs.declared.item.Reading.TheVariants as kinds;
-ghost use Rattle.b67_asm_text.specs.Items.{format_from, format_of, formats, reading, readings};
+ghost use Rattle.b67_asm_text.specs.Items.{format_from, format_of, formats, record_reading, readings};
 ghost use Rattle.b67_asm_text.specs.Mnemonics.{operators};
 ghost use Rattle.b67_asm_text.specs.Phrases.{are_in_range};
 ghost use Rattle.b67_asm_text.specs.Records.{is_line_feed};
@@ -52,7 +52,7 @@ fn push_format(text: &mut Text, phrases: Vec<Phrase>) -> Result<(), AllocError>
 }
 
 /// Appends what a record is, and the format where it is one.
-#[tactic(auto, unfolding(crate::specs::Items::reading, crate::specs::Items::format_of))]
+#[tactic(auto, unfolding(crate::specs::Items::record_reading, crate::specs::Items::format_of))]
 fn read_record(
     alloc: Global,
     kinds: &[OperatorKind],
@@ -60,7 +60,7 @@ fn read_record(
     text: &mut Text,
 ) -> Result<(), AllocError>
     requires { kinds.now ≡ operators }
-    ensures lines { OnOk result (text.new.lines.items ≡ text.old.lines.items ++ reading bytes.now ∷ []) }
+    ensures lines { OnOk result (text.new.lines.items ≡ text.old.lines.items ++ record_reading bytes.now ∷ []) }
     ensures formats { OnOk result (text.new.formats.items ≡ text.old.formats.items ++ format_of bytes.now) }
 {
     let code = unblanked(code_part(bytes));

@@ -7,13 +7,13 @@ use Rattle.std.proofs.lemmas.Grind.{flat_map-append}
 use Rattle.std.proofs.lemmas.List.{map-append}
 use Rattle.std.proofs.lemmas.List.Elements.{All-head, All-tail}
 use Rattle.b67_segment.specs.declared.code.Format.{Format as Form}
-use Rattle.b67_listing.specs.Operators.{Placed, operator_text}
+use Rattle.b67_listing.specs.Operators.{ListedOperator, operator_text}
 use Rattle.b67_listing.specs.Listings.{IsPhrase}
 use Rattle.b67_listing_reader.specs.Reading.{AreInOrder, width}
 use Rattle.b67_asm_text.specs.declared.item.Written.TheVariants.{Whole}
 use Rattle.b67_asm_text.specs.declared.item.Reading.{Reading}
 use Rattle.b67_asm_text.specs.declared.item.Reading.TheVariants.{Blank, Segment, Level, Operator, Format}
-use Rattle.b67_asm_text.specs.Items.{format_of, formats, reading, readings}
+use Rattle.b67_asm_text.specs.Items.{format_of, formats, record_reading, readings}
 use Rattle.b67_asm_text.specs.Phrases.{phrases_in}
 use Rattle.b67_asm_text.specs.Records.{records}
 use Rattle.b67_asm.specs.Writable.{CanBeWritten}
@@ -55,25 +55,25 @@ lines_back (line ∷ lines) none =
 abbrev pub level_read : ℕ → ℕ → List Reading
 level_read before level = cond (eqb level before) [] (Level level ∷ [])
 
-abbrev pub read_after : ℕ → List Placed → List Reading
+abbrev pub read_after : ℕ → List ListedOperator → List Reading
 read_after before [] = []
 read_after before (first ∷ more) = level_read before first.level ++ (Operator (Whole first.operator) ∷ read_after first.level more)
 
 -- lines are read as these items, they have no formats, and no LFs
 record AreBack (lines : List (List ℕ)) (items : List Reading) : Type 0 where
-  reads : map reading lines ≡ items
+  reads : map record_reading lines ≡ items
   none : flat_map format_of lines ≡ []
   feeds : HaveNoFeed lines
 
 one_back : (line : List ℕ) (item : Reading) (lines : List (List ℕ)) (items : List Reading) → IsReadAs line item → AreBack lines items → AreBack (line ∷ lines) (item ∷ items)
 one_back line item lines items own rest = record {
-  reads = ap (λ (r : Reading). r ∷ map reading lines) own.reads ∙ ap (λ (rs : List Reading). item ∷ rs) rest.reads;
+  reads = ap (λ (r : Reading). r ∷ map record_reading lines) own.reads ∙ ap (λ (rs : List Reading). item ∷ rs) rest.reads;
   none = ap (λ (fs : List Form). fs ++ flat_map format_of lines) own.none ∙ rest.none;
   feeds = (quiet_no_feed line own.quiet, rest.feeds);
 }
 
 -- the line of a level, where there is one
-change_back : (before : ℕ) (p : Placed) (lines : List (List ℕ)) (items : List Reading) → IsReadAs (codes "LEVEL " ++ decimal p.level) (Level p.level) → AreBack lines items →
+change_back : (before : ℕ) (p : ListedOperator) (lines : List (List ℕ)) (items : List Reading) → IsReadAs (codes "LEVEL " ++ decimal p.level) (Level p.level) → AreBack lines items →
     AreBack (level_change before p.level ++ lines) (level_read before p.level ++ items)
 change_back before p lines items own rest =
     let line = codes "LEVEL " ++ decimal p.level in
@@ -88,7 +88,7 @@ change_back before p lines items own rest =
           (one_back line (Level p.level) lines items own rest))
     ]
 
-after_back : (before at : ℕ) (ps : List Placed) (end : ℕ) → AreInOrder at ps end → AreBack (lines_after before ps) (read_after before ps)
+after_back : (before at : ℕ) (ps : List ListedOperator) (end : ℕ) → AreInOrder at ps end → AreBack (lines_after before ps) (read_after before ps)
 after_back before at [] end order = record { reads = refl; none = refl; feeds = tt }
 after_back before at (p ∷ ps) end order =
     change_back before p (operator_text p.operator ∷ lines_after p.level ps) (Operator (Whole p.operator) ∷ read_after p.level ps) (level_back p.level order.0.least order.0.most)
@@ -97,26 +97,26 @@ after_back before at (p ∷ ps) end order =
 
 -- ---- segments
 
-abbrev pub segment_read : List Placed → List Reading
+abbrev pub segment_read : List ListedOperator → List Reading
 segment_read ps = Segment ∷ read_after 0 ps
 
 -- operators from the start of a segment on, which end at some place
-pub record AreWhole (ps : List Placed) : Type 0 where
+pub record AreWhole (ps : List ListedOperator) : Type 0 where
   pub end : ℕ
   pub order : AreInOrder 0 ps end
 
-abbrev pub AllWhole : List (List Placed) → Type 0
+abbrev pub AllWhole : List (List ListedOperator) → Type 0
 AllWhole [] = Unit {0}
 AllWhole (ps ∷ pss) = AreWhole ps × AllWhole pss
 
 append_back : (xs ys : List (List ℕ)) (rs ss : List Reading) → AreBack xs rs → AreBack ys ss → AreBack (xs ++ ys) (rs ++ ss)
 append_back xs ys rs ss a b = record {
-  reads = map-append reading xs ys ∙ ap (λ (is : List Reading). is ++ map reading ys) a.reads ∙ ap (λ (is : List Reading). rs ++ is) b.reads;
+  reads = map-append record_reading xs ys ∙ ap (λ (is : List Reading). is ++ map record_reading ys) a.reads ∙ ap (λ (is : List Reading). rs ++ is) b.reads;
   none = flat_map-append format_of xs ys ∙ ap (λ (fs : List Form). fs ++ flat_map format_of ys) a.none ∙ b.none;
   feeds = both_no_feed xs ys a.feeds b.feeds;
 }
 
-segments_back : (pss : List (List Placed)) → AllWhole pss → AreBack (flat_map segment_source pss) (flat_map segment_read pss)
+segments_back : (pss : List (List ListedOperator)) → AllWhole pss → AreBack (flat_map segment_source pss) (flat_map segment_read pss)
 segments_back [] whole = record { reads = refl; none = refl; feeds = tt }
 segments_back (ps ∷ pss) whole =
     append_back (segment_source ps) (flat_map segment_source pss) (segment_read ps) (flat_map segment_read pss)
@@ -128,7 +128,7 @@ abbrev pub format_read : Form → Reading
 format_read form = Format true
 
 record FormatsBack (forms : List Form) : Type 0 where
-  reads : map reading (map format_source forms) ≡ map format_read forms
+  reads : map record_reading (map format_source forms) ≡ map format_read forms
   own : flat_map format_of (map format_source forms) ≡ forms
   feeds : HaveNoFeed (map format_source forms)
 
@@ -141,7 +141,7 @@ formats_back (form ∷ forms) all can =
     let one = format_back form phrases here in
     let rest = formats_back forms (All-tail P form forms all) (All-tail CanBeWritten form forms can) in
     record {
-      reads = ap (λ (r : Reading). r ∷ map reading (map format_source forms)) one.reads ∙ ap (λ (rs : List Reading). Format true ∷ rs) rest.reads;
+      reads = ap (λ (r : Reading). r ∷ map record_reading (map format_source forms)) one.reads ∙ ap (λ (rs : List Reading). Format true ∷ rs) rest.reads;
       own = ap (λ (fs : List Form). fs ++ flat_map format_of (map format_source forms)) one.own ∙ ap (λ (fs : List Form). form ∷ fs) rest.own;
       feeds = (format_no_feed form phrases here, rest.feeds);
     }
@@ -152,19 +152,19 @@ formats_back (form ∷ forms) all can =
 abbrev pub tail_read : List Form → List Reading
 tail_read forms = map format_read forms ++ Blank ∷ []
 
-pub record IsBack (text : List ℕ) (pss : List (List Placed)) (forms : List Form) : Type 0 where
+pub record IsBack (text : List ℕ) (pss : List (List ListedOperator)) (forms : List Form) : Type 0 where
   pub reads : readings text ≡ flat_map segment_read pss ++ tail_read forms
   pub own : formats text ≡ forms
 
-empty_reads : reading [] ≡ Blank
-unfolding reading
+empty_reads : record_reading [] ≡ Blank
+unfolding record_reading
 empty_reads = refl
 
 empty_none : format_of [] ≡ []
 unfolding format_of phrases_in
 empty_none = refl
 
-pub text_back : (text : List ℕ) (pss : List (List Placed)) (forms : List Form) → AllWhole pss → All (λ (form : Form). All IsPhrase form.phrases) forms → All CanBeWritten forms →
+pub text_back : (text : List ℕ) (pss : List (List ListedOperator)) (forms : List Form) → AllWhole pss → All (λ (form : Form). All IsPhrase form.phrases) forms → All CanBeWritten forms →
     text ≡ lines_text (flat_map segment_source pss ++ map format_source forms) → IsBack text pss forms
 text_back text pss forms whole all can is =
     let first = flat_map segment_source pss in
@@ -173,14 +173,14 @@ text_back text pss forms whole all can is =
     let own = formats_back forms all can in
     let recs : records text ≡ first ++ (second ++ [] ∷ []) =
     ap records is ∙ lines_back (first ++ second) (both_no_feed first second segments.feeds own.feeds) ∙ append_assoc first second ([] ∷ []) in
-    let last : map reading (second ++ [] ∷ []) ≡ tail_read forms =
-    map-append reading second ([] ∷ []) ∙ ap (λ (rs : List Reading). rs ++ reading [] ∷ []) own.reads ∙ ap (λ (r : Reading). map format_read forms ++ r ∷ []) empty_reads in
+    let last : map record_reading (second ++ [] ∷ []) ≡ tail_read forms =
+    map-append record_reading second ([] ∷ []) ∙ ap (λ (rs : List Reading). rs ++ record_reading [] ∷ []) own.reads ∙ ap (λ (r : Reading). map format_read forms ++ r ∷ []) empty_reads in
     let last_forms : flat_map format_of (second ++ [] ∷ []) ≡ forms =
     flat_map-append format_of second ([] ∷ []) ∙ ap (λ (fs : List Form). fs ++ flat_map format_of ([] ∷ [])) own.own
     ∙ ap (λ (fs : List Form). forms ++ (fs ++ [])) empty_none ∙ append-nil forms in
     record {
       reads =
-          ap (map reading) recs ∙ map-append reading first (second ++ [] ∷ []) ∙ ap (λ (rs : List Reading). rs ++ map reading (second ++ [] ∷ [])) segments.reads
+          ap (map record_reading) recs ∙ map-append record_reading first (second ++ [] ∷ []) ∙ ap (λ (rs : List Reading). rs ++ map record_reading (second ++ [] ∷ [])) segments.reads
           ∙ ap (λ (rs : List Reading). flat_map segment_read pss ++ rs) last;
       own =
           ap (flat_map format_of) recs ∙ flat_map-append format_of first (second ++ [] ∷ []) ∙ ap (λ (fs : List Form). fs ++ flat_map format_of (second ++ [] ∷ [])) segments.none

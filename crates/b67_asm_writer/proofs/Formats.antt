@@ -14,7 +14,7 @@ use Rattle.b67_listing.specs.Listings.{IsPhrase}
 use Rattle.b67_asm_text.specs.declared.item.Reading.TheVariants.{Format}
 use Rattle.b67_asm_text.specs.Records.{code_length, code_part, is_open_after, unblanked}
 use Rattle.b67_asm_text.specs.Phrases.{are_in_range, phrases_in}
-use Rattle.b67_asm_text.specs.Items.{format_from, format_of, format_or, reading, reading_of}
+use Rattle.b67_asm_text.specs.Items.{format_from, format_of, format_or, record_reading, reading_of}
 use Rattle.b67_asm.specs.Formats.{PhraseStands, PhrasesStand}
 use Rattle.b67_asm.specs.Writable.{CanBeWritten}
 use Rattle.b67_asm.proofs.PhrasesBack.{IsTextByte, CanBeRead, Each, each_in, listed_read}
@@ -117,11 +117,11 @@ line_whole phrases can =
 
 -- what a format is read as
 pub record IsFormatBack (form : Form) : Type 0 where
-  pub reads : reading (format_source form) ≡ Format true
+  pub reads : record_reading (format_source form) ≡ Format true
   pub own : format_of (format_source form) ≡ form ∷ []
 
 form_of : (phrases : List Phrase) → 1 ≤ length phrases → All IsPhrase phrases → Each phrases → are_in_range phrases ≡ true → IsFormatBack (record { phrases = phrases })
-unfolding reading format_of
+unfolding record_reading format_of
 form_of [] some all can fits = absurd (omega arith)
 form_of (first ∷ more) some all can fits =
     let phrases = first ∷ more in

@@ -11,7 +11,7 @@ use Rattle.b67_segment.specs.declared.code.Code.{Code}
 use Rattle.b67_segment.specs.Operators as building
 use Rattle.b67_segment.specs.Syllables.{Spells, syllables}
 use Rattle.b67_segment.proofs.Fetches.{length-syllables}
-use Rattle.b67_listing.specs.Operators.{Placed}
+use Rattle.b67_listing.specs.Operators.{ListedOperator}
 use Rattle.b67_listing.specs.Listings.{HasOperators, IsSegment, StandInOrder}
 use Rattle.b67_listing_reader.specs.Reading.{unplaced}
 use Rattle.b67_listing_reader.proofs.Orders.{filled}
@@ -26,11 +26,11 @@ use Rattle.b67_asm_writer.proofs.Unbroken.{AllFill, Fill, lines_whole}
 
 -- ---- a segment
 
-some_operators : (bytes : List ℕ) (ps : List Placed) → StandInOrder bytes 0 ps → 1 ≤ length bytes → 1 ≤ length ps
+some_operators : (bytes : List ℕ) (ps : List ListedOperator) → StandInOrder bytes 0 ps → 1 ≤ length bytes → 1 ≤ length ps
 some_operators bytes [] h some = absurd (omega (arith, h, some))
 some_operators bytes (p ∷ ps) h some = omega arith
 
-fills : (segment : Made) (ps : List Placed) → IsSegment segment ps → Fill ps
+fills : (segment : Made) (ps : List ListedOperator) → IsSegment segment ps → Fill ps
 fills segment ps is =
     let bytes = syllables segment.words in
     record {
@@ -41,12 +41,12 @@ fills segment ps is =
     }
 
 -- its operators are whole words, which no NOOPs fill
-none_missing : (segment : Made) (ps : List Placed) → IsSegment segment ps → building.missing (building.size (unplaced ps)) ≡ 0
+none_missing : (segment : Made) (ps : List ListedOperator) → IsSegment segment ps → building.missing (building.size (unplaced ps)) ≡ 0
 none_missing segment ps is =
     let bytes = syllables segment.words in
     omega (arith, size_is ps (length bytes) (filled bytes 0 ps is.filled).order, length-syllables segment.words)
 
-spelled : (segment : Made) (ps : List Placed) → IsSegment segment ps → Spells (building.filled (unplaced ps)) segment
+spelled : (segment : Made) (ps : List ListedOperator) → IsSegment segment ps → Spells (building.filled (unplaced ps)) segment
 spelled segment ps is =
     let us = unplaced ps in
     let level = unwrap_or (building.last_level None us) 0 in
@@ -57,23 +57,23 @@ spelled segment ps is =
 
 -- ---- segments
 
-all_fill : (segments : List Made) (pss : List (List Placed)) → AreOperators segments pss → AllFill pss
+all_fill : (segments : List Made) (pss : List (List ListedOperator)) → AreOperators segments pss → AllFill pss
 all_fill [] [] are = tt
 all_fill [] (ps ∷ pss) are = absurd are
 all_fill (segment ∷ segments) [] are = absurd are
 all_fill (segment ∷ segments) (ps ∷ pss) are = (fills segment ps are.0, all_fill segments pss are.1)
 
-all_whole : (pss : List (List Placed)) → AllFill pss → AllWhole pss
+all_whole : (pss : List (List ListedOperator)) → AllFill pss → AllWhole pss
 all_whole [] fill = tt
 all_whole (ps ∷ pss) fill = (record { end = fill.0.end; order = fill.0.order }, all_whole pss fill.1)
 
-are_code : (segments : List Made) (pss : List (List Placed)) → AreOperators segments pss → AreCode (map unplaced pss) segments
+are_code : (segments : List Made) (pss : List (List ListedOperator)) → AreOperators segments pss → AreCode (map unplaced pss) segments
 are_code [] [] are = tt
 are_code [] (ps ∷ pss) are = absurd are
 are_code (segment ∷ segments) [] are = absurd are
 are_code (segment ∷ segments) (ps ∷ pss) are = (spelled segment ps are.0, are_code segments pss are.1)
 
-as_many : (segments : List Made) (pss : List (List Placed)) → AreOperators segments pss → length segments ≡ length pss
+as_many : (segments : List Made) (pss : List (List ListedOperator)) → AreOperators segments pss → length segments ≡ length pss
 as_many [] [] are = refl
 as_many [] (ps ∷ pss) are = absurd are
 as_many (segment ∷ segments) [] are = absurd are
@@ -96,7 +96,7 @@ assembles code text can source =
 -- ---- which codes have a text
 
 -- the operators of segments that can be listed
-listed : (segments : List Made) → All HasOperators segments → (pss : List (List Placed)) × AreOperators segments pss
+listed : (segments : List Made) → All HasOperators segments → (pss : List (List ListedOperator)) × AreOperators segments pss
 listed [] all = ([], tt)
 listed (segment ∷ segments) all =
     let here = All-head HasOperators segment segments all in

@@ -11,14 +11,14 @@ use Rattle.b67_ops.specs.declared.Operator.{Operator as Op}
 use Rattle.b67_ops.specs.declared.Operator.TheVariants as ops
 use Rattle.b67_ops.specs.declared.BranchKind.{BranchKind}
 use Rattle.b67_ops.specs.declared.PlainKind.{PlainKind}
-use Rattle.b67_ops.specs.Spelling.{Fits, IsSeen, index_bits, kind_of}
+use Rattle.b67_ops.specs.Spelling.{Fits, CoupleIsSeen, index_bits, kind_of}
 use Rattle.b67_ops.proofs.Couples.{level_bits-within}
 use Rattle.b67_listing.specs.Digits.{last_digits}
 use Rattle.b67_listing.specs.Operators.{operand_text}
 use Rattle.b67_asm_text.specs.declared.operand.TheConstants.{MOST_INDEX_BITS}
 use Rattle.b67_asm_text.specs.declared.item.Written.TheVariants.{Whole}
 use Rattle.b67_asm_text.specs.Numbers.{number_in}
-use Rattle.b67_asm_text.specs.Operands.{below, comma_place, couple_from, couple_in, couple_of, number_below, past_comma, with_operand, with_word, written, written_in}
+use Rattle.b67_asm_text.specs.Operands.{operand_below, comma_place, couple_from, couple_in, couple_of_operand, number_below, past_comma, with_operand, with_word, operand_written, written_in}
 use Rattle.b67_asm_writer.proofs.Quiet.{are_high, append_high}
 use Rattle.b67_asm_writer.proofs.Numbers.{comma_after, decimal_high, decimal_some, digits_of, hex_high, hex_some, number_back, word_back}
 
@@ -46,10 +46,10 @@ record IsKnown (couple : Couple) : Type 0 where
   level : couple.level ≤ MOST_LEVEL
   index : couple.index < 2 ^ 13
 
-known_couple : (level : ℕ) (couple : Couple) → level ≤ MOST_LEVEL → IsSeen level couple → IsKnown couple
+known_couple : (level : ℕ) (couple : Couple) → level ≤ MOST_LEVEL → CoupleIsSeen level couple → IsKnown couple
 known_couple level couple most seen = record { level = omega (arith, seen.level_seen); index = index_below level couple.index seen.index_fits }
 
-couple_made : (couple : Couple) → IsKnown couple → couple_of couple.level couple.index ≡ Some couple
+couple_made : (couple : Couple) → IsKnown couple → couple_of_operand couple.level couple.index ≡ Some couple
 couple_made couple known =
     cond-true (nat_le couple.level MOST_LEVEL && nat_lt couple.index (2 ^ MOST_INDEX_BITS)) (Some couple) None
     (and_from (nat_le couple.level MOST_LEVEL) (nat_lt couple.index (2 ^ MOST_INDEX_BITS)) (le-leb couple.level MOST_LEVEL known.level) (lt-ltb couple.index (2 ^ MOST_INDEX_BITS) known.index))
@@ -87,11 +87,11 @@ couple_some couple = longer (decimal couple.level) (decimal couple.index)
 -- ---- numbers
 
 below_back : (bound n : ℕ) → n < bound → n < 65536 → number_below bound (decimal n) ≡ Some (Some n)
-below_back bound n less fits = ap (below bound) (number_back n fits) ∙ cond-true (nat_lt n bound) (Some (Some n)) (Some None) (lt-ltb n bound less)
+below_back bound n less fits = ap (operand_below bound) (number_back n fits) ∙ cond-true (nat_lt n bound) (Some (Some n)) (Some None) (lt-ltb n bound less)
 
 -- ---- each operator with an operand
 
-valc_operand : (level : ℕ) (couple : Couple) → level ≤ MOST_LEVEL → IsSeen level couple → IsOperand (ops.Valc couple) (couple_operand couple)
+valc_operand : (level : ℕ) (couple : Couple) → level ≤ MOST_LEVEL → CoupleIsSeen level couple → IsOperand (ops.Valc couple) (couple_operand couple)
 unfolding written_in
 valc_operand level couple most seen =
     let known = known_couple level couple most seen in
@@ -99,10 +99,10 @@ valc_operand level couple most seen =
       text = refl;
       some = couple_some couple;
       high = couple_high couple known;
-      back = ap (λ (o : Option (Option Couple)). written (kind_of (ops.Valc couple)) (couple_operand couple) (with_operand ops.Valc o)) (couple_back couple known);
+      back = ap (λ (o : Option (Option Couple)). operand_written (kind_of (ops.Valc couple)) (couple_operand couple) (with_operand ops.Valc o)) (couple_back couple known);
     }
 
-namc_operand : (level : ℕ) (couple : Couple) → level ≤ MOST_LEVEL → IsSeen level couple → IsOperand (ops.Namc couple) (couple_operand couple)
+namc_operand : (level : ℕ) (couple : Couple) → level ≤ MOST_LEVEL → CoupleIsSeen level couple → IsOperand (ops.Namc couple) (couple_operand couple)
 unfolding written_in
 namc_operand level couple most seen =
     let known = known_couple level couple most seen in
@@ -110,7 +110,7 @@ namc_operand level couple most seen =
       text = refl;
       some = couple_some couple;
       high = couple_high couple known;
-      back = ap (λ (o : Option (Option Couple)). written (kind_of (ops.Namc couple)) (couple_operand couple) (with_operand ops.Namc o)) (couple_back couple known);
+      back = ap (λ (o : Option (Option Couple)). operand_written (kind_of (ops.Namc couple)) (couple_operand couple) (with_operand ops.Namc o)) (couple_back couple known);
     }
 
 lt8_operand : (n : ℕ) → n < 2 ^ 8 → IsOperand (ops.Lt8 n) (decimal n)
@@ -121,7 +121,7 @@ lt8_operand n fits =
       text = refl;
       some = decimal_some n small;
       high = decimal_high n small;
-      back = ap (λ (o : Option (Option ℕ)). written (kind_of (ops.Lt8 n)) (decimal n) (with_operand ops.Lt8 o)) (below_back (2 ^ 8) n fits small);
+      back = ap (λ (o : Option (Option ℕ)). operand_written (kind_of (ops.Lt8 n)) (decimal n) (with_operand ops.Lt8 o)) (below_back (2 ^ 8) n fits small);
     }
 
 lt16_operand : (n : ℕ) → n < 2 ^ 16 → IsOperand (ops.Lt16 n) (decimal n)
@@ -130,7 +130,7 @@ lt16_operand n fits = record {
   text = refl;
   some = decimal_some n fits;
   high = decimal_high n fits;
-  back = ap (λ (o : Option (Option ℕ)). written (kind_of (ops.Lt16 n)) (decimal n) (with_operand ops.Lt16 o)) (below_back (2 ^ 16) n fits fits);
+  back = ap (λ (o : Option (Option ℕ)). operand_written (kind_of (ops.Lt16 n)) (decimal n) (with_operand ops.Lt16 o)) (below_back (2 ^ 16) n fits fits);
 }
 
 branch_operand : (kind : BranchKind) (n : ℕ) → n < 2 ^ 16 → IsOperand (ops.Branch kind n) (decimal n)
@@ -139,7 +139,7 @@ branch_operand kind n fits = record {
   text = refl;
   some = decimal_some n fits;
   high = decimal_high n fits;
-  back = ap (λ (o : Option (Option ℕ)). written (kind_of (ops.Branch kind n)) (decimal n) (with_operand (ops.Branch kind) o)) (below_back (2 ^ 16) n fits fits);
+  back = ap (λ (o : Option (Option ℕ)). operand_written (kind_of (ops.Branch kind n)) (decimal n) (with_operand (ops.Branch kind) o)) (below_back (2 ^ 16) n fits fits);
 }
 
 lt48_operand : (word : ℕ) → word < 2 ^ 48 → IsOperand (ops.Lt48 word) (last_digits 16 12 word)
@@ -148,7 +148,7 @@ lt48_operand word fits = record {
   text = refl;
   some = hex_some word;
   high = hex_high 12 word;
-  back = ap (λ (o : Option ℕ). written (kind_of (ops.Lt48 word)) (last_digits 16 12 word) (with_word ops.Lt48 o)) (word_back word fits);
+  back = ap (λ (o : Option ℕ). operand_written (kind_of (ops.Lt48 word)) (last_digits 16 12 word) (with_word ops.Lt48 o)) (word_back word fits);
 }
 
 mpcw_operand : (word : ℕ) → word < 2 ^ 48 → IsOperand (ops.Mpcw word) (last_digits 16 12 word)
@@ -157,7 +157,7 @@ mpcw_operand word fits = record {
   text = refl;
   some = hex_some word;
   high = hex_high 12 word;
-  back = ap (λ (o : Option ℕ). written (kind_of (ops.Mpcw word)) (last_digits 16 12 word) (with_word ops.Mpcw o)) (word_back word fits);
+  back = ap (λ (o : Option ℕ). operand_written (kind_of (ops.Mpcw word)) (last_digits 16 12 word) (with_word ops.Mpcw o)) (word_back word fits);
 }
 
 -- an operator has no operand, or it has one that is read back

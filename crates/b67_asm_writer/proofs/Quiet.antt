@@ -9,7 +9,7 @@ use Rattle.algol_tree.specs.Spelling.{is_blank}
 use Rattle.b67_segment.specs.declared.code.Phrase.{Phrase}
 use Rattle.b67_asm_text.specs.declared.item.Reading.{Reading}
 use Rattle.b67_asm_text.specs.Records.{after_word, code_length, code_part, first_word, is_open_after, unblanked, word_length}
-use Rattle.b67_asm_text.specs.Items.{alone, format_from, format_of, format_or, item_in, item_of, reading, reading_of, with_operand}
+use Rattle.b67_asm_text.specs.Items.{alone, format_from, format_of, format_or, item_in, item_of, record_reading, reading_of, with_operand}
 use Rattle.b67_asm_text.specs.Phrases.{phrases_in}
 
 -- a byte of a word: digits, capitals, a comma
@@ -162,7 +162,7 @@ second_is word some h =
 
 -- a line that is quiet and no format
 record IsWords (line : List ℕ) : Type 0 where
-  reads : reading line ≡ item_in line
+  reads : record_reading line ≡ item_in line
   none : format_of line ≡ []
 
 reads_some : (line : List ℕ) → 1 ≤ length line → phrases_in line ≡ None → reading_of line ≡ item_in line
@@ -170,7 +170,7 @@ reads_some [] some none = absurd (omega arith)
 reads_some (b ∷ bs) some none = ap (λ (o : Option (List Phrase)). format_or o (b ∷ bs)) none
 
 are_words : (line : List ℕ) → 1 ≤ length line → are_quiet line ≡ true → unblanked line ≡ line → phrases_in line ≡ None → IsWords line
-unfolding reading format_of
+unfolding record_reading format_of
 are_words line some quiet first none =
     let here : unblanked (code_part line) ≡ line = ap unblanked (quiet_code line quiet) ∙ first in
     record {
@@ -180,7 +180,7 @@ are_words line some quiet first none =
 
 -- what a line is read as, and that it has no format
 pub record IsReadAs (line : List ℕ) (item : Reading) : Type 0 where
-  pub reads : reading line ≡ item
+  pub reads : record_reading line ≡ item
   pub none : format_of line ≡ []
   pub quiet : are_quiet line ≡ true
 

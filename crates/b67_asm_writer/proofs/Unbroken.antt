@@ -7,11 +7,11 @@ use Rattle.b67_ops.specs.declared.TheConstants.{OUTER_LEVEL}
 use Rattle.b67_ops.specs.declared.Couple.{Couple}
 use Rattle.b67_ops.specs.declared.Operator.{Operator as Op}
 use Rattle.b67_ops.specs.declared.Operator.TheVariants as ops
-use Rattle.b67_ops.specs.Spelling.{Fits, IsSeen, index_bits, spelling}
+use Rattle.b67_ops.specs.Spelling.{Fits, CoupleIsSeen, index_bits, spelling}
 use Rattle.b67_segment.specs.declared.TheConstants.{MOST_SEGMENT_SYLLABLES}
 use Rattle.b67_segment.specs.declared.code.Format.{Format as Form}
 use Rattle.b67_segment.specs.Operators as building
-use Rattle.b67_listing.specs.Operators.{Placed}
+use Rattle.b67_listing.specs.Operators.{ListedOperator}
 use Rattle.b67_listing_reader.specs.Reading.{AreInOrder, unplaced, width}
 use Rattle.b67_listing_reader.proofs.Orders.{order-grows}
 use Rattle.b67_asm_text.specs.declared.item.Written.TheVariants.{Whole}
@@ -22,7 +22,7 @@ use Rattle.b67_asm.specs.declared.refusal.Rule.{Rule}
 use Rattle.b67_asm.specs.declared.refusal.Rule.TheVariants.{Range, SegmentTooLong, EmptySegment}
 use Rattle.b67_asm.specs.declared.refusal.Refusal.{Refusal}
 use Rattle.b67_asm.specs.Labels.{labels_from, label_named, place_after}
-use Rattle.b67_asm.specs.Rules.{Inside, begun, first_broken, first_in, fits, is_empty, is_seen, nowhere, operator_broken, or_next, resolved}
+use Rattle.b67_asm.specs.Rules.{Inside, segment_begun, first_broken, first_in, fits, is_empty, is_seen, nowhere, operator_broken, or_next, resolved}
 use Rattle.b67_asm.specs.Assembling.{operators_from, segments_from, with_operator}
 use Rattle.b67_asm.proofs.Widths.{length_spelled}
 use Rattle.b67_asm_writer.proofs.Written.{last_from}
@@ -30,7 +30,7 @@ use Rattle.b67_asm_writer.proofs.Back.{level_read, read_after, segment_read, tai
 
 -- ---- an operator that fits is resolved
 
-seen_fits : (level : ℕ) (couple : Couple) → IsSeen level couple → is_seen level couple ≡ true
+seen_fits : (level : ℕ) (couple : Couple) → CoupleIsSeen level couple → is_seen level couple ≡ true
 seen_fits level couple h =
     and_from (nat_le couple.level level) (nat_lt couple.index (2 ^ index_bits level)) (le-leb couple.level level h.level_seen) (lt-ltb couple.index (2 ^ index_bits level) h.index_fits)
 
@@ -82,7 +82,7 @@ module _ (labels : List ℕ → Option Standing) where
       ∙ ap (λ (k : ℕ). first_in (stands_at labels level k) (line + 1) rest) (sym wide)
 
   -- the lines of operators in order have these operators, and then those of the lines after them
-  operators_back : (before place : ℕ) (ps : List Placed) (end : ℕ) (rest : List Reading) → AreInOrder place ps end →
+  operators_back : (before place : ℕ) (ps : List ListedOperator) (end : ℕ) (rest : List Reading) → AreInOrder place ps end →
       operators_from labels before (read_after before ps ++ rest) ≡ unplaced ps ++ operators_from labels (last_from before ps) rest
   operators_back before place [] end rest order = refl
   operators_back before place (first ∷ more) end rest order =
@@ -94,7 +94,7 @@ module _ (labels : List ℕ → Option Standing) where
       ∙ ap (λ (ps : List building.Placed). record { level = first.level; operator = first.operator } ∷ ps) (operators_back first.level (place + width first) more end rest order.1)
 
   -- and break no rule
-  first_back : (before place line : ℕ) (ps : List Placed) (end : ℕ) (rest : List Reading) → AreInOrder place ps end → end ≤ MOST_SEGMENT_SYLLABLES →
+  first_back : (before place line : ℕ) (ps : List ListedOperator) (end : ℕ) (rest : List Reading) → AreInOrder place ps end → end ≤ MOST_SEGMENT_SYLLABLES →
       first_in (stands_at labels before place) line (read_after before ps ++ rest) ≡ first_in (stands_at labels (last_from before ps) end) (line + length (read_after before ps)) rest
   first_back before place line [] end rest order room =
       let same : line ≡ line + 0 = omega arith in
@@ -117,45 +117,45 @@ module _ (labels : List ℕ → Option Standing) where
 -- ---- a segment
 
 -- operators that fill a segment: there are some, and they end within the longest
-pub record Fill (ps : List Placed) : Type 0 where
+pub record Fill (ps : List ListedOperator) : Type 0 where
   pub end : ℕ
   pub order : AreInOrder 0 ps end
   pub some : 1 ≤ length ps
   pub room : end ≤ MOST_SEGMENT_SYLLABLES
 
-abbrev pub AllFill : List (List Placed) → Type 0
+abbrev pub AllFill : List (List ListedOperator) → Type 0
 AllFill [] = Unit {0}
 AllFill (ps ∷ pss) = Fill ps × AllFill pss
 
 -- a level is said before the first operator, whatever level stood there
-first_level : (p : Placed) → OUTER_LEVEL ≤ p.level → level_read 0 p.level ≡ Level p.level ∷ []
+first_level : (p : ListedOperator) → OUTER_LEVEL ≤ p.level → level_read 0 p.level ≡ Level p.level ∷ []
 first_level p least = cond-false (eqb p.level 0) [] (Level p.level ∷ []) (ne_eqb p.level 0 (λ e. omega (arith, e, least)))
 
-abbrev with_first : Placed → List Placed → List Reading → List Reading
+abbrev with_first : ListedOperator → List ListedOperator → List Reading → List Reading
 with_first p ps rest = Level p.level ∷ Operator (Whole p.operator) ∷ (read_after p.level ps ++ rest)
 
-begins : (p : Placed) (ps : List Placed) (rest : List Reading) → OUTER_LEVEL ≤ p.level → read_after 0 (p ∷ ps) ++ rest ≡ with_first p ps rest
+begins : (p : ListedOperator) (ps : List ListedOperator) (rest : List Reading) → OUTER_LEVEL ≤ p.level → read_after 0 (p ∷ ps) ++ rest ≡ with_first p ps rest
 begins p ps rest least = ap (λ (ls : List Reading). (ls ++ (Operator (Whole p.operator) ∷ read_after p.level ps)) ++ rest) (first_level p least)
 
-not_empty_of : (ps : List Placed) (rest : List Reading) (end : ℕ) → AreInOrder 0 ps end → 1 ≤ length ps → is_empty (read_after 0 ps ++ rest) ≡ false
+not_empty_of : (ps : List ListedOperator) (rest : List Reading) (end : ℕ) → AreInOrder 0 ps end → 1 ≤ length ps → is_empty (read_after 0 ps ++ rest) ≡ false
 not_empty_of [] rest end order some = absurd (omega arith)
 not_empty_of (p ∷ ps) rest end order some = ap is_empty (begins p ps rest order.0.least)
 
-outer_operators_of : (ps : List Placed) (rest : List Reading) (end : ℕ) → AreInOrder 0 ps end → 1 ≤ length ps → (labels : List ℕ → Option Standing) →
+outer_operators_of : (ps : List ListedOperator) (rest : List Reading) (end : ℕ) → AreInOrder 0 ps end → 1 ≤ length ps → (labels : List ℕ → Option Standing) →
     operators_from labels OUTER_LEVEL (read_after 0 ps ++ rest) ≡ operators_from labels 0 (read_after 0 ps ++ rest)
 outer_operators_of [] rest end order some labels = absurd (omega arith)
 outer_operators_of (p ∷ ps) rest end order some labels =
     let here = begins p ps rest order.0.least in
     ap (operators_from labels OUTER_LEVEL) here ∙ sym (ap (operators_from labels 0) here)
 
-outer_first_of : (ps : List Placed) (rest : List Reading) (end : ℕ) → AreInOrder 0 ps end → 1 ≤ length ps → (labels : List ℕ → Option Standing) (line : ℕ) →
+outer_first_of : (ps : List ListedOperator) (rest : List Reading) (end : ℕ) → AreInOrder 0 ps end → 1 ≤ length ps → (labels : List ℕ → Option Standing) (line : ℕ) →
     first_in (stands_at labels OUTER_LEVEL 0) line (read_after 0 ps ++ rest) ≡ first_in (stands_at labels 0 0) line (read_after 0 ps ++ rest)
 outer_first_of [] rest end order some labels line = absurd (omega arith)
 outer_first_of (p ∷ ps) rest end order some labels line =
     let here = begins p ps rest order.0.least in
     ap (first_in (stands_at labels OUTER_LEVEL 0) line) here ∙ sym (ap (first_in (stands_at labels 0 0) line) here)
 
-module _ (ps : List Placed) (rest : List Reading) (fill : Fill ps) where
+module _ (ps : List ListedOperator) (rest : List Reading) (fill : Fill ps) where
   -- it has an operator
   not_empty : is_empty (read_after 0 ps ++ rest) ≡ false
   not_empty = not_empty_of ps rest fill.end fill.order fill.some
@@ -174,7 +174,7 @@ skip_level before level line rest =
     cond_both (eqb level before) [] (Level level ∷ []) (λ (ls : List Reading). segments_from line (ls ++ rest) ≡ segments_from (line + length ls) rest)
     (λ e. ap (λ (n : ℕ). segments_from n rest) same) (λ e. refl)
 
-skip_after : (before line : ℕ) (ps : List Placed) (rest : List Reading) → segments_from line (read_after before ps ++ rest) ≡ segments_from (line + length (read_after before ps)) rest
+skip_after : (before line : ℕ) (ps : List ListedOperator) (rest : List Reading) → segments_from line (read_after before ps ++ rest) ≡ segments_from (line + length (read_after before ps)) rest
 skip_after before line [] rest = let same : line ≡ line + 0 = omega arith in ap (λ (n : ℕ). segments_from n rest) same
 skip_after before line (first ∷ more) rest =
     let change = level_read before first.level in
@@ -201,18 +201,18 @@ tail_is (form ∷ forms) =
     record { whole = λ inside line. t.whole inside (line + 1); operators = λ labels level. t.operators labels level; segments = λ line. t.segments (line + 1) }
 
 -- the lines from a SEGMENT on, or those after the last segment, have no operators of the segment before
-ends_segment : (pss : List (List Placed)) (tail : List Reading) → IsTail tail → (labels : List ℕ → Option Standing) (level : ℕ) → operators_from labels level (flat_map segment_read pss ++ tail) ≡ []
+ends_segment : (pss : List (List ListedOperator)) (tail : List Reading) → IsTail tail → (labels : List ℕ → Option Standing) (level : ℕ) → operators_from labels level (flat_map segment_read pss ++ tail) ≡ []
 ends_segment [] tail t labels level = t.operators labels level
 ends_segment (ps ∷ pss) tail t labels level = refl
 
 -- the lines of segments, and what comes after them
-abbrev all_read : List (List Placed) → List Reading → List Reading
+abbrev all_read : List (List ListedOperator) → List Reading → List Reading
 all_read pss tail = flat_map segment_read pss ++ tail
 
-parted : (ps : List Placed) (pss : List (List Placed)) (tail : List Reading) → all_read (ps ∷ pss) tail ≡ Segment ∷ (read_after 0 ps ++ all_read pss tail)
+parted : (ps : List ListedOperator) (pss : List (List ListedOperator)) (tail : List Reading) → all_read (ps ∷ pss) tail ≡ Segment ∷ (read_after 0 ps ++ all_read pss tail)
 parted ps pss tail = ap (λ (ls : List Reading). Segment ∷ ls) (append_assoc (read_after 0 ps) (flat_map segment_read pss) tail)
 
-whole_back : (inside : Inside) (line : ℕ) (pss : List (List Placed)) (tail : List Reading) → AllFill pss → IsTail tail → first_in inside line (all_read pss tail) ≡ None
+whole_back : (inside : Inside) (line : ℕ) (pss : List (List ListedOperator)) (tail : List Reading) → AllFill pss → IsTail tail → first_in inside line (all_read pss tail) ≡ None
 whole_back inside line [] tail fill t = t.whole inside line
 whole_back inside line (ps ∷ pss) tail fill t =
     let rest = all_read pss tail in
@@ -220,12 +220,12 @@ whole_back inside line (ps ∷ pss) tail fill t =
     let labels = label_named (labels_from (line + 1) 0 own) in
     let refusal : Refusal = record { line = line; rule = EmptySegment } in
     ap (first_in inside line) (parted ps pss tail)
-    ∙ cond-false (is_empty own) (Some refusal) (first_in (begun (line + 1) own) (line + 1) own) (not_empty ps rest fill.0)
+    ∙ cond-false (is_empty own) (Some refusal) (first_in (segment_begun (line + 1) own) (line + 1) own) (not_empty ps rest fill.0)
     ∙ outer_first ps rest fill.0 labels (line + 1)
     ∙ first_back labels 0 0 (line + 1) ps fill.0.end rest fill.0.order fill.0.room
     ∙ whole_back (stands_at labels (last_from 0 ps) fill.0.end) (line + 1 + length (read_after 0 ps)) pss tail fill.1 t
 
-segments_back : (line : ℕ) (pss : List (List Placed)) (tail : List Reading) → AllFill pss → IsTail tail → segments_from line (all_read pss tail) ≡ map unplaced pss
+segments_back : (line : ℕ) (pss : List (List ListedOperator)) (tail : List Reading) → AllFill pss → IsTail tail → segments_from line (all_read pss tail) ≡ map unplaced pss
 segments_back line [] tail fill t = t.segments line
 segments_back line (ps ∷ pss) tail fill t =
     let rest = all_read pss tail in
@@ -243,15 +243,15 @@ segments_back line (ps ∷ pss) tail fill t =
 
 -- ---- the lines of a whole text
 
-pub record IsWhole (pss : List (List Placed)) (lines : List Reading) : Type 0 where
+pub record IsWhole (pss : List (List ListedOperator)) (lines : List Reading) : Type 0 where
   pub whole : first_broken lines ≡ None
   pub segments : segments_from 1 lines ≡ map unplaced pss
 
-first_segment : (pss : List (List Placed)) (tail : List Reading) → 1 ≤ length pss → AllFill pss → IsTail tail → first_broken (all_read pss tail) ≡ None
+first_segment : (pss : List (List ListedOperator)) (tail : List Reading) → 1 ≤ length pss → AllFill pss → IsTail tail → first_broken (all_read pss tail) ≡ None
 first_segment [] tail some fill t = absurd (omega arith)
 first_segment (ps ∷ pss) tail some fill t = whole_back nowhere 1 (ps ∷ pss) tail fill t
 
-pub lines_whole : (pss : List (List Placed)) (forms : List Form) → 1 ≤ length pss → AllFill pss → IsWhole pss (flat_map segment_read pss ++ tail_read forms)
+pub lines_whole : (pss : List (List ListedOperator)) (forms : List Form) → 1 ≤ length pss → AllFill pss → IsWhole pss (flat_map segment_read pss ++ tail_read forms)
 lines_whole pss forms some fill = record {
   whole = first_segment pss (tail_read forms) some fill (tail_is forms);
   segments = segments_back 1 pss (tail_read forms) fill (tail_is forms);

@@ -6,7 +6,7 @@ use Rattle.std.proofs.lemmas.Grind.{flat_map-append}
 use Rattle.std.proofs.lemmas.List.{append-nil, take_more}
 use Rattle.b67_segment.specs.declared.code.Segment.{Segment}
 use Rattle.b67_segment.specs.Syllables.{syllables}
-use Rattle.b67_listing.specs.Operators.{Placed, operator_text}
+use Rattle.b67_listing.specs.Operators.{ListedOperator, operator_text}
 use Rattle.b67_listing.specs.Listings.{HasOperators, IsSegment, passed_mark}
 use Rattle.b67_listing.proofs.Filling.{Progress, all_passed, begins, passes}
 use Rattle.b67_asm_writer.specs.Sources.{AddsOperator, AddsSegment, AddsSegments, AreOperators, level_change, line_text, lines_after, lines_text, segment_source}
@@ -14,19 +14,19 @@ use Rattle.b67_asm_writer.specs.Sources.{AddsOperator, AddsSegment, AddsSegments
 -- ---- operators
 
 -- the level of the last of operators, or the one before them
-abbrev pub last_from : ℕ → List Placed → ℕ
+abbrev pub last_from : ℕ → List ListedOperator → ℕ
 last_from level [] = level
 last_from level (first ∷ more) = last_from first.level more
 
-last_append : (level : ℕ) (before : List Placed) (p : Placed) → last_from level (before ++ p ∷ []) ≡ p.level
+last_append : (level : ℕ) (before : List ListedOperator) (p : ListedOperator) → last_from level (before ++ p ∷ []) ≡ p.level
 last_append level [] p = refl
 last_append level (first ∷ more) p = last_append first.level more p
 
 -- the lines of one more operator
-abbrev lines_for : ℕ → Placed → List (List ℕ)
+abbrev lines_for : ℕ → ListedOperator → List (List ℕ)
 lines_for before p = level_change before p.level ++ (operator_text p.operator ∷ [])
 
-after_append : (level : ℕ) (before : List Placed) (p : Placed) → lines_after level (before ++ p ∷ []) ≡ lines_after level before ++ lines_for (last_from level before) p
+after_append : (level : ℕ) (before : List ListedOperator) (p : ListedOperator) → lines_after level (before ++ p ∷ []) ≡ lines_after level before ++ lines_for (last_from level before) p
 after_append level [] p = refl
 after_append level (first ∷ more) p =
     ap (λ (ls : List (List ℕ)). level_change level first.level ++ (operator_text first.operator ∷ ls)) (after_append first.level more p)
@@ -34,7 +34,7 @@ after_append level (first ∷ more) p =
 
 -- some operators of a segment are written
 pub record Written (segment : Segment) (bytes : List ℕ) (at passed level : ℕ) (old new : List ℕ) : Type 0 where
-  pub before : List Placed
+  pub before : List ListedOperator
   pub progress : Progress segment bytes at passed level before
   pub last : last_from 0 before ≡ level
   pub added : new ≡ old ++ lines_text (lines_after 0 before)
@@ -43,7 +43,7 @@ pub written_none : (segment : Segment) (bytes : List ℕ) (text : List ℕ) → 
 written_none segment bytes text has are = record { before = []; progress = begins segment bytes has are; last = refl; added = sym (append-nil text) }
 
 -- the text of one more operator
-one_text : (level : ℕ) (before : List Placed) (p : Placed) (old new middle after : List ℕ) → last_from 0 before ≡ level → new ≡ old ++ lines_text (lines_after 0 before) →
+one_text : (level : ℕ) (before : List ListedOperator) (p : ListedOperator) (old new middle after : List ℕ) → last_from 0 before ≡ level → new ≡ old ++ lines_text (lines_after 0 before) →
     middle ≡ new ++ lines_text (level_change level p.level) → after ≡ middle ++ line_text (operator_text p.operator) →
     after ≡ old ++ lines_text (lines_after 0 (before ++ p ∷ []))
 one_text level before p old new middle after last added change line =
@@ -68,7 +68,7 @@ module _ (segment : Segment) (bytes : List ℕ) (at passed level : ℕ) (old new
       middle ≡ new ++ lines_text (level_change level found.0) → AddsOperator bytes at found.0 middle after next → Written segment bytes next found.1 found.0 old after
   written_more found middle after next inside is change adds =
       let went = passes segment bytes at passed level written.before found written.progress inside is in
-      let p : Placed = record { place = at; level = found.0; operator = adds.operator } in
+      let p : ListedOperator = record { place = at; level = found.0; operator = adds.operator } in
       record {
         before = written.before ++ p ∷ [];
         progress = went.goes_on adds.operator next adds.stands;
@@ -85,7 +85,7 @@ module _ (segment : Segment) (bytes : List ℕ) (at passed level : ℕ) (old new
 
 -- ---- segments
 
-are_append : (segments : List Segment) (operators : List (List Placed)) (segment : Segment) (own : List Placed) → AreOperators segments operators → IsSegment segment own →
+are_append : (segments : List Segment) (operators : List (List ListedOperator)) (segment : Segment) (own : List ListedOperator) → AreOperators segments operators → IsSegment segment own →
     AreOperators (segments ++ segment ∷ []) (operators ++ own ∷ [])
 are_append [] [] segment own are is = (is, tt)
 are_append [] (o ∷ os) segment own are is = absurd are

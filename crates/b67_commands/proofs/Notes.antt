@@ -7,7 +7,7 @@ use Rattle.b67_commands.specs.declared.command.Command.{Command}
 use Rattle.b67_commands.specs.declared.command.Command.TheVariants.{Go, Store, Show, Stack, Regs}
 use Rattle.b67_commands.specs.declared.noting.Note.{Note}
 use Rattle.b67_commands.specs.Positions.{Stored, stores_under, to_store}
-use Rattle.b67_commands.specs.Noting.{looks_for, looked_from, looked_for, looked_for_by, noted, notes_from, next_noted, NotesLeadToTheNext}
+use Rattle.b67_commands.specs.Noting.{looks_for, looked_from, looked_for, looked_for_by, note_added, notes_from, next_noted, NotesLeadToTheNext}
 
 -- ---- names
 
@@ -107,14 +107,14 @@ module _ (commands : List Command) (name : List ℕ) (place k : ℕ) (looked : l
   next_of notes all = next_noted notes all k place
 
   -- a note of one of the first k entries is passed over
-  passed : (number : ℕ) (o : Option ℕ) (notes : List Note) (all : ℕ) → number ≤ k → next_of (noted number o notes) all ≡ next_of notes all
+  passed : (number : ℕ) (o : Option ℕ) (notes : List Note) (all : ℕ) → number ≤ k → next_of (note_added number o notes) all ≡ next_of notes all
   passed number None notes all few = refl
   passed number (Some other) notes all few =
       let lacks : nat_lt k number ≡ false = grind (arith, nat_tests, few) in rw lacks refl
 
   -- .. and one of a later entry is where it leads, if it is of this name
   taken : (number other : ℕ) (notes : List Note) (all : ℕ) (x : Bool) → k < number → nat_eq other place ≡ x
-      → next_of (noted number (Some other) notes) all ≡ (if x then number else next_of notes all)
+      → next_of (note_added number (Some other) notes) all ≡ (if x then number else next_of notes all)
   taken number other notes all x above e = let holds : nat_lt k number ≡ true = grind (arith, nat_tests, above) in rw (holds, e) refl
 
   -- after the first k entries, b have been passed
@@ -133,7 +133,7 @@ module _ (commands : List Command) (name : List ℕ) (place k : ℕ) (looked : l
       by_store false so = so
 
       by_note : (o : Option ℕ) → looked_for_by commands entry ≡ o → next_of (notes_from commands (b + 1 + 1) rest) (b + 1 + length rest) ≡ b + 1 + to_store name rest
-          → next_of (noted (b + 1) o (notes_from commands (b + 1 + 1) rest)) (b + suc (length rest)) ≡ b + (if stores_under name entry then 1 else suc (to_store name rest))
+          → next_of (note_added (b + 1) o (notes_from commands (b + 1 + 1) rest)) (b + suc (length rest)) ≡ b + (if stores_under name entry then 1 else suc (to_store name rest))
       by_note None e so = let lacking : stores_under name entry ≡ false = not_noted entry e in rw lacking (rest_is so)
       by_note (Some other) e so =
           taken (b + 1) other (notes_from commands (b + 1 + 1) rest) (b + suc (length rest)) (stores_under name entry) (omega (arith, few)) (noted_so entry other e) ∙ by_store (stores_under name entry) (rest_is so)

@@ -71,9 +71,9 @@ pub record IsBadLine (text : List ℕ) (number : ℕ) : Type 0 where
   pub few : length before ≤ MOST_COMMANDS
   pub bad : MayStandNext line (length before) None
 
-abbrev pub Refuses : List ℕ → BadCommands → Type 0
-Refuses text (BadLine number) = IsBadLine text number
-Refuses text NoMemory = Unit {0}
+abbrev pub CommandsRefuse : List ℕ → BadCommands → Type 0
+CommandsRefuse text (BadLine number) = IsBadLine text number
+CommandsRefuse text NoMemory = Unit {0}
 
 -- ---- what is said of texts
 

@@ -4,7 +4,7 @@ use Rattle.algol_tree.specs.Sorts.{same_name}
 use Rattle.b67_commands.specs.declared.command.Command.{Command}
 use Rattle.b67_commands.specs.declared.command.Command.TheVariants.{Store}
 use Rattle.b67_commands.specs.declared.noting.Note.{Note}
-use Rattle.b67_commands.specs.Positions.{Stored, to_store, moved, positions}
+use Rattle.b67_commands.specs.Positions.{Stored, to_store, position_moved, positions}
 
 abbrev pub looks_for : Command → List ℕ → Bool
 looks_for (Store other) name = same_name other name
@@ -23,14 +23,14 @@ looked_for_by commands None = None
 looked_for_by commands (Some name) = looked_for commands name
 
 -- a note of the entry with this number, if some command looks for what it stores
-abbrev pub noted : ℕ → Option ℕ → List Note → List Note
-noted number None notes = notes
-noted number (Some place) notes = record { entry = number; name = place } ∷ notes
+abbrev pub note_added : ℕ → Option ℕ → List Note → List Note
+note_added number None notes = notes
+note_added number (Some place) notes = record { entry = number; name = place } ∷ notes
 
 -- of entries, the first of which has that number
 abbrev pub notes_from : List Command → ℕ → Stored → List Note
 notes_from commands number [] = []
-notes_from commands number (entry ∷ rest) = noted number (looked_for_by commands entry) (notes_from commands (number + 1) rest)
+notes_from commands number (entry ∷ rest) = note_added number (looked_for_by commands entry) (notes_from commands (number + 1) rest)
 
 -- of all entries of a schedule
 abbrev pub notes_of : List Command → Stored → List Note
@@ -51,7 +51,7 @@ NotesLeadToTheNext = (commands : List Command) (stored : Stored) (name : List �
 -- the command at this place leads there, given after the first k entries
 abbrev pub MovesTo : List Command → List Note → ℕ → ℕ → ℕ → ℕ → Type 0
 MovesTo commands notes all place k n =
-    (command : Command) (stored : Stored) → slice_get commands place ≡ Some command → notes ≡ notes_of commands stored → all ≡ length stored → k ≤ all → n ≡ moved stored k command
+    (command : Command) (stored : Stored) → slice_get commands place ≡ Some command → notes ≡ notes_of commands stored → all ≡ length stored → k ≤ all → n ≡ position_moved stored k command
 
 -- where a console stands when it answers each of the commands
 abbrev pub ArePositions : List Command → List Note → ℕ → List ℕ → Type 0

@@ -17,17 +17,17 @@ to_store name [] = 0
 to_store name (entry ∷ rest) = if stores_under name entry then 1 else suc (to_store name rest)
 
 -- where a command leads that is given after the first k entries
-abbrev pub moved : Stored → ℕ → Command → ℕ
-moved stored k (Go n) = min n (length stored)
-moved stored k (Store name) = k + to_store name (drop k stored)
-moved stored k Show = k
-moved stored k (Stack p) = k
-moved stored k (Regs p) = k
+abbrev pub position_moved : Stored → ℕ → Command → ℕ
+position_moved stored k (Go n) = min n (length stored)
+position_moved stored k (Store name) = k + to_store name (drop k stored)
+position_moved stored k Show = k
+position_moved stored k (Stack p) = k
+position_moved stored k (Regs p) = k
 
 -- where it stands when it answers each of the commands
 abbrev pub positions : Stored → ℕ → List Command → List ℕ
 positions stored k [] = []
-positions stored k (command ∷ commands) = moved stored k command ∷ positions stored (moved stored k command) commands
+positions stored k (command ∷ commands) = position_moved stored k command ∷ positions stored (position_moved stored k command) commands
 
 -- ---- what is said of it
 
@@ -42,8 +42,8 @@ pub record IsNextStore (stored : Stored) (name : List ℕ) (k n : ℕ) : Type 0 
   pub is : ((k < n) × IsStore stored name n) ⊎ ((n ≡ length stored) × ((number : ℕ) → k < number → IsStore stored name number → ⊥))
 
 abbrev pub StoresLeadToTheNext : Type 0
-StoresLeadToTheNext = (stored : Stored) (name : List ℕ) (k : ℕ) → k ≤ length stored → IsNextStore stored name k (moved stored k (Store name))
+StoresLeadToTheNext = (stored : Stored) (name : List ℕ) (k : ℕ) → k ≤ length stored → IsNextStore stored name k (position_moved stored k (Store name))
 
 -- No command leads past the last entry.
 abbrev pub PositionsAreWithin : Type 0
-PositionsAreWithin = (stored : Stored) (k : ℕ) (command : Command) → k ≤ length stored → moved stored k command ≤ length stored
+PositionsAreWithin = (stored : Stored) (k : ℕ) (command : Command) → k ≤ length stored → position_moved stored k command ≤ length stored

@@ -1,7 +1,7 @@
 //! The commands of a text.
 
 ghost use Rattle.std.specs.Prelude.{◌≡◌, ◌≢◌, ◌≤◌, [], length, IfOk, IfErr, OnOk};
-ghost use Rattle.b67_commands.specs.Commands.{IsFirstLine, AreCommands, MayStandNext, Refuses};
+ghost use Rattle.b67_commands.specs.Commands.{IsFirstLine, AreCommands, MayStandNext, CommandsRefuse};
 ghost use Rattle.b67_commands.specs.declared.command.TheConstants.{MOST_COMMANDS};
 
 use crate::command::{Command, MOST_COMMANDS, command_of};
@@ -46,7 +46,7 @@ impl<T: Drop> From<AllocFailed<T>> for BadCommands {
 /// [`BadCommands::BadLine`] exactly where a line is the first that is no command, or the first of too many.
 pub fn read_commands(alloc: Global, bytes: &[u8]) -> Result<List<Command>, BadCommands>
     ensures read { IfOk result (λ commands. AreCommands bytes.now commands) }
-    ensures refused { IfErr result (λ e. Refuses bytes.now e) }
+    ensures refused { IfErr result (λ e. CommandsRefuse bytes.now e) }
 {
     let mut commands = Vec::new(alloc);
     match push_commands(alloc, &mut commands, bytes) {
@@ -66,7 +66,7 @@ fn push_commands(
 ) -> Result<(), BadCommands>
     requires none { commands.old.items ≡ [] }
     ensures read { OnOk result (AreCommands bytes.now commands.new.items) }
-    ensures refused { IfErr result (λ e. Refuses bytes.now e) }
+    ensures refused { IfErr result (λ e. CommandsRefuse bytes.now e) }
 {
     let mut rest = bytes;
     'lines: while !rest.is_empty() {

@@ -6,7 +6,7 @@ use Rattle.algol_tree.specs.Plain.{PProgram}
 use Rattle.b67_segment.specs.declared.code.Code.{Code}
 use Rattle.b67_listing.specs.Listings.{IsListable}
 use Rattle.b67_templates.specs.Programs.{ProgramAt}
-use Rattle.b67_faithful.specs.Faithful.{HasFormats, IsShort, Faithful}
+use Rattle.b67_faithful.specs.Faithful.{HasFormats, IsShortSegment, Faithful}
 use Rattle.b67_fitting.proofs.Nesting.{programs_lie_nested}
 use Rattle.b67_pictures.proofs.Concluding.{nested_programs_are_faithful, nested_stacks_stay_own}
 use Rattle.b67_settling.specs.Local.{StacksStayOwn}
@@ -14,7 +14,7 @@ use Rattle.algol_front.proofs.Ordered.{IsSource, source_in_order}
 use Rattle.algol_texts.proofs.Programs.{texts_of_accepted_fit}
 use Rattle.b67_compile.proofs.Sources.{source_accepted, source_named}
 
-pub code_is_faithful : (tree : PProgram) (result : Result Code AllocError) → IsSource tree → IfOk result (λ code. ProgramAt code tree) → IfOk result (HasFormats tree) → IfOk result (IsShort tree) → IfOk result IsListable →
+pub code_is_faithful : (tree : PProgram) (result : Result Code AllocError) → IsSource tree → IfOk result (λ code. ProgramAt code tree) → IfOk result (HasFormats tree) → IfOk result (IsShortSegment tree) → IfOk result IsListable →
     IfOk result (Faithful tree)
 code_is_faithful tree (Ok code) source there formats short listable =
     let named = source_named tree source in
@@ -23,7 +23,7 @@ code_is_faithful tree (Ok code) source there formats short listable =
 code_is_faithful tree (Err e) source there formats short listable = there
 
 -- and its stacks stay own
-pub code_stacks : (tree : PProgram) (result : Result Code AllocError) → IsSource tree → IfOk result (λ code. ProgramAt code tree) → IfOk result (HasFormats tree) → IfOk result (IsShort tree) → IfOk result IsListable →
+pub code_stacks : (tree : PProgram) (result : Result Code AllocError) → IsSource tree → IfOk result (λ code. ProgramAt code tree) → IfOk result (HasFormats tree) → IfOk result (IsShortSegment tree) → IfOk result IsListable →
     IfOk result StacksStayOwn
 code_stacks tree (Ok code) source there formats short listable =
     let named = source_named tree source in

@@ -10,15 +10,15 @@ use Rattle.algol_tree.specs.Scopes.{scopes_of}
 use Rattle.algol_paths.specs.Arrays.{Lows, lows_at}
 use Rattle.algol_frames.specs.declared.scopes.Couple as found
 use Rattle.algol_frames.specs.declared.scopes.Declared.{Declared}
-use Rattle.algol_scope.specs.Resolved.{couple, located, declaration_of, result_of, actual_of, AreOf}
+use Rattle.algol_scope.specs.Resolved.{couple, located, declaration_of, result_couple_of, actual_of, AreOf}
 use Rattle.b67_ops.specs.declared.Couple.{Couple}
 use Rattle.b67_ops.specs.declared.TheConstants.{MOST_LEVEL}
-use Rattle.b67_templates.specs.Fitting.{is_event}
+use Rattle.b67_templates.specs.Fitting.{meant_is_event}
 use Rattle.b67_emitter.specs.declared.names.Names.{Names}
 use Rattle.b67_emitter.specs.Values.{actuals, couple_found, couple_declared, couples, lows, lows_found, meanings, meant, result_declared, results, AreNear}
 use Rattle.b67_emit_stmt.specs.Actuals.{AreInner}
 use Rattle.b67_fitting.specs.Fitted.{AreActuals, AreCouples, AreLows, AreResults, spelled}
-use Rattle.algol_lows.specs.Lows.{under}
+use Rattle.algol_lows.specs.Lows.{lows_found_under}
 
 same_couple : (o : Option found.Couple) (c : cells.Couple) → couple o ≡ Some c → couple_found o ≡ Some (record { level = c.level; index = c.index })
 same_couple None c h = absurd (let clash : None ≡ Some c = h in cc)
@@ -56,13 +56,13 @@ module _ (p : PProgram) (names : Names) (are : AreOf p names.scopes.now) where
       by None e = absurd (let clash : None ≡ Some d = e in cc)
       by (Some x) e =
           let same : record { spot = x.spot; level = x.level; couple = couple x.couple } ≡ d = cc in
-          found_spelled (result_of names.scopes.now x.spot) ∙ ap spelled (are.results x.spot ∙ ap (λ (z : Located). result_at p z.spot) same)
+          found_spelled (result_couple_of names.scopes.now x.spot) ∙ ap spelled (are.results x.spot ∙ ap (λ (z : Located). result_at p z.spot) same)
 
   pub actuals_known : AreActuals p (actuals names)
   actuals_known spot c h = same_couple (actual_of names.scopes.now spot) c (are.actuals spot ∙ h)
 
   -- where the table has the lower bounds of all arrays, and nothing else
-  pub lows_known : ((spot : Spot) → under names.lows spot ≡ lows_at (blocks_of_program p) spot) → AreLows p (lows names)
+  pub lows_known : ((spot : Spot) → lows_found_under names.lows spot ≡ lows_at (blocks_of_program p) spot) → AreLows p (lows names)
   unfolding scopes_of
   lows_known there spot d h = by (declaration_of names.scopes.now spot) (are.declarations spot ∙ h)
     where
@@ -73,7 +73,7 @@ module _ (p : PProgram) (names : Names) (are : AreOf p names.scopes.now) where
           there x.spot ∙ ap (λ (z : Located). lows_at (blocks_of_program p) z.spot) same
 
   -- each couple lies near, where that of each declaration, of each result and of each actual does
-  pub couples_near : ((spot : Spot) (l : Lows) → lows names spot ≡ Some l → is_event (meant names spot) ≡ false) →
+  pub couples_near : ((spot : Spot) (l : Lows) → lows names spot ≡ Some l → meant_is_event (meant names spot) ≡ false) →
       ((spot : Spot) (d : Located) (c : cells.Couple) → declaration_at p spot ≡ Some d → d.couple ≡ Some c → c.index < 2 + MOST_BLOCK_CELLS) →
       ((spot : Spot) (c : cells.Couple) → result_at p spot ≡ Some c → c.index < 2 + MOST_BLOCK_CELLS) →
       ((spot : Spot) (c : cells.Couple) → actual_at p spot ≡ Some c → c.index < 2 + MOST_BLOCK_CELLS) → AreNear names
@@ -99,7 +99,7 @@ module _ (p : PProgram) (names : Names) (are : AreOf p names.scopes.now) where
       result : (c : Couple) (o : Option Declared) → result_declared names.scopes.now o ≡ Some c → c.index < 2 + MOST_BLOCK_CELLS
       result c None g = absurd (let clash : None ≡ Some c = g in cc)
       result c (Some x) g =
-          let i = index_of (result_of names.scopes.now x.spot) c g in
+          let i = index_of (result_couple_of names.scopes.now x.spot) c g in
           subst (λ n. n < 2 + MOST_BLOCK_CELLS) i.2 (near_result x.spot i.0 (sym (are.results x.spot) ∙ i.1))
 
   -- the code of each actual has a level, where its couple tells so

@@ -10,24 +10,24 @@ use Rattle.algol_tree.specs.Plain as tree
 use Rattle.algol_tree.specs.Plain.{PStmt, PStmts, PDecls}
 use Rattle.algol_paths.specs.Segments.{is_procedure, procedures_before, segment_among, segment_of}
 use Rattle.b67_templates.specs.Labels.{labels_in}
-use Rattle.b67_emit_text.specs.Entries.{Entry, own_entries, entries_in_stmt, entries_in_stmts, entries_of}
+use Rattle.b67_emit_text.specs.Entries.{DeclaredLabel, own_entries, entries_in_stmt, entries_in_stmts, entries_of}
 use Rattle.b67_emit_text.specs.Texts.{Text, procedure_text, texts_of, texts_in_stmts, texts_in_decls}
 use Rattle.b67_fitting.proofs.Lists.{each_front, each_back}
 
 -- those of a text
-abbrev pub entries_in_text : Text → List Entry
+abbrev pub entries_in_text : Text → List DeclaredLabel
 entries_in_text t = entries_of t.level t.decls t.stmts
 
-abbrev pub chosen : Bool → List Entry → List Entry
+abbrev pub chosen : Bool → List DeclaredLabel → List DeclaredLabel
 chosen true es = es
 chosen false es = []
 
 -- those of the text with this number, where the first of these has that one
-abbrev pub entries_numbered : ℕ → List Text → ℕ → List Entry
+abbrev pub entries_numbered : ℕ → List Text → ℕ → List DeclaredLabel
 entries_numbered first [] k = []
 entries_numbered first (t ∷ ts) k = chosen (nat_eq first k) (entries_in_text t) ++ entries_numbered (first + 1) ts k
 
-chosen_other : (a k : ℕ) (es : List Entry) → k < a → chosen (nat_eq a k) es ≡ []
+chosen_other : (a k : ℕ) (es : List DeclaredLabel) → k < a → chosen (nat_eq a k) es ≡ []
 chosen_other a k es h =
     let other : nat_eq a k ≡ false = grind (arith, nat_tests) in
     ap (λ (b : Bool). chosen b es) other
@@ -35,7 +35,7 @@ chosen_other a k es h =
 pub numbered_none : (first : ℕ) (ts : List Text) (k : ℕ) → k < first → entries_numbered first ts k ≡ []
 numbered_none first [] k h = refl
 numbered_none first (t ∷ ts) k h =
-    ap (λ (es : List Entry). es ++ entries_numbered (first + 1) ts k) (chosen_other first k (entries_in_text t) h) ∙ numbered_none (first + 1) ts k (omega (arith, h))
+    ap (λ (es : List DeclaredLabel). es ++ entries_numbered (first + 1) ts k) (chosen_other first k (entries_in_text t) h) ∙ numbered_none (first + 1) ts k (omega (arith, h))
 
 numbered_both : (first : ℕ) (xs ys : List Text) (k : ℕ) → entries_numbered first (xs ++ ys) k ≡ entries_numbered first xs k ++ entries_numbered (first + length xs) ys k
 numbered_both first [] ys k =
@@ -43,7 +43,7 @@ numbered_both first [] ys k =
     ap (λ (n : ℕ). entries_numbered n ys k) same
 numbered_both first (x ∷ xs) ys k =
     let same : first + 1 + length xs ≡ first + length (x ∷ xs) = omega arith in
-    ap (λ (es : List Entry). chosen (nat_eq first k) (entries_in_text x) ++ es)
+    ap (λ (es : List DeclaredLabel). chosen (nat_eq first k) (entries_in_text x) ++ es)
     (numbered_both (first + 1) xs ys k ∙ ap (λ (n : ℕ). entries_numbered (first + 1) xs k ++ entries_numbered n ys k) same)
     ∙ sym (append_assoc (chosen (nat_eq first k) (entries_in_text x)) (entries_numbered (first + 1) xs k) (entries_numbered (first + length (x ∷ xs)) ys k))
 
@@ -53,18 +53,18 @@ module _ (blocks : List Block) where
   segment_at b = segment_of blocks (number_at blocks b.spot)
 
   -- the labels that a block declares
-  abbrev pub entries_by : Block → List Entry
+  abbrev pub entries_by : Block → List DeclaredLabel
   entries_by b = own_entries (level_of b) b.stmts (labels_in b.decls)
 
   -- those of the blocks of a segment
-  abbrev pub entries_among : ℕ → List Block → List Entry
+  abbrev pub entries_among : ℕ → List Block → List DeclaredLabel
   entries_among k [] = []
   entries_among k (b ∷ bs) = chosen (nat_eq (segment_at b) k) (entries_by b) ++ entries_among k bs
 
   pub among_both : (k : ℕ) (xs ys : List Block) → entries_among k (xs ++ ys) ≡ entries_among k xs ++ entries_among k ys
   among_both k [] ys = refl
   among_both k (b ∷ xs) ys =
-      ap (λ (es : List Entry). chosen (nat_eq (segment_at b) k) (entries_by b) ++ es) (among_both k xs ys)
+      ap (λ (es : List DeclaredLabel). chosen (nat_eq (segment_at b) k) (entries_by b) ++ es) (among_both k xs ys)
       ∙ sym (append_assoc (chosen (nat_eq (segment_at b) k) (entries_by b)) (entries_among k xs) (entries_among k ys))
 
   -- the block is found by its place
@@ -107,15 +107,15 @@ module _ (blocks : List Block) where
       ∙ ap (λ (t : Bool). if t then procedures_before blocks n + 1 else segment_among blocks (map (number_at blocks) b.outer)) plain ∙ stands
 
   -- These blocks have in this segment these labels, and else those of these texts, the first of which has that number.
-  abbrev pub HaveEntries : ℕ → ℕ → List Entry → List Text → List Block → Type 0
+  abbrev pub HaveEntries : ℕ → ℕ → List DeclaredLabel → List Text → List Block → Type 0
   HaveEntries own first es ts bs = (k : ℕ) → entries_among k bs ≡ chosen (nat_eq own k) es ++ entries_numbered first ts k
 
-  have_both : (own first : ℕ) (es fs : List Entry) (xs ys : List Text) (bs cs : List Block) → own < first → HaveEntries own first es xs bs → HaveEntries own (first + length xs) fs ys cs →
+  have_both : (own first : ℕ) (es fs : List DeclaredLabel) (xs ys : List Text) (bs cs : List Block) → own < first → HaveEntries own first es xs bs → HaveEntries own (first + length xs) fs ys cs →
       HaveEntries own first (es ++ fs) (xs ++ ys) (bs ++ cs)
   have_both own first es fs xs ys bs cs h f g k = by (nat_eq own k) refl
     where
       both : entries_among k (bs ++ cs) ≡ (chosen (nat_eq own k) es ++ entries_numbered first xs k) ++ (chosen (nat_eq own k) fs ++ entries_numbered (first + length xs) ys k)
-      both = among_both k bs cs ∙ ap (λ (z : List Entry). z ++ entries_among k cs) (f k) ∙ ap (λ (z : List Entry). (chosen (nat_eq own k) es ++ entries_numbered first xs k) ++ z) (g k)
+      both = among_both k bs cs ∙ ap (λ (z : List DeclaredLabel). z ++ entries_among k cs) (f k) ∙ ap (λ (z : List DeclaredLabel). (chosen (nat_eq own k) es ++ entries_numbered first xs k) ++ z) (g k)
 
       by : (t : Bool) → nat_eq own k ≡ t → entries_among k (bs ++ cs) ≡ chosen (nat_eq own k) (es ++ fs) ++ entries_numbered first (xs ++ ys) k
       by true e =
@@ -125,13 +125,13 @@ module _ (blocks : List Block) where
           let none' = numbered_none (first + length xs) ys k (omega (arith, less)) in
           let none'' = numbered_none first (xs ++ ys) k less in
           both
-          ∙ ap (λ (z : List Entry). (chosen (nat_eq own k) es ++ z) ++ (chosen (nat_eq own k) fs ++ entries_numbered (first + length xs) ys k)) none
-          ∙ ap (λ (z : List Entry). (chosen (nat_eq own k) es ++ []) ++ (chosen (nat_eq own k) fs ++ z)) none'
+          ∙ ap (λ (z : List DeclaredLabel). (chosen (nat_eq own k) es ++ z) ++ (chosen (nat_eq own k) fs ++ entries_numbered (first + length xs) ys k)) none
+          ∙ ap (λ (z : List DeclaredLabel). (chosen (nat_eq own k) es ++ []) ++ (chosen (nat_eq own k) fs ++ z)) none'
           ∙ ap (λ (t : Bool). (chosen t es ++ []) ++ (chosen t fs ++ [])) e
-          ∙ ap (λ (z : List Entry). z ++ (fs ++ [])) (append-nil es)
+          ∙ ap (λ (z : List DeclaredLabel). z ++ (fs ++ [])) (append-nil es)
           ∙ sym (append_assoc es fs [])
           ∙ ap (λ (t : Bool). chosen t (es ++ fs) ++ []) (sym e)
-          ∙ ap (λ (z : List Entry). chosen (nat_eq own k) (es ++ fs) ++ z) (sym none'')
+          ∙ ap (λ (z : List DeclaredLabel). chosen (nat_eq own k) (es ++ fs) ++ z) (sym none'')
       by false e =
           both
           ∙ ap (λ (t : Bool). (chosen t es ++ entries_numbered first xs k) ++ (chosen t fs ++ entries_numbered (first + length xs) ys k)) e
@@ -146,9 +146,9 @@ module _ (blocks : List Block) where
       by false = refl
 
   -- a block of the segment comes before
-  pub have_block : (b : Block) (own first : ℕ) (es : List Entry) (ts : List Text) (bs : List Block) → segment_at b ≡ own → HaveEntries own first es ts bs → HaveEntries own first (entries_by b ++ es) ts (b ∷ bs)
+  pub have_block : (b : Block) (own first : ℕ) (es : List DeclaredLabel) (ts : List Text) (bs : List Block) → segment_at b ≡ own → HaveEntries own first es ts bs → HaveEntries own first (entries_by b ++ es) ts (b ∷ bs)
   have_block b own first es ts bs at f k =
-      ap (λ (n : ℕ). chosen (nat_eq n k) (entries_by b) ++ entries_among k bs) at ∙ ap (λ (z : List Entry). chosen (nat_eq own k) (entries_by b) ++ z) (f k)
+      ap (λ (n : ℕ). chosen (nat_eq n k) (entries_by b) ++ entries_among k bs) at ∙ ap (λ (z : List DeclaredLabel). chosen (nat_eq own k) (entries_by b) ++ z) (f k)
       ∙ by (nat_eq own k)
     where
       by : (t : Bool) → chosen t (entries_by b) ++ (chosen t es ++ entries_numbered first ts k) ≡ chosen t (entries_by b ++ es) ++ entries_numbered first ts k
@@ -156,9 +156,9 @@ module _ (blocks : List Block) where
       by false = refl
 
   -- a text of the next segment, with what stands in it
-  have_text : (own first : ℕ) (t : Text) (es : List Entry) (ts : List Text) (bs : List Block) → own < first → entries_in_text t ≡ es → HaveEntries first (first + 1) es ts bs → HaveEntries own first [] (t ∷ ts) bs
+  have_text : (own first : ℕ) (t : Text) (es : List DeclaredLabel) (ts : List Text) (bs : List Block) → own < first → entries_in_text t ≡ es → HaveEntries first (first + 1) es ts bs → HaveEntries own first [] (t ∷ ts) bs
   have_text own first t es ts bs h same f k =
-      f k ∙ ap (λ (z : List Entry). chosen (nat_eq first k) z ++ entries_numbered (first + 1) ts k) (sym same) ∙ by (nat_eq own k)
+      f k ∙ ap (λ (z : List DeclaredLabel). chosen (nat_eq first k) z ++ entries_numbered (first + 1) ts k) (sym same) ∙ by (nat_eq own k)
     where
       by : (b : Bool) → chosen (nat_eq first k) (entries_in_text t) ++ entries_numbered (first + 1) ts k
           ≡ chosen b [] ++ (chosen (nat_eq first k) (entries_in_text t) ++ entries_numbered (first + 1) ts k)
@@ -270,7 +270,7 @@ module _ (blocks : List Block) where
     decls_have (tree.decls (tree.procedure heading s) ds) outer level own first e h stands found numbered =
         procedure_both heading s ds outer level own first e h found numbered
         (λ deep less within there counted.
-        subst (λ (es : List Entry). HaveEntries first (first + 1) es (texts_of s of_procedure (level + 1)) (blocks_of s of_procedure (heading.name.spot ∷ outer)))
+        subst (λ (es : List DeclaredLabel). HaveEntries first (first + 1) es (texts_of s of_procedure (level + 1)) (blocks_of s of_procedure (heading.name.spot ∷ outer)))
         (sym (append-nil (entries_in_stmt (level + 1) s))) (stmt_has s (heading.name.spot ∷ outer) (level + 1) first (first + 1) deep less within there counted))
         (λ next less there counted. decls_have ds outer level own next e less stands there counted)
     decls_have (tree.decls d ds) outer level own first e h stands found numbered = decls_have ds outer level own first e h stands found numbered

@@ -11,7 +11,7 @@ use Rattle.algol_tree.specs.Sorts.{same_name}
 use Rattle.algol_meaning.proofs.Naming.{same_name-is}
 use Rattle.algol_paths.specs.Segments.{segment_of}
 use Rattle.b67_templates.specs.Labels.{labels_in, labels_before, label_from, label_number}
-use Rattle.b67_emit_text.specs.Entries.{Entry}
+use Rattle.b67_emit_text.specs.Entries.{DeclaredLabel}
 use Rattle.b67_emit_text.specs.Texts.{Text}
 use Rattle.b67_fitting.proofs.Numbering.{block_is}
 use Rattle.b67_compile.proofs.Entries.{chosen, entries_in_text, entries_numbered, numbered_none, segment_at, entries_by, entries_among, among_both}
@@ -36,7 +36,7 @@ split_at [] j x h = absurd (let clash : None ≡ Some x = h in cc)
 split_at (z ∷ xs) zero x h = let same : z ≡ x = cc in ap (λ y. y ∷ xs) same
 split_at (z ∷ xs) (suc j) x h = ap (λ (ys : List _). z ∷ ys) (split_at xs j x h)
 
-chosen_many : (b : Bool) (es : List Entry) → length (chosen b es) ≡ (if b then length es else 0)
+chosen_many : (b : Bool) (es : List DeclaredLabel) → length (chosen b es) ≡ (if b then length es else 0)
 chosen_many true es = refl
 chosen_many false es = refl
 
@@ -95,12 +95,12 @@ module _ (sc : Scopes) (there : (j : ℕ) → j < length sc.blocks → slice_get
       let b = block_numbered blocks j in
       let k = segment_of blocks j in
       let rest = entries_among blocks k (drop (suc j) blocks) in
-      let own_list : List Entry = entries_by blocks b in
+      let own_list : List DeclaredLabel = entries_by blocks b in
       let on : nat_eq (segment_at blocks b) k ≡ true = (let same = segment_is j h in grind (arith, nat_tests)) in
       let whole : entries_among blocks k blocks ≡ entries_among blocks k (take j blocks) ++ (own_list ++ rest) =
       ap (entries_among blocks k) (split_at blocks j b (there j h)) ∙ among_both blocks k (take j blocks) (b ∷ drop (suc j) blocks)
       ∙ ap (λ (t : Bool). entries_among blocks k (take j blocks) ++ (chosen t own_list ++ rest)) on in
-      ap (λ (es : List Entry). slice_get es (labels_before sc k j + i)) whole
+      ap (λ (es : List DeclaredLabel). slice_get es (labels_before sc k j + i)) whole
       ∙ ap (λ (m : ℕ). slice_get (entries_among blocks k (take j blocks) ++ (own_list ++ rest)) (m + i)) (sym (before_many k j (omega (arith, h))))
       ∙ slice_later (entries_among blocks k (take j blocks)) (own_list ++ rest) i
       ∙ get-front own_list rest i (record { level = level_of b; name = n; stmts = b.stmts })
@@ -139,7 +139,7 @@ slice_unmap f (x ∷ xs) zero y h = (x, refl, (let same : f x ≡ y = cc in same
 slice_unmap f (x ∷ xs) (suc i) y h = slice_unmap f xs i y h
 
 -- an entry of a segment is that of a block of it
-record OfBlock (blocks : List Block) (k place : ℕ) (e : Entry) (xs : List Block) : Type 0 where
+record OfBlock (blocks : List Block) (k place : ℕ) (e : DeclaredLabel) (xs : List Block) : Type 0 where
   number : ℕ
   block : Block
   there : slice_get xs number ≡ Some block
@@ -148,14 +148,14 @@ record OfBlock (blocks : List Block) (k place : ℕ) (e : Entry) (xs : List Bloc
   entry_is : slice_get (entries_by blocks block) index ≡ Some e
   place_is : place ≡ length (entries_among blocks k (take number xs)) + index
 
-of_block : (blocks : List Block) (k place : ℕ) (e : Entry) (xs : List Block) → slice_get (entries_among blocks k xs) place ≡ Some e → OfBlock blocks k place e xs
+of_block : (blocks : List Block) (k place : ℕ) (e : DeclaredLabel) (xs : List Block) → slice_get (entries_among blocks k xs) place ≡ Some e → OfBlock blocks k place e xs
 of_block blocks k place e [] h = absurd (let clash : None ≡ Some e = h in cc)
 of_block blocks k place e (b ∷ xs) h = by (λ m g. of_block blocks k m e xs g) (nat_eq (segment_at blocks b) k) refl
   where
-    own : List Entry
+    own : List DeclaredLabel
     own = entries_by blocks b
 
-    rest : List Entry
+    rest : List DeclaredLabel
     rest = entries_among blocks k xs
 
     later : (t : Bool) (m : ℕ) → nat_eq (segment_at blocks b) k ≡ t → place ≡ length (chosen t own) + m → OfBlock blocks k m e xs → OfBlock blocks k place e (b ∷ xs)
@@ -194,7 +194,7 @@ of_block blocks k place e (b ∷ xs) h = by (λ m g. of_block blocks k m e xs g)
 module _ (sc : Scopes) (there : (j : ℕ) → j < length sc.blocks → slice_get sc.blocks j ≡ Some (block_numbered sc.blocks j))
     (own : (j : ℕ) → j < length sc.blocks → number_at sc.blocks (block_numbered sc.blocks j).spot ≡ j) where
   -- the label of an entry, with its number in its block
-  pub record IsLabelOf (k place : ℕ) (e : Entry) : Type 0 where
+  pub record IsLabelOf (k place : ℕ) (e : DeclaredLabel) : Type 0 where
     pub block : ℕ
     pub within : block < length sc.blocks
     pub segment : segment_of sc.blocks block ≡ k
@@ -203,7 +203,7 @@ module _ (sc : Scopes) (there : (j : ℕ) → j < length sc.blocks → slice_get
     pub place_is : place ≡ labels_before sc k block + index
     pub level_is : e.level ≡ level_of (block_numbered sc.blocks block)
 
-  pub label_of_entry : (k place : ℕ) (e : Entry) → slice_get (entries_among sc.blocks k sc.blocks) place ≡ Some e → IsLabelOf k place e
+  pub label_of_entry : (k place : ℕ) (e : DeclaredLabel) → slice_get (entries_among sc.blocks k sc.blocks) place ≡ Some e → IsLabelOf k place e
   label_of_entry k place e h =
       let r = of_block sc.blocks k place e sc.blocks h in
       let j = r.number in
@@ -211,7 +211,7 @@ module _ (sc : Scopes) (there : (j : ℕ) → j < length sc.blocks → slice_get
       let b = block_numbered sc.blocks j in
       let same : b ≡ r.block = block_is sc.blocks j r.block r.there in
       let m = slice_unmap (λ (n : Named). record { level = level_of r.block; name = n; stmts = r.block.stmts }) (labels_in r.block.decls) r.index e r.entry_is in
-      let name : m.0 ≡ e.name = ap (λ (z : Entry). z.name) m.2 in
+      let name : m.0 ≡ e.name = ap (λ (z : DeclaredLabel). z.name) m.2 in
       let many = before_many sc there own k j (omega (arith, within)) in
       record {
         block = j;
@@ -220,28 +220,28 @@ module _ (sc : Scopes) (there : (j : ℕ) → j < length sc.blocks → slice_get
         index = r.index;
         label_is = ap (λ (z : Block). slice_get (labels_in z.decls) r.index) same ∙ m.1 ∙ ap Some name;
         place_is = omega (arith, r.place_is, many);
-        level_is = sym (ap (λ (z : Entry). z.level) m.2) ∙ ap level_of (sym same);
+        level_is = sym (ap (λ (z : DeclaredLabel). z.level) m.2) ∙ ap level_of (sym same);
       }
 
 -- ---- in the texts
 
 -- a label of a segment is one of its text
-pub record InText (ts : List Text) (k number : ℕ) (e : Entry) : Type 0 where
+pub record InText (ts : List Text) (k number : ℕ) (e : DeclaredLabel) : Type 0 where
   pub text : Text
   pub text_is : slice_get ts k ≡ Some text
   pub entry_is : slice_get (entries_in_text text) number ≡ Some e
 
-pub in_text : (first : ℕ) (ts : List Text) (k number : ℕ) (e : Entry) → slice_get (entries_numbered first ts (first + k)) number ≡ Some e → InText ts k number e
+pub in_text : (first : ℕ) (ts : List Text) (k number : ℕ) (e : DeclaredLabel) → slice_get (entries_numbered first ts (first + k)) number ≡ Some e → InText ts k number e
 in_text first [] k number e h = absurd (let clash : None ≡ Some e = h in cc)
 in_text first (t ∷ ts) zero number e h = by (entries_numbered (first + 1) ts (first + 0)) refl
   where
-    later : (rest : List Entry) → entries_numbered (first + 1) ts (first + 0) ≡ rest → slice_get (entries_in_text t ++ rest) number ≡ Some e
+    later : (rest : List DeclaredLabel) → entries_numbered (first + 1) ts (first + 0) ≡ rest → slice_get (entries_in_text t ++ rest) number ≡ Some e
     later rest same =
         let on : nat_eq first (first + 0) ≡ true = grind (arith, nat_tests) in
-        ap (λ (es : List Entry). slice_get (entries_in_text t ++ es) number) (sym same) ∙ ap (λ (b : Bool). slice_get (chosen b (entries_in_text t) ++ entries_numbered (first + 1) ts (first + 0)) number) (sym on) ∙ h
+        ap (λ (es : List DeclaredLabel). slice_get (entries_in_text t ++ es) number) (sym same) ∙ ap (λ (b : Bool). slice_get (chosen b (entries_in_text t) ++ entries_numbered (first + 1) ts (first + 0)) number) (sym on) ∙ h
 
-    by : (rest : List Entry) → entries_numbered (first + 1) ts (first + 0) ≡ rest → InText (t ∷ ts) 0 number e
-    by [] same = record { text = t; text_is = refl; entry_is = ap (λ (es : List Entry). slice_get es number) (sym (append-nil (entries_in_text t))) ∙ later [] same }
+    by : (rest : List DeclaredLabel) → entries_numbered (first + 1) ts (first + 0) ≡ rest → InText (t ∷ ts) 0 number e
+    by [] same = record { text = t; text_is = refl; entry_is = ap (λ (es : List DeclaredLabel). slice_get es number) (sym (append-nil (entries_in_text t))) ∙ later [] same }
     by (x ∷ rest) same = absurd (let clash : x ∷ rest ≡ [] = sym same ∙ numbered_none (first + 1) ts (first + 0) (omega arith) in cc)
 in_text first (t ∷ ts) (suc k) number e h =
     let off : nat_eq first (first + suc k) ≡ false = grind (arith, nat_tests) in
@@ -253,7 +253,7 @@ in_text first (t ∷ ts) (suc k) number e h =
     record { text = r.text; text_is = r.text_is; entry_is = r.entry_is }
 
 -- .. and each of a text is one of its segment
-pub of_text : (first : ℕ) (ts : List Text) (k number : ℕ) (t : Text) (e : Entry) → slice_get ts k ≡ Some t → slice_get (entries_in_text t) number ≡ Some e →
+pub of_text : (first : ℕ) (ts : List Text) (k number : ℕ) (t : Text) (e : DeclaredLabel) → slice_get ts k ≡ Some t → slice_get (entries_in_text t) number ≡ Some e →
     slice_get (entries_numbered first ts (first + k)) number ≡ Some e
 of_text first [] k number t e h g = absurd (let clash : None ≡ Some t = h in cc)
 of_text first (u ∷ ts) zero number t e h g =

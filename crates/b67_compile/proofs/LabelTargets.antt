@@ -22,16 +22,16 @@ use Rattle.algol_frames.specs.declared.scopes.Declared as found
 use Rattle.algol_scope.specs.Resolved.{AreOf, couple, declaration_of, located}
 use Rattle.algol_paths.specs.Arrays.{Lows, lows_at, lows_declared, or_lows}
 use Rattle.algol_paths.specs.Segments.{segment_of}
-use Rattle.algol_lows.specs.Lows.{under}
+use Rattle.algol_lows.specs.Lows.{lows_found_under}
 use Rattle.algol_told.proofs.Held.{Passes}
 use Rattle.algol_told.proofs.Places.{declared-there, names_known}
 use Rattle.algol_told.proofs.Told.{all-pass}
-use Rattle.b67_templates.specs.Fitting.{is_event}
+use Rattle.b67_templates.specs.Fitting.{meant_is_event}
 use Rattle.b67_templates.specs.Labels.{labels_in, labels_before, label_number, table_place}
 use Rattle.b67_emitter.specs.declared.names.Names.{Names}
 use Rattle.b67_emitter.specs.declared.names.Target as kept
 use Rattle.b67_emitter.specs.Values.{labels, labels_found, lows, lows_found, meant, target_told}
-use Rattle.b67_emit_text.specs.Entries.{Entry}
+use Rattle.b67_emit_text.specs.Entries.{DeclaredLabel}
 use Rattle.b67_emit_text.specs.Targets as table
 use Rattle.b67_emit_text.specs.Targets.{or_target, target_at, targets_from, targets_in}
 use Rattle.b67_emit_text.specs.Texts.{Text, texts}
@@ -52,14 +52,14 @@ use Rattle.b67_fitting.proofs.Fits.{got_numbered}
 -- ---- in a list of texts
 
 -- what is found there is that of an entry
-record FromEntry (text number : ℕ) (es : List Entry) (spot : Spot) (t : kept.Target) : Type 0 where
+record FromEntry (text number : ℕ) (es : List DeclaredLabel) (spot : Spot) (t : kept.Target) : Type 0 where
   index : ℕ
-  entry : Entry
+  entry : DeclaredLabel
   there : slice_get es index ≡ Some entry
   at : entry.name.spot ≡ spot
   is : target_at text (number + index) entry ≡ t
 
-from_entry : (text number : ℕ) (es : List Entry) (spot : Spot) (t : kept.Target) → targets_from text number es spot ≡ Some t → FromEntry text number es spot t
+from_entry : (text number : ℕ) (es : List DeclaredLabel) (spot : Spot) (t : kept.Target) → targets_from text number es spot ≡ Some t → FromEntry text number es spot t
 from_entry text number [] spot t h = absurd (let clash : None ≡ Some t = h in cc)
 from_entry text number (e ∷ es) spot t h = by (λ g. from_entry text (number + 1) es spot t g) (same_spot e.name.spot spot) refl h
   where
@@ -74,11 +74,11 @@ from_entry text number (e ∷ es) spot t h = by (λ g. from_entry text (number +
         record { index = suc r.index; entry = r.entry; there = r.there; at = r.at; is = ap (λ (n : ℕ). target_at text n r.entry) on ∙ r.is }
 
 -- .. of an entry something is found
-some_entry : (text number : ℕ) (es : List Entry) (index : ℕ) (e : Entry) → slice_get es index ≡ Some e → targets_from text number es e.name.spot ≡ None → ⊥
+some_entry : (text number : ℕ) (es : List DeclaredLabel) (index : ℕ) (e : DeclaredLabel) → slice_get es index ≡ Some e → targets_from text number es e.name.spot ≡ None → ⊥
 some_entry text number [] index e h none = let clash : None ≡ Some e = h in cc
 some_entry text number (f ∷ es) zero e h none =
     let same : f ≡ e = cc in
-    let on : same_spot f.name.spot e.name.spot ≡ true = ap (λ (z : Entry). same_spot z.name.spot e.name.spot) same ∙ same_self e.name.spot in
+    let on : same_spot f.name.spot e.name.spot ≡ true = ap (λ (z : DeclaredLabel). same_spot z.name.spot e.name.spot) same ∙ same_self e.name.spot in
     let clash : Some (target_at text number f) ≡ None =
     ap (λ (b : Bool). or_target (if b then Some (target_at text number f) else None) (targets_from text (number + 1) es e.name.spot)) (sym on) ∙ none in
     cc
@@ -93,7 +93,7 @@ record FromText (first : ℕ) (ts : List Text) (spot : Spot) (t : kept.Target) :
   text : Text
   there : slice_get ts number ≡ Some text
   place : ℕ
-  entry : Entry
+  entry : DeclaredLabel
   entry_there : slice_get (entries_in_text text) place ≡ Some entry
   at : entry.name.spot ≡ spot
   is : target_at (first + number) place entry ≡ t
@@ -123,7 +123,7 @@ from_text first (u ∷ ts) spot t h = by (λ g. from_text (first + 1) ts spot t 
           is = ap (λ (n : ℕ). target_at n r.place r.entry) on ∙ r.is;
         }
 
-some_text : (first : ℕ) (ts : List Text) (number place : ℕ) (text : Text) (e : Entry) → slice_get ts number ≡ Some text → slice_get (entries_in_text text) place ≡ Some e → targets_in first ts e.name.spot ≡ None → ⊥
+some_text : (first : ℕ) (ts : List Text) (number place : ℕ) (text : Text) (e : DeclaredLabel) → slice_get ts number ≡ Some text → slice_get (entries_in_text text) place ≡ Some e → targets_in first ts e.name.spot ≡ None → ⊥
 some_text first [] number place text e h g none = let clash : None ≡ Some text = h in cc
 some_text first (u ∷ ts) number place text e h g none =
     by (λ m k n. some_text (first + 1) ts m place text e k g n) (targets_from first 0 (entries_in_text u) e.name.spot) refl number h none
@@ -204,18 +204,18 @@ module _ (at : Spot) (ds : PDecls) (ss : PStmts) (names : Names) (order : IsInOr
       by later (Some x) q g = h.0.rows spot l (q ∙ g)
 
   -- .. so no event's name has any
-  pub no_event_rows : ((spot : Spot) → under names.lows spot ≡ lows_at blocks spot) → (spot : Spot) (l : Lows) → lows names spot ≡ Some l → is_event (meant names spot) ≡ false
+  pub no_event_rows : ((spot : Spot) → lows_found_under names.lows spot ≡ lows_at blocks spot) → (spot : Spot) (l : Lows) → lows names spot ≡ Some l → meant_is_event (meant names spot) ≡ false
   unfolding declaration_at declared_at
   no_event_rows bounds spot l h = by (declaration_of names.scopes.now spot) (are.declarations spot) h
     where
-      by : (o : Option found.Declared) → located o ≡ declaration_at p spot → lows_found names o ≡ Some l → is_event (meant names spot) ≡ false
+      by : (o : Option found.Declared) → located o ≡ declaration_at p spot → lows_found names o ≡ Some l → meant_is_event (meant names spot) ≡ false
       by None q g = absurd (let clash : None ≡ Some l = g in cc)
       by (Some x) q g = of_known (known_there all spot) refl q
         where
           row : IsRow blocks all x.spot
           row = row_at blocks all_labels x.spot l (sym (bounds x.spot) ∙ g)
 
-          of_known : (o : Option Declared) → known_there all spot ≡ o → located (Some x) ≡ places.located blocks (sites_of p) o → is_event (meant names spot) ≡ false
+          of_known : (o : Option Declared) → known_there all spot ≡ o → located (Some x) ≡ places.located blocks (sites_of p) o → meant_is_event (meant names spot) ≡ false
           of_known None k r = absurd (let clash : Some (record { spot = x.spot; level = x.level; couple = couple x.couple }) ≡ None = r in cc)
           of_known (Some d) k r =
               let both : record { spot = x.spot; level = x.level; couple = couple x.couple }
@@ -224,7 +224,7 @@ module _ (at : Spot) (ds : PDecls) (ss : PStmts) (names : Names) (order : IsInOr
               let own : known_there all d.spot ≡ Some d = held_found blocks all all spot d (all_held p names order are) k in
               let one : row.as_one ≡ d = some_same row.as_one d (sym row.known ∙ ap (known_there all) same ∙ own) in
               let array : d.class ≡ class.array row.kind row.rank = ap (λ (z : Declared). z.class) (sym one) ∙ row.class_is in
-              ap is_event (meant_known p names order are spot d k) ∙ ap (λ (c : Class). is_event (meant_as c d.sort)) array
+              ap meant_is_event (meant_known p names order are spot d k) ∙ ap (λ (c : Class). meant_is_event (meant_as c d.sort)) array
 
   module _ (d : Declared) (own : known_there all d.spot ≡ Some d) where
     found_target : (t : kept.Target) → targets_in 0 ts d.spot ≡ Some t → target_told (Some t) ≡ target_of (scopes_of p) d
@@ -236,7 +236,7 @@ module _ (at : Spot) (ds : PDecls) (ss : PStmts) (names : Names) (order : IsInOr
         let e = r.entry in
         let same : 0 + k ≡ k = omega arith in
         let there : slice_get (entries_among blocks k blocks) r.place ≡ Some e =
-        ap (λ (es : List Entry). slice_get es r.place) (entries_are at ds ss order named k)
+        ap (λ (es : List DeclaredLabel). slice_get es r.place) (entries_are at ds ss order named k)
         ∙ ap (λ (n : ℕ). slice_get (entries_numbered 0 ts n) r.place) (sym same) ∙ of_text 0 ts k r.place r.text e r.there r.entry_there in
         let l : IsLabelOf sc (got_numbered blocks) own_number k r.place e = label_of_entry sc (got_numbered blocks) own_number k r.place e there in
         let j = l.block in
@@ -273,13 +273,13 @@ module _ (at : Spot) (ds : PDecls) (ss : PStmts) (names : Names) (order : IsInOr
         let same : b ≡ r.in_block = block_is blocks j.0 r.in_block j.1 in
         let i = index_of r.one (labels_in r.in_block.decls) r.among in
         let k = segment_of blocks j.0 in
-        let e : Entry = record { level = level_of b; name = r.one; stmts = b.stmts } in
+        let e : DeclaredLabel = record { level = level_of b; name = r.one; stmts = b.stmts } in
         let there : slice_get (entries_among blocks k blocks) (labels_before sc k j.0 + i.0) ≡ Some e =
         entry_at sc (got_numbered blocks) own_number j.0 i.0 r.one less (ap (λ (z : Block). slice_get (labels_in z.decls) i.0) same ∙ i.1) in
         let zero_first : 0 + k ≡ k = omega arith in
         let q = in_text 0 ts k (labels_before sc k j.0 + i.0) e
         (ap (λ (n : ℕ). slice_get (entries_numbered 0 ts n) (labels_before sc k j.0 + i.0)) zero_first
-        ∙ ap (λ (es : List Entry). slice_get es (labels_before sc k j.0 + i.0)) (sym (entries_are at ds ss order named k)) ∙ there) in
+        ∙ ap (λ (es : List DeclaredLabel). slice_get es (labels_before sc k j.0 + i.0)) (sym (entries_are at ds ss order named k)) ∙ there) in
         absurd (some_text 0 ts k (labels_before sc k j.0 + i.0) q.text e q.text_is q.entry_is (ap (targets_in 0 ts) r.at ∙ h))
 
     targets_are : target_told (targets_in 0 ts d.spot) ≡ target_of (scopes_of p) d

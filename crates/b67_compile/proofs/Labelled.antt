@@ -11,7 +11,7 @@ use Rattle.algol_tree.specs.Scopes.{scopes_of}
 use Rattle.algol_paths.specs.Segments.{segment_of}
 use Rattle.b67_ops.specs.declared.TheConstants.{OUTER_LEVEL}
 use Rattle.b67_templates.specs.Labels.{label_number}
-use Rattle.b67_emit_text.specs.Entries.{Entry, entries_in_stmts}
+use Rattle.b67_emit_text.specs.Entries.{DeclaredLabel, entries_in_stmts}
 use Rattle.b67_emit_text.specs.Texts.{Text, texts, texts_in_body}
 use Rattle.b67_templates.specs.Names.{HasNames}
 use Rattle.b67_fitting.proofs.Numbering.{block_is}
@@ -77,9 +77,9 @@ module _ (spot : Spot) (ds : PDecls) (ss : PStmts) (order : IsInOrder (tree.prog
       let own : (i : ℕ) → i < length bs → number_at bs (block_numbered bs i).spot ≡ i = (λ i less. each_number p order i (block_numbered bs i) (got_numbered bs i less)) in
       let r : IsEntry sc (got_numbered bs) own j number name = numbered_entry sc (got_numbered bs) own j number name known h in
       let k = segment_of bs j in
-      let e : Entry = record { level = level_of b; name = r.label; stmts = b.stmts } in
+      let e : DeclaredLabel = record { level = level_of b; name = r.label; stmts = b.stmts } in
       let same : 0 + k ≡ k = omega arith in
       let there : slice_get (entries_numbered 0 (texts (tree.body spot ds ss)) (0 + k)) number ≡ Some e =
-      ap (λ (n : ℕ). slice_get (entries_numbered 0 (texts (tree.body spot ds ss)) n) number) same ∙ ap (λ (es : List Entry). slice_get es number) (sym (entries_are k)) ∙ r.there_is in
+      ap (λ (n : ℕ). slice_get (entries_numbered 0 (texts (tree.body spot ds ss)) n) number) same ∙ ap (λ (es : List DeclaredLabel). slice_get es number) (sym (entries_are k)) ∙ r.there_is in
       let t : InText (texts (tree.body spot ds ss)) k number e = in_text 0 (texts (tree.body spot ds ss)) k number e there in
       record { label = r.label; name_is = r.name_is; text = t.text; text_is = t.text_is; entry_is = t.entry_is }

@@ -11,14 +11,14 @@ use Rattle.algol_tree.specs.declared.tree.Spec.TheVariants as spec
 use Rattle.algol_tree.specs.Blocks.{Block, of_statement, of_procedure, blocks_of, blocks_in_stmts, blocks_in_decls, block_numbered, number_at, decls_of, same_spot}
 use Rattle.algol_tree.specs.Classes as class
 use Rattle.algol_tree.specs.Couples.{Known, known_there}
-use Rattle.algol_tree.specs.Names.{is_one_of, repeated, result_names_of, names_here, if_so}
+use Rattle.algol_tree.specs.Names.{name_is_one_of, repeated, result_names_of, names_here, if_so}
 use Rattle.algol_tree.specs.Plain as tree
 use Rattle.algol_tree.specs.Plain.{PStmt, PStmts, PDecls}
 use Rattle.algol_tree.specs.Sites.{Site, sites, has_decls, here_stmt, inside_stmt, sites_in_stmts, inside_decl, sites_in_decls}
 use Rattle.algol_tree.specs.Sorts as sort
 use Rattle.algol_tree.specs.Sorts.{Declared, same_name, specified_by, class_by, class_in, sort_in, is_named_in, declare}
 use Rattle.algol_tree.specs.Surroundings.{Surroundings, made_known, knowing, knowing_all, inside_procedure}
-use Rattle.algol_paths.specs.Arrays.{Lows, Shape, shape_by, shape_in, stands_among, lows_of, lows_in, or_lows, lows_among, lows_declared}
+use Rattle.algol_paths.specs.Arrays.{Lows, Shape, shape_by, shape_in, stands_among, lows_of, lows_in_shape, or_lows, lows_among, lows_declared}
 use Rattle.algol_told.proofs.Held as held
 use Rattle.algol_told.proofs.Held.{IsHeld, AllHeld, Passes}
 use Rattle.algol_meaning.proofs.Naming.{same_name-itself}
@@ -70,7 +70,7 @@ first_of k seen (m ∷ ns) (suc i) n f h =
 
 -- what has not the names that were seen differs from these
 abbrev Covers : List (List ℕ) → List Named → Type 0
-Covers names seen = (name : List ℕ) → is_one_of names name ≡ false → AllByRecursion (IsOther name) seen
+Covers names seen = (name : List ℕ) → name_is_one_of names name ≡ false → AllByRecursion (IsOther name) seen
 
 either_off : (a b : Bool) → (if a then true else b) ≡ false → (a ≡ false) × (b ≡ false)
 either_off true b h = absurd (let clash : true ≡ false = h in cc)
@@ -79,12 +79,12 @@ either_off false b h = (refl, h)
 fresh_from : (names : List (List ℕ)) (seen ns : List Named) → Covers names seen → repeated names ns ≡ [] → Fresh seen ns
 fresh_from names seen [] c r = tt
 fresh_from names seen (n ∷ ns) c r = (
-  c n.name (not_so (is_one_of names n.name) n.spot (nil_front (if_so (is_one_of names n.name) n.spot) (repeated (n.name ∷ names) ns) r)),
+  c n.name (not_so (name_is_one_of names n.name) n.spot (nil_front (if_so (name_is_one_of names n.name) n.spot) (repeated (n.name ∷ names) ns) r)),
   fresh_from (n.name ∷ names) (n ∷ seen) ns
       (λ name h.
-      let both = either_off (same_name n.name name) (is_one_of names name) h in
+      let both = either_off (same_name n.name name) (name_is_one_of names name) h in
       (both.0, c name both.1))
-      (nil_back (if_so (is_one_of names n.name) n.spot) (repeated (n.name ∷ names) ns) r),
+      (nil_back (if_so (name_is_one_of names n.name) n.spot) (repeated (n.name ∷ names) ns) r),
 )
 
 -- ---- labels
@@ -170,7 +170,7 @@ module _ (blocks : List Block) (all : List Known) where
   parameters_held block depth g [] known h spot l e = absurd (let clash : None ≡ Some l = e in cc)
   parameters_held block depth g (n ∷ ns) known h spot l e = by (same_spot n.spot spot) refl e (parameters_held block depth g ns known h.1 spot l)
     where
-      of_shape : same_spot n.spot spot ≡ true → (o : Option Shape) → shape_in g.specs n.name ≡ o → lows_in o ≡ Some l → IsRow spot
+      of_shape : same_spot n.spot spot ≡ true → (o : Option Shape) → shape_in g.specs n.name ≡ o → lows_in_shape o ≡ Some l → IsRow spot
       of_shape same None q k = absurd (let clash : None ≡ Some l = k in cc)
       of_shape same (Some shape) q k = record {
         as_one = record { name = n.name; spot = n.spot; block = block; depth = depth; sort = sort_in g.specs (is_named_in g.values n.name) n.name; class = class_in g.specs n.name };
@@ -180,7 +180,7 @@ module _ (blocks : List Block) (all : List Known) where
         class_is = shaped g.specs n.name shape q;
       }
 
-      by : (b : Bool) → same_spot n.spot spot ≡ b → (if b then lows_in (shape_in g.specs n.name) else lows_among g.specs ns spot) ≡ Some l → (lows_among g.specs ns spot ≡ Some l → IsRow spot) → IsRow spot
+      by : (b : Bool) → same_spot n.spot spot ≡ b → (if b then lows_in_shape (shape_in g.specs n.name) else lows_among g.specs ns spot) ≡ Some l → (lows_among g.specs ns spot ≡ Some l → IsRow spot) → IsRow spot
       by true same k later = of_shape same (shape_in g.specs n.name) refl k
       by false same k later = later k
 
@@ -194,7 +194,7 @@ module _ (blocks : List Block) (all : List Known) where
 
   seen_more : (a : Surroundings) (new : List Declared) (seen : List Named) → Seen a seen → Seen (record a { known = new ++ a.known }) seen
   seen_more a new seen c name h =
-      c name (one_of_back (names_of a.block new) (names_of a.block a.known) name (ap (λ (z : List (List ℕ)). is_one_of z name) (sym (names_both a.block new a.known)) ∙ h))
+      c name (one_of_back (names_of a.block new) (names_of a.block a.known) name (ap (λ (z : List (List ℕ)). name_is_one_of z name) (sym (names_both a.block new a.known)) ∙ h))
 
   seen_labels : (a : Surroundings) (ns seen : List Named) → Seen a seen → Seen (record a { known = declare a.block a.depth sort.label class.label ns ++ a.known }) (shift ns seen)
   seen_labels a ns seen c name h =

@@ -9,12 +9,12 @@ use Rattle.algol_tree.specs.Plain as tree
 use Rattle.algol_tree.specs.Plain.{PStmt, PStmts, PDecls}
 use Rattle.b67_ops.specs.declared.TheConstants.{OUTER_LEVEL}
 use Rattle.b67_emit_stmt.specs.Labels.{label_spots, label_spots_in}
-use Rattle.b67_emit_text.specs.Texts.{Text, StandOnce, times, text_spots, texts, texts_of, texts_in_stmts, texts_in_decls}
+use Rattle.b67_emit_text.specs.Texts.{Text, StandOnce, spot_times, text_spots, texts, texts_of, texts_in_stmts, texts_in_decls}
 use Rattle.b67_fitting.proofs.Apart.{IsApart, Apart, apart_sym, same_place, ascending_apart}
 
 module _ (spot : Spot) where
   abbrev many : List Spot → ℕ
-  many spots = times spot spots
+  many spots = spot_times spot spots
 
   many_both : (xs ys : List Spot) → many (xs ++ ys) ≡ many xs + many ys
   many_both [] ys = omega arith

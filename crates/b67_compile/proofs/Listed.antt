@@ -5,7 +5,7 @@ use Rattle.std.proofs.lemmas.Bool.Decides.{nat_tests}
 use Rattle.std.proofs.lemmas.List.Elements.{All-nil, All-cons}
 use Rattle.std.specs.Prelude.{Some, None}
 use Rattle.b67_ops.specs.declared.Operator.{Operator}
-use Rattle.b67_ops.specs.Spelling.{spelling, Stands}
+use Rattle.b67_ops.specs.Spelling.{spelling, OperatorStands}
 use Rattle.b67_ops.proofs.Laws.{Stands-appended, Stands-kept, Stands-within}
 use Rattle.b67_segment.specs.declared.TheConstants.{MOST_SEGMENT_WORDS}
 use Rattle.b67_segment.specs.declared.code.Mark.{Mark}
@@ -17,7 +17,7 @@ use Rattle.b67_listing.specs.Operators as listed
 use Rattle.b67_listing.specs.Listings.{StandInOrder, marks_of, IsSegment, HasOperators}
 
 -- the operators with their places, from this one on
-abbrev places : ℕ → List Placed → List listed.Placed
+abbrev places : ℕ → List Placed → List listed.ListedOperator
 places at [] = []
 places at (p ∷ ps) = record { place = at; level = p.level; operator = p.operator } ∷ places (at + length (spelling at p.level p.operator)) ps
 
@@ -29,8 +29,8 @@ in_order bytes front (p ∷ ps) fit whole =
     let rest = text (at + length sp) ps in
     let joined : bytes ≡ (front ++ sp) ++ rest = whole ∙ sym (append_assoc front sp rest) in
     let place : length (front ++ sp) ≡ at + length sp = length-append front sp in
-    let kept : Stands ((front ++ sp) ++ rest) at p.level p.operator (at + length sp) = Stands-kept rest (Stands-appended front p.level p.operator fit.0.fits) in
-    let stands : Stands bytes at p.level p.operator (at + length sp) = subst (λ xs. Stands xs at p.level p.operator (at + length sp)) (sym joined) kept in
+    let kept : OperatorStands ((front ++ sp) ++ rest) at p.level p.operator (at + length sp) = Stands-kept rest (Stands-appended front p.level p.operator fit.0.fits) in
+    let stands : OperatorStands bytes at p.level p.operator (at + length sp) = subst (λ xs. OperatorStands xs at p.level p.operator (at + length sp)) (sym joined) kept in
     let later : StandInOrder bytes (length (front ++ sp)) (places (length (front ++ sp)) ps) =
     in_order bytes (front ++ sp) ps fit.1 (joined ∙ ap (λ k. (front ++ sp) ++ text k ps) (sym place)) in
     (refl, fit.0.outer, fit.0.known, (at + length sp, stands, subst (λ k. StandInOrder bytes k (places k ps)) place later))

@@ -24,7 +24,7 @@ use Rattle.algol_tree.specs.Sorts.{Declared, Sort, formals_of}
 use Rattle.algol_tree.specs.Surroundings.{Surroundings, declared_as, inside_procedure, knowing}
 use Rattle.algol_sorts.specs.declared.sort.Sort as laid
 use Rattle.algol_sorts.specs.declared.sort.Sort.TheVariants as sorts
-use Rattle.algol_sorts.specs.Sorts.{is_by_name, parameter_of, sort_by, sort_of}
+use Rattle.algol_sorts.specs.Sorts.{sort_is_by_name, parameter_of, sort_by, sort_of}
 use Rattle.algol_sorts.proofs.Sorts.{parameter-by-name}
 use Rattle.algol_frames.specs.declared.scopes.Declared as found
 use Rattle.algol_scope.specs.Noting.{parameters_by, parameters_here}
@@ -43,10 +43,10 @@ use Rattle.b67_compile.proofs.Fits.{fits, fit_known}
 
 -- ---- by what a name is declared as
 
-modes : (fs : List Formal) → map is_by_name (map parameter_of fs) ≡ map (λ (f : Formal). cells.is_by_name (Some f)) fs
+modes : (fs : List Formal) → map sort_is_by_name (map parameter_of fs) ≡ map (λ (f : Formal). cells.formal_is_by_name (Some f)) fs
 modes [] = refl
 modes (f ∷ fs) =
-    ap (λ (b : Bool). b ∷ map is_by_name (map parameter_of fs)) (parameter-by-name f.class f.by_value) ∙ ap (λ (l : List Bool). cells.is_by_name (Some f) ∷ l) (modes fs)
+    ap (λ (b : Bool). b ∷ map sort_is_by_name (map parameter_of fs)) (parameter-by-name f.class f.by_value) ∙ ap (λ (l : List Bool). cells.formal_is_by_name (Some f) ∷ l) (modes fs)
 
 sorted : (ps : Option (List laid.Sort)) (c : Class) (s : Sort) → ((h : Heading) → c ≡ class.procedure h → ps ≡ Some (map parameter_of (formals_of h))) → fits c s ≡ true →
     meant_sorted ps (sort_by c s) ≡ meant_as c s

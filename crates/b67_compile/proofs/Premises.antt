@@ -23,7 +23,7 @@ use Rattle.algol_frames.specs.declared.scopes.Scopes as table
 use Rattle.algol_scope.specs.Resolved.{AreOf}
 use Rattle.algol_scope.proofs.Bodies.{body_is}
 use Rattle.b67_ops.specs.declared.TheConstants.{MOST_LEVEL, OUTER_LEVEL}
-use Rattle.b67_templates.specs.Cells.{parameter_cells, procedures, actuals_of, made_of, result_of, simple_cells, variables, zero_cells}
+use Rattle.b67_templates.specs.Cells.{parameter_cells, procedures, actuals_of, made_of, result_cells_of, simple_cells, variables, zero_cells}
 use Rattle.b67_templates.specs.Fitting.{DeclsFit, StmtsFit}
 use Rattle.algol_lows.specs.declared.bounds.Lows.{Lows}
 use Rattle.b67_emitter.specs.declared.names.Names.{Names}
@@ -43,7 +43,7 @@ use Rattle.b67_fitting.proofs.Lists.{each_of, nil_back, nil_front, nil_map}
 use Rattle.b67_fitting.proofs.Nesting.{programs_lie_nested}
 use Rattle.b67_fitting.proofs.Numbering.{block_is, each_at}
 use Rattle.b67_fitting.proofs.SurroundedSites.{IsSurrounded, each_number, each_surrounded}
-use Rattle.algol_lows.specs.Lows.{under}
+use Rattle.algol_lows.specs.Lows.{lows_found_under}
 use Rattle.b67_compile.proofs.Cells.{AreOfFew, HasFew, HaveFew, IsOfOne, all_of_one}
 use Rattle.b67_compile.proofs.Couples.{actuals_inner, actuals_known, couples_known, lows_known, results_known, couples_near}
 use Rattle.b67_compile.proofs.Inner.{actuals_low, none_deep}
@@ -62,7 +62,7 @@ texts_in_program (tree.program b) = texts b
 
 pub record Given (p : PProgram) (names : Names) : Type 0 where
   pub resolved : AreOf p names.scopes.now
-  pub lows : (spot : Spot) → under names.lows spot ≡ lows_at (blocks_of_program p) spot
+  pub lows : (spot : Spot) → lows_found_under names.lows spot ≡ lows_at (blocks_of_program p) spot
   pub accepted : Accepted p
   pub order : IsInOrder p
   pub whole : HasWholeNumbers p
@@ -72,14 +72,14 @@ pub record Given (p : PProgram) (names : Names) : Type 0 where
 
 -- the same of the parts of the program's body
 pub given : (b : Body) (s : table.Scopes) (bounds : BTreeMap Spot Lows) (names : Names) → names.scopes.now ≡ s → names.lows ≡ bounds →
-    AreOf (tree.program (plain.body b)) s → ((spot : Spot) → under bounds spot ≡ lows_at (blocks_of_program (tree.program (plain.body b))) spot) →
+    AreOf (tree.program (plain.body b)) s → ((spot : Spot) → lows_found_under bounds spot ≡ lows_at (blocks_of_program (tree.program (plain.body b))) spot) →
     Accepted (tree.program (plain.body b)) → IsInOrder (tree.program (plain.body b)) → HasWholeNumbers (tree.program (plain.body b)) → HasPlainTexts (tree.program (plain.body b)) →
     HasNames (tree.program (plain.body b)) → (targets : BTreeMap Spot Target) → names.labels ≡ targets → AreTargets (texts (plain.body b)) targets → Given (tree.program (tree.body b.spot (plain.decls b.decls) (plain.stmts b.stmts))) names
 given b s bounds names scopes_are bounds_are resolved lows accepted order whole texts_are named targets targets_are labels =
     subst (λ (z : PBody). Given (tree.program z) names) (body_is b)
     (record {
       resolved = subst (AreOf (tree.program (plain.body b))) (sym scopes_are) resolved;
-      lows = λ spot. ap (λ (m : BTreeMap Spot Lows). under m spot) bounds_are ∙ lows spot;
+      lows = λ spot. ap (λ (m : BTreeMap Spot Lows). lows_found_under m spot) bounds_are ∙ lows spot;
       accepted = accepted;
       order = order;
       whole = whole;
@@ -106,7 +106,7 @@ length_three xs ys zs = omega (arith, length-append (xs ++ ys) zs, length-append
 
 -- the cells of 0 stand after those of the parameters
 zeros_behind : (sc : Scopes) (b : Block) → length (simple_cells sc b) ≡ length (parameter_cells sc b) + length (zero_cells b)
-zeros_behind sc b = length_three (parameter_cells sc b) (result_of b.result b.name) (variables b.decls)
+zeros_behind sc b = length_three (parameter_cells sc b) (result_cells_of b.result b.name) (variables b.decls)
 
 module _ (spot : Spot) (ds : PDecls) (ss : PStmts) (names : Names) where
   abbrev p : PProgram

@@ -20,7 +20,7 @@ use Rattle.b67_fitting.proofs.NamesRead.{sources_named}
 use Rattle.b67_fitting.proofs.Numbered.{sources_whole}
 use Rattle.b67_fitting.proofs.Written.{sources_plain}
 use Rattle.b67_templates.specs.Code.{AreDimensions}
-use Rattle.b67_templates.specs.Fragments.{IsWhole}
+use Rattle.b67_templates.specs.Fragments.{IsWholeNumber}
 
 accepted_once : (p : PProgram) → IsProp (Accepted p)
 accepted_once p = Prim.hlevel props
@@ -126,7 +126,7 @@ dimensions (p ∷ q ∷ r ∷ pairs) = λ x y. absurd x
 
 bounds_whole : (pairs : List PPair) → IsProp (BoundsWhole pairs)
 bounds_whole pairs =
-    ×_prop (dimensions pairs) (AllByRecursion-prop (λ (p : PPair). IsWhole p.low × NumbersWhole p.high) (λ p. ×_prop le_prop (numbers_whole p.high)) pairs)
+    ×_prop (dimensions pairs) (AllByRecursion-prop (λ (p : PPair). IsWholeNumber p.low × NumbersWhole p.high) (λ p. ×_prop le_prop (numbers_whole p.high)) pairs)
 
 spec_whole : (s : Spec) → IsProp (SpecWhole s)
 spec_whole (spec.Arrays kind ns []) = λ x y. absurd x

@@ -20,19 +20,19 @@ use Rattle.b67_segment.specs.declared.code.Format.{Format}
 use Rattle.b67_segment.specs.declared.code.Segment.{Segment}
 use Rattle.b67_listing.specs.Listings.{HasOperators, IsListable}
 use Rattle.b67_templates.specs.Contexts.{yields_of, Context}
-use Rattle.b67_templates.specs.Fragments.{Goes, stop}
+use Rattle.b67_templates.specs.Fragments.{FragmentGoes, stop}
 use Rattle.b67_templates.specs.Cells.{actuals_of, zero_cells}
 use Rattle.b67_templates.specs.Code.{RoutinesAt, CellsAt, DeclsAt, HasNoCounts, StmtsAt, KAt, control_pcws}
 use Rattle.b67_templates.specs.Events.{EventsMadeAt}
 use Rattle.b67_templates.specs.Labels.{label_number, label_in, LabelAt}
 use Rattle.b67_templates.specs.Programs.{BodyAt, ProgramAt, Texts, context_of}
 use Rattle.b67_emitter.specs.declared.names.Names.{Names}
-use Rattle.b67_emit_stmt.specs.Drafts.{AreListed}
-use Rattle.b67_emit_text.specs.Entries.{Entry}
+use Rattle.b67_emit_stmt.specs.Drafts.{FormatsCanBeListed}
+use Rattle.b67_emit_text.specs.Entries.{DeclaredLabel}
 use Rattle.b67_emit_text.specs.Programs as made
 use Rattle.b67_emit_text.specs.Programs.{AreShort, Coded, EndAt}
 use Rattle.b67_emit_text.specs.Texts.{Text, texts}
-use Rattle.b67_faithful.specs.Faithful.{IsShort}
+use Rattle.b67_faithful.specs.Faithful.{IsShortSegment}
 use Rattle.b67_fitting.proofs.Fits.{labels_stand}
 use Rattle.b67_compile.proofs.Listed.{all_listed, is_segment}
 use Rattle.b67_compile.proofs.Matching.{text_of}
@@ -103,7 +103,7 @@ module _ (sc : Scopes) (context : Context) (ps : List Placed) (level : ℕ) wher
   decls_at (tree.decls (tree.procedure h s) ds) k f t here after = decls_at ds k f t here after
 
   -- the code of a block's text
-  body_at : (b : Block) → context.yields ≡ yields_of b.result → (begin : ℕ) (ats : List ℕ) (m d e : ℕ) → Goes ps level 0 begin → RoutinesAt sc context ps (level + 1) (actuals_of sc b) ats →
+  body_at : (b : Block) → context.yields ≡ yields_of b.result → (begin : ℕ) (ats : List ℕ) (m d e : ℕ) → FragmentGoes ps level 0 begin → RoutinesAt sc context ps (level + 1) (actuals_of sc b) ats →
       CellsAt sc context ps level (length (zero_cells b)) (control_pcws sc context.segment level b.decls (actuals_of sc b) ats) begin m →
       DeclsAt sc context ps level b.decls m d → StmtsAt sc context ps level b.stmts d e e → EndAt sc context ps level b.result b.name e → BodyAt sc context ps level b 0
   body_at b is begin ats m d e first routines cells decls stmts end =
@@ -145,13 +145,13 @@ module _ (spot : Spot) (ds : PDecls) (ss : PStmts) (names : Names) (has : Given 
     abbrev code : Code
     code = record { segments = segments; formats = formats }
 
-    pub short_code : length segments ≡ length ts → AreShort segments ts → IsShort p code
+    pub short_code : length segments ≡ length ts → AreShort segments ts → IsShortSegment p code
     short_code many short k segment h =
         let t = in_both segments ts k segment many h in
         let r = text_block spot ds ss has.order has.named k t.0 t.1 in
         omega (arith, short k segment t.0 h t.1, ap (λ (z : Text). z.tokens) r.is, r.of.short)
 
-    pub listable_code : Coded (scopes_of p) formats segments ts → AreShort segments ts → AreListed formats → IsListable code
+    pub listable_code : Coded (scopes_of p) formats segments ts → AreShort segments ts → FormatsCanBeListed formats → IsListable code
     listable_code coded short listed = record {
       segments = all_listed segments each;
       formats = listed;
@@ -183,7 +183,7 @@ module _ (spot : Spot) (ds : PDecls) (ss : PStmts) (names : Names) (has : Given 
         labels j number name known h =
             let label = labels_stand p has.accepted has.order has.whole has.texts j number name known h in
             let r = label_entry spot ds ss has.order has.named j number name known h in
-            let e : Entry = record { level = level_of (block_numbered (scopes_of p).blocks j); name = r.label; stmts = (block_numbered (scopes_of p).blocks j).stmts } in
+            let e : DeclaredLabel = record { level = level_of (block_numbered (scopes_of p).blocks j); name = r.label; stmts = (block_numbered (scopes_of p).blocks j).stmts } in
             let at = coded.tables (segment_of (scopes_of p).blocks j) r.text r.text_is number e r.entry_is label.0
             (ap (label_in (block_numbered (scopes_of p).blocks j).stmts) r.name_is ∙ label.1) in
             record { label = label.0; stands = label.1; target = at.0; next = at.1; place = at.2; branch = at.3 }
@@ -203,11 +203,11 @@ module _ (spot : Spot) (ds : PDecls) (ss : PStmts) (names : Names) (has : Given 
             let ps = coded.placed (segment_of sc.blocks j) in
             let l = level_of b in
             let own = actuals_of sc b in
-            let segment : segment_of sc.blocks (made.block_of sc (text_of b r.tokens)) ≡ segment_of sc.blocks j = ap (segment_of sc.blocks) r.number_is in
+            let segment : segment_of sc.blocks (made.block_of_text sc (text_of b r.tokens)) ≡ segment_of sc.blocks j = ap (segment_of sc.blocks) r.number_is in
             body_at sc at ps l b refl there.0 there.1 there.2 there.3 there.4 there.5
             (subst (λ (c : Context). RoutinesAt sc c ps (l + 1) own there.1) same there.6)
             (subst (λ (n : ℕ). CellsAt sc at ps l (length (zero_cells b)) (control_pcws sc n l b.decls own there.1) there.0 there.2) segment
-            (subst (λ (c : Context). CellsAt sc c ps l (length (zero_cells b)) (control_pcws sc (segment_of sc.blocks (made.block_of sc (text_of b r.tokens))) l b.decls own there.1) there.0 there.2) same there.7))
+            (subst (λ (c : Context). CellsAt sc c ps l (length (zero_cells b)) (control_pcws sc (segment_of sc.blocks (made.block_of_text sc (text_of b r.tokens))) l b.decls own there.1) there.0 there.2) same there.7))
             (subst (λ (c : Context). DeclsAt sc c ps l b.decls there.2 there.3) same there.8)
             (subst (λ (c : Context). StmtsAt sc c ps l b.stmts there.3 there.4 there.4) same there.9)
             (subst (λ (c : Context). EndAt sc c ps l b.result b.name there.4) same there.10)

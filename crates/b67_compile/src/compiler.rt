@@ -10,7 +10,7 @@ ghost use Rattle.b67_templates.specs.Programs.{ProgramAt};
 ghost use Rattle.b67_templates.specs.Names.{HasNames};
 ghost use Rattle.b67_fitting.specs.Texts.{HasPlainTexts};
 ghost use Rattle.b67_fitting.specs.Wholes.{HasWholeNumbers};
-ghost use Rattle.b67_faithful.specs.Faithful.{Faithful, HasFormats, IsShort};
+ghost use Rattle.b67_faithful.specs.Faithful.{Faithful, HasFormats, IsShortSegment};
 ghost use Rattle.b67_settling.specs.Local.{StacksStayOwn};
 
 use algol_front::Checked;
@@ -40,7 +40,7 @@ fn code_of<E: ExprEmitter>(
     requires named { HasNames (plain.program program.now) }
     ensures code { IfOk result (λ code. ProgramAt code (plain.program program.now)) }
     ensures formats { IfOk result (HasFormats (plain.program program.now)) }
-    ensures short { IfOk result (IsShort (plain.program program.now)) }
+    ensures short { IfOk result (IsShortSegment (plain.program program.now)) }
     ensures listable { IfOk result IsListable }
 {
     let lows = lows_of_program(alloc, program, scopes)?;

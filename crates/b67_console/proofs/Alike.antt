@@ -12,7 +12,7 @@ use Rattle.b67_fronts.proofs.One.{runs_same}
 use Rattle.b67_judge.proofs.Once.{same_world}
 use Rattle.b67_commands.specs.declared.command.Command.{Command}
 use Rattle.b67_commands.specs.declared.command.Command.TheVariants.{Go}
-use Rattle.b67_commands.specs.Positions.{moved}
+use Rattle.b67_commands.specs.Positions.{position_moved}
 use Rattle.b67_storing.specs.Stores.{stored_by}
 use Rattle.b67_console.specs.Telling.{answer_text, IsAnswer, TextFrom}
 use Rattle.b67_console.specs.Laws.{ConsolesHaveOneText, MomentsAreOfOneHistory, TheSameIsShownAgain}
@@ -42,14 +42,14 @@ module _ (tree : PProgram) (code : Code) (h : List ℕ) where
   one_text : (k : ℕ) (commands : List Command) (t u : List ℕ) → TextFrom tree code h k commands t → TextFrom tree code h k commands u → t ≡ u
   one_text k [] t u a b = a ∙ sym b
   one_text k (command ∷ commands) t u (first, rest, is, a, more) (other, left, so, b, also) =
-      let front : first ≡ other = one_answer (moved (stored_by tree h) k command) command first other a b in
-      let back : rest ≡ left = one_text (moved (stored_by tree h) k command) commands rest left more also in
+      let front : first ≡ other = one_answer (position_moved (stored_by tree h) k command) command first other a b in
+      let back : rest ≡ left = one_text (position_moved (stored_by tree h) k command) commands rest left more also in
       is ∙ ap (λ (xs : List ℕ). xs ++ rest) front ∙ ap (λ (xs : List ℕ). other ++ xs) back ∙ sym so
 
   -- where a console stands after commands
   after_all : ℕ → List Command → ℕ
   after_all k [] = k
-  after_all k (command ∷ commands) = after_all (moved (stored_by tree h) k command) commands
+  after_all k (command ∷ commands) = after_all (position_moved (stored_by tree h) k command) commands
 
   record Parts (k : ℕ) (xs ys : List Command) (text : List ℕ) : Type 0 where
     pub first : List ℕ
@@ -62,7 +62,7 @@ module _ (tree : PProgram) (code : Code) (h : List ℕ) where
   unfolding after_all
   parts k [] ys text t = record { first = []; rest = text; is = refl; before = refl; after = t }
   parts k (command ∷ commands) ys text (first, rest, is, a, more) =
-      let s = parts (moved (stored_by tree h) k command) commands ys rest more in
+      let s = parts (position_moved (stored_by tree h) k command) commands ys rest more in
       record {
         first = first ++ s.first;
         rest = s.rest;

@@ -11,14 +11,14 @@ use Rattle.b67_segment.specs.declared.code.Code.{Code}
 use Rattle.b67_table.specs.Image.{Image}
 use Rattle.b67_table.specs.Runs.{Tails}
 use Rattle.b67_table.specs.Sound.{Sound}
-use Rattle.b67_schedule.specs.Schedules.{entries, Kept as Schedule}
+use Rattle.b67_schedule.specs.Schedules.{entries, ScheduleModel}
 use Rattle.b67_judge.proofs.Verdicts.{run_is}
 use Rattle.algol_lean.specs.Beside.{RunsBeside}
 use Rattle.b67_deeds.specs.declared.Letter.{Letter}
 use Rattle.b67_machine.specs.Beginning.{IsFresh}
 use Rattle.b67_machine.proofs.Finishing.{begins}
 use Rattle.b67_stops.specs.Answering.{AreAnswers}
-use Rattle.b67_machine.specs.Kept.{Kept}
+use Rattle.b67_machine.specs.Kept.{MachineModel}
 use Rattle.b67_machine.specs.Replaying.{Between}
 use Rattle.b67_fronts.specs.Fronts.{GoesThrough}
 use Rattle.b67_report.specs.Texts.{lines_text}
@@ -26,12 +26,12 @@ use Rattle.b67_dump.proofs.Lean.{snapshots_lean}
 use Rattle.b67_commands.specs.declared.command.Command.{Command}
 use Rattle.b67_commands.specs.declared.command.Command.TheVariants.{Go, Store, Show, Stack, Regs}
 use Rattle.b67_console.specs.Telling.{RunsWhole, answer_text}
-use Rattle.b67_console.specs.Moments.{most_operators, WorldAfter, StandsAt, MayBeMade, IsTold}
+use Rattle.b67_console.specs.Moments.{most_operators, WorldAfter, StandsAt, MayBeMade, CommandIsTold}
 
 -- what is told of the same source and code is the same
-pub told_alike : (sc other : Scopes) (code its : Code) → other ≡ sc → its ≡ code → (h : List ℕ) (c : Command) (t : List ℕ) → IsTold sc code h c t → IsTold other its h c t
+pub told_alike : (sc other : Scopes) (code its : Code) → other ≡ sc → its ≡ code → (h : List ℕ) (c : Command) (t : List ℕ) → CommandIsTold sc code h c t → CommandIsTold other its h c t
 told_alike sc other code its same is h c t x =
-    subst (λ (k : Scopes). IsTold k its h c t) (sym same) (subst (λ (k : Code). IsTold sc k h c t) (sym is) x)
+    subst (λ (k : Scopes). CommandIsTold k its h c t) (sym same) (subst (λ (k : Code). CommandIsTold sc k h c t) (sym is) x)
 
 pub may_alike : (sc other : Scopes) (code its : Code) (room more : ℕ) → other ≡ sc → its ≡ code → room ≤ more → (h : List ℕ) → MayBeMade sc code room h → MayBeMade other its more h
 may_alike sc other code its room more same is le h x =
@@ -49,7 +49,7 @@ has_room sc code room p times done more x =
 
 -- both went on
 pub stands_on :
-    (sc other : Scopes) (now then : World) (m new : Kept) (done later : Schedule) (spent then_spent p times : ℕ) → other ≡ sc → StandsAt sc now m done spent
+    (sc other : Scopes) (now then : World) (m new : MachineModel) (done later : ScheduleModel) (spent then_spent p times : ℕ) → other ≡ sc → StandsAt sc now m done spent
     → WorldAfter sc (entries done.runs ++ replicate times p) then → entries later.runs ≡ entries done.runs ++ replicate times p
     → Between m.code (entries later.runs) later.letters then_spent new → then_spent ≤ most_operators → StandsAt other then new later then_spent
 stands_on sc other now then m new done later spent then_spent p times same s w more b le =
@@ -70,8 +70,8 @@ answer_lean sc k w v img l (Regs p) = refl
 
 -- what is told where both stand
 pub told_here :
-    (sc : Scopes) (now : World) (m : Kept) (done : Schedule) (spent k : ℕ) (command : Command) (text front all : List ℕ) → (s : StandsAt sc now m done spent)
-    → k ≡ length (entries done.runs) → text ≡ all → all ≡ front ++ answer_text sc k now m.image command → front ≡ [] → IsTold sc m.code (entries done.runs) command text
+    (sc : Scopes) (now : World) (m : MachineModel) (done : ScheduleModel) (spent k : ℕ) (command : Command) (text front all : List ℕ) → (s : StandsAt sc now m done spent)
+    → k ≡ length (entries done.runs) → text ≡ all → all ≡ front ++ answer_text sc k now m.image command → front ≡ [] → CommandIsTold sc m.code (entries done.runs) command text
 told_here sc now m done spent k command text front all s e whole more none =
     record {
       world = s.world.world;
@@ -90,7 +90,7 @@ goes_through code h w =
     record { image = w.image; run = w.run; within = omega (arith, le); leaves = inr (omega (arith, le)) }
 
 pub stands_first :
-    (sc root : Scopes) (now : World) (m : Kept) (done : Schedule) → sc ≡ root → RunsBeside sc (start root) now → done.runs ≡ [] → done.letters ≡ [] → Sound m.code → IsFresh m
+    (sc root : Scopes) (now : World) (m : MachineModel) (done : ScheduleModel) → sc ≡ root → RunsBeside sc (start root) now → done.runs ≡ [] → done.letters ≡ [] → Sound m.code → IsFresh m
     → StandsAt sc now m done 0
 stands_first sc root now m done same beside no_runs no_letters sound fresh =
     record {
@@ -126,7 +126,7 @@ if_ok_each (Err e) f p = p
 -- all is told of the source
 pub are_told :
     (tree : PProgram) (sc : Scopes) (code : Code) (h given : List ℕ) (commands : List Command) (at : List ℕ) (texts : List (List ℕ)) → sc ≡ scopes_of tree → h ≡ given
-    → AreAnswers (IsTold sc code) h commands at texts → AreAnswers (IsTold (scopes_of tree) code) given commands at texts
+    → AreAnswers (CommandIsTold sc code) h commands at texts → AreAnswers (CommandIsTold (scopes_of tree) code) given commands at texts
 are_told tree sc code h given commands at texts same is a =
-    subst (λ (xs : List ℕ). AreAnswers (IsTold (scopes_of tree) code) xs commands at texts) is
-    (subst (λ (k : Scopes). AreAnswers (IsTold k code) h commands at texts) same a)
+    subst (λ (xs : List ℕ). AreAnswers (CommandIsTold (scopes_of tree) code) xs commands at texts) is
+    (subst (λ (k : Scopes). AreAnswers (CommandIsTold k code) h commands at texts) same a)

@@ -17,7 +17,7 @@ use Rattle.b67_storing.specs.Stores.{stored_by}
 use Rattle.b67_storing.proofs.Standing.{length_stored}
 use Rattle.b67_stops.specs.Answering.{AreAnswers}
 use Rattle.b67_console.specs.Telling.{RunsWhole, ConsoleText}
-use Rattle.b67_console.specs.Moments.{most_operators, IsTold}
+use Rattle.b67_console.specs.Moments.{most_operators, CommandIsTold}
 use Rattle.b67_console.proofs.Assembling.{positions_each, positions_within, text_so}
 
 -- its segments are short
@@ -53,10 +53,10 @@ module _ (tree : PProgram) (code : Code) (h given : List ℕ) (commands found : 
       omega (arith, le, length_stored (scopes_of tree) (start (scopes_of tree)) given)
 
   pub console_so :
-      PositionsAreWithin → (its : Code) (texts lines : List (List ℕ)) (text : List ℕ) → its ≡ code → AreAnswers (IsTold (scopes_of tree) its) given found at texts → lines ≡ texts
+      PositionsAreWithin → (its : Code) (texts lines : List (List ℕ)) (text : List ℕ) → its ≡ code → AreAnswers (CommandIsTold (scopes_of tree) its) given found at texts → lines ≡ texts
       → text ≡ flat_map (λ (one : List ℕ). one) lines → ConsoleText tree code given commands text
   console_so within its texts lines text kept answers shown joined =
       subst (λ (t : List ℕ). ConsoleText tree code given commands t) (sym (joined ∙ ap (λ (ts : List (List ℕ)). flat_map (λ (one : List ℕ). one) ts) shown))
       (text_so tree code given within commands at texts at_is
-      (subst (λ (cs : List Command). AreAnswers (IsTold (scopes_of tree) code) given cs at texts) same
-      (subst (λ (k : Code). AreAnswers (IsTold (scopes_of tree) k) given found at texts) kept answers)))
+      (subst (λ (cs : List Command). AreAnswers (CommandIsTold (scopes_of tree) code) given cs at texts) same
+      (subst (λ (k : Code). AreAnswers (CommandIsTold (scopes_of tree) k) given found at texts) kept answers)))

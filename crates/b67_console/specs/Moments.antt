@@ -9,8 +9,8 @@ use Rattle.b67_segment.specs.declared.code.Code.{Code}
 use Rattle.b67_table.specs.Image.{Image}
 use Rattle.b67_table.specs.Runs.{TableRun}
 use Rattle.b67_table.specs.Sound.{Sound}
-use Rattle.b67_schedule.specs.Schedules.{entries, Kept as Schedule}
-use Rattle.b67_machine.specs.Kept.{Kept}
+use Rattle.b67_schedule.specs.Schedules.{entries, ScheduleModel}
+use Rattle.b67_machine.specs.Kept.{MachineModel}
 use Rattle.b67_machine.specs.Replaying.{Between}
 use Rattle.b67_fronts.specs.Fronts.{GoesThrough}
 use Rattle.b67_commands.specs.declared.command.Command.{Command}
@@ -27,7 +27,7 @@ pub record WorldAfter (sc : Scopes) (done : List ℕ) (now : World) : Type 0 whe
   pub beside : RunsBeside sc world now
 
 -- the entries that are done are performed by the machine, with so many operators, and made in the world
-pub record StandsAt (sc : Scopes) (now : World) (m : Kept) (done : Schedule) (spent : ℕ) : Type 0 where
+pub record StandsAt (sc : Scopes) (now : World) (m : MachineModel) (done : ScheduleModel) (spent : ℕ) : Type 0 where
   pub world : WorldAfter sc (entries done.runs) now
   pub sound : Sound m.code
   pub between : Between m.code (entries done.runs) done.letters spent m
@@ -41,7 +41,7 @@ pub record MayBeMade (sc : Scopes) (code : Code) (room : ℕ) (schedule : List �
   pub fits : length schedule ≤ room
 
 -- that is told to a command after these entries
-pub record IsTold (sc : Scopes) (code : Code) (done : List ℕ) (command : Command) (text : List ℕ) : Type 0 where
+pub record CommandIsTold (sc : Scopes) (code : Code) (done : List ℕ) (command : Command) (text : List ℕ) : Type 0 where
   pub world : World
   pub legal : run_from sc done (Some (start sc)) ≡ Some world
   pub image : Image

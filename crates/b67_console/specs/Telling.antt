@@ -13,7 +13,7 @@ use Rattle.b67_report.specs.Texts.{lines_text}
 use Rattle.b67_dump.specs.Snapshots.{snapshot}
 use Rattle.b67_commands.specs.declared.command.Command.{Command}
 use Rattle.b67_commands.specs.declared.command.Command.TheVariants.{Go, Store, Show, Stack, Regs}
-use Rattle.b67_commands.specs.Positions.{moved}
+use Rattle.b67_commands.specs.Positions.{position_moved}
 use Rattle.b67_storing.specs.Stores.{stored_by}
 use Rattle.b67_stack_text.specs.Lines.{stack_text, regs_text, at_text}
 use Rattle.b67_midway.specs.Telling.{process_text}
@@ -46,8 +46,8 @@ pub record IsAnswer (tree : PProgram) (code : Code) (h : List ℕ) (k : ℕ) (co
 abbrev pub TextFrom : PProgram → Code → List ℕ → ℕ → List Command → List ℕ → Type 0
 TextFrom tree code h k [] text = text ≡ []
 TextFrom tree code h k (command ∷ commands) text =
-    (first : List ℕ) × (rest : List ℕ) × (text ≡ first ++ rest) × IsAnswer tree code h (moved (stored_by tree h) k command) command first
-    × TextFrom tree code h (moved (stored_by tree h) k command) commands rest
+    (first : List ℕ) × (rest : List ℕ) × (text ≡ first ++ rest) × IsAnswer tree code h (position_moved (stored_by tree h) k command) command first
+    × TextFrom tree code h (position_moved (stored_by tree h) k command) commands rest
 
 -- a console begins before the first entry
 abbrev pub ConsoleText : PProgram → Code → List ℕ → List Command → List ℕ → Type 0

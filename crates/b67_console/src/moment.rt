@@ -1,6 +1,6 @@
 //! Where a console stands.
 
-ghost use Rattle.b67_console.specs.Moments.{IsTold, MayBeMade, StandsAt};
+ghost use Rattle.b67_console.specs.Moments.{CommandIsTold, MayBeMade, StandsAt};
 
 use crate::moving::go_world;
 use crate::telling::push_answer;
@@ -40,7 +40,7 @@ impl<'p, C: Core> Walker for Moment<'p, C> {
 
     ghost goes = { λ m h. MayBeMade (scoped m.world.scopes) m.machine.code m.done.room h };
 
-    ghost answers = { λ m h c t. IsTold (scoped m.world.scopes) m.machine.code h c t };
+    ghost answers = { λ m h c t. CommandIsTold (scoped m.world.scopes) m.machine.code h c t };
 
     fn go(&mut self, alloc: Global, process: u32, times: u32) -> Result<(), AllocError> {
         go_world(&mut self.world, alloc, process, times)?;

@@ -13,7 +13,7 @@ ghost use Rattle.b67_machine.specs.Beginning.{IsFresh};
 ghost use Rattle.b67_faithful.specs.Faithful.{Faithful};
 ghost use Rattle.b67_fronts.specs.Fronts.{GoesThrough};
 ghost use Rattle.b67_stops.specs.Answering.{AreAnswers};
-ghost use Rattle.b67_console.specs.Moments.{IsTold, most_operators};
+ghost use Rattle.b67_console.specs.Moments.{CommandIsTold, most_operators};
 ghost use Rattle.b67_console.specs.Telling.{ConsoleText, RunsWhole};
 
 use crate::leading::positions_of;
@@ -67,7 +67,7 @@ fn tell_all(
     requires legal { (after : meaning.World) × (run (plain checked.now.program) (given_entries given.now) ≡ Some after) }
     requires places { length at.now ≡ length commands.now }
     requires within { (place here : ℕ) → slice_get at.now place ≡ Some here → here ≤ length (given_entries given.now) }
-    ensures { IfOk result (λ texts. AreAnswers (IsTold (scopes_of (plain checked.now.program)) machine.code) (given_entries given.now) commands.now at.now texts.items) }
+    ensures { IfOk result (λ texts. AreAnswers (CommandIsTold (scopes_of (plain checked.now.program)) machine.code) (given_entries given.now) commands.now at.now texts.items) }
 {
     runs_go_through_alike();
     let done = Schedule::with_room(alloc, given.len() as usize)?;

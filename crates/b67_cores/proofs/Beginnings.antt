@@ -20,7 +20,7 @@ use Rattle.b67_templates.specs.Code.{MadeAt}
 use Rattle.b67_standing.specs.Stepping.{Slot, operand, control}
 use Rattle.b67_cores.specs.Cores.{Core, size, CoreSteps}
 use Rattle.b67_cores.specs.Slots.{Known, newest, SlotIs, SlotsAre}
-use Rattle.b67_cores.specs.Stretches.{CoreAt, control_words, Begins, BlocksBegin}
+use Rattle.b67_cores.specs.Stretches.{CoreAt, control_words, CoreBegins, BlocksBegin}
 use Rattle.b67_cores.proofs.Moving.{Standing, moved, slots_length, Reaches, place_grows, steps_on, nothing, on}
 use Rattle.b67_cores.proofs.Operating.{Goes, going}
 use Rattle.b67_cores.proofs.Pushing.{zero_at, control_at}
@@ -131,7 +131,7 @@ module _ (sc : Scopes) (known : List Known) (context : Context) (code : Code) (p
   abbrev Gets : ℕ → List Slot → ℕ → List Slot → Type 0
   Gets = Goes sc known code ps level most bound core st
 
-  branches_at : {from to : ℕ} (x : List Slot) → fragments.Goes ps level from to → Gets from x to x
+  branches_at : {from to : ℕ} (x : List Slot) → fragments.FragmentGoes ps level from to → Gets from x to x
   branches_at x (fragments.stop {a = from}) = nothing sc known code ps level most bound core st from x
   branches_at x (fragments.over {a = from} {b = target} next branch more) =
       on sc known code ps level most bound core st (going sc known code ps level most bound core st from target next x branch) (branches_at x more)
@@ -149,7 +149,7 @@ module _ (sc : Scopes) (known : List Known) (context : Context) (code : Code) (p
       on sc known code ps level most bound core st (control_at sc known context code ps level most bound core st from t.0 pcw x t.1 (omega (arith, room)))
       (controls_at controls (control pcw ∷ x) t.0 to (omega (arith, room)) t.3)
 
-  cells_at : (many : ℕ) (controls : List Pcw) {from begin : ℕ} (m to : ℕ) → many + length controls ≤ most → fragments.Goes ps level from begin →
+  cells_at : (many : ℕ) (controls : List Pcw) {from begin : ℕ} (m to : ℕ) → many + length controls ≤ most → fragments.FragmentGoes ps level from begin →
       AllAt ps level (replicate many kinds.Zero) begin m → ControlsAt ps level controls m to → Gets from [] to (on_top (cell_slots many controls) [])
   cells_at many controls {from = from} {begin = begin} m to room way zeros stand =
       let zeroed : List Slot = on_top (replicate many zero_slot) [] in
@@ -160,7 +160,7 @@ module _ (sc : Scopes) (known : List Known) (context : Context) (code : Code) (p
 
 module _ (sc : Scopes) (known : List Known) (context : Context) (code : Code) (ps : List Placed) (level bound from to : ℕ) (core : Core) (at : CoreAt sc known code ps level from [] core) where
   -- no cells: nothing is done but the branches
-  none_made : length core.below + 0 ≤ bound → fragments.Goes ps level from to → Begins sc known code ps level bound 0 [] to core
+  none_made : length core.below + 0 ≤ bound → fragments.FragmentGoes ps level from to → CoreBegins sc known code ps level bound 0 [] to core
   none_made room way =
       let st : Standing code ps level 0 bound core = standing sc known code ps level 0 bound from [] core at room in
       let r : Reaches sc known code ps level 0 bound core from [] core.words to [] =
@@ -188,9 +188,9 @@ module _ (sc : Scopes) (known : List Known) (context : Context) (code : Code) (p
       cells_more : (n : ℕ) → n ≡ n + 0
       cells_more n = omega arith
 
-  some_made : (many : ℕ) (controls : List Pcw) {begin : ℕ} (m n : ℕ) → fragments.Goes ps level from begin → AllAt ps level (replicate many kinds.Zero) begin m
+  some_made : (many : ℕ) (controls : List Pcw) {begin : ℕ} (m n : ℕ) → fragments.FragmentGoes ps level from begin → AllAt ps level (replicate many kinds.Zero) begin m
       → ControlsAt ps level controls m n → Has ps level n (ops.Plain kinds.Push) to → core.registers.cells + (many + length controls) ≤ most_cells
-      → length core.below + (many + length controls) ≤ bound → Begins sc known code ps level bound many controls to core
+      → length core.below + (many + length controls) ≤ bound → CoreBegins sc known code ps level bound many controls to core
   some_made many controls m n way zeros stand has few room =
       let most : ℕ = many + length controls in
       let slots : List Slot = on_top (cell_slots many controls) [] in
@@ -230,7 +230,7 @@ pushed_at sc context ps level k j from to e h = subst (λ c. MadeAt sc context p
 
 pub blocks_begin : BlocksBegin
 blocks_begin sc known context code ps level bound zero [] from begin to core way h at few room =
-    none_made sc known context code ps level bound from to core at room (subst (λ t. fragments.Goes ps level from t) (h.2 ∙ h.3 ∙ h.4) way)
+    none_made sc known context code ps level bound from to core at room (subst (λ t. fragments.FragmentGoes ps level from t) (h.2 ∙ h.3 ∙ h.4) way)
 blocks_begin sc known context code ps level bound zero (pcw ∷ controls) from begin to core way h at few room =
     some_made sc known context code ps level bound from to core at zero (pcw ∷ controls) h.0 h.1 way h.2 h.3
     (pushed_at sc context ps level (zero + length (pcw ∷ controls)) (length controls) h.1 to (omega arith) h.4) few room

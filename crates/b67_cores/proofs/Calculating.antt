@@ -19,7 +19,7 @@ use Rattle.b67_ops.specs.declared.Operator.TheVariants as ops
 use Rattle.b67_table.specs.declared.Private.{Private}
 use Rattle.b67_table.specs.Effect.{Effect}
 use Rattle.b67_table.specs.PrivateRows.{arithmetic, relation, logic, agreement}
-use Rattle.b67_table.specs.Rows.{row, own}
+use Rattle.b67_table.specs.Rows.{row, row_of_own}
 use Rattle.b67_table.proofs.Wordly.{and_fits, or_fits, agreement_fits}
 use Rattle.b67_templates.specs.Fragments.{HasKind, operator_for}
 use Rattle.b67_standing.specs.Stepping.{ready}
@@ -29,12 +29,12 @@ use Rattle.b67_cores.proofs.Taking.{Takes, arithmetic_takes, relation_takes, log
 -- a plain operator of the machine that takes words of two values and leaves one of a third
 pub record Calculates (kind : PlainKind) (a b result : Value) : Type 0 where
   pub change : Private → Effect Private
-  pub row_is : (place : ℕ) → row (ops.Plain kind) place ≡ own change
+  pub row_is : (place : ℕ) → row (ops.Plain kind) place ≡ row_of_own change
   pub takes : Takes change a b result
 
 -- ---- results
 
-calculation_at : (kind : PlainKind) (c : Calculation) (a b : ℤ) (x : Value) → ((place : ℕ) → row (ops.Plain kind) place ≡ own (arithmetic (calculated c)))
+calculation_at : (kind : PlainKind) (c : Calculation) (a b : ℤ) (x : Value) → ((place : ℕ) → row (ops.Plain kind) place ≡ row_of_own (arithmetic (calculated c)))
     → (r : Result ℤ NumFault) → calculated c a b ≡ r → numeric r ≡ Ok x → Calculates kind (number a) (number b) x
 calculation_at kind c a b x is (Ok z) e i =
     let same : number z ≡ x = cc in
@@ -45,7 +45,7 @@ calculation_at kind c a b x is (Ok z) e i =
     }
 calculation_at kind c a b x is (Err fault) e i = cc
 
-relation_at : (kind : PlainKind) (holds : Relation) (a b : ℤ) (x : Value) → ((place : ℕ) → row (ops.Plain kind) place ≡ own (relation (related holds)))
+relation_at : (kind : PlainKind) (holds : Relation) (a b : ℤ) (x : Value) → ((place : ℕ) → row (ops.Plain kind) place ≡ row_of_own (relation (related holds)))
     → logical (related holds a b) ≡ Ok x → Calculates kind (number a) (number b) x
 relation_at kind holds a b x is i =
     let same : truth (related holds a b) ≡ x = cc in
@@ -55,7 +55,7 @@ relation_at kind holds a b x is i =
       takes = subst (Takes (relation (related holds)) (number a) (number b)) same (relation_takes holds a b);
     }
 
-logic_at : (kind : PlainKind) (op : ℕ → ℕ → ℕ) (a b c : Bool) (x : Value) → ((place : ℕ) → row (ops.Plain kind) place ≡ own (logic op))
+logic_at : (kind : PlainKind) (op : ℕ → ℕ → ℕ) (a b c : Bool) (x : Value) → ((place : ℕ) → row (ops.Plain kind) place ≡ row_of_own (logic op))
     → ((m n : ℕ) → m < 2 ^ 48 → n < 2 ^ 48 → (op m n < 2 ^ 48) × (Says a m → Says b n → Says c (op m n))) → logical c ≡ Ok x
     → Calculates kind (truth a) (truth b) x
 logic_at kind op a b c x is law i =

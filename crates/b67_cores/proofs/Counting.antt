@@ -19,7 +19,7 @@ use Rattle.b67_table.specs.Outcome.{Outcome, limited}
 use Rattle.b67_table.specs.Outcome as outcomes
 use Rattle.b67_table.specs.Image.{Image}
 use Rattle.b67_table.specs.Table.{table, raw, by_registers, by_operator, operator_at, stack_length}
-use Rattle.b67_table.specs.Runs.{Plains, Acts, acts, fails}
+use Rattle.b67_table.specs.Runs.{Plains, ProcessActs, acts, fails}
 use Rattle.b67_cores.specs.Cores.{Core, size, HasCore, CoreStep, CoreSteps, here, onward}
 use Rattle.b67_cores.specs.Stretches.{Decided}
 use Rattle.b67_cores.proofs.Deciding.{cores_decide}
@@ -49,7 +49,7 @@ module _ (code : Code) (p : ℕ) (img : Image) (a : Core) (has : HasCore img p a
       by_found (Ok found) is e = record { op = found.0; next = found.1; stands = is }
       by_found (Err bad) is e = absurd (not e)
 
-  action_there : {b : Image} → Acts code p img b → HasOperator code a.registers
+  action_there : {b : Image} → ProcessActs code p img b → HasOperator code a.registers
   action_there {b} (acts np t) = operator_there (outcomes.gives b) t (λ e. cc)
   action_there (fails kind t) = operator_there (outcomes.faults kind) t (λ e. cc)
 
@@ -82,7 +82,7 @@ module _ (code : Code) (most : ℕ) (short : (k : ℕ) (segment : Segment) → s
 
   -- so many plain operators, and an action after them
   pub plains_few : (p n : ℕ) (img new : Image) (a : Core) → HasCore img p a → size a ≤ stack_limit → a.registers.ll ≤ MOST_LEVEL → Plains code p img n new →
-      (n ≤ most) × ((after : Image) → Acts code p new after → n + 1 ≤ most)
+      (n ≤ most) × ((after : Image) → ProcessActs code p new after → n + 1 ≤ most)
   plains_few p n img new a has small level plains =
       let d : Decided code p img n a new = cores_decide.steps code p n img new a has small plains in
       let done = steps_are_performed code p stack_limit n img a d.core (omega arith) has d.steps in

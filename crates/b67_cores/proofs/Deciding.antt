@@ -15,12 +15,12 @@ use Rattle.b67_table.specs.Outcome as outcomes
 use Rattle.b67_table.specs.Outcome.{Outcome}
 use Rattle.b67_table.specs.Private.{floor}
 use Rattle.b67_table.specs.Image.{Image, with_effect}
-use Rattle.b67_table.specs.Rows.{Row, row}
+use Rattle.b67_table.specs.Rows.{TableRow, row}
 use Rattle.b67_table.specs.Table.{table, plain, part_by, private_op, class_at, class_by, private_next, is_new, stack_length, length_in}
 use Rattle.b67_table.specs.Runs.{Plains, stay, go}
 use Rattle.b67_table.proofs.Limit.{limit_comes_last}
 use Rattle.b67_table.proofs.Privacy.{Next, next_private, raw_is, Put, put_by}
-use Rattle.b67_cores.specs.Cores.{Core, stack_of, size, IsCore, HasCore, with_core, part_of, CoreStep, CoreSteps, here, onward}
+use Rattle.b67_cores.specs.Cores.{Core, stack_of, size, IsCore, HasCore, with_core, part_of_core, CoreStep, CoreSteps, here, onward}
 use Rattle.b67_cores.specs.Stretches.{Decided, Repeated, CoresDecide}
 use Rattle.b67_cores.proofs.Having.{parted, parted_stack, parted_is}
 use Rattle.b67_cores.proofs.Performing.{private_is, same_core, put_is, core_after, with_again, steps_keep, plains_of}
@@ -31,13 +31,13 @@ use Rattle.b67_cores.proofs.Sizes.{Lies, lies_after}
 abbrev after : Core → Private → Core
 after a part = parted part.regs (a.below ++ reverse part.words)
 
-module _ (code : Code) (a : Core) (is : IsCore a) (n : Next code a.registers) (part : Private) (e : n.change n.next (part_of a) ≡ gives part) where
-  row_gives : part_by (row n.op a.registers.place) n.next (part_of a) ≡ gives part
-  row_gives = ap (λ (w : Row). part_by w n.next (part_of a)) n.is ∙ e
+module _ (code : Code) (a : Core) (is : IsCore a) (n : Next code a.registers) (part : Private) (e : n.change n.next (part_of_core a) ≡ gives part) where
+  row_gives : part_by (row n.op a.registers.place) n.next (part_of_core a) ≡ gives part
+  row_gives = ap (λ (w : TableRow). part_by w n.next (part_of_core a)) n.is ∙ e
 
   lies : Lies (length a.below) part
   lies =
-      lies_after (length a.below) n.op a.registers.place n.next (part_of a) part
+      lies_after (length a.below) n.op a.registers.place n.next (part_of_core a) part
       (record { size = sym is.top; above = omega (arith, is.bottom, is.top); low = omega (arith, is.bottom) }) row_gives
 
   long : length (a.below ++ reverse part.words) ≡ part.regs.s
@@ -75,7 +75,7 @@ module _ (code : Code) (p : ℕ) (img new : Image) (a : Core) (has : HasCore img
   unfolding plain
   plain_private = (and_parts (private_next code img p) (is_new (table code img p)) is_plain).0
 
-  by_part : (n : Next code a.registers) → Put img new p (floor a.registers) (n.change n.next (part_of a)) → stack_length p new ≤ stack_limit → Stepped code p img a new
+  by_part : (n : Next code a.registers) → Put img new p (floor a.registers) (n.change n.next (part_of_core a)) → stack_length p new ≤ stack_limit → Stepped code p img a new
   unfolding step_of
   by_part n put small =
       let s : CoreStep code a (after a put.part) = step_of code a has.is n put.part put.given in
@@ -93,10 +93,10 @@ module _ (code : Code) (p : ℕ) (img new : Image) (a : Core) (has : HasCore img
   one_step =
       let n : Next code a.registers = next_private code img p a.registers has.registers plain_private in
       let given = (limit_comes_last.new code img new p).0 gives_new in
-      let effect : with_effect img p (floor a.registers) (n.change n.next (part_of a)) ≡ gives new =
+      let effect : with_effect img p (floor a.registers) (n.change n.next (part_of_core a)) ≡ gives new =
       ap (λ (q : Private). with_effect img p (floor a.registers) (n.change n.next q)) (sym (private_is img p a has))
       ∙ sym (raw_is code img p a.registers has.live has.registers n) ∙ given.0 in
-      by_part n (put_by img new p (floor a.registers) (n.change n.next (part_of a)) effect) given.1
+      by_part n (put_by img new p (floor a.registers) (n.change n.next (part_of_core a)) effect) given.1
 
 decided : (code : Code) (p : ℕ) {n : ℕ} {img new : Image} (a : Core) → HasCore img p a → size a ≤ stack_limit → Plains code p img n new → Decided code p img n a new
 decided code p {img = img} a has small stay = record { core = a; steps = here small; is = sym (same_core img p a has) }
@@ -129,7 +129,7 @@ module _ (code : Code) (a b c : Core) (s : CoreStep code a b) (t : CoreStep code
   part_is : s.part ≡ t.part
   part_is =
       same_part s.part t.part
-      (sym s.effect ∙ ap (λ (f : Operator × ℕ). private_op f.0 a.registers.place f.1 (part_of a)) same_operator ∙ t.effect)
+      (sym s.effect ∙ ap (λ (f : Operator × ℕ). private_op f.0 a.registers.place f.1 (part_of_core a)) same_operator ∙ t.effect)
 
   registers_are : b.registers ≡ c.registers
   registers_are = s.registers ∙ ap (λ (q : Private). q.regs) part_is ∙ sym t.registers

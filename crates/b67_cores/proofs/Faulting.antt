@@ -30,12 +30,12 @@ use Rattle.b67_table.specs.Private.{floor, frame}
 use Rattle.b67_table.specs.PrivateRows.{pointed, arithmetic, result_or_fault}
 use Rattle.b67_table.specs.Image.{Image, with_effect}
 use Rattle.b67_table.specs.Ending.{failed}
-use Rattle.b67_table.specs.Rows.{Row, row, own}
+use Rattle.b67_table.specs.Rows.{TableRow, row, row_of_own}
 use Rattle.b67_table.specs.Table.{table, plain, private_op, part_by, class_at, class_by, private_next, is_new, stack_length}
 use Rattle.b67_table.proofs.Privacy.{raw_is}
 use Rattle.b67_templates.specs.Fragments.{Has, HasKind, operator_for}
 use Rattle.b67_standing.specs.Stepping.{Slot, operand, ready}
-use Rattle.b67_cores.specs.Cores.{Core, HasCore, part_of, CoreFaults}
+use Rattle.b67_cores.specs.Cores.{Core, HasCore, part_of_core, CoreFaults}
 use Rattle.b67_cores.specs.Slots.{Known, ValueIs, SlotsAre}
 use Rattle.b67_cores.specs.Stretches.{CoreAt, FaultsArePerformed}
 use Rattle.b67_cores.proofs.PartRows.{part, wholes_fault}
@@ -49,9 +49,9 @@ unfolding class_at
 fault_row {a = a} f = private_row (row f.op a.registers.place) f.private
 
 module _ (code : Code) (p : ℕ) (img : Image) (a : Core) (kind : FaultKind) (has : HasCore img p a) (f : CoreFaults code a kind) where
-  change_faults : (fault_row f).change f.next (part_of a) ≡ faults kind
+  change_faults : (fault_row f).change f.next (part_of_core a) ≡ faults kind
   unfolding private_op
-  change_faults = ap (λ (w : Row). part_by w f.next (part_of a)) (sym (fault_row f).is) ∙ f.effect
+  change_faults = ap (λ (w : TableRow). part_by w f.next (part_of_core a)) (sym (fault_row f).is) ∙ f.effect
 
   table_faults : table code img p ≡ outcomes.faults kind
   unfolding table
@@ -81,7 +81,7 @@ faults_are_performed = record {
 -- a plain operator that faults on the words of two values
 record Fails (kind : PlainKind) (a b : Value) (fault : FaultKind) : Type 0 where
   pub change : Private → Effect Private
-  pub row_is : (place : ℕ) → row (ops.Plain kind) place ≡ own change
+  pub row_is : (place : ℕ) → row (ops.Plain kind) place ≡ row_of_own change
   pub given : (r : Registers) (s : ℕ) (v w : Word) (below : List Word) → ValueIs a v → ValueIs b w → floor r + 1 < s
       → change (part r s (w ∷ v ∷ below)) ≡ faults fault
 
@@ -92,7 +92,7 @@ made_fault : (r : Result ℤ NumFault) (fault : NumFault) → r ≡ Err fault �
 unfolding made_of
 made_fault r fault e = ap made_of e
 
-calculation_fails : (kind : PlainKind) (c : Calculation) (a b : ℤ) (fault : NumFault) → ((place : ℕ) → row (ops.Plain kind) place ≡ own (arithmetic (calculated c)))
+calculation_fails : (kind : PlainKind) (c : Calculation) (a b : ℤ) (fault : NumFault) → ((place : ℕ) → row (ops.Plain kind) place ≡ row_of_own (arithmetic (calculated c)))
     → (r : Result ℤ NumFault) → calculated c a b ≡ r → numeric r ≡ Err fault → Fails kind (number a) (number b) (fault_of fault)
 unfolding made_of
 calculation_fails kind c a b fault is (Ok z) e i = cc
@@ -154,7 +154,7 @@ module _ (sc : Scopes) (known : List Known) (code : Code) (ps : List Placed) (le
         ∙ fetched-spelled code core.registers.segment at.there at.spells stands;
     private = ap class_by (f.row_is core.registers.place);
     effect =
-        ap (λ (w : Row). part_by w to (part_of core)) (f.row_is core.registers.place)
+        ap (λ (w : TableRow). part_by w to (part_of_core core)) (f.row_is core.registers.place)
         ∙ ap (λ (e : Effect Private). e >>= (λ (q : Private). gives (pointed to q))) (words_fault core.words at.words_are at.is.top);
   }
 

@@ -20,10 +20,10 @@ use Rattle.b67_table.specs.Effect.{Effect, gives}
 use Rattle.b67_table.specs.Private.{pop, push, bits_of}
 use Rattle.b67_table.specs.PrivateRows.{onward, is_taken, by_bit, branch}
 use Rattle.b67_table.specs.Program.{Program}
-use Rattle.b67_table.specs.Rows.{Row, private_part, action, row, plain_row, own, pushes, acts, turn}
+use Rattle.b67_table.specs.Rows.{TableRow, private_part, action, row, plain_row, row_of_own, pushes, acts, branch_turn}
 use Rattle.b67_table.specs.Table.{private_op, part_by}
 use Rattle.b67_table.proofs.Keeping.{Gives, then_gives, anything}
-use Rattle.b67_cores.specs.Cores.{Core, part_of, CoreStep, CoreSteps, here, onward as then_on}
+use Rattle.b67_cores.specs.Cores.{Core, part_of_core, CoreStep, CoreSteps, here, onward as then_on}
 use Rattle.b67_cores.specs.Stretches.{StepsGoForward}
 use Rattle.b67_cores.proofs.Performing.{step_keeps}
 
@@ -53,10 +53,10 @@ module _ (place : ℕ) where
   branch_forward Brtr target next p h k = bit_forward Brtr target next p h k
 
   -- a row that goes forward, if it is private
-  Forward : Row → Type 0
+  Forward : TableRow → Type 0
   Forward w = (next : ℕ) (p : Private) → place < next → Gives Behind (part_by w next p)
 
-  own_row : (change : Private → Effect Private) → Forward (own change)
+  own_row : (change : Private → Effect Private) → Forward (row_of_own change)
   unfolding Forward
   own_row change next p h = own_forward change next p h
 
@@ -84,7 +84,7 @@ module _ (place : ℕ) where
   plain_forward kinds.Noop = own_row gives
   plain_forward _ = own_row _
 
-  turning : (kind : BranchKind) (target : ℕ) (b : Bool) → nat_lt place target ≡ b → Forward (cond b (private_part (branch kind target)) (acts (turn kind target)))
+  turning : (kind : BranchKind) (target : ℕ) (b : Bool) → nat_lt place target ≡ b → Forward (cond b (private_part (branch kind target)) (acts (branch_turn kind target)))
   unfolding Forward
   turning kind target true e next p h = branch_forward kind target next p (ltb-true place target e) h
   turning kind target false e next p h = tt
@@ -109,8 +109,8 @@ step_forward {code} {a} {b} most s =
     let at : Pointer = record { segment = a.registers.segment; place = a.registers.place } in
     let next_on : a.registers.place < s.next = (Stands-within ((fetched-ok code at a.registers.ll most s.op s.next).0 s.stands).stands).0 in
     let on : a.registers.place < s.part.regs.place =
-    given_forward a.registers.place (part_by (row s.op a.registers.place) s.next (part_of a)) s.part
-    (row_forward a.registers.place s.op s.next (part_of a) next_on) s.effect in
+    given_forward a.registers.place (part_by (row s.op a.registers.place) s.next (part_of_core a)) s.part
+    (row_forward a.registers.place s.op s.next (part_of_core a) next_on) s.effect in
     subst (λ (r : Registers). a.registers.place < r.place) (sym s.registers) on
 
 forward : {code : Code} {bound n : ℕ} {a b : Core} → a.registers.ll ≤ MOST_LEVEL → CoreSteps code bound n a b → n + a.registers.place ≤ b.registers.place

@@ -6,13 +6,13 @@ use Rattle.b67_segment.specs.Operators.{Placed}
 use Rattle.b67_segment.specs.declared.code.Code.{Code}
 use Rattle.b67_table.specs.Private.{frame}
 use Rattle.b67_templates.specs.Contexts.{Context}
-use Rattle.b67_standing.specs.Stepping.{Held, Slot, operand, reference, intrinsic, control, descriptor, mark}
+use Rattle.b67_standing.specs.Stepping.{HeldWord, Slot, operand, reference, intrinsic, control, descriptor, mark}
 use Rattle.b67_cores.specs.Cores.{Core}
 use Rattle.b67_cores.specs.Slots.{Known, IsKnown, SlotIs, SlotsAre}
 use Rattle.b67_cores.specs.Stretches.{AreStuffed}
 use Rattle.b67_cores.proofs.Moving.{steps_on, Are, Reaches, Performs}
 
-pub known_among : (known more : List Known) (held : Held) (w : Word) → IsKnown known held w → IsKnown (more ++ known) held w
+pub known_among : (known more : List Known) (held : HeldWord) (w : Word) → IsKnown known held w → IsKnown (more ++ known) held w
 known_among known [] held w k = k
 known_among known (x ∷ more) held w k = inr (known_among known more held w k)
 

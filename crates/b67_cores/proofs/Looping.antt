@@ -14,9 +14,9 @@ use Rattle.b67_segment.specs.declared.code.Code.{Code}
 use Rattle.b67_templates.specs.Contexts.{Context}
 use Rattle.b67_table.specs.PrivateRows.{arithmetic, relation}
 use Rattle.b67_table.specs.Rows.{row}
-use Rattle.b67_templates.specs.Fragments.{IsWhole, Has}
+use Rattle.b67_templates.specs.Fragments.{IsWholeNumber, Has}
 use Rattle.b67_templates.specs.Code.{CountAt, PastAt, StepSign, up, down, still, SignedAt}
-use Rattle.b67_standing.specs.Stepping.{Slot, operand, HasRoom}
+use Rattle.b67_standing.specs.Stepping.{Slot, operand, SlotsHaveRoom}
 use Rattle.b67_cores.specs.Cores.{Core}
 use Rattle.b67_cores.specs.Slots.{Known}
 use Rattle.b67_cores.proofs.Taking.{one_if, arithmetic_takes, relation_takes, relation_counts}
@@ -75,7 +75,7 @@ module _ (sc : Scopes) (known : List Known) (context : Context) (code : Code) (p
       binary sc known code ps level most bound core st from to kinds.Mult (arithmetic (calculated Product)) (number y) (number z) (number d) x at refl
       (arithmetic_takes Product y z d e)
 
-  double_at : (z : ℤ) (x : List Slot) → HasRoom most x 2 → (from to : ℕ) → Has ps level from (ops.Plain kinds.Dupl) to → Gets from (num z ∷ x) to (num z ∷ num z ∷ x)
+  double_at : (z : ℤ) (x : List Slot) → SlotsHaveRoom most x 2 → (from to : ℕ) → Has ps level from (ops.Plain kinds.Dupl) to → Gets from (num z ∷ x) to (num z ∷ num z ∷ x)
   double_at z x room from to at = double sc known code ps level most bound core st from to (number z) x at room
 
   exchange_at : (y z : ℤ) (x : List Slot) (from to : ℕ) → Has ps level from (ops.Plain kinds.Exch) to → Gets from (num z ∷ num y ∷ x) to (num y ∷ num z ∷ x)
@@ -84,15 +84,15 @@ module _ (sc : Scopes) (known : List Known) (context : Context) (code : Code) (p
   goes_on : {a b c : ℕ} {x y z : List Slot} → Gets a x b y → Gets b y c z → Gets a x c z
   goes_on f g = on sc known code ps level most bound core st f g
 
-  zero_on : (x : List Slot) → HasRoom most x 1 → (from to : ℕ) → Has ps level from (ops.Plain kinds.Zero) to → Gets from x to (num (pos 0) ∷ x)
+  zero_on : (x : List Slot) → SlotsHaveRoom most x 1 → (from to : ℕ) → Has ps level from (ops.Plain kinds.Zero) to → Gets from x to (num (pos 0) ∷ x)
   zero_on x room from to at = zero_at sc known context code ps level most bound core st x room from to at
 
-  one_on : (x : List Slot) → HasRoom most x 1 → (from to : ℕ) → Has ps level from (ops.Plain kinds.One) to → Gets from x to (num (pos 1) ∷ x)
+  one_on : (x : List Slot) → SlotsHaveRoom most x 1 → (from to : ℕ) → Has ps level from (ops.Plain kinds.One) to → Gets from x to (num (pos 1) ∷ x)
   one_on x room from to at = one_at sc known context code ps level most bound core st x room from to at
 
   -- ---- THRU
 
-  module _ (from l to : ℕ) (z : ℤ) (x : List Slot) (at : CountAt sc context ps level from l to) (room : HasRoom most x 3) where
+  module _ (from l to : ℕ) (z : ℤ) (x : List Slot) (at : CountAt sc context ps level from l to) (room : SlotsHaveRoom most x 3) where
     -- the count lies there again, and where it is less than 1 it is at l
     count_tested : (b : Bool) → related Less z (pos 1) ≡ b → Gets from (num z ∷ x) (if b then l else at.gone) (num z ∷ x)
     count_tested b e =
@@ -104,7 +104,7 @@ module _ (sc : Scopes) (known : List Known) (context : Context) (code : Code) (p
         goes_on test (if_true sc known code ps level most bound core st at.tested l at.gone (related Less z (pos 1)) (num z ∷ x) at.branch) in
         subst (λ c. Gets from (num z ∷ x) (if c then l else at.gone) (num z ∷ x)) e goes
 
-    pub counts_on : IsWhole z → int_lt (pos 0) z ≡ true → Gets from (num z ∷ x) to (num (z -ℤ pos 1) ∷ x)
+    pub counts_on : IsWholeNumber z → int_lt (pos 0) z ≡ true → Gets from (num z ∷ x) to (num (z -ℤ pos 1) ∷ x)
     counts_on whole some =
         let run : Run sc known context code ps level most bound core st (kinds.One ∷ kinds.Subt ∷ []) (num z ∷ x) (num (z -ℤ pos 1) ∷ x) =
         next (one_on (num z ∷ x) (omega (arith, room))) (next (difference_at z (pos 1) (z -ℤ pos 1) x (counted_down z whole some)) done) in
@@ -117,7 +117,7 @@ module _ (sc : Scopes) (known : List Known) (context : Context) (code : Code) (p
 
   -- ---- FOR
 
-  pub past_tested : (from u to : ℕ) (d z : ℤ) (x : List Slot) → PastAt sc context ps level from u to → IsWhole d → IsWhole z → HasRoom most x 4
+  pub past_tested : (from u to : ℕ) (d z : ℤ) (x : List Slot) → PastAt sc context ps level from u to → IsWholeNumber d → IsWholeNumber z → SlotsHaveRoom most x 4
       → Gets from (num z ∷ num d ∷ x) (if is_past d z then u else to) x
   past_tested from u to d z x at hd hz room =
       let g : ℤ = one_if (related Greater z (pos 0)) in
@@ -142,7 +142,7 @@ module _ (sc : Scopes) (known : List Known) (context : Context) (code : Code) (p
       subst (λ c. Gets from (num z ∷ num d ∷ x) (if c then u else to) x) (past_is d z) goes
 
   -- where the step is a literal
-  pub sign_tested : (from u to : ℕ) (d : ℤ) {z : ℤ} (x : List Slot) (s : StepSign z) → SignedAt sc context ps level s from u to → HasRoom most x 2
+  pub sign_tested : (from u to : ℕ) (d : ℤ) {z : ℤ} (x : List Slot) (s : StepSign z) → SignedAt sc context ps level s from u to → SlotsHaveRoom most x 2
       → Gets from (num d ∷ x) (if is_past d z then u else to) x
   sign_tested from u to d x (up {z = z} p) at room =
       let run : Run sc known context code ps level most bound core st (kinds.Zero ∷ kinds.Grtr ∷ []) (num d ∷ x) (operand (truth (related Greater d (pos 0))) ∷ x) =

@@ -5,7 +5,7 @@ use Rattle.std.proofs.lemmas.Int.{ints}
 use Rattle.b67_num.specs.declared.Calculation.TheVariants.{Sum, Difference, Product}
 use Rattle.b67_num.specs.Whole.{whole, calculated}
 use Rattle.b67_num.proofs.WholeLaws.{whole-fitting}
-use Rattle.b67_templates.specs.Fragments.{IsWhole, Low, zero, above, near, far, low_of}
+use Rattle.b67_templates.specs.Fragments.{IsWholeNumber, Low, zero, above, near, far, low_of}
 use Rattle.b67_cores.proofs.Taking.{one_if}
 
 -- ---- where a lower bound lies
@@ -64,12 +64,12 @@ time_none : (z : ℤ) → z *ℤ pos 0 ≡ pos 0
 time_none z = omega (arith, ints)
 
 -- the bound where the comparison holds, and else 0
-pub bound_product : (b : Bool) (z : ℤ) → IsWhole z → calculated Product (one_if b) z ≡ Ok (if b then z else pos 0)
+pub bound_product : (b : Bool) (z : ℤ) → IsWholeNumber z → calculated Product (one_if b) z ≡ Ok (if b then z else pos 0)
 unfolding calculated
 bound_product true z h = ap whole (one_time z) ∙ whole-fitting z h
 bound_product false z h = ap whole (no_time z) ∙ whole-fitting (pos 0) (omega arith)
 
-pub subscript_product : (b : Bool) (z : ℤ) → IsWhole z → calculated Product z (one_if b) ≡ Ok (if b then z else pos 0)
+pub subscript_product : (b : Bool) (z : ℤ) → IsWholeNumber z → calculated Product z (one_if b) ≡ Ok (if b then z else pos 0)
 unfolding calculated
 subscript_product true z h = ap whole (time_one z) ∙ whole-fitting z h
 subscript_product false z h = ap whole (time_none z) ∙ whole-fitting (pos 0) (omega arith)
@@ -80,11 +80,11 @@ square = refl
 
 -- ---- a subscript is moved where the comparison holds
 
-negative_whole : (z : ℤ) → IsWhole z → IsWhole (neg_ℤ z)
+negative_whole : (z : ℤ) → IsWholeNumber z → IsWholeNumber (neg_ℤ z)
 negative_whole z h = omega (arith, ints, h)
 
 -- a bound is whole where its negative is
-pub whole_again : (z : ℤ) → IsWhole (neg_ℤ z) → IsWhole z
+pub whole_again : (z : ℤ) → IsWholeNumber (neg_ℤ z) → IsWholeNumber z
 whole_again z h = omega (arith, ints, h)
 
 less_none : (i : ℤ) → i -ℤ pos 0 ≡ i
@@ -99,32 +99,32 @@ none_more i = omega (arith, ints)
 as_difference : (i low : ℤ) → i +ℤ neg_ℤ low ≡ i -ℤ low
 as_difference i low = omega (arith, ints)
 
-by_difference : (b : Bool) (low i : ℤ) → (b ≡ true → IsWhole (i -ℤ low)) → IsWhole i
+by_difference : (b : Bool) (low i : ℤ) → (b ≡ true → IsWholeNumber (i -ℤ low)) → IsWholeNumber i
     → calculated Difference i (if b then low else pos 0) ≡ Ok (if b then i -ℤ low else i)
 unfolding calculated
 by_difference true low i h k = whole-fitting (i -ℤ low) (h refl)
 by_difference false low i h k = ap whole (less_none i) ∙ whole-fitting i k
 
-by_sum : (b : Bool) (low i : ℤ) → (b ≡ true → IsWhole (i -ℤ low)) → IsWhole i
+by_sum : (b : Bool) (low i : ℤ) → (b ≡ true → IsWholeNumber (i -ℤ low)) → IsWholeNumber i
     → calculated Sum i (if b then neg_ℤ low else pos 0) ≡ Ok (if b then i -ℤ low else i)
 unfolding calculated
 by_sum true low i h k = ap whole (as_difference i low) ∙ whole-fitting (i -ℤ low) (h refl)
 by_sum false low i h k = ap whole (more_none i) ∙ whole-fitting i k
 
-by_bound : (b : Bool) (low i : ℤ) → (b ≡ true → IsWhole (i -ℤ low)) → IsWhole (neg_ℤ low)
+by_bound : (b : Bool) (low i : ℤ) → (b ≡ true → IsWholeNumber (i -ℤ low)) → IsWholeNumber (neg_ℤ low)
     → calculated Sum (if b then i else pos 0) (neg_ℤ low) ≡ Ok (if b then i -ℤ low else neg_ℤ low)
 unfolding calculated
 by_bound true low i h k = ap whole (as_difference i low) ∙ whole-fitting (i -ℤ low) (h refl)
 by_bound false low i h k = ap whole (none_more (neg_ℤ low)) ∙ whole-fitting (neg_ℤ low) k
 
-module _ (low i : ℤ) (small : IsWhole low) (whole_i : IsWhole i) where
-  above_fits : pos 0 <ℤ low → pos 0 ≤ℤ i → IsWhole (i -ℤ low)
+module _ (low i : ℤ) (small : IsWholeNumber low) (whole_i : IsWholeNumber i) where
+  above_fits : pos 0 <ℤ low → pos 0 ≤ℤ i → IsWholeNumber (i -ℤ low)
   above_fits h k = omega (arith, ints, small, whole_i)
 
-  near_fits : low ≤ℤ pos 0 → neg_ℤ (pos 1048576) <ℤ low → i ≤ℤ pos 4294836225 → IsWhole (i -ℤ low)
+  near_fits : low ≤ℤ pos 0 → neg_ℤ (pos 1048576) <ℤ low → i ≤ℤ pos 4294836225 → IsWholeNumber (i -ℤ low)
   near_fits h k l = omega (arith, ints, small, whole_i)
 
-  far_fits : low ≤ℤ pos 0 → i <ℤ pos 0 → IsWhole (i -ℤ low)
+  far_fits : low ≤ℤ pos 0 → i <ℤ pos 0 → IsWholeNumber (i -ℤ low)
   far_fits h k = omega (arith, ints, small, whole_i)
 
   pub above_moved : low_of low ≡ above

@@ -16,7 +16,7 @@ use Rattle.b67_table.specs.declared.Class.TheVariants as classes
 use Rattle.b67_table.specs.declared.Private.{Private}
 use Rattle.b67_table.specs.Effect.{Effect, gives}
 use Rattle.b67_table.specs.Private.{floor, frame}
-use Rattle.b67_table.specs.Rows.{Row, private_part, row}
+use Rattle.b67_table.specs.Rows.{TableRow, private_part, row}
 use Rattle.b67_table.specs.Table.{private_op, part_by, class_at, class_by}
 use Rattle.b67_standing.specs.Stepping.{Slot}
 use Rattle.b67_cores.specs.Cores.{Core, size, CoreStep, CoreSteps, here, onward}
@@ -122,7 +122,7 @@ module _ (sc : Scopes) (known : List Known) (code : Code) (ps : List Placed) (le
     effect_is : (op : Operator) (place next : ℕ) (change : ℕ → Private → Effect Private) (p : Private) → row op place ≡ private_part change
         → private_op op place next p ≡ change next p
     unfolding private_op
-    effect_is op place next change p e = ap (λ (w : Row). part_by w next p) e
+    effect_is op place next change p e = ap (λ (w : TableRow). part_by w next p) e
 
     -- one private operator
     pub single : (from next to : ℕ) (op : Operator) (x y : List Slot) (words left : List Word) (s : ℕ) (change : ℕ → Private → Effect Private)

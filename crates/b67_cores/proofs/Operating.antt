@@ -17,9 +17,9 @@ use Rattle.b67_table.specs.declared.Private.{Private}
 use Rattle.b67_table.specs.Effect.{Effect, gives, ◌>>=◌}
 use Rattle.b67_table.specs.Private.{frame, push}
 use Rattle.b67_table.specs.PrivateRows.{pointed, onward, dropped, exchanged, doubled, open_mark, mark as mark_row, is_taken, branch}
-use Rattle.b67_table.specs.Rows.{private_part, row, own, pushes, acts, turn}
+use Rattle.b67_table.specs.Rows.{private_part, row, row_of_own, pushes, acts, branch_turn}
 use Rattle.b67_templates.specs.Fragments.{Has, BranchAt}
-use Rattle.b67_standing.specs.Stepping.{Held, Slot, operand, reference, intrinsic, control, descriptor, mark, HasRoom}
+use Rattle.b67_standing.specs.Stepping.{HeldWord, Slot, operand, reference, intrinsic, control, descriptor, mark, SlotsHaveRoom}
 use Rattle.b67_cores.specs.Cores.{Core}
 use Rattle.b67_cores.specs.Slots.{Known, IsTruth, newest, SlotIs}
 use Rattle.b67_cores.proofs.PartRows.{part, dropped_is, doubled_is, exchanged_is, mark_is, by_bit_is}
@@ -30,7 +30,7 @@ use Rattle.b67_cores.proofs.Moving.{place_grows, Standing, registers_at, slots_l
 
 branch_row : (kind : BranchKind) (target place : ℕ) → place < target → row (ops.Branch kind target) place ≡ private_part (branch kind target)
 unfolding row
-branch_row kind target place h = ap (λ b. cond b (private_part (branch kind target)) (acts (turn kind target))) (lt-ltb place target h)
+branch_row kind target place h = ap (λ b. cond b (private_part (branch kind target)) (acts (branch_turn kind target))) (lt-ltb place target h)
 
 either_grows : (b : Bool) (from m n : ℕ) → from < m → from < n → from < (if b then m else n)
 either_grows true from m n h k = h
@@ -55,7 +55,7 @@ newest_low home base (control c ∷ below) h = omega (arith, newest_low home bas
 newest_low home base (descriptor d ∷ below) h = omega (arith, newest_low home base below h)
 newest_low home base (mark ∷ below) h = omega arith
 
-mark_row_is : (place : ℕ) → row (ops.Plain kinds.Mkst) place ≡ own mark_row
+mark_row_is : (place : ℕ) → row (ops.Plain kinds.Mkst) place ≡ row_of_own mark_row
 unfolding row
 mark_row_is place = refl
 
@@ -72,7 +72,7 @@ module _ (sc : Scopes) (known : List Known) (code : Code) (ps : List Placed) (le
   -- a word is pushed
   pub pushed : (from next : ℕ) (op : Operator) (slot : Slot) (x : List Slot) (w : Word) → Has ps level from op next → row op from ≡ pushes w
       → SlotIs sc known level (frame core.registers) (length core.below) x slot w
-      → newest (frame core.registers) (length core.below) (slot ∷ x) ≡ newest (frame core.registers) (length core.below) x → HasRoom most x 1
+      → newest (frame core.registers) (length core.below) (slot ∷ x) ≡ newest (frame core.registers) (length core.below) x → SlotsHaveRoom most x 1
       → Goes from x next (slot ∷ x)
   pushed from next op slot x w stands e is same room words are r =
       single sc known code ps level most bound core st from next next op x (slot ∷ x) words (w ∷ words) (base + length words + 1)
@@ -81,7 +81,7 @@ module _ (sc : Scopes) (known : List Known) (code : Code) (ps : List Placed) (le
 
   -- two values are replaced by one
   pub binary : (from next : ℕ) (kind : PlainKind) (change : Private → Effect Private) (a b c : Value) (x : List Slot) → Has ps level from (ops.Plain kind) next
-      → row (ops.Plain kind) from ≡ own change → Takes change a b c → Goes from (operand b ∷ operand a ∷ x) next (operand c ∷ x)
+      → row (ops.Plain kind) from ≡ row_of_own change → Takes change a b c → Goes from (operand b ∷ operand a ∷ x) next (operand c ∷ x)
   binary from next kind change a b c x stands e takes [] are r = absurd are
   binary from next kind change a b c x stands e takes (w ∷ []) are r = absurd are.1
   binary from next kind change a b c x stands e takes (w ∷ v ∷ rest) are r =
@@ -92,7 +92,7 @@ module _ (sc : Scopes) (known : List Known) (code : Code) (ps : List Placed) (le
 
   -- one value is replaced by another
   pub unary : (from next : ℕ) (kind : PlainKind) (change : Private → Effect Private) (a b : Value) (x : List Slot) → Has ps level from (ops.Plain kind) next
-      → row (ops.Plain kind) from ≡ own change → Turns change a b → Goes from (operand a ∷ x) next (operand b ∷ x)
+      → row (ops.Plain kind) from ≡ row_of_own change → Turns change a b → Goes from (operand a ∷ x) next (operand b ∷ x)
   unary from next kind change a b x stands e turns [] are r = absurd are
   unary from next kind change a b x stands e turns (w ∷ rest) are r =
       let t = turns w are.0 in
@@ -102,7 +102,7 @@ module _ (sc : Scopes) (known : List Known) (code : Code) (ps : List Placed) (le
 
   -- ---- words on the stack
 
-  pub double : (from next : ℕ) (v : Value) (x : List Slot) → Has ps level from (ops.Plain kinds.Dupl) next → HasRoom most x 2
+  pub double : (from next : ℕ) (v : Value) (x : List Slot) → Has ps level from (ops.Plain kinds.Dupl) next → SlotsHaveRoom most x 2
       → Goes from (operand v ∷ x) next (operand v ∷ operand v ∷ x)
   unfolding row
   double from next v x stands room [] are r = absurd are
@@ -134,7 +134,7 @@ module _ (sc : Scopes) (known : List Known) (code : Code) (ps : List Placed) (le
   exchange from next u v x stands = exchanging from next (operand v) (operand u) x stands (λ w i. i) (λ w i. i) refl
 
   -- a descriptor comes on top
-  pub exchange_descriptor : (from next : ℕ) (v : Value) (h : Held) (x : List Slot) → Has ps level from (ops.Plain kinds.Exch) next
+  pub exchange_descriptor : (from next : ℕ) (v : Value) (h : HeldWord) (x : List Slot) → Has ps level from (ops.Plain kinds.Exch) next
       → Goes from (operand v ∷ descriptor h ∷ x) next (descriptor h ∷ operand v ∷ x)
   exchange_descriptor from next v h x stands = exchanging from next (operand v) (descriptor h) x stands (λ w i. i) (λ w i. i) refl
 
@@ -175,7 +175,7 @@ module _ (sc : Scopes) (known : List Known) (code : Code) (ps : List Placed) (le
 
   -- ---- a mark
 
-  pub marking : (from next : ℕ) (x : List Slot) → Has ps level from (ops.Plain kinds.Mkst) next → HasRoom most x 1 → Goes from x next (mark ∷ x)
+  pub marking : (from next : ℕ) (x : List Slot) → Has ps level from (ops.Plain kinds.Mkst) next → SlotsHaveRoom most x 1 → Goes from x next (mark ∷ x)
   marking from next x stands room words are r =
       let long : length words ≡ length x = slots_length sc known level (frame core.registers) (length core.below) x words are in
       let low : newest (frame core.registers) (length core.below) x < base + length words =

@@ -13,7 +13,7 @@ use Rattle.b67_ops.specs.declared.BranchKind.{BranchKind}
 use Rattle.b67_table.specs.declared.InterruptKind.TheVariants.{StackUnderflow, InvalidOperand}
 use Rattle.b67_table.specs.declared.Private.{Private}
 use Rattle.b67_table.specs.Effect.{Effect, gives, faults, interrupts, ◌>>=◌}
-use Rattle.b67_table.specs.Private.{display_at, floor, pop, push, whole_or, whole_of, bits_of}
+use Rattle.b67_table.specs.Private.{display_at, floor, pop, push, whole_or, whole_of_word, bits_of}
 use Rattle.b67_table.specs.PrivateRows.{wholes, negated, logic, complement, complemented, dropped, exchanged, doubled, stuffed_at, stuffed, stuff, open_mark, mark, is_taken, by_bit, pointed}
 use Rattle.b67_table.specs.References.{cell_word}
 
@@ -38,8 +38,8 @@ module _ (r : Registers) where
   wholes_are made s v w u a b below iv iw is h =
       then_is (pop (part r s (w ∷ v ∷ below))) (w, part r (s - 1) (v ∷ below)) _ (pop_is s w (v ∷ below) (omega arith))
       ∙ then_is (pop (part r (s - 1) (v ∷ below))) (v, part r (s - 1 - 1) below) _ (pop_is (s - 1) v below (omega arith))
-      ∙ then_is (whole_of v) a _ (ap whole_or iv)
-      ∙ then_is (whole_of w) b _ (ap whole_or iw)
+      ∙ then_is (whole_of_word v) a _ (ap whole_or iv)
+      ∙ then_is (whole_of_word w) b _ (ap whole_or iw)
       ∙ then_is (made a b) u _ is
 
   pub wholes_fault : (made : ℤ → ℤ → Effect Word) (s : ℕ) (v w : Word) (a b : ℤ) (kind : FaultKind) (below : List Word) → as_whole v ≡ Some a → as_whole w ≡ Some b
@@ -47,8 +47,8 @@ module _ (r : Registers) where
   wholes_fault made s v w a b kind below iv iw is h =
       then_is (pop (part r s (w ∷ v ∷ below))) (w, part r (s - 1) (v ∷ below)) _ (pop_is s w (v ∷ below) (omega arith))
       ∙ then_is (pop (part r (s - 1) (v ∷ below))) (v, part r (s - 1 - 1) below) _ (pop_is (s - 1) v below (omega arith))
-      ∙ then_is (whole_of v) a _ (ap whole_or iv)
-      ∙ then_is (whole_of w) b _ (ap whole_or iw)
+      ∙ then_is (whole_of_word v) a _ (ap whole_or iv)
+      ∙ then_is (whole_of_word w) b _ (ap whole_or iw)
       ∙ ap (λ (e : Effect Word). e >>= (λ (u : Word). gives (push u (part r (s - 1 - 1) below)))) is
 
   pub logic_is : (op : ℕ → ℕ → ℕ) (s : ℕ) (v w : Word) (below : List Word) → v.tag ≡ 0 → w.tag ≡ 0 → floor r + 1 < s
@@ -64,7 +64,7 @@ module _ (r : Registers) where
   pub negated_is : (s : ℕ) (w : Word) (a : ℤ) (below : List Word) → as_whole w ≡ Some a → floor r < s
       → negated (part r s (w ∷ below)) ≡ gives (part r (s - 1 + 1) (operand (negation_of a) ∷ below))
   negated_is s w a below iw h =
-      then_is (pop (part r s (w ∷ below))) (w, part r (s - 1) below) _ (pop_is s w below h) ∙ then_is (whole_of w) a _ (ap whole_or iw)
+      then_is (pop (part r s (w ∷ below))) (w, part r (s - 1) below) _ (pop_is s w below h) ∙ then_is (whole_of_word w) a _ (ap whole_or iw)
 
   pub complemented_is : (s : ℕ) (w : Word) (below : List Word) → w.tag ≡ 0 → floor r < s
       → complemented (part r s (w ∷ below)) ≡ gives (part r (s - 1 + 1) (word 0 (complement w.bits) ∷ below))

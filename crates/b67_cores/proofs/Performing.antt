@@ -15,25 +15,25 @@ use Rattle.b67_table.specs.Outcome.{Outcome, limited}
 use Rattle.b67_table.specs.Outcome as outcomes
 use Rattle.b67_table.specs.Private.{floor}
 use Rattle.b67_table.specs.Image.{Image, private_of, with_private, with_effect, with_stacks, with_registers}
-use Rattle.b67_table.specs.Rows.{Row, private_part, action, row}
+use Rattle.b67_table.specs.Rows.{TableRow, private_part, action, row}
 use Rattle.b67_table.specs.Table.{raw, table, plain, part_by, private_op, class_at, class_by, is_private, private_at, private_in, private_next, is_new, stack_length, length_in}
-use Rattle.b67_table.specs.Privacy.{Keeps}
+use Rattle.b67_table.specs.Privacy.{RegistersStay}
 use Rattle.b67_table.specs.Runs.{Plains, stay, go}
 use Rattle.b67_table.proofs.Stacks.{set_here, set_other, set_set_here, get_numbered_other}
 use Rattle.b67_table.proofs.Lists.{set_there, numbered_same, numbered_set, numbered_from, numbered_within}
 use Rattle.b67_table.proofs.Limit.{fits, limit_comes_last}
 use Rattle.b67_table.proofs.Privacy.{Next, raw_is, part_keeps}
-use Rattle.b67_cores.specs.Cores.{Core, stack_of, size, IsCore, HasCore, with_core, part_of, CoreStep, CoreSteps, here, onward}
+use Rattle.b67_cores.specs.Cores.{Core, stack_of, size, IsCore, HasCore, with_core, part_of_core, CoreStep, CoreSteps, here, onward}
 use Rattle.b67_cores.specs.Stretches.{StepsArePerformed, StepsComeToLimit}
 
 -- ---- the operator of a step
 
 -- the row of a private operator
-pub record PrivateRow (w : Row) : Type 0 where
+pub record PrivateRow (w : TableRow) : Type 0 where
   pub change : ℕ → Private → Effect Private
   pub is : w ≡ private_part change
 
-pub private_row : (w : Row) → class_by w ≡ classes.Private → PrivateRow w
+pub private_row : (w : TableRow) → class_by w ≡ classes.Private → PrivateRow w
 private_row (private_part change) e = record { change = change; is = refl }
 private_row (action program) e = cc
 
@@ -44,14 +44,14 @@ row_of {a = a} s = private_row (row s.op a.registers.place) s.private
 next_of : {code : Code} {a b : Core} → (s : CoreStep code a b) → Next code a.registers
 next_of s = record { op = s.op; next = s.next; stands = s.stands; change = (row_of s).change; is = (row_of s).is }
 
-change_gives : {code : Code} {a b : Core} → (s : CoreStep code a b) → (row_of s).change s.next (part_of a) ≡ gives s.part
+change_gives : {code : Code} {a b : Core} → (s : CoreStep code a b) → (row_of s).change s.next (part_of_core a) ≡ gives s.part
 unfolding private_op
-change_gives {a = a} s = ap (λ (w : Row). part_by w s.next (part_of a)) (sym (row_of s).is) ∙ s.effect
+change_gives {a = a} s = ap (λ (w : TableRow). part_by w s.next (part_of_core a)) (sym (row_of s).is) ∙ s.effect
 
 -- it leaves the other registers
-pub step_keeps : {code : Code} {a b : Core} → CoreStep code a b → Keeps a.registers b.registers
+pub step_keeps : {code : Code} {a b : Core} → CoreStep code a b → RegistersStay a.registers b.registers
 unfolding next_of
-step_keeps {code} {a} s = subst (Keeps a.registers) (sym s.registers) (part_keeps code a.registers (next_of s) (part_of a) s.part (change_gives s))
+step_keeps {code} {a} s = subst (RegistersStay a.registers) (sym s.registers) (part_keeps code a.registers (next_of s) (part_of_core a) s.part (change_gives s))
 
 -- ---- an image that has a core
 
@@ -59,7 +59,7 @@ module _ (img : Image) (p : ℕ) (a : Core) (has : HasCore img p a) where
   words_are : words_of img.stacks a.registers.stack ≡ stack_of a
   words_are = ap words_or has.stack
 
-  pub private_is : private_of img a.registers ≡ part_of a
+  pub private_is : private_of img a.registers ≡ part_of_core a
   private_is =
       ap (λ ws. record { regs = a.registers; words = ws })
       (ap (λ ws. reverse (drop (floor a.registers) ws)) words_are
@@ -151,10 +151,10 @@ with_again img p b c e =
     ∙ ap (λ (rs : List Registers). record (with_stacks img (set img.stacks c.registers.stack (Some (stack_of c)))) { regs = rs })
     (set_again img.regs p b.registers c.registers)
 
-keeps_on : (q r s : Registers) → Keeps q r → Keeps r s → Keeps q s
+keeps_on : (q r s : Registers) → RegistersStay q r → RegistersStay r s → RegistersStay q s
 keeps_on q r s h k = (k.0 ∙ h.0, k.1 ∙ h.1, k.2 ∙ h.2, k.3 ∙ h.3, k.4 ∙ h.4, k.5 ∙ h.5)
 
-pub steps_keep : {code : Code} {bound n : ℕ} {a b : Core} → CoreSteps code bound n a b → Keeps a.registers b.registers
+pub steps_keep : {code : Code} {bound n : ℕ} {a b : Core} → CoreSteps code bound n a b → RegistersStay a.registers b.registers
 steps_keep (here h) = (refl, refl, refl, refl, refl, refl)
 steps_keep {b = c} (onward {a = a} {b = b} h s more) = keeps_on a.registers b.registers c.registers (step_keeps s) (steps_keep more)
 
@@ -183,7 +183,7 @@ last_is is (onward h s more) = last_is s.is more
 
 -- ---- what an image has with another core of a process
 
-module _ (img : Image) (p : ℕ) (a b : Core) (has : HasCore img p a) (kept : Keeps a.registers b.registers) (is : IsCore b) where
+module _ (img : Image) (p : ℕ) (a b : Core) (has : HasCore img p a) (kept : RegistersStay a.registers b.registers) (is : IsCore b) where
   pub has_after : HasCore (with_core img p b) p b
   has_after = record {
     live = has.live;
@@ -222,7 +222,7 @@ steps_come_to_limit code p img a b has s h = (table_limit img p a has code b s h
 
 pub steps_are_performed : StepsArePerformed
 steps_are_performed code p bound n img a b small has steps =
-    let kept : Keeps a.registers b.registers = steps_keep steps in
+    let kept : RegistersStay a.registers b.registers = steps_keep steps in
     let is : IsCore b = last_is has.is steps in
     record {
       plains = plains_of code p bound small img has steps;

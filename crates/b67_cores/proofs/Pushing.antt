@@ -21,7 +21,7 @@ use Rattle.b67_table.specs.PrivateRows as rows
 use Rattle.b67_table.specs.Rows.{row, pushes}
 use Rattle.b67_templates.specs.Fragments.{Has, AllAt, NumberAt, IntrinsicAt, EntryAt, code_at, IsLiteral, zero_pushed, one_pushed, byte, two_bytes, whole_word, truth_literal}
 use Rattle.b67_templates.specs.Code.{BegunAt}
-use Rattle.b67_standing.specs.Stepping.{Slot, operand, reference, intrinsic, control, mark, HasRoom}
+use Rattle.b67_standing.specs.Stepping.{Slot, operand, reference, intrinsic, control, mark, SlotsHaveRoom}
 use Rattle.b67_cores.specs.Cores.{Core}
 use Rattle.b67_cores.specs.Slots.{Known, IsTruth}
 use Rattle.b67_cores.proofs.Moving.{Standing, nothing, on}
@@ -60,29 +60,29 @@ module _ (sc : Scopes) (known : List Known) (context : Context) (code : Code) (p
   abbrev Gets : ℕ → List Slot → ℕ → List Slot → Type 0
   Gets = Goes sc known code ps level most bound core st
 
-  pub push_number : (from next : ℕ) (z : ℤ) (x : List Slot) → NumberAt ps level z from next → HasRoom most x 1 → Gets from x next (operand (number z) ∷ x)
+  pub push_number : (from next : ℕ) (z : ℤ) (x : List Slot) → NumberAt ps level z from next → SlotsHaveRoom most x 1 → Gets from x next (operand (number z) ∷ x)
   push_number from next z x at room =
       pushed sc known code ps level most bound core st from next at.op (operand (number z)) x (words.operand z) at.stands (literal_row from at.literal)
       (record { is = refl; whole = at.whole }) refl room
 
-  pub push_truth : (from next : ℕ) (b : Bool) (x : List Slot) → Has ps level from (ops.Plain (truth_literal b)) next → HasRoom most x 1
+  pub push_truth : (from next : ℕ) (b : Bool) (x : List Slot) → Has ps level from (ops.Plain (truth_literal b)) next → SlotsHaveRoom most x 1
       → Gets from x next (operand (truth b) ∷ x)
   push_truth from next b x at room =
       pushed sc known code ps level most bound core st from next (ops.Plain (truth_literal b)) (operand (truth b)) x (literal_word b) at (truth_row b from)
       (literal_is b) refl room
 
   -- the reference of a cell, and a control word
-  pub reference_at : (from next : ℕ) (c : Couple) (x : List Slot) → Has ps level from (ops.Namc c) next → HasRoom most x 1 → Gets from x next (reference c ∷ x)
+  pub reference_at : (from next : ℕ) (c : Couple) (x : List Slot) → Has ps level from (ops.Namc c) next → SlotsHaveRoom most x 1 → Gets from x next (reference c ∷ x)
   unfolding row
   reference_at from next c x at room =
       pushed sc known code ps level most bound core st from next (ops.Namc c) (reference c) x (rows.reference c) at refl refl refl room
 
-  pub control_at : (from next : ℕ) (c : Pcw) (x : List Slot) → Has ps level from (ops.Mpcw (pcw_word c).bits) next → HasRoom most x 1 → Gets from x next (control c ∷ x)
+  pub control_at : (from next : ℕ) (c : Pcw) (x : List Slot) → Has ps level from (ops.Mpcw (pcw_word c).bits) next → SlotsHaveRoom most x 1 → Gets from x next (control c ∷ x)
   control_at from next c x at room =
       pushed sc known code ps level most bound core st from next (ops.Mpcw (pcw_word c).bits) (control c) x (pcw_word c) at (control_row c from) refl refl room
 
   -- the start of a call of an intrinsic: a mark and its reference
-  pub push_intrinsic : (from next : ℕ) (name : Intrinsic) (x : List Slot) → IntrinsicAt ps level name from next → HasRoom most x 2
+  pub push_intrinsic : (from next : ℕ) (name : Intrinsic) (x : List Slot) → IntrinsicAt ps level name from next → SlotsHaveRoom most x 2
       → Gets from x next (intrinsic name ∷ mark ∷ x)
   unfolding row
   push_intrinsic from next name x at room =
@@ -91,14 +91,14 @@ module _ (sc : Scopes) (known : List Known) (context : Context) (code : Code) (p
       (rows.reference (couple_of_intrinsic name)) at.2 refl refl refl (omega (arith, room)))
 
   -- the start of the entry of a block: a mark and the control word of its code
-  pub push_control : (from to begin : ℕ) (x : List Slot) (e : EntryAt ps level context.segment begin from to) → HasRoom most x 2
+  pub push_control : (from to begin : ℕ) (x : List Slot) (e : EntryAt ps level context.segment begin from to) → SlotsHaveRoom most x 2
       → Gets from x e.named (control (code_at context.segment begin (level + 1)) ∷ mark ∷ x)
   push_control from to begin x e room =
       on sc known code ps level most bound core st (marking sc known code ps level most bound core st from e.marked x e.mark (omega (arith, room)))
       (control_at e.marked e.named (code_at context.segment begin (level + 1)) (mark ∷ x) e.control (omega (arith, room)))
 
   -- the start of the call of a procedure: a mark and the reference of its control word
-  pub push_procedure : (from next : ℕ) (n : Named) (callee : ℕ) (x : List Slot) (c : BegunAt sc context ps level n callee from next) → HasRoom most x 2
+  pub push_procedure : (from next : ℕ) (n : Named) (callee : ℕ) (x : List Slot) (c : BegunAt sc context ps level n callee from next) → SlotsHaveRoom most x 2
       → Gets from x next (reference c.couple ∷ mark ∷ x)
   push_procedure from next n callee x c room =
       on sc known code ps level most bound core st (marking sc known code ps level most bound core st from c.marked x c.mark (omega (arith, room)))
@@ -116,8 +116,8 @@ module _ (sc : Scopes) (known : List Known) (context : Context) (code : Code) (p
   run_at from to (done {x = x}) e = subst (λ t. Gets from x t x) e (nothing sc known code ps level most bound core st from x)
   run_at from to (next p more) t = on sc known code ps level most bound core st (p from t.0 t.1) (run_at t.0 to more t.2)
 
-  pub zero_at : (x : List Slot) → HasRoom most x 1 → (from to : ℕ) → Has ps level from (ops.Plain kinds.Zero) to → Gets from x to (operand (number (pos 0)) ∷ x)
+  pub zero_at : (x : List Slot) → SlotsHaveRoom most x 1 → (from to : ℕ) → Has ps level from (ops.Plain kinds.Zero) to → Gets from x to (operand (number (pos 0)) ∷ x)
   zero_at x room from to at = push_number from to (pos 0) x (record { op = ops.Plain kinds.Zero; stands = at; literal = zero_pushed; whole = omega arith }) room
 
-  pub one_at : (x : List Slot) → HasRoom most x 1 → (from to : ℕ) → Has ps level from (ops.Plain kinds.One) to → Gets from x to (operand (number (pos 1)) ∷ x)
+  pub one_at : (x : List Slot) → SlotsHaveRoom most x 1 → (from to : ℕ) → Has ps level from (ops.Plain kinds.One) to → Gets from x to (operand (number (pos 1)) ∷ x)
   one_at x room from to at = push_number from to (pos 1) x (record { op = ops.Plain kinds.One; stands = at; literal = one_pushed; whole = omega arith }) room

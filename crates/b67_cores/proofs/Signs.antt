@@ -9,7 +9,7 @@ use Rattle.b67_num.specs.declared.Calculation.TheVariants.{Difference, Product}
 use Rattle.b67_num.specs.declared.Relation.TheVariants.{Less, Greater}
 use Rattle.b67_num.specs.Whole.{most, whole, calculated, related}
 use Rattle.b67_num.proofs.WholeLaws.{whole-fitting}
-use Rattle.b67_templates.specs.Fragments.{IsWhole}
+use Rattle.b67_templates.specs.Fragments.{IsWholeNumber}
 use Rattle.b67_cores.proofs.Taking.{one_if}
 
 -- ---- THRU
@@ -20,11 +20,11 @@ unfolding related
 less_one (pos n) = grind (arith, nat_tests)
 less_one (negsuc n) = refl
 
-one_less : (z : ℤ) → IsWhole z → int_lt (pos 0) z ≡ true → unsigned_abs (z -ℤ pos 1) ≤ most
+one_less : (z : ℤ) → IsWholeNumber z → int_lt (pos 0) z ≡ true → unsigned_abs (z -ℤ pos 1) ≤ most
 one_less (pos n) h e = let some : 0 < n = ltb-true 0 n e in omega (arith, ints)
 one_less (negsuc n) h e = cc
 
-pub counted_down : (z : ℤ) → IsWhole z → int_lt (pos 0) z ≡ true → calculated Difference z (pos 1) ≡ Ok (z -ℤ pos 1)
+pub counted_down : (z : ℤ) → IsWholeNumber z → int_lt (pos 0) z ≡ true → calculated Difference z (pos 1) ≡ Ok (z -ℤ pos 1)
 unfolding calculated
 counted_down z h e = whole-fitting (z -ℤ pos 1) (one_less z h e)
 
@@ -52,7 +52,7 @@ times_sign d above true = omega (arith, ints)
 times_sign d true false = omega (arith, ints)
 times_sign d false false = omega (arith, ints)
 
-pub signed : (d z : ℤ) → IsWhole d → calculated Product d (sign_of z) ≡ Ok (d *ℤ sign_of z)
+pub signed : (d z : ℤ) → IsWholeNumber d → calculated Product d (sign_of z) ≡ Ok (d *ℤ sign_of z)
 unfolding calculated
 signed d z h = whole-fitting (d *ℤ sign_of z) (omega (arith, times_sign d (int_lt (pos 0) z) (int_lt z (pos 0)), h))
 

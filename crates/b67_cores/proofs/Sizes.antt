@@ -18,10 +18,10 @@ use Rattle.b67_table.specs.declared.InterruptKind.TheVariants.{StackUnderflow, I
 use Rattle.b67_table.specs.declared.Private.{Private}
 use Rattle.b67_table.specs.Effect.{Effect, gives, interrupts, ◌>>=◌}
 use Rattle.b67_table.specs.Limits.{most_cells}
-use Rattle.b67_table.specs.Private.{floor, frame, top, with_words, pop, push, whole_of, bits_of}
+use Rattle.b67_table.specs.Private.{floor, frame, top, with_words, pop, push, whole_of_word, bits_of}
 use Rattle.b67_table.specs.PrivateRows.{pointed, wholes, relation, negated, logic, complemented, dropped, exchanged, doubled, stuffed, stuff, mark, make_cells, is_taken, by_bit, branch}
 use Rattle.b67_table.specs.Program.{Program}
-use Rattle.b67_table.specs.Rows.{Row, private_part, action, row, plain_row, own, pushes}
+use Rattle.b67_table.specs.Rows.{TableRow, private_part, action, row, plain_row, row_of_own, pushes}
 use Rattle.b67_table.specs.Table.{part_by}
 use Rattle.b67_table.proofs.Keeping.{Gives, then_gives, anything}
 
@@ -61,8 +61,8 @@ module _ (base : ℕ) where
   unfolding Fit Below
   wholes_fit made m k =
       then_gives Below Lies (pop m) _ (popped m k) (λ x kx. then_gives Below Lies (pop x.1) _ (popped x.1 kx) (λ y ky.
-      then_gives (λ (a : ℤ). Unit {0}) Lies (whole_of y.0) _ (anything (whole_of y.0)) (λ a u.
-      then_gives (λ (b : ℤ). Unit {0}) Lies (whole_of x.0) _ (anything (whole_of x.0)) (λ b v.
+      then_gives (λ (a : ℤ). Unit {0}) Lies (whole_of_word y.0) _ (anything (whole_of_word y.0)) (λ a u.
+      then_gives (λ (b : ℤ). Unit {0}) Lies (whole_of_word x.0) _ (anything (whole_of_word x.0)) (λ b v.
       then_gives (λ (w : Word). Unit {0}) Lies (made a b) _ (anything (made a b)) (λ w t. pushed w y.1 ky)))))
 
   relation_fits : (holds : ℤ → ℤ → Bool) → Fit (relation holds)
@@ -72,7 +72,7 @@ module _ (base : ℕ) where
   unfolding Fit Below
   negated_fits m k =
       then_gives Below Lies (pop m) _ (popped m k) (λ x kx.
-      then_gives (λ (a : ℤ). Unit {0}) Lies (whole_of x.0) _ (anything (whole_of x.0)) (λ a u. pushed (operand (negation_of a)) x.1 kx))
+      then_gives (λ (a : ℤ). Unit {0}) Lies (whole_of_word x.0) _ (anything (whole_of_word x.0)) (λ a u. pushed (operand (negation_of a)) x.1 kx))
 
   logic_fits : (op : ℕ → ℕ → ℕ) → Fit (logic op)
   unfolding Fit Below
@@ -132,10 +132,10 @@ module _ (base : ℕ) where
 
   -- ---- rows
 
-  pub RowFits : Row → Type 0
+  pub RowFits : TableRow → Type 0
   RowFits w = (next : ℕ) (m : Private) → Lies m → Gives Lies (part_by w next m)
 
-  own_fits : (change : Private → Effect Private) → Fit change → RowFits (own change)
+  own_fits : (change : Private → Effect Private) → Fit change → RowFits (row_of_own change)
   unfolding RowFits Fit
   own_fits change f next m k = then_gives Lies Lies (change m) _ (f m k) (λ q kq. pointed_lies next q kq)
 
@@ -158,7 +158,7 @@ module _ (base : ℕ) where
   branch_fits Brfl target next m k = bit_fits Brfl target next m k
   branch_fits Brtr target next m k = bit_fits Brtr target next m k
 
-  either_fits : (b : Bool) (v w : Row) → RowFits v → RowFits w → RowFits (cond b v w)
+  either_fits : (b : Bool) (v w : TableRow) → RowFits v → RowFits w → RowFits (cond b v w)
   either_fits true v w p q = p
   either_fits false v w p q = q
 

@@ -7,7 +7,7 @@ use Rattle.b67_word.specs.Word.{Word}
 use Rattle.b67_segment.specs.declared.code.Code.{Code}
 use Rattle.b67_table.specs.Private.{floor}
 use Rattle.b67_table.specs.Table.{private_op}
-use Rattle.b67_cores.specs.Cores.{Core, over, IsCore, part_of, CoreStep, CoreSteps, here, onward}
+use Rattle.b67_cores.specs.Cores.{Core, over, IsCore, part_of_core, CoreStep, CoreSteps, here, onward}
 use Rattle.b67_cores.specs.Stretches.{Above, StepsStayAbove}
 use Rattle.b67_cores.proofs.Sizes.{Lies, lies_after}
 
@@ -15,7 +15,7 @@ module _ (code : Code) (a b : Core) (is : IsCore a) (s : CoreStep code a b) wher
   lies : Lies (length a.below) s.part
   unfolding private_op
   lies =
-      lies_after (length a.below) s.op a.registers.place s.next (part_of a) s.part
+      lies_after (length a.below) s.op a.registers.place s.next (part_of_core a) s.part
       (record { size = sym is.top; above = omega (arith, is.bottom, is.top); low = omega (arith, is.bottom) }) s.effect
 
   rises : length a.below ≤ length b.below

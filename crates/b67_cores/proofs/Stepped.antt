@@ -12,7 +12,7 @@ use Rattle.b67_templates.specs.Contexts.{Context}
 use Rattle.b67_table.specs.PrivateRows.{negated, complemented}
 use Rattle.b67_table.specs.Rows.{row}
 use Rattle.b67_templates.specs.Fragments.{operator_for}
-use Rattle.b67_standing.specs.Stepping.{Slot, ready, Step, Leads, push_number, push_truth, push_reference, stuff, move, exchange, calculate, negate, invert, false_stays, false_goes, true_stays, true_goes, go, call, announce, summon, drop, counts, spent, within, past, within_literal, past_literal, there, first}
+use Rattle.b67_standing.specs.Stepping.{Slot, ready, FragmentStep, StepsLead, push_number, push_truth, push_reference, stuff, move, exchange, calculate, negate, invert, false_stays, false_goes, true_stays, true_goes, go, call, announce, summon, drop, counts, spent, within, past, within_literal, past_literal, there, first}
 use Rattle.b67_cores.specs.Cores.{Core}
 use Rattle.b67_cores.specs.Slots.{Known}
 use Rattle.b67_cores.specs.Stretches.{Sees}
@@ -40,7 +40,7 @@ module _ (sc : Scopes) (known : List Known) (context : Context) (code : Code) (p
   aimed : (from m n : ℕ) (x y : List Slot) (b c : Bool) → b ≡ c → Gets from x (if b then m else n) y → Gets from x (if c then m else n) y
   aimed from m n x y b c e g = subst (λ (t : Bool). Gets from x (if t then m else n) y) e g
 
-  pub stepped : (from to : ℕ) (x y : List Slot) → Step sc context ps level most from x to y → Gives from x to y
+  pub stepped : (from to : ℕ) (x y : List Slot) → FragmentStep sc context ps level most from x to y → Gives from x to y
   unfolding row
   stepped from to x y (push_number z at room) = plain (pushing.push_number sc known context code ps level most bound core st from to z x at room)
   stepped from to x y (push_truth b at room) = plain (pushing.push_truth sc known context code ps level most bound core st from to b x at room)
@@ -78,7 +78,7 @@ module _ (sc : Scopes) (known : List Known) (context : Context) (code : Code) (p
       plain (aimed from to next _ y (is_past d z) true e (sign_tested sc known context code ps level most bound core st from to next d y s at room))
 
 module _ (sc : Scopes) (context : Context) (code : Code) (ps : List Placed) (level most bound : ℕ) (core : Core) (st : Standing code ps level most bound core) (sees : Sees context.level core) where
-  pub led : (known : List Known) (from to : ℕ) (x y : List Slot) → Leads sc context ps level most from x to y → Gains sc context code ps level most bound core known from x to y
+  pub led : (known : List Known) (from to : ℕ) (x y : List Slot) → StepsLead sc context ps level most from x to y → Gains sc context code ps level most bound core known from x to y
   led known from to x y there words are room = plainly sc context code ps level most bound core (nothing sc known code ps level most bound core st from x) words are room
   led known from to x y (first {b = b} {y = z} step more) words are room =
       let f : Adds sc context code ps level most bound core known from x words b z = stepped sc known context code ps level most bound core st sees from b x z step words are room in

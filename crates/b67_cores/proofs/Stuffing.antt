@@ -23,7 +23,7 @@ use Rattle.b67_table.specs.Rows.{row}
 use Rattle.b67_table.proofs.Wordly.{few_index_bits}
 use Rattle.b67_templates.specs.Contexts.{Context}
 use Rattle.b67_templates.specs.Fragments.{Has}
-use Rattle.b67_standing.specs.Stepping.{Held, Stuffable, of_array, of_variable, of_event, of_actual, Slot, reference, descriptor}
+use Rattle.b67_standing.specs.Stepping.{HeldWord, Stuffable, of_array, of_variable, of_event, of_actual, Slot, reference, descriptor}
 use Rattle.b67_cores.specs.Cores.{Core}
 use Rattle.b67_cores.specs.Slots.{Known}
 use Rattle.b67_cores.specs.Stretches.{Sees}
@@ -36,7 +36,7 @@ record IsAround (context : Context) (c : Couple) : Type 0 where
   pub outer : OUTER_LEVEL ≤ c.level
   pub inner : c.level ≤ context.level
 
-is_around : {sc : Scopes} {context : Context} {held : Held} {c : Couple} → Stuffable sc context held c → IsAround context c
+is_around : {sc : Scopes} {context : Context} {held : HeldWord} {c : Couple} → Stuffable sc context held c → IsAround context c
 is_around (of_array n d c is) = record { outer = is.made.outer; inner = omega (arith, is.made.level_is) }
 is_around (of_variable n k c is outer) = record { outer = outer; inner = omega (arith, is.level_is) }
 is_around (of_event n c is) = record { outer = is.made.outer; inner = omega (arith, is.made.level_is) }
@@ -53,7 +53,7 @@ module _ (code : Code) (ps : List Placed) (level most bound : ℕ) (core : Core)
       (AreFit-parts named.before (record { level = level; operator = ops.Namc c }) named.after (subst AreFit named.parts st.spells.fit)).1 in
       (omega (arith, fit.known, fit.fits.level_seen), (omega (arith, fit.fits.index_fits, few_index_bits level), tt))
 
-  module _ (sc : Scopes) (known : List Known) (context : Context) (held : Held) (c : Couple) (is : Stuffable sc context held c) (before from next : ℕ)
+  module _ (sc : Scopes) (known : List Known) (context : Context) (held : HeldWord) (c : Couple) (is : Stuffable sc context held c) (before from next : ℕ)
       (named : Has ps level before (ops.Namc c) from) (stands : Has ps level from (ops.Plain kinds.Stff) next) (x : List Slot) where
     stuffed_to : (home : Place) → place_at core.registers.display c.level ≡ Some home → Gains sc context code ps level most bound core known from (reference c ∷ x) next (descriptor held ∷ x)
     unfolding row

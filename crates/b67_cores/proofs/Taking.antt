@@ -16,8 +16,8 @@ use Rattle.b67_table.specs.Effect.{Effect, gives, ◌>>=◌}
 use Rattle.b67_table.specs.Private.{floor}
 use Rattle.b67_table.specs.PrivateRows.{arithmetic, relation, negated, logic, complement, complemented, result_or_fault}
 use Rattle.b67_table.proofs.Wordly.{complement_fits}
-use Rattle.b67_templates.specs.Fragments.{IsWhole}
-use Rattle.b67_cores.specs.Slots.{IsNumber, ValueIs}
+use Rattle.b67_templates.specs.Fragments.{IsWholeNumber}
+use Rattle.b67_cores.specs.Slots.{IsNumberWord, ValueIs}
 use Rattle.b67_cores.proofs.PartRows.{part, wholes_are, logic_is, negated_is, complemented_is}
 use Rattle.b67_cores.proofs.Bits.{Says, truth_is_truth, complement_says}
 
@@ -40,7 +40,7 @@ abbrev pub Turns : (Private → Effect Private) → Value → Value → Type 0
 Turns change a result = (w : Word) → ValueIs a w → Turned change w result
 
 -- a word of a number is read as it
-pub number_read : (z : ℤ) (w : Word) → IsNumber z w → as_whole w ≡ Some z
+pub number_read : (z : ℤ) (w : Word) → IsNumberWord z w → as_whole w ≡ Some z
 number_read z w i = ap as_whole i.is ∙ as_whole-operand z (omega (arith, i.whole))
 
 -- ---- numbers
@@ -74,7 +74,7 @@ abbrev pub one_if : Bool → ℤ
 one_if b = if b then pos 1 else pos 0
 
 -- the word of a relation is that of a number too
-truth_is_number : (b : Bool) → IsNumber (one_if b) (words.truth b)
+truth_is_number : (b : Bool) → IsNumberWord (one_if b) (words.truth b)
 unfolding words.truth words.operand
 truth_is_number true = record { is = refl; whole = omega arith }
 truth_is_number false = record { is = refl; whole = omega arith }
@@ -87,7 +87,7 @@ relation_counts holds a b v w iv iw = record {
   given = (relation_takes holds a b v w iv iw).given;
 }
 
-pub negated_turns : (z : ℤ) → IsWhole z → Turns negated (number z) (number (negation_of z))
+pub negated_turns : (z : ℤ) → IsWholeNumber z → Turns negated (number z) (number (negation_of z))
 negated_turns z h w iw = record {
   word = words.operand (negation_of z);
   is = record { is = refl; whole = negation_of-fits z h };

@@ -53,8 +53,8 @@ with_core img p core = with_registers (with_stacks img (with_stack img.stacks co
 
 -- ---- private operators
 
-abbrev pub part_of : Core → Private
-part_of core = record { regs = core.registers; words = core.words }
+abbrev pub part_of_core : Core → Private
+part_of_core core = record { regs = core.registers; words = core.words }
 
 -- One private operator leads from a core to another: by its effect on the private part, above the words below. PUSH lifts the floor,
 -- so the stack is parted anew.
@@ -64,7 +64,7 @@ pub record CoreStep (code : Code) (a b : Core) : Type 0 where
   pub stands : operator_at code a.registers ≡ Ok (op, next)
   pub private : class_at op a.registers.place ≡ classes.Private
   pub part : Private
-  pub effect : private_op op a.registers.place next (part_of a) ≡ gives part
+  pub effect : private_op op a.registers.place next (part_of_core a) ≡ gives part
   pub registers : b.registers ≡ part.regs
   pub stack : stack_of b ≡ a.below ++ reverse part.words
   pub is : IsCore b
@@ -75,7 +75,7 @@ pub record CoreFaults (code : Code) (a : Core) (kind : FaultKind) : Type 0 where
   pub next : ℕ
   pub stands : operator_at code a.registers ≡ Ok (op, next)
   pub private : class_at op a.registers.place ≡ classes.Private
-  pub effect : private_op op a.registers.place next (part_of a) ≡ faults kind
+  pub effect : private_op op a.registers.place next (part_of_core a) ≡ faults kind
 
 -- so many private operators lead from a core to another, and no core from the first to the last has more words than the bound
 pub data CoreSteps (code : Code) (bound : ℕ) : ℕ → Core → Core → Type 0 where

@@ -8,14 +8,14 @@ use Rattle.b67_control.specs.Control.{pcw_word}
 use Rattle.b67_ops.specs.Intrinsics.{couple_of_intrinsic}
 use Rattle.b67_table.specs.PrivateRows.{open_mark}
 use Rattle.b67_table.specs.PrivateRows as rows
-use Rattle.b67_templates.specs.Fragments.{IsWhole}
-use Rattle.b67_standing.specs.Stepping.{Held, Slot, operand, reference, intrinsic, control, descriptor, mark}
+use Rattle.b67_templates.specs.Fragments.{IsWholeNumber}
+use Rattle.b67_standing.specs.Stepping.{HeldWord, Slot, operand, reference, intrinsic, control, descriptor, mark}
 
 -- ---- values
 
-pub record IsNumber (z : ℤ) (w : Word) : Type 0 where
+pub record IsNumberWord (z : ℤ) (w : Word) : Type 0 where
   pub is : w ≡ words.operand z
-  pub whole : IsWhole z
+  pub whole : IsWholeNumber z
 
 -- a word of tag 0 says a truth value by its bit 0, whatever its other bits are
 pub record IsTruth (b : Bool) (w : Word) : Type 0 where
@@ -24,7 +24,7 @@ pub record IsTruth (b : Bool) (w : Word) : Type 0 where
   pub lowest : w.bits % 2 ≡ (if b then 1 else 0)
 
 abbrev pub ValueIs : Value → Word → Type 0
-ValueIs (number z) w = IsNumber z w
+ValueIs (number z) w = IsNumberWord z w
 ValueIs (truth b) w = IsTruth b w
 
 -- ---- slots
@@ -41,10 +41,10 @@ newest home base (mark ∷ below) = base + length below
 
 -- a descriptor that lies on the stack: what it is of, and its word
 pub record Known : Type 0 where
-  pub held : Held
+  pub held : HeldWord
   pub word : Word
 
-abbrev pub IsKnown : List Known → Held → Word → Type 0
+abbrev pub IsKnown : List Known → HeldWord → Word → Type 0
 IsKnown [] held w = ⊥
 IsKnown (x ∷ known) held w = ((x.held ≡ held) × (x.word ≡ w)) ⊎ IsKnown known held w
 

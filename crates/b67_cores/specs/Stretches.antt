@@ -33,12 +33,12 @@ use Rattle.b67_table.specs.References.{cell_word}
 use Rattle.b67_table.specs.Outcome as outcomes
 use Rattle.b67_table.specs.Table.{table, plain}
 use Rattle.b67_table.specs.Ending.{failed}
-use Rattle.b67_table.specs.Privacy.{Keeps}
+use Rattle.b67_table.specs.Privacy.{RegistersStay}
 use Rattle.b67_table.specs.Runs.{Plains}
 use Rattle.b67_table.specs.Valid.{IsValid}
-use Rattle.b67_templates.specs.Fragments.{Has, HasKind, Goes, operator_for}
+use Rattle.b67_templates.specs.Fragments.{Has, HasKind, FragmentGoes, operator_for}
 use Rattle.b67_templates.specs.Code.{CellsAt}
-use Rattle.b67_standing.specs.Stepping.{Held, Stuffable, Slot, operand, ready, Step, Leads}
+use Rattle.b67_standing.specs.Stepping.{HeldWord, Stuffable, Slot, operand, ready, FragmentStep, StepsLead}
 use Rattle.b67_cores.specs.Cores.{Core, size, IsCore, over, HasCore, with_core, CoreFaults, CoreStep, CoreSteps}
 use Rattle.b67_cores.specs.Slots.{Known, newest, SlotsAre}
 
@@ -49,7 +49,7 @@ use Rattle.b67_cores.specs.Slots.{Known, newest, SlotsAre}
 pub record Performed (code : Code) (p : ℕ) (img : Image) (n : ℕ) (a b : Core) : Type 0 where
   pub plains : Plains code p img n (with_core img p b)
   pub has : HasCore (with_core img p b) p b
-  pub kept : Keeps a.registers b.registers
+  pub kept : RegistersStay a.registers b.registers
   pub stacks : (m : ℕ) → m ≢ p → stack_at (with_core img p b).stacks m ≡ stack_at img.stacks m
   pub registers : (q : ℕ) → q ≢ p → numbered (with_core img p b).regs q ≡ numbered img.regs q
   pub others : (q : ℕ) (core : Core) → q ≢ p → HasCore img q core ↔ HasCore (with_core img p b) q core
@@ -144,7 +144,7 @@ Sees level core = (l : ℕ) → OUTER_LEVEL ≤ l → l ≤ level → IsSome (pl
 
 -- a reference to a cell that STFF makes, in a frame that the display names
 pub record IsStuffed (sc : Scopes) (context : Context) (core : Core) (x : Known) : Type 0 where
-  pub held : Held
+  pub held : HeldWord
   pub couple : Couple
   pub frame : Place
   pub held_is : x.held ≡ held
@@ -173,10 +173,10 @@ pub record Arrives (sc : Scopes) (known : List Known) (context : Context) (code 
 -- lie above the floor, its stack has the most words of the bound.
 pub record FragmentsArePerformed : Type 0 where
   pub step : (sc : Scopes) (known : List Known) (context : Context) (code : Code) (ps : List Placed) (level most bound from to : ℕ) (x y : List Slot) (core : Core)
-      → Step sc context ps level most from x to y → CoreAt sc known code ps level from x core → Sees context.level core → length x ≤ most → length core.below + most ≤ bound
+      → FragmentStep sc context ps level most from x to y → CoreAt sc known code ps level from x core → Sees context.level core → length x ≤ most → length core.below + most ≤ bound
       → Arrives sc known context code ps level most bound to y core
   pub leads : (sc : Scopes) (known : List Known) (context : Context) (code : Code) (ps : List Placed) (level most bound from to : ℕ) (x y : List Slot) (core : Core)
-      → Leads sc context ps level most from x to y → CoreAt sc known code ps level from x core → Sees context.level core → length x ≤ most → length core.below + most ≤ bound
+      → StepsLead sc context ps level most from x to y → CoreAt sc known code ps level from x core → Sees context.level core → length x ≤ most → length core.below + most ≤ bound
       → Arrives sc known context code ps level most bound to y core
   -- an operator of the language without a result is a fault
   pub fault : (sc : Scopes) (known : List Known) (code : Code) (ps : List Placed) (level from to : ℕ) (op : Op) (v w : Value) (fault : NumFault) (below : List Slot) (core : Core)
@@ -189,7 +189,7 @@ abbrev pub control_words : List Pcw → List Word
 control_words controls = map (λ (pcw : Pcw). pcw_word pcw) controls
 
 -- Private operators lead to a core with so many cells more that are 0, and those of these control words, and no words above the floor.
-pub record Begins (sc : Scopes) (known : List Known) (code : Code) (ps : List Placed) (level bound many : ℕ) (controls : List Pcw) (place : ℕ) (a : Core) : Type 0 where
+pub record CoreBegins (sc : Scopes) (known : List Known) (code : Code) (ps : List Placed) (level bound many : ℕ) (controls : List Pcw) (place : ℕ) (a : Core) : Type 0 where
   pub count : ℕ
   pub core : Core
   pub steps : CoreSteps code bound count a core
@@ -202,14 +202,14 @@ pub record Begins (sc : Scopes) (known : List Known) (code : Code) (ps : List Pl
 abbrev pub BlocksBegin : Type 0
 BlocksBegin =
     (sc : Scopes) (known : List Known) (context : Context) (code : Code) (ps : List Placed) (level bound many : ℕ) (controls : List Pcw) (from begin to : ℕ) (core : Core)
-    → Goes ps level from begin → CellsAt sc context ps level many controls begin to → CoreAt sc known code ps level from [] core
+    → FragmentGoes ps level from begin → CellsAt sc context ps level many controls begin to → CoreAt sc known code ps level from [] core
     → core.registers.cells + (many + length controls) ≤ most_cells → length core.below + (many + length controls) ≤ bound
-    → Begins sc known code ps level bound many controls to core
+    → CoreBegins sc known code ps level bound many controls to core
 
 -- ---- cells that are made later
 
 -- the core is at a place of these operators, at their level
-pub record IsAt (code : Code) (ps : List Placed) (level place : ℕ) (core : Core) : Type 0 where
+pub record CoreIsAt (code : Code) (ps : List Placed) (level place : ℕ) (core : Core) : Type 0 where
   pub segment : Segment
   pub there : slice_get code.segments core.registers.segment ≡ Some segment
   pub spells : Spells ps segment
@@ -229,5 +229,5 @@ pub record Becomes (sc : Scopes) (known : List Known) (code : Code) (ps : List P
 abbrev pub CellsAreMade : Type 0
 CellsAreMade =
     (sc : Scopes) (known : List Known) (code : Code) (ps : List Placed) (level bound from to : ℕ) (core : Core)
-    → Has ps level from (ops.Plain kinds.Push) to → IsAt code ps level from core → core.registers.f ≡ frame core.registers
+    → Has ps level from (ops.Plain kinds.Push) to → CoreIsAt code ps level from core → core.registers.f ≡ frame core.registers
     → core.registers.cells + length core.words ≤ most_cells → size core ≤ bound → Becomes sc known code ps level bound to core

@@ -16,16 +16,16 @@ use Rattle.b67_table.proofs.Seeing.{after_test, asked_then}
 use Rattle.b67_descriptor.specs.declared.DescriptorFault.{DescriptorFault}
 use Rattle.b67_descriptor.specs.declared.DescriptorFault.TheVariants.{InvalidIndex, ArraySize, CoreFull, InvalidOperand, NoMemory}
 use Rattle.b67_descriptor.specs.declared.sizes.Size.{Size}
-use Rattle.b67_descriptor.specs.Sizes.{numbers, extents_of, Sizes}
-use Rattle.b67_descriptor.specs.Arrays.{wanted, Holds, Answers, Allocates, Makes, descriptor_by}
+use Rattle.b67_descriptor.specs.Sizes.{numbers_of_bounds, extents_of, Sizes}
+use Rattle.b67_descriptor.specs.Arrays.{wanted_extents, StoreHolds, ExtentsAnswer, Allocates, Makes, descriptor_by}
 
 abbrev pub AreSized : List (ℤ × ℤ) → Result Size DescriptorFault → Type 0
-AreSized bounds r = (img : Image) → Sizes (asked img (extents (numbers bounds))) r
+AreSized bounds r = (img : Image) → Sizes (asked img (extents (numbers_of_bounds bounds))) r
 
-then_held : (bounds : List (ℤ × ℤ)) (img : Image) (effect : Effect Extents) → asked img (extents (numbers bounds)) ≡ effect
-    → asked img (wanted bounds) ≡ after_test img effect (if_held 1)
+then_held : (bounds : List (ℤ × ℤ)) (img : Image) (effect : Effect Extents) → asked img (extents (numbers_of_bounds bounds)) ≡ effect
+    → asked img (wanted_extents bounds) ≡ after_test img effect (if_held 1)
 then_held bounds img effect e =
-    asked_then img (extents (numbers bounds)) (if_held 1) ∙ ap (λ (x : Effect Extents). after_test img x (if_held 1)) e
+    asked_then img (extents (numbers_of_bounds bounds)) (if_held 1) ∙ ap (λ (x : Effect Extents). after_test img x (if_held 1)) e
 
 pub refused : (bounds : List (ℤ × ℤ)) (before : Rows) (why : DescriptorFault) → AreSized bounds (Err why) → Allocates bounds before before (Err why)
 refused bounds before ArraySize h = λ img e. then_held bounds img (faults kinds.ArraySize) (h img)
@@ -43,12 +43,12 @@ held img before e same h =
     ap (λ (b : Bool). held_by img e b) (le-leb (counted_words img.rows + 1 * elements e) count_limit
     (omega (arith, h, ap counted_words same)))
 
-pub tested : (bounds : List (ℤ × ℤ)) (before : Rows) (size : Size) (b : Bool) → AreSized bounds (Ok size) → Holds before (extents_of size) b → b ≡ true
-    → Answers bounds before (gives (extents_of size))
+pub tested : (bounds : List (ℤ × ℤ)) (before : Rows) (size : Size) (b : Bool) → AreSized bounds (Ok size) → StoreHolds before (extents_of size) b → b ≡ true
+    → ExtentsAnswer bounds before (gives (extents_of size))
 tested bounds before size true h k e = λ img same. then_held bounds img (gives (extents_of size)) (h img) ∙ held img before (extents_of size) same k
 tested bounds before size false h k e = cc
 
-pub made : (bounds : List (ℤ × ℤ)) (before after : Rows) (size : Size) (r : Result Descriptor DescriptorFault) → Answers bounds before (gives (extents_of size))
+pub made : (bounds : List (ℤ × ℤ)) (before after : Rows) (size : Size) (r : Result Descriptor DescriptorFault) → ExtentsAnswer bounds before (gives (extents_of size))
     → IfOk r (Makes (extents_of size) before after) → IfOk r (λ d. d ≡ descriptor_by (extents_of size) (least_free before)) → IfErr r (λ why. why ≡ NoMemory)
     → Allocates bounds before after r
 made bounds before after size (Ok d) t m e f = record { size = extents_of size; tested = t; made = m; described = e }

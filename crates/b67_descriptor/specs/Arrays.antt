@@ -14,7 +14,7 @@ use Rattle.b67_descriptor.specs.declared.DescriptorFault.TheVariants.{InvalidInd
 use Rattle.b67_table.specs.Look.{read_as}
 use Rattle.b67_table.specs.Program.{Test, asked, ◌>>=◌, Change, changed}
 use Rattle.b67_table.specs.Arrays.{Extents, one, two, elements, if_held, rows_made, array_made, arrays_made, array_word}
-use Rattle.b67_descriptor.specs.Sizes.{numbers}
+use Rattle.b67_descriptor.specs.Sizes.{numbers_of_bounds}
 
 -- the array's own descriptor, of a row or of a mother's row
 abbrev pub array_descriptor : Bool → ℕ → ℕ → Descriptor
@@ -96,30 +96,30 @@ MakesArrays k e before after arrays =
 -- ---- the tests
 
 -- the words that count and the elements are no more than a store may hold
-abbrev pub Holds : Rows → Extents → Bool → Type 0
-Holds rows e true = counted_words rows + elements e ≤ count_limit
-Holds rows e false = count_limit < counted_words rows + elements e
+abbrev pub StoreHolds : Rows → Extents → Bool → Type 0
+StoreHolds rows e true = counted_words rows + elements e ≤ count_limit
+StoreHolds rows e false = count_limit < counted_words rows + elements e
 
 -- the table's tests for one array with these bounds
-abbrev pub wanted : List (ℤ × ℤ) → Test Extents
-wanted bounds = extents (numbers bounds) >>= if_held 1
+abbrev pub wanted_extents : List (ℤ × ℤ) → Test Extents
+wanted_extents bounds = extents (numbers_of_bounds bounds) >>= if_held 1
 
 -- in every image with these rows they answer this
-abbrev pub Answers : List (ℤ × ℤ) → Rows → Effect Extents → Type 0
-Answers bounds rows effect = (img : Image) → img.rows ≡ rows → asked img (wanted bounds) ≡ effect
+abbrev pub ExtentsAnswer : List (ℤ × ℤ) → Rows → Effect Extents → Type 0
+ExtentsAnswer bounds rows effect = (img : Image) → img.rows ≡ rows → asked img (wanted_extents bounds) ≡ effect
 
 -- the array is made as the table makes it, and its descriptor is the table's
-pub record IsMade (bounds : List (ℤ × ℤ)) (before after : Rows) (d : Descriptor) : Type 0 where
+pub record ArrayIsMade (bounds : List (ℤ × ℤ)) (before after : Rows) (d : Descriptor) : Type 0 where
   pub size : Extents
-  pub tested : Answers bounds before (gives size)
+  pub tested : ExtentsAnswer bounds before (gives size)
   pub made : Makes size before after d
   pub described : d ≡ descriptor_by size (least_free before)
 
 abbrev pub Allocates : List (ℤ × ℤ) → Rows → Rows → Result Descriptor DescriptorFault → Type 0
-Allocates bounds before after (Ok d) = IsMade bounds before after d
-Allocates bounds before after (Err InvalidOperand) = Answers bounds before (interrupts stops.InvalidOperand)
-Allocates bounds before after (Err ArraySize) = Answers bounds before (faults kinds.ArraySize)
-Allocates bounds before after (Err CoreFull) = Answers bounds before (faults kinds.CoreFull)
+Allocates bounds before after (Ok d) = ArrayIsMade bounds before after d
+Allocates bounds before after (Err InvalidOperand) = ExtentsAnswer bounds before (interrupts stops.InvalidOperand)
+Allocates bounds before after (Err ArraySize) = ExtentsAnswer bounds before (faults kinds.ArraySize)
+Allocates bounds before after (Err CoreFull) = ExtentsAnswer bounds before (faults kinds.CoreFull)
 -- nothing stops the tests
-Allocates bounds before after (Err NoMemory) = (size : Extents) × Answers bounds before (gives size)
+Allocates bounds before after (Err NoMemory) = (size : Extents) × ExtentsAnswer bounds before (gives size)
 Allocates bounds before after (Err InvalidIndex) = ⊥

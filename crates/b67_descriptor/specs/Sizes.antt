@@ -11,9 +11,9 @@ use Rattle.b67_descriptor.specs.declared.sizes.Size.{Size}
 use Rattle.b67_descriptor.specs.declared.sizes.Size.TheVariants as sizes
 
 -- the bounds of each dimension, one after another, as ARRAYS has them
-abbrev pub numbers : List (ℤ × ℤ) → List ℤ
-numbers [] = []
-numbers (b ∷ bounds) = b.0 ∷ b.1 ∷ numbers bounds
+abbrev pub numbers_of_bounds : List (ℤ × ℤ) → List ℤ
+numbers_of_bounds [] = []
+numbers_of_bounds (b ∷ bounds) = b.0 ∷ b.1 ∷ numbers_of_bounds bounds
 
 abbrev pub extents_of : Size → Extents
 extents_of (sizes.One n) = one n

@@ -5,7 +5,7 @@ ghost use Rattle.b67_store.specs.Store.{Rows, row_at, row_words, row_limit, leas
 ghost use Rattle.b67_table.specs.Arrays.{one, two, elements};
 ghost use Rattle.b67_descriptor.specs.declared.DescriptorFault.TheVariants.{NoMemory};
 ghost use Rattle.b67_descriptor.specs.Sizes.{IsSize, extents_of};
-ghost use Rattle.b67_descriptor.specs.Arrays.{array_descriptor, descriptor_by, Makes, SameRows, HasMore, row_added, child, described, HasArray, HaveArrays, MakesArrays, Holds, Allocates};
+ghost use Rattle.b67_descriptor.specs.Arrays.{array_descriptor, descriptor_by, Makes, SameRows, HasMore, row_added, child, described, HasArray, HaveArrays, MakesArrays, StoreHolds, Allocates};
 
 use crate::sizes::size_of;
 use crate::{DescriptorFault, Size};
@@ -233,7 +233,7 @@ pub fn elements(size: Size) -> u32
 // Tests that the store may hold so many elements more.
 fn is_held<C: Core>(core: &C, size: Size) -> bool
     requires { IsSize size }
-    ensures { Holds (C.Core.rows core.now) (extents_of size) result }
+    ensures { StoreHolds (C.Core.rows core.now) (extents_of size) result }
 {
     core.counted() + elements(size) <= MOST_COUNTED_WORDS
 }

@@ -3,7 +3,7 @@ ghost use Rattle.std.specs.Prelude.{◌≡◌, ◌-ℤ◌, IfOk, [], ◌∷◌};
 ghost use Rattle.b67_table.specs.Image.{Image};
 ghost use Rattle.b67_table.specs.Program.{asked};
 ghost use Rattle.b67_table.specs.Intrinsics.{extents};
-ghost use Rattle.b67_descriptor.specs.Sizes.{numbers, Sizes, IsSize, Extent, SizesTwo, AreOne, AreTwo};
+ghost use Rattle.b67_descriptor.specs.Sizes.{numbers_of_bounds, Sizes, IsSize, Extent, SizesTwo, AreOne, AreTwo};
 
 use crate::DescriptorFault;
 use b67_store::MOST_COUNTED_WORDS;
@@ -45,7 +45,7 @@ fn product(rows: u32, columns: u32) -> Result<Size, DescriptorFault>
 
 // The size of an array of two dimensions.
 fn size_of_two(first: (i64, i64), second: (i64, i64)) -> Result<Size, DescriptorFault>
-    ensures sizes { (img : Image) → Sizes (asked img (extents (numbers (first ∷ second ∷ [])))) result }
+    ensures sizes { (img : Image) → Sizes (asked img (extents (numbers_of_bounds (first ∷ second ∷ [])))) result }
     ensures good { IfOk result IsSize }
 {
     let Some(rows) = extent(first.0, first.1) else {
@@ -84,7 +84,7 @@ fn one_of(bounds: &[(i64, i64)]) -> Option<(i64, i64)>
 /// nor two dimensions.
 #[tactic(auto, using(crate::proofs::Extents::neither))]
 pub fn size_of(bounds: &[(i64, i64)]) -> Result<Size, DescriptorFault>
-    ensures sizes { (img : Image) → Sizes (asked img (extents (numbers bounds.now))) result }
+    ensures sizes { (img : Image) → Sizes (asked img (extents (numbers_of_bounds bounds.now))) result }
     ensures good { IfOk result IsSize }
 {
     if let Some((first, second)) = two_of(bounds) {

@@ -1,7 +1,7 @@
 // The elements and the rows of arrays.
 ghost use Rattle.std.specs.Prelude.{◌≡◌, ◌↔◌, ◌<◌, false, true, None, Some, Err, IfSome};
 ghost use Rattle.b67_store.specs.Store.{row_at};
-ghost use Rattle.b67_table.specs.Arrays.{is_array, index_in, word_in};
+ghost use Rattle.b67_table.specs.Arrays.{is_array_descriptor, index_in, word_in_row};
 ghost use Rattle.b67_descriptor.specs.Subscripts.{indexed, row_loaded};
 
 use crate::DescriptorFault;
@@ -10,7 +10,7 @@ use b67_store::Core;
 
 // Tests that a descriptor is of an array with a mother, or of one without.
 fn is_array(mother: bool, d: &Descriptor) -> bool
-    ensures { result ≡ is_array mother d.now }
+    ensures { result ≡ is_array_descriptor mother d.now }
 {
     d.presence && !d.indexed && d.mother == mother
 }

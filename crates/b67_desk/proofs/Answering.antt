@@ -27,7 +27,7 @@ use Rattle.b67_faithful.specs.Faithful.{Faithful}
 use Rattle.b67_explain.specs.Shared.{ExplainsShared}
 use Rattle.b67_explain.specs.Alone.{ExplainsAlone}
 use Rattle.b67_ready.specs.declared.order.Order.TheVariants as orders
-use Rattle.b67_ready.specs.Orders.{place_of}
+use Rattle.b67_ready.specs.Orders.{order_place_of}
 use Rattle.b67_desk.specs.declared.status.Code.TheVariants.{OfSource}
 use Rattle.b67_desk.specs.declared.status.Status.{Status}
 use Rattle.b67_desk.specs.declared.status.Status.TheVariants as status
@@ -38,9 +38,9 @@ use Rattle.b67_desk.specs.declared.asking.Job.{Job}
 use Rattle.b67_desk.specs.declared.asking.Asked.{Asked}
 use Rattle.b67_desk.specs.declared.asking.Asked.TheVariants as asked
 use Rattle.b67_desk.specs.declared.asking.Found.TheVariants as found
-use Rattle.b67_desk.specs.Answers.{order_of, usage_text, refused_text, listing_text, Workers, by_one, by_all, Runs, ran, Lists, listed, trial_text, Tries, tried, AnswersTree, IsSourceOf, IsRefusedAt, RefusedOr, refused, accepted, IsDivided, AnswersBytes, ReadsInput, AnswersInput, long_part, divided, most_bytes, AnswersSource, too_long, too_long_text, read, Reading, Untouched, AnswersCommand, Answers, usage, answered, ReadsIfAsked, Writing, HasAnswer, write_fault}
+use Rattle.b67_desk.specs.Answers.{order_of, usage_text, refused_text, listing_text, Workers, by_one, by_all, DeskRuns, ran, Lists, listed, trial_text, Tries, tried, AnswersTree, IsSourceOf, IsRefusedAt, RefusedOr, refused, accepted, IsDivided, AnswersBytes, ReadsInput, AnswersInput, long_part, divided, most_bytes, AnswersSource, too_long, too_long_text, read, Reading, Untouched, AnswersCommand, Answers, usage, answered, ReadsIfAsked, Writing, HasAnswer, write_fault}
 use Rattle.b67_desk.specs.Ends.{status_of}
-use Rattle.b67_desk.specs.Calls.{IsReported, Asks, settled, InRange, IsFound, SourceAsked, CommandAsked, CallAsked, CallAnswered, IsUsage, IsRefusal, IsReportAnswer, IsTrialAnswer, IsRunAnswer, IsTooLong}
+use Rattle.b67_desk.specs.Calls.{IsReported, Asks, settled, InRange, SourceIsFound, SourceAsked, CommandAsked, CallAsked, CallAnswered, IsUsage, IsRefusal, IsReportAnswer, IsTrialAnswer, IsRunAnswer, IsTooLong}
 
 -- ---- what is asked for
 
@@ -63,20 +63,20 @@ module _ (Its Others : Workers → List ℕ → Status → Type 0) (out : (by : 
 -- a run of a source
 pub run_asks : (processors budget : ℕ) (rule : Rule) (tree : PProgram) (code : Code) → Faithful tree code → (1 ≤ processors) × (processors ≤ MOST_PROCESSORS) →
     (1 ≤ budget) × (budget ≤ MOST_BUDGET) →
-    Asks (λ by. Runs by processors budget rule tree) (asked.Run (record { processors = processors; budget = budget; rule = rule; code = code }))
+    Asks (λ by. DeskRuns by processors budget rule tree) (asked.Run (record { processors = processors; budget = budget; rule = rule; code = code }))
 run_asks processors budget rule tree code faithful some budget_is =
     (record { faithful = (tree, faithful); processors = some; budget = budget_is }, λ by report is. ran report (is tree faithful))
 
 -- ---- trials and listings
 
 -- the run of a source that was made
-tried_is : (bytes : ℕ) (tree : PProgram) (report : Report) (a : Answer) → ExplainsAlone tree (place_of orders.Fifo) 1 MOST_BUDGET report → IsTrialAnswer bytes report a →
+tried_is : (bytes : ℕ) (tree : PProgram) (report : Report) (a : Answer) → ExplainsAlone tree (order_place_of orders.Fifo) 1 MOST_BUDGET report → IsTrialAnswer bytes report a →
     Tries bytes tree a.text.items a.status
 tried_is bytes tree report a explains is =
     subst (λ (t : List ℕ). Tries bytes tree t a.status) (sym is.text)
     (subst (λ (s : Status). Tries bytes tree (trial_text bytes report) s) (sym is.status) (tried report explains))
 
-pub tried_answered : (bytes : ℕ) (tree : PProgram) (report : Report) (result : Result Answer AllocError) → ExplainsAlone tree (place_of orders.Fifo) 1 MOST_BUDGET report →
+pub tried_answered : (bytes : ℕ) (tree : PProgram) (report : Report) (result : Result Answer AllocError) → ExplainsAlone tree (order_place_of orders.Fifo) 1 MOST_BUDGET report →
     IfOk result (IsTrialAnswer bytes report) → IfOk result (λ a. Tries bytes tree a.text.items a.status)
 tried_answered bytes tree report (Ok a) explains is = tried_is bytes tree report a explains is
 tried_answered bytes tree report (Err e) explains is = is
@@ -113,7 +113,7 @@ module _ (by : Workers) (command : Words) (bytes source : List ℕ) (beside : Op
       subst (λ (t : List ℕ). RefusedOr source Its t a.status) (sym is.text)
       (subst (λ (s : Status). RefusedOr source Its (refused_text place (OfSource code)) s) (sym is.status) (refused place code at))
 
-  pub none_out : (a : Answer) → IsFound source (found.Refused a) → AnswersBytes by command bytes a.text.items a.status
+  pub none_out : (a : Answer) → SourceIsFound source (found.Refused a) → AnswersBytes by command bytes a.text.items a.status
   none_out a (inl (more, is)) = long_is a more is
   none_out a (inr (small, place, code, at, is)) =
       divided source beside a.text.items a.status parts small (refused_is (AnswersTree by command beside (length bytes)) place code a at is)
@@ -222,7 +222,7 @@ one_serves by job (Err e) one is = is
 
 -- a run by several says nothing of turns, but that it was under the rule
 pub several_report : (job : Job) (report : Report) → job.processors ≢ 1 →
-    ((tree : PProgram) → Faithful tree job.code → ExplainsShared tree (place_of (order_of job.rule)) job.processors job.budget report) → IsReported by_all job report
+    ((tree : PProgram) → Faithful tree job.code → ExplainsShared tree (order_place_of (order_of job.rule)) job.processors job.budget report) → IsReported by_all job report
 several_report job report several explains = λ tree faithful.
     let x = explains tree faithful in record { explains = x.explains; alone = λ one. absurd (several one); shared = λ more. x }
 

@@ -21,16 +21,16 @@ use Rattle.b67_desk.specs.declared.consoling.Replay.TheVariants.{Whole, Other}
 use Rattle.b67_desk.specs.declared.status.Status.{Status}
 use Rattle.b67_desk.specs.declared.status.Status.TheVariants as status
 use Rattle.b67_desk.specs.Commanded.{IsBadLineAt, AreOrders, IsPerformed, IsReplay, IsToldBy}
-use Rattle.b67_desk.specs.Consoling.{AreApart, InTwo, in_two, bad_console_text, IsBadConsole, AreGiven, OrBadConsole, bad_console, commanded, IsWhole, Consoled, reported, consoled}
+use Rattle.b67_desk.specs.Consoling.{TextsAreApart, InTwo, in_two, bad_console_text, IsBadConsole, CommandsAreGiven, OrBadConsole, bad_console, commanded, IsWholeSchedule, Consoled, reported, consoled}
 
 -- ---- the texts beside a source
 
-pub two_is : (beside schedule commands : Option (List ℕ)) (Its : Option (List ℕ) → Option (List ℕ) → List ℕ → Status → Type 0) (a : Answer) → AreApart beside schedule commands →
+pub two_is : (beside schedule commands : Option (List ℕ)) (Its : Option (List ℕ) → Option (List ℕ) → List ℕ → Status → Type 0) (a : Answer) → TextsAreApart beside schedule commands →
     Its schedule commands a.text.items a.status → InTwo beside Its a.text.items a.status
 two_is beside schedule commands Its a apart is = in_two schedule commands a.text.items a.status apart is
 
 pub two_answered : (beside schedule commands : Option (List ℕ)) (Its : Option (List ℕ) → Option (List ℕ) → List ℕ → Status → Type 0) (result : Result Answer AllocError) →
-    AreApart beside schedule commands → IfOk result (λ a. Its schedule commands a.text.items a.status) → IfOk result (λ a. InTwo beside Its a.text.items a.status)
+    TextsAreApart beside schedule commands → IfOk result (λ a. Its schedule commands a.text.items a.status) → IfOk result (λ a. InTwo beside Its a.text.items a.status)
 two_answered beside schedule commands Its (Ok a) apart is = two_is beside schedule commands Its a apart is
 two_answered beside schedule commands Its (Err e) apart is = is
 
@@ -41,7 +41,7 @@ pub bad_orders : (text kept : Option (List ℕ)) (line : ℕ) (a : Answer) → t
 bad_orders text kept line a same bad is = (line, subst (λ (o : Option (List ℕ)). IsBadConsole o line) (sym same) bad, is)
 
 module _ (text : Option (List ℕ)) (Its : List Command → List ℕ → Status → Type 0) where
-  pub orders_answered : (commands : List Command) (result : Result Answer AllocError) → AreGiven text commands → IfOk result (λ a. Its commands a.text.items a.status) →
+  pub orders_answered : (commands : List Command) (result : Result Answer AllocError) → CommandsAreGiven text commands → IfOk result (λ a. Its commands a.text.items a.status) →
       IfOk result (λ a. OrBadConsole text Its a.text.items a.status)
   orders_answered commands (Ok a) are is = commanded commands a.text.items a.status are is
   orders_answered commands (Err e) are is = is
@@ -69,7 +69,7 @@ module _ (tree : PProgram) (given : Given) (commands : List Command) where
 -- ---- the replay of all that is given
 
 pub replay_is : (tree : PProgram) (code : Code) (given : Given) (report : Report) (result : Result Replay AllocError) → ExplainsReplay tree given MOST_BUDGET report →
-    (IsWhole report.end → IsPerformed code given report) → IfOk result (IsToldBy report) → IfOk result (IsReplay tree code given)
+    (IsWholeSchedule report.end → IsPerformed code given report) → IfOk result (IsToldBy report) → IfOk result (IsReplay tree code given)
 replay_is tree code given report (Ok Whole) explains performed whole = (report, explains, whole, performed whole)
 replay_is tree code given report (Ok (Other a)) explains performed (other, is) = (report, explains, other, is)
 replay_is tree code given report (Err e) explains performed is = is

@@ -14,7 +14,7 @@ use Rattle.b67_dump.specs.Dumps.{Dumps, dump_text}
 use Rattle.b67_desk.specs.declared.asking.Answer.{Answer}
 use Rattle.b67_desk.specs.declared.following.Course.TheVariants.{Told, Bad}
 use Rattle.b67_desk.specs.declared.status.Status.{Status}
-use Rattle.b67_desk.specs.Answers.{bad_schedule_text, IsBadSchedule, IsGiven, OrBadSchedule, bad_schedule, followed, Replays, replayed}
+use Rattle.b67_desk.specs.Answers.{bad_schedule_text, IsBadSchedule, ScheduleIsGiven, OrBadSchedule, bad_schedule, followed, Replays, replayed}
 use Rattle.b67_desk.specs.Calls.{IsBadAt, IsCourse, IsReportAnswer, IsSeenAnswer}
 use Rattle.b67_desk.specs.Showing.{Dumped, dumped}
 
@@ -31,12 +31,12 @@ runs_told : (given : Given) (text : List ℕ) → IsTextOf given text → HasRun
 runs_told (One old) text is = is.0
 runs_told (Two schedule) text is = is.0
 
-pub has_runs : (beside : Option (List ℕ)) (given : Given) → IsGiven beside given → HasRuns given
+pub has_runs : (beside : Option (List ℕ)) (given : Given) → ScheduleIsGiven beside given → HasRuns given
 has_runs None given is = absurd is
 has_runs (Some text) given is = runs_told given text is
 
 module _ (beside : Option (List ℕ)) (input : ℕ) (Its : Given → List ℕ → Status → Type 0) where
-  pub told_answered : (given : Given) (result : Result Answer AllocError) → IsGiven beside given → IfOk result (λ a. Its given a.text.items a.status) →
+  pub told_answered : (given : Given) (result : Result Answer AllocError) → ScheduleIsGiven beside given → IfOk result (λ a. Its given a.text.items a.status) →
       IfOk result (λ a. OrBadSchedule beside input Its a.text.items a.status)
   told_answered given (Ok a) told is = followed given a.text.items a.status told is
   told_answered given (Err e) told is = is

@@ -28,7 +28,7 @@ use Rattle.b67_desk.specs.declared.asking.Answer.{Answer}
 use Rattle.b67_desk.specs.declared.judging.Beside.TheVariants.{Told, Bad}
 use Rattle.b67_desk.specs.Answers.{DividedBy, IsDivided, form_of, most_bytes}
 use Rattle.b67_desk.specs.Judging.{bad_report_text, IsBadReport, TellsReport, OrBadReport, bad_report, report_read, OrUnjust, unjust, just, SaysJust, TellsRaces, told_races}
-use Rattle.b67_desk.specs.Judged.{IsShort, IsFew, IsBadReportAt, IsBeside, verdict_status, IsVerdictAnswer, IsRacesAnswer}
+use Rattle.b67_desk.specs.Judged.{IsShortText, IsFew, IsBadReportAt, IsBeside, verdict_status, IsVerdictAnswer, IsRacesAnswer}
 use Rattle.b67_desk.proofs.Sizes.{output_within, schedule_within}
 
 -- ---- how long the text beside a source is
@@ -45,8 +45,8 @@ text_within mark bytes source text d =
     let all : length bytes ≡ length source + length d.rest = ap length d.are ∙ length-append source d.rest in
     omega (arith, after, marked, all)
 
-short_by : (mark : Option (List ℕ)) (bytes source : List ℕ) (beside : Option (List ℕ)) → length bytes ≤ MOST_INPUT_BYTES → DividedBy mark bytes source beside → IsShort beside
-short_by None bytes source beside few divided = subst IsShort (sym divided.1) tt
+short_by : (mark : Option (List ℕ)) (bytes source : List ℕ) (beside : Option (List ℕ)) → length bytes ≤ MOST_INPUT_BYTES → DividedBy mark bytes source beside → IsShortText beside
+short_by None bytes source beside few divided = subst IsShortText (sym divided.1) tt
 short_by (Some mark) bytes source None few divided = tt
 short_by (Some mark) bytes source (Some text) few divided = let within = text_within mark bytes source text divided.0 in omega (arith, within, few)
 
@@ -64,7 +64,7 @@ most_of_all (OnSource (tasks.Outcomes n)) = omega arith
 most_of_all (Exec budget) = omega arith
 most_of_all (Trial n) = omega arith
 
-pub short_beside : (command : Words) (bytes source : List ℕ) (beside : Option (List ℕ)) → length bytes ≤ most_bytes command → IsDivided command bytes source beside → IsShort beside
+pub short_beside : (command : Words) (bytes source : List ℕ) (beside : Option (List ℕ)) → length bytes ≤ most_bytes command → IsDivided command bytes source beside → IsShortText beside
 short_beside command bytes source beside few divided =
     let most = most_of_all command in short_by (form_of command).mark bytes source beside (omega (arith, few, most)) divided
 
@@ -77,11 +77,11 @@ few_of_text text report short is same =
     let schedule = schedule_within report is in
     record { output = omega (arith, n, output, short); entries = omega (arith, n, schedule, short) }
 
-pub told_beside : (beside : Option (List ℕ)) (text : List ℕ) (input : ℕ) (report : Report) → beside ≡ Some text → IsShort beside → IsReport report × (text ≡ ReportText report) →
+pub told_beside : (beside : Option (List ℕ)) (text : List ℕ) (input : ℕ) (report : Report) → beside ≡ Some text → IsShortText beside → IsReport report × (text ≡ ReportText report) →
     IsBeside beside input (Told report)
 told_beside beside text input report same short is =
     subst (λ (o : Option (List ℕ)). IsBeside o input (Told report)) (sym same)
-    (is, few_of_text text report (subst IsShort same short) is.0 is.1)
+    (is, few_of_text text report (subst IsShortText same short) is.0 is.1)
 
 pub bad_beside : (beside kept : Option (List ℕ)) (input byte : ℕ) (a : Answer) → beside ≡ kept → IsBadReport kept input byte → IsBadReportAt byte a → IsBeside beside input (Bad a)
 bad_beside beside kept input byte a same bad is = (byte, subst (λ (o : Option (List ℕ)). IsBadReport o input byte) (sym same) bad, is)

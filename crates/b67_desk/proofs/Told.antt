@@ -9,16 +9,16 @@ use Rattle.b67_segment.specs.declared.TheConstants.{MOST_SEGMENT_WORDS}
 use Rattle.b67_segment.specs.declared.code.Code.{Code}
 use Rattle.b67_segment.specs.declared.code.Segment.{Segment}
 use Rattle.b67_schedule.specs.declared.reading.Given.{Given}
-use Rattle.b67_schedule.specs.Schedules.{entries, IsSchedule, Kept as Schedule}
+use Rattle.b67_schedule.specs.Schedules.{entries, IsSchedule, ScheduleModel}
 use Rattle.b67_report.specs.declared.Report.{Report}
 use Rattle.b67_machine.specs.declared.replay.Replayed.{Replayed}
 use Rattle.b67_machine.specs.declared.replay.Replayed.TheVariants.{NoMemory}
 use Rattle.b67_table.specs.Sound.{Sound}
-use Rattle.b67_machine.specs.Kept.{Kept}
+use Rattle.b67_machine.specs.Kept.{MachineModel}
 use Rattle.b67_machine.specs.Reads.{machine_end}
 use Rattle.b67_machine.specs.Replaying.{Replays}
 use Rattle.b67_faithful.specs.Faithful.{Faithful}
-use Rattle.b67_ready.specs.Orders.{place_of}
+use Rattle.b67_ready.specs.Orders.{order_place_of}
 use Rattle.b67_stands.specs.Picked.{Pick}
 use Rattle.b67_stands.specs.Ran.{HasRun, HasRunAlone, HasRunShared}
 use Rattle.b67_explain.specs.Alone.{ExplainsAlone}
@@ -29,7 +29,7 @@ use Rattle.b67_explain.proofs.Explained.{replay_explained}
 use Rattle.b67_explain.proofs.Ran.{left_can_be_told, left_alone_explained, left_shared_explained}
 use Rattle.b67_desk.specs.declared.asking.Job.{Job}
 use Rattle.b67_desk.specs.Answers.{by_one, order_of}
-use Rattle.b67_desk.specs.Calls.{IsLeft, IsReported}
+use Rattle.b67_desk.specs.Calls.{ReportIsLeft, IsReported}
 use Rattle.b67_desk.proofs.Laws.{runs_grow}
 
 pub segments_short : (code : Code) → IsListable code → All (λ (segment : Segment). length segment.words ≤ MOST_SEGMENT_WORDS) code.segments
@@ -43,46 +43,46 @@ kept_short code kept tree faithful same =
     (faithful.follows.sound, segments_short code faithful.listable)
 
 -- how a run ended can be told
-pub ran_can_be_told : (code kept : Code) (tree : PProgram) → Faithful tree code → (budget : ℕ) (m : Kept) (schedule : Schedule) (answer : Replayed) → answer ≢ NoMemory →
+pub ran_can_be_told : (code kept : Code) (tree : PProgram) → Faithful tree code → (budget : ℕ) (m : MachineModel) (schedule : ScheduleModel) (answer : Replayed) → answer ≢ NoMemory →
     kept ≡ code → HasRun kept budget m schedule answer → CanBeTold answer (machine_end m)
 ran_can_be_told code kept tree faithful budget m schedule answer some same run =
     left_can_be_told runs_grow tree code faithful budget m schedule answer some (subst (λ (k : Code). HasRun k budget m schedule answer) same run)
 
-pub alone_can_be_told : (code kept : Code) (tree : PProgram) → Faithful tree code → (budget : ℕ) (pick : Pick) (m : Kept) (schedule : Schedule) (answer : Replayed) →
+pub alone_can_be_told : (code kept : Code) (tree : PProgram) → Faithful tree code → (budget : ℕ) (pick : Pick) (m : MachineModel) (schedule : ScheduleModel) (answer : Replayed) →
     answer ≢ NoMemory → kept ≡ code → HasRunAlone kept budget pick m schedule answer → CanBeTold answer (machine_end m)
 alone_can_be_told code kept tree faithful budget pick m schedule answer some same run =
     ran_can_be_told code kept tree faithful budget m schedule answer some same run.has_run
 
 -- what is left of a run is told by its report
-pub left_is : (m : Kept) (answer : Replayed) (lines : List (List ℕ)) (processors : ℕ) (schedule : Schedule) (result : Result Report AllocError) → answer ≢ NoMemory →
-    IsSchedule schedule.runs schedule.letters → IfOk result (IsReportOf m answer lines processors schedule) → IfOk result (IsLeft m answer lines processors schedule)
+pub left_is : (m : MachineModel) (answer : Replayed) (lines : List (List ℕ)) (processors : ℕ) (schedule : ScheduleModel) (result : Result Report AllocError) → answer ≢ NoMemory →
+    IsSchedule schedule.runs schedule.letters → IfOk result (IsReportOf m answer lines processors schedule) → IfOk result (ReportIsLeft m answer lines processors schedule)
 left_is m answer lines processors schedule (Ok report) some valid is = record { some = some; valid = valid; is = is }
 left_is m answer lines processors schedule (Err e) some valid is = is
 
 -- what a report of a run in the caller explains, where there is one
-pub run_reported : (job : Job) (m : Kept) (answer : Replayed) (schedule : Schedule) → HasRunAlone job.code job.budget (place_of (order_of job.rule)) m schedule answer →
+pub run_reported : (job : Job) (m : MachineModel) (answer : Replayed) (schedule : ScheduleModel) → HasRunAlone job.code job.budget (order_place_of (order_of job.rule)) m schedule answer →
     (acts : List ℕ) → AreOfFirst job.processors (length (entries schedule.runs)) acts → (lines : List (List ℕ)) (result : Result Report AllocError) →
-    IfOk result (IsLeft m answer lines job.processors schedule) → IfOk result (λ report. report.acts ≡ acts) → ListingText job.code lines → IfOk result (IsReported by_one job)
+    IfOk result (ReportIsLeft m answer lines job.processors schedule) → IfOk result (λ report. report.acts ≡ acts) → ListingText job.code lines → IfOk result (IsReported by_one job)
 run_reported job m answer schedule alone acts first lines (Ok report) left same listed = λ tree faithful.
-    let x : ExplainsAlone tree (place_of (order_of job.rule)) job.processors job.budget report =
-    left_alone_explained runs_grow tree job.code faithful job.budget m schedule answer left.some job.processors lines report left.is left.valid listed (place_of (order_of job.rule)) alone
+    let x : ExplainsAlone tree (order_place_of (order_of job.rule)) job.processors job.budget report =
+    left_alone_explained runs_grow tree job.code faithful job.budget m schedule answer left.some job.processors lines report left.is left.valid listed (order_place_of (order_of job.rule)) alone
     (same ∙ first) in
     record { explains = x.explains; alone = λ one. x; shared = λ more. absurd (more refl) }
 run_reported job m answer schedule alone acts first lines (Err e) left same listed = left
 
 -- and of one that processors shared
-pub share_reported : (job : Job) (m : Kept) (answer : Replayed) (schedule : Schedule) (acts : List ℕ) →
-    HasRunShared job.code job.budget (place_of (order_of job.rule)) job.processors m schedule answer acts → (lines : List (List ℕ)) (result : Result Report AllocError) →
-    IfOk result (IsLeft m answer lines job.processors schedule) → IfOk result (λ report. report.acts ≡ acts) → ListingText job.code lines →
-    IfOk result (λ report. (tree : PProgram) → Faithful tree job.code → ExplainsShared tree (place_of (order_of job.rule)) job.processors job.budget report)
+pub share_reported : (job : Job) (m : MachineModel) (answer : Replayed) (schedule : ScheduleModel) (acts : List ℕ) →
+    HasRunShared job.code job.budget (order_place_of (order_of job.rule)) job.processors m schedule answer acts → (lines : List (List ℕ)) (result : Result Report AllocError) →
+    IfOk result (ReportIsLeft m answer lines job.processors schedule) → IfOk result (λ report. report.acts ≡ acts) → ListingText job.code lines →
+    IfOk result (λ report. (tree : PProgram) → Faithful tree job.code → ExplainsShared tree (order_place_of (order_of job.rule)) job.processors job.budget report)
 share_reported job m answer schedule acts run lines (Ok report) left same listed = λ tree faithful.
-    left_shared_explained runs_grow tree job.code faithful job.budget m schedule answer left.some job.processors lines report left.is left.valid listed (place_of (order_of job.rule)) acts
+    left_shared_explained runs_grow tree job.code faithful job.budget m schedule answer left.some job.processors lines report left.is left.valid listed (order_place_of (order_of job.rule)) acts
     same run
 share_reported job m answer schedule acts run lines (Err e) left same listed = left
 
 -- and of a replay
-pub replay_answered : (code : Code) (given : Given) (budget : ℕ) (m : Kept) (answer : Replayed) (schedule : Schedule) → Replays code given budget schedule m answer →
-    (lines : List (List ℕ)) (result : Result Report AllocError) → IfOk result (IsLeft m answer lines 1 schedule) → ListingText code lines →
+pub replay_answered : (code : Code) (given : Given) (budget : ℕ) (m : MachineModel) (answer : Replayed) (schedule : ScheduleModel) → Replays code given budget schedule m answer →
+    (lines : List (List ℕ)) (result : Result Report AllocError) → IfOk result (ReportIsLeft m answer lines 1 schedule) → ListingText code lines →
     IfOk result (λ report. (tree : PProgram) → Faithful tree code → ExplainsReplay tree given budget report)
 replay_answered code given budget m answer schedule replays lines (Ok report) left listed =
     λ tree faithful. replay_explained runs_grow tree code faithful given budget m answer schedule replays lines report left.is left.valid listed

@@ -23,7 +23,7 @@ use Rattle.b67_words.specs.Grammar.{WordsMean}
 use Rattle.b67_text.specs.Texts.{IsRefused}
 use Rattle.b67_ready.specs.declared.order.Order.{Order}
 use Rattle.b67_ready.specs.declared.order.Order.TheVariants as orders
-use Rattle.b67_ready.specs.Orders.{place_of}
+use Rattle.b67_ready.specs.Orders.{order_place_of}
 use Rattle.b67_schedule.specs.declared.reading.Given.{Given}
 use Rattle.b67_schedule.specs.Giving.{IsTextOf}
 use Rattle.b67_schedule.specs.Reading.{IsGivenText}
@@ -39,7 +39,7 @@ use Rattle.b67_explain.specs.Explaining.{ExplainsRun, ExplainsReplay}
 use Rattle.b67_explain.specs.Alone.{ExplainsAlone}
 use Rattle.b67_explain.specs.Shared.{ExplainsShared}
 use Rattle.b67_asm.specs.declared.refusal.Refusal.{Refusal}
-use Rattle.b67_asm.specs.Codes.{number_of}
+use Rattle.b67_asm.specs.Codes.{rule_number_of}
 use Rattle.b67_asm.specs.Assembling.{Assembles, IsRefusedText}
 use Rattle.b67_exec.specs.Turns.{exec_run}
 use Rattle.b67_exec.specs.Texts.{exec_text}
@@ -68,7 +68,7 @@ usage_text word kind = line_text (codes "USAGE " ++ decimal word ++ codes " " ++
 -- the letter and the number of a refusal
 abbrev pub code_words : RefusalCode → List ℕ
 code_words (OfSource code) = rule_letter code ∷ decimal (rule_number code)
-code_words (OfText rule) = codes "A" ++ decimal (number_of rule)
+code_words (OfText rule) = codes "A" ++ decimal (rule_number_of rule)
 
 abbrev pub refused_text : Spot → RefusalCode → List ℕ
 refused_text place code = line_text (codes "REFUSED " ++ code_words code ++ codes " " ++ decimal place.line ++ codes ":" ++ decimal place.column)
@@ -151,13 +151,13 @@ by_one processors = 1
 -- that each of them made.
 pub record ExplainsBy (workers processors budget : ℕ) (rule : Rule) (tree : PProgram) (report : Report) : Type 0 where
   pub explains : ExplainsRun tree processors budget report
-  pub alone : workers ≡ 1 → ExplainsAlone tree (place_of (order_of rule)) processors budget report
-  pub shared : workers ≢ 1 → ExplainsShared tree (place_of (order_of rule)) processors budget report
+  pub alone : workers ≡ 1 → ExplainsAlone tree (order_place_of (order_of rule)) processors budget report
+  pub shared : workers ≢ 1 → ExplainsShared tree (order_place_of (order_of rule)) processors budget report
 
 -- `run`: a report that explains it
-pub data Runs (by : Workers) (processors budget : ℕ) (rule : Rule) (tree : PProgram) : List ℕ → Status → Type 0 where
+pub data DeskRuns (by : Workers) (processors budget : ℕ) (rule : Rule) (tree : PProgram) : List ℕ → Status → Type 0 where
   ran : (report : Report) → ExplainsBy (by processors) processors budget rule tree report →
-      Runs by processors budget rule tree (ReportText report) (status_of report.end)
+      DeskRuns by processors budget rule tree (ReportText report) (status_of report.end)
 
 -- `list`: the listing of a code that does what the source does for every list of choices
 pub data Lists (tree : PProgram) : List ℕ → Status → Type 0 where
@@ -169,14 +169,14 @@ IsBadSchedule None input byte = byte ≡ input
 IsBadSchedule (Some text) input byte = IsRefused IsGivenText text byte
 
 -- what a text tells of a schedule
-abbrev pub IsGiven : Option (List ℕ) → Given → Type 0
-IsGiven None given = ⊥
-IsGiven (Some text) given = IsTextOf given text
+abbrev pub ScheduleIsGiven : Option (List ℕ) → Given → Type 0
+ScheduleIsGiven None given = ⊥
+ScheduleIsGiven (Some text) given = IsTextOf given text
 
 -- What a schedule text is answered by: a refusal exactly where it is bad, else what answers that which it tells.
 pub data OrBadSchedule (schedule : Option (List ℕ)) (input : ℕ) (AnswersIts : Given → List ℕ → Status → Type 0) : List ℕ → Status → Type 0 where
   bad_schedule : (byte : ℕ) → IsBadSchedule schedule input byte → OrBadSchedule schedule input AnswersIts (bad_schedule_text byte) (status.BadSchedule byte)
-  followed : (given : Given) (text : List ℕ) (s : Status) → IsGiven schedule given → AnswersIts given text s → OrBadSchedule schedule input AnswersIts text s
+  followed : (given : Given) (text : List ℕ) (s : Status) → ScheduleIsGiven schedule given → AnswersIts given text s → OrBadSchedule schedule input AnswersIts text s
 
 -- `replay`: a report that explains a run that follows what is given
 pub data Replays (budget : ℕ) (tree : PProgram) (given : Given) : List ℕ → Status → Type 0 where
@@ -185,11 +185,11 @@ pub data Replays (budget : ℕ) (tree : PProgram) (given : Given) : List ℕ →
 -- `trial`: the output and the end of a report that explains a run of the source by one processor, first in, first out, under the greatest
 -- budget. Its listing, its counts and its schedule, which is that of the source's own turns, are not printed.
 pub data Tries (bytes : ℕ) (tree : PProgram) : List ℕ → Status → Type 0 where
-  tried : (report : Report) → ExplainsAlone tree (place_of orders.Fifo) 1 MOST_BUDGET report → Tries bytes tree (trial_text bytes report) (status_of report.end)
+  tried : (report : Report) → ExplainsAlone tree (order_place_of orders.Fifo) 1 MOST_BUDGET report → Tries bytes tree (trial_text bytes report) (status_of report.end)
 
 -- what a source with this tree is answered by under that command, with the text beside it and the bytes of both
 abbrev pub AnswersTree : Workers → Words → Option (List ℕ) → ℕ → PProgram → List ℕ → Status → Type 0
-AnswersTree by (OnSource (Run processors budget rule)) beside input tree = Runs by processors budget rule tree
+AnswersTree by (OnSource (Run processors budget rule)) beside input tree = DeskRuns by processors budget rule tree
 AnswersTree by (OnSource Check) beside input tree = SaysAccepted
 AnswersTree by (OnSource ListCode) beside input tree = Lists tree
 AnswersTree by (OnSource (Replay budget)) beside input tree = OrBadSchedule beside input (Replays budget tree)
@@ -264,8 +264,8 @@ pub record Reading : Type 0 where
   pub faults_after : ℕ
 
 -- of a source before and after, by what it tells of its bytes and its faults
-abbrev pub reading : {S : Type 0} → (S → Option (List ℕ)) → (S → ℕ) → S → S → Reading
-reading left faults before after = record { left = left before; left_after = left after; faults = faults before; faults_after = faults after }
+abbrev pub source_reading : {S : Type 0} → (S → Option (List ℕ)) → (S → ℕ) → S → S → Reading
+source_reading left faults before after = record { left = left before; left_after = left after; faults = faults before; faults_after = faults after }
 
 -- nothing is read
 pub record Untouched (r : Reading) : Type 0 where

@@ -20,8 +20,8 @@ use Rattle.b67_words.specs.declared.BadWords.TheVariants as broken
 use Rattle.b67_words.specs.declared.UsageKind.{UsageKind}
 use Rattle.b67_report.specs.declared.Report.{Report}
 use Rattle.b67_report.specs.Texts.{ReportText}
-use Rattle.b67_schedule.specs.Schedules.{IsSchedule, Kept as Schedule}
-use Rattle.b67_machine.specs.Kept.{Kept}
+use Rattle.b67_schedule.specs.Schedules.{IsSchedule, ScheduleModel}
+use Rattle.b67_machine.specs.Kept.{MachineModel}
 use Rattle.b67_machine.specs.declared.replay.Replayed.{Replayed}
 use Rattle.b67_machine.specs.declared.replay.Replayed.TheVariants.{NoMemory}
 use Rattle.b67_faithful.specs.Faithful.{Faithful}
@@ -42,7 +42,7 @@ use Rattle.b67_desk.specs.declared.status.Code.{Code as RefusalCode}
 use Rattle.b67_desk.specs.declared.status.Code.TheVariants.{OfSource}
 use Rattle.b67_desk.specs.declared.status.Status.{Status}
 use Rattle.b67_desk.specs.declared.status.Status.TheVariants as statuses
-use Rattle.b67_desk.specs.Answers.{usage_text, refused_text, too_long_text, bad_schedule_text, trial_text, Workers, ExplainsBy, IsBadSchedule, IsGiven, IsRefusedAt, IsSourceOf, ReadsInput, AnswersSource, AnswersCommand, Answers, Reading, Untouched, ReadsIfAsked, Unreadable}
+use Rattle.b67_desk.specs.Answers.{usage_text, refused_text, too_long_text, bad_schedule_text, trial_text, Workers, ExplainsBy, IsBadSchedule, ScheduleIsGiven, IsRefusedAt, IsSourceOf, ReadsInput, AnswersSource, AnswersCommand, Answers, Reading, Untouched, ReadsIfAsked, Unreadable}
 use Rattle.b67_desk.specs.Ends.{status_of}
 use Rattle.b67_desk.specs.Showing.{status_shown}
 
@@ -68,9 +68,9 @@ InputRead most r (Err why.ReadFault) = Rose r.faults r.faults_after
 InputRead most r (Err why.NoMemory) = Unit {0}
 
 -- what a source is found to be: accepted, and then this is its only tree; or it is too long, or refused, and then this is the answer
-abbrev pub IsFound : List ℕ → Found → Type 0
-IsFound source (found.Accepted checked) = (length source ≤ MOST_SOURCE_BYTES) × IsSourceOf source (plain checked.program)
-IsFound source (found.Refused a) =
+abbrev pub SourceIsFound : List ℕ → Found → Type 0
+SourceIsFound source (found.Accepted checked) = (length source ≤ MOST_SOURCE_BYTES) × IsSourceOf source (plain checked.program)
+SourceIsFound source (found.Refused a) =
     ((MOST_SOURCE_BYTES < length source) × IsTooLong a)
     ⊎ ((length source ≤ MOST_SOURCE_BYTES) × (place : Spot) × (code : SourceCode) × IsRefusedAt source place code × IsRefusal place (OfSource code) a)
 
@@ -124,7 +124,7 @@ CallAnswered by words r (Err why.NoMemory) = ReadsIfAsked words r
 -- ---- reports
 
 -- the report of what a run has left, where memory did not lack
-pub record IsLeft (machine : Kept) (answer : Replayed) (lines : List (List ℕ)) (processors : ℕ) (schedule : Schedule) (report : Report) : Type 0 where
+pub record ReportIsLeft (machine : MachineModel) (answer : Replayed) (lines : List (List ℕ)) (processors : ℕ) (schedule : ScheduleModel) (report : Report) : Type 0 where
   pub some : answer ≢ NoMemory
   pub valid : IsSchedule schedule.runs schedule.letters
   pub is : IsReportOf machine answer lines processors schedule report
@@ -154,7 +154,7 @@ pub record IsBadAt (byte : ℕ) (a : Answer) : Type 0 where
 
 -- what a text beside a source tells of a schedule; or it tells none, and then this is the refusal
 abbrev pub IsCourse : Option (List ℕ) → ℕ → Course → Type 0
-IsCourse beside input (course.Told given) = IsGiven beside given
+IsCourse beside input (course.Told given) = ScheduleIsGiven beside given
 IsCourse beside input (course.Bad a) = (byte : ℕ) × IsBadSchedule beside input byte × IsBadAt byte a
 
 -- the answer that shows what is seen of cells

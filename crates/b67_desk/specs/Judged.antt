@@ -17,9 +17,9 @@ use Rattle.b67_desk.specs.declared.status.Status.TheVariants as status
 use Rattle.b67_desk.specs.Judging.{bad_report_text, IsBadReport, TellsReport, TellsRaces}
 
 -- the text beside a source has no more bytes than an input
-abbrev pub IsShort : Option (List ℕ) → Type 0
-IsShort None = Unit {0}
-IsShort (Some text) = length text ≤ MOST_INPUT_BYTES
+abbrev pub IsShortText : Option (List ℕ) → Type 0
+IsShortText None = Unit {0}
+IsShortText (Some text) = length text ≤ MOST_INPUT_BYTES
 
 -- the report has as few lines of output and as few entries as can be judged
 pub record IsFew (report : Report) : Type 0 where

@@ -9,7 +9,7 @@ use Rattle.b67_judge.specs.declared.Verdict.TheVariants.{Just}
 use Rattle.b67_judge.specs.Texts.{verdict_text}
 use Rattle.b67_desk.specs.declared.status.Status.{Status}
 use Rattle.b67_desk.specs.declared.status.Status.TheVariants as status
-use Rattle.b67_desk.specs.Answers.{Workers, AnswersTree, Runs, Replays}
+use Rattle.b67_desk.specs.Answers.{Workers, AnswersTree, DeskRuns, Replays}
 
 -- where this text stands beside a source with this tree, `judge` says that it is just, and nothing else
 pub record IsJudgedJust (tree : PProgram) (report : List ℕ) : Type 0 where
@@ -20,7 +20,7 @@ pub record IsJudgedJust (tree : PProgram) (report : List ℕ) : Type 0 where
 -- of a run
 abbrev pub RunsAreJudgedJust : Type 0
 RunsAreJudgedJust =
-    (by : Workers) (processors budget : ℕ) (rule : Rule) (tree : PProgram) (text : List ℕ) (s : Status) → Runs by processors budget rule tree text s → IsJudgedJust tree text
+    (by : Workers) (processors budget : ℕ) (rule : Rule) (tree : PProgram) (text : List ℕ) (s : Status) → DeskRuns by processors budget rule tree text s → IsJudgedJust tree text
 
 -- and of one that follows a schedule
 abbrev pub ReplaysAreJudgedJust : Type 0

@@ -6,7 +6,7 @@ ghost use Rattle.b67_schedule.specs.Giving.{HasRuns};
 ghost use Rattle.b67_faithful.specs.Faithful.{Faithful};
 ghost use Rattle.b67_desk.specs.Answers.{OrBadSchedule};
 ghost use Rattle.b67_desk.specs.Commanded.{AreOrders, IsBadLineAt, IsReplay, IsToldBy};
-ghost use Rattle.b67_desk.specs.Consoling.{AreApart, Consoled, InTwo, IsWhole, OrBadConsole};
+ghost use Rattle.b67_desk.specs.Consoling.{TextsAreApart, Consoled, InTwo, IsWholeSchedule, OrBadConsole};
 
 use crate::asking::Answer;
 use crate::following::{Course, read_course};
@@ -46,7 +46,7 @@ enum Replay {
 
 /// The schedule in the text beside a source, and the commands after it.
 fn apart<'a>(beside: Option<&'a [u8]>) -> (Option<&'a [u8]>, Option<&'a [u8]>)
-    ensures { AreApart (option_copied beside.entry) (option_copied result.0) (option_copied result.1) }
+    ensures { TextsAreApart (option_copied beside.entry) (option_copied result.0) (option_copied result.1) }
 {
     match beside {
         Some(text) => {
@@ -83,7 +83,7 @@ fn read_orders(alloc: Global, text: Option<&[u8]>) -> Result<Orders, AllocError>
 
 /// Tests that all entries of a schedule are performed, and nothing else ends the run.
 fn is_whole(end: EndWords) -> bool
-    ensures { IsTrue result ↔ IsWhole end }
+    ensures { IsTrue result ↔ IsWholeSchedule end }
 {
     matches!(
         end,

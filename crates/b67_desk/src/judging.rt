@@ -3,7 +3,7 @@
 ghost use Rattle.std.specs.Prelude.{◌≡◌, IfOk, option_copied};
 ghost use Rattle.algol_tree.specs.Image.{program as plain};
 ghost use Rattle.b67_desk.specs.Judging.{OrBadReport, OrUnjust, SaysJust, TellsRaces, bad_report_text};
-ghost use Rattle.b67_desk.specs.Judged.{IsShort, IsFew, IsBadReportAt, IsBeside, IsVerdictAnswer, IsRacesAnswer, verdict_status};
+ghost use Rattle.b67_desk.specs.Judged.{IsShortText, IsFew, IsBadReportAt, IsBeside, IsVerdictAnswer, IsRacesAnswer, verdict_status};
 
 use crate::asking::Answer;
 use crate::status::Status;
@@ -45,7 +45,7 @@ fn refuse_report(alloc: Global, byte: u64) -> Result<Answer, AllocError>
 
 /// The report that a text beside a source tells, in an input of so many bytes, or the refusal of the text.
 fn read_beside(alloc: Global, text: Option<&[u8]>, input: usize) -> Result<Beside, AllocError>
-    requires { IsShort (option_copied text) }
+    requires { IsShortText (option_copied text) }
     ensures { IfOk result (IsBeside (option_copied text.entry) input) }
 {
     let Some(text) = text else {
@@ -121,7 +121,7 @@ pub fn answer_judge(
     input: usize,
     checked: &Checked,
 ) -> Result<Answer, AllocError>
-    requires { IsShort (option_copied text) }
+    requires { IsShortText (option_copied text) }
     ensures { IfOk result (λ answer. OrBadReport (option_copied text.entry) input (λ report. OrUnjust (plain checked.now.program) report SaysJust) answer.text.items answer.status) }
 {
     match read_beside(alloc, text, input)? {
@@ -137,7 +137,7 @@ pub fn answer_race(
     input: usize,
     checked: &Checked,
 ) -> Result<Answer, AllocError>
-    requires { IsShort (option_copied text) }
+    requires { IsShortText (option_copied text) }
     ensures { IfOk result (λ answer. OrBadReport (option_copied text.entry) input (λ report. OrUnjust (plain checked.now.program) report (TellsRaces (plain checked.now.program) report)) answer.text.items answer.status) }
 {
     match read_beside(alloc, text, input)? {

@@ -3,19 +3,19 @@
 ghost use Rattle.std.specs.Prelude.{◌≡◌, ◌≢◌, ◌≤◌, IfOk, length, sum};
 ghost use Rattle.algol_tree.specs.Plain.{PProgram};
 ghost use Rattle.b67_limits.specs.declared.TheConstants.{MOST_BUDGET};
-ghost use Rattle.b67_ready.specs.Orders.{place_of};
+ghost use Rattle.b67_ready.specs.Orders.{order_place_of};
 ghost use Rattle.b67_schedule.specs.Giving.{HasRuns};
 ghost use Rattle.b67_schedule.specs.Schedules.{entries};
-ghost use Rattle.b67_report.specs.Reading.{AreCounts as AreNumbers};
+ghost use Rattle.b67_report.specs.Reading.{ReportCounts};
 ghost use Rattle.b67_machine.specs.Reads.{machine_end};
 ghost use Rattle.b67_faithful.specs.Faithful.{Faithful};
 ghost use Rattle.b67_explain.specs.Explaining.{ExplainsReplay};
 ghost use Rattle.b67_explain.specs.Shared.{ExplainsShared};
 ghost use Rattle.b67_explain.specs.Telling.{CanBeTold};
 ghost use Rattle.b67_desk.specs.Answers.{by_one, order_of};
-ghost use Rattle.b67_desk.specs.Calls.{CanBeMade, IsLeft, IsReported};
+ghost use Rattle.b67_desk.specs.Calls.{CanBeMade, ReportIsLeft, IsReported};
 ghost use Rattle.b67_desk.specs.Commanded.{IsPerformed};
-ghost use Rattle.b67_desk.specs.Consoling.{IsWhole};
+ghost use Rattle.b67_desk.specs.Consoling.{IsWholeSchedule};
 
 use crate::asking::Job;
 use b67_explain::{acts_of, report_of};
@@ -53,9 +53,9 @@ fn left_report(
     lines: List<Line>,
 ) -> Result<Report, AllocError>
     requires all { sum acts ≡ length (entries ran.schedule.runs) }
-    requires numbers { AreNumbers acts }
+    requires numbers { ReportCounts acts }
     requires told { ran.answer ≢ Replayed.NoMemory → CanBeTold ran.answer (machine_end ran.machine) }
-    ensures left { IfOk result (IsLeft ran.machine ran.answer lines (length acts) ran.schedule) }
+    ensures left { IfOk result (ReportIsLeft ran.machine ran.answer lines (length acts) ran.schedule) }
     ensures acts { IfOk result (λ report. report.acts ≡ acts) }
 {
     let Ran {
@@ -95,7 +95,7 @@ pub fn share_report<R: Threads + Wait + Sync, G: Gate + Sync>(
     job: Job,
 ) -> Result<Report, AllocError>
     requires { CanBeMade job }
-    ensures { IfOk result (λ report. (tree : PProgram) → Faithful tree job.code → ExplainsShared tree (place_of (order_of job.rule)) job.processors job.budget report) }
+    ensures { IfOk result (λ report. (tree : PProgram) → Faithful tree job.code → ExplainsShared tree (order_place_of (order_of job.rule)) job.processors job.budget report) }
 {
     let Job {
         processors,
@@ -130,7 +130,7 @@ pub fn replay_report(
     requires runs { HasRuns given.now }
     requires faithful { (tree : PProgram) × Faithful tree code }
     ensures explained { IfOk result (λ report. (tree : PProgram) → Faithful tree code → ExplainsReplay tree given.now budget report) }
-    ensures whole { IfOk result (λ report. IsWhole report.end → IsPerformed code given.now report) }
+    ensures whole { IfOk result (λ report. IsWholeSchedule report.end → IsPerformed code given.now report) }
 {
     let lines = listing(alloc, &code)?;
     let mut machine = Machine::load(alloc, code, FlatCore::new(alloc))?;

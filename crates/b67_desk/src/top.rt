@@ -2,8 +2,8 @@
 
 ghost use Rattle.std.specs.Prelude.{◌≡◌, ◌≤◌, ℕ, List, IfOk, length, map, string_bytes};
 ghost use Rattle.b67_make.specs.Made.{made};
-ghost use Rattle.b67_desk.specs.Answers.{AnswersBytes, most_bytes, HasAnswer, Reading, Workers, by_all, by_one, reading, writing};
-ghost use Rattle.b67_desk.specs.Calls.{Asks, CallAnswered, CallAsked, CanBeMade, CommandAsked, InRange, InputRead, IsFound, IsRunAnswer, IsTooLong, IsUsage, SourceAsked};
+ghost use Rattle.b67_desk.specs.Answers.{AnswersBytes, most_bytes, HasAnswer, Reading, Workers, by_all, by_one, source_reading, writing};
+ghost use Rattle.b67_desk.specs.Calls.{Asks, CallAnswered, CallAsked, CanBeMade, CommandAsked, InRange, InputRead, SourceIsFound, IsRunAnswer, IsTooLong, IsUsage, SourceAsked};
 
 use crate::asking::{Answer, Asked, Found, Job, Unanswered, settled};
 use crate::exec::answer_exec;
@@ -36,7 +36,7 @@ fn refuse_length(alloc: Global) -> Result<Answer, AllocError>
 
 /// The tree of a source, or the answer to what is none.
 fn find(alloc: Global, source: &[u8]) -> Result<Found, AllocError>
-    ensures { IfOk result (IsFound source.now) }
+    ensures { IfOk result (SourceIsFound source.now) }
 {
     if source.len() > MOST_SOURCE_BYTES {
         return Ok(Found::Refused(refuse_length(alloc)?));
@@ -69,7 +69,7 @@ fn read_input<S: Source>(
     most: usize,
     source: &mut S,
 ) -> Result<Option<Vec<u8>>, Unanswered>
-    ensures { InputRead most (reading S.left S.faults source.old source.new) result }
+    ensures { InputRead most (source_reading S.left S.faults source.old source.new) result }
 {
     match read_all(alloc, source, most) {
         Ok(bytes) => Ok(Some(bytes)),
@@ -82,7 +82,7 @@ fn read_input<S: Source>(
 /// Reads a source, and finds what a task with it asks for.
 fn ask_source<S: Source>(alloc: Global, task: Task, source: &mut S) -> Result<Asked, Unanswered>
     requires { InRange (Words.OnSource task) }
-    ensures { SourceAsked (Words.OnSource task) (reading S.left S.faults source.old source.new) result }
+    ensures { SourceAsked (Words.OnSource task) (source_reading S.left S.faults source.old source.new) result }
 {
     match read_input(alloc, form_of(Words::OnSource(task)).most, source)? {
         Some(bytes) => Ok(ask_bytes(alloc, task, bytes.as_slice())?),
@@ -93,7 +93,7 @@ fn ask_source<S: Source>(alloc: Global, task: Task, source: &mut S) -> Result<As
 /// Reads a text of code, and finds what answers it under a budget.
 fn ask_code<S: Source>(alloc: Global, budget: u64, source: &mut S) -> Result<Asked, Unanswered>
     requires { InRange (Words.Exec budget) }
-    ensures { SourceAsked (Words.Exec budget) (reading S.left S.faults source.old source.new) result }
+    ensures { SourceAsked (Words.Exec budget) (source_reading S.left S.faults source.old source.new) result }
 {
     match read_input(alloc, form_of(Words::Exec { budget }).most, source)? {
         Some(bytes) => Ok(Asked::Settled(answer_exec(alloc, budget, bytes.as_slice())?)),
@@ -120,7 +120,7 @@ fn ask_command<S: Source>(
     source: &mut S,
 ) -> Result<Asked, Unanswered>
     requires { InRange command }
-    ensures { CommandAsked command (reading S.left S.faults source.old source.new) result }
+    ensures { CommandAsked command (source_reading S.left S.faults source.old source.new) result }
 {
     match command {
         Words::OnSource(task) => ask_source(alloc, task, source),
@@ -151,7 +151,7 @@ fn refuse_words(alloc: Global, bad: BadWords) -> Result<Asked, Unanswered>
 
 /// What the words ask for, and where they are a command the source.
 fn ask_call<S: Source>(alloc: Global, words: &[String], source: &mut S) -> Result<Asked, Unanswered>
-    ensures { CallAsked (map string_bytes words.now) (reading S.left S.faults source.old source.new) result }
+    ensures { CallAsked (map string_bytes words.now) (source_reading S.left S.faults source.old source.new) result }
 {
     match read_words(words) {
         Ok(command) => ask_command(alloc, command, source),
@@ -191,7 +191,7 @@ fn answer_alone<S: Source>(
     words: &[String],
     source: &mut S,
 ) -> Result<Answer, Unanswered>
-    ensures { CallAnswered by_one (map string_bytes words.now) (reading S.left S.faults source.old source.new) result }
+    ensures { CallAnswered by_one (map string_bytes words.now) (source_reading S.left S.faults source.old source.new) result }
 {
     match ask_call(alloc, words, source) {
         Ok(Asked::Settled(answer)) => Ok(answer),
@@ -208,7 +208,7 @@ fn answer_shared<S: Source, R: Threads + Wait + Sync, G: Gate + Sync>(
     words: &[String],
     source: &mut S,
 ) -> Result<Answer, Unanswered>
-    ensures { CallAnswered by_all (map string_bytes words.now) (reading S.left S.faults source.old source.new) result }
+    ensures { CallAnswered by_all (map string_bytes words.now) (source_reading S.left S.faults source.old source.new) result }
 {
     match ask_call(alloc, words, source) {
         Ok(Asked::Settled(answer)) => Ok(answer),
@@ -292,7 +292,7 @@ pub fn desk_alone<S: Source, K: Sink>(
     sink: &mut K,
 ) -> Status
     ensures { HasAnswer by_one (map string_bytes words.now)
-        (reading S.left S.faults source.old source.new)
+        (source_reading S.left S.faults source.old source.new)
         (writing K.written K.faults sink.old sink.new)
         result }
 {
@@ -311,7 +311,7 @@ pub fn desk<S: Source, K: Sink, G: Gate + Sync, R: Threads + Wait + Sync>(
     gate: &G,
 ) -> Status
     ensures { HasAnswer by_all (map string_bytes words.now)
-        (reading S.left S.faults source.old source.new)
+        (source_reading S.left S.faults source.old source.new)
         (writing K.written K.faults sink.old sink.new)
         result }
 {

@@ -3,10 +3,10 @@
 ghost use Rattle.std.specs.Prelude.{◌≡◌, ◌≤◌, IfOk, option_copied};
 ghost use Rattle.algol_tree.specs.Image.{program as plain};
 ghost use Rattle.b67_limits.specs.declared.TheConstants.{MOST_BUDGET, MOST_PROCESSORS};
-ghost use Rattle.b67_desk.specs.Answers.{AnswersTree, SaysAccepted, Runs, Lists, Tries};
+ghost use Rattle.b67_desk.specs.Answers.{AnswersTree, SaysAccepted, DeskRuns, Lists, Tries};
 ghost use Rattle.b67_desk.specs.Calls.{Asks, InRange, IsRefusal, IsReportAnswer, IsTrialAnswer};
 ghost use Rattle.b67_desk.specs.Ends.{status_of};
-ghost use Rattle.b67_desk.specs.Judged.{IsShort};
+ghost use Rattle.b67_desk.specs.Judged.{IsShortText};
 
 use crate::asking::{Answer, Asked, Job, settled};
 use crate::consoling::answer_console;
@@ -81,7 +81,7 @@ fn ask_run(
 ) -> Result<Asked, AllocError>
     requires some { (1 ≤ processors) × (processors ≤ MOST_PROCESSORS) }
     requires budget { (1 ≤ budget) × (budget ≤ MOST_BUDGET) }
-    ensures { IfOk result (Asks (λ by. Runs by processors budget rule (plain checked.now.program))) }
+    ensures { IfOk result (Asks (λ by. DeskRuns by processors budget rule (plain checked.now.program))) }
 {
     let code = compile(alloc, checked)?;
     Ok(Asked::Run(Job {
@@ -138,7 +138,7 @@ pub fn ask_tree(
     checked: &Checked,
 ) -> Result<Asked, AllocError>
     requires range { InRange (Words.OnSource task) }
-    requires short { IsShort (option_copied text) }
+    requires short { IsShortText (option_copied text) }
     ensures { IfOk result (Asks (λ by. AnswersTree by (Words.OnSource task) (option_copied text.entry) input (plain checked.now.program))) }
 {
     match task {

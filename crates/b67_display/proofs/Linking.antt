@@ -6,14 +6,14 @@ use Rattle.b67_word.specs.declared.Place.{Place}
 use Rattle.b67_control.specs.declared.Mscw.{Mscw}
 use Rattle.b67_store.specs.Store.{Stacks, word_at}
 use Rattle.b67_table.specs.declared.InterruptKind.{InterruptKind}
-use Rattle.b67_table.specs.Look.{Look, found, stops, at, several, ◌>->◌, seen}
+use Rattle.b67_table.specs.Look.{Look, found, stops, at, several, ◌>->◌, look_seen}
 use Rattle.b67_table.specs.Chains.{links, link_of, linked_frame, linked}
 
 abbrev pub after : {A B : Type 0} → Result A InterruptKind → (A → Result B InterruptKind) → Result B InterruptKind
 after (Ok a) next = next a
 after (Err kind) next = Err kind
 
-pub seen_then : {A B : Type 0} (st : Stacks) (l : Look A) (k : A → Look B) → seen st (l >-> k) ≡ after (seen st l) (λ a. seen st (k a))
+pub seen_then : {A B : Type 0} (st : Stacks) (l : Look A) (k : A → Look B) → look_seen st (l >-> k) ≡ after (look_seen st l) (λ a. look_seen st (k a))
 seen_then st (found a) k = refl
 seen_then st (stops kind) k = refl
 seen_then st (at place more) k = seen_then st (more (word_at st place)) k
@@ -23,17 +23,17 @@ module _ (st : Stacks) (link : Place) (known : List (Option Place)) where
   onward : ℕ → Mscw → Look (List (Option Place))
   onward n m = links n (link_of m) (Some link ∷ known)
 
-  linked_on : (n below : ℕ) (r : Result Mscw InterruptKind) → below ≡ n + 2 → seen st (linked_frame link below) ≡ r
-      → seen st (links (suc n) link known) ≡ after r (λ m. seen st (links n (link_of m) (Some link ∷ known)))
+  linked_on : (n below : ℕ) (r : Result Mscw InterruptKind) → below ≡ n + 2 → look_seen st (linked_frame link below) ≡ r
+      → look_seen st (links (suc n) link known) ≡ after r (λ m. look_seen st (links n (link_of m) (Some link ∷ known)))
   linked_on n below r e f =
       seen_then st (linked_frame link (n + 2)) (λ m. links n (link_of m) (Some link ∷ known))
-      ∙ ap (λ (x : Result Mscw InterruptKind). after x (λ m. seen st (links n (link_of m) (Some link ∷ known))))
-      (subst (λ (b : ℕ). seen st (linked_frame link b) ≡ r) e f)
+      ∙ ap (λ (x : Result Mscw InterruptKind). after x (λ m. look_seen st (links n (link_of m) (Some link ∷ known))))
+      (subst (λ (b : ℕ). look_seen st (linked_frame link b) ≡ r) e f)
 
-  pub step : (below : ℕ) (m : Mscw) → 2 ≤ below → seen st (linked_frame link below) ≡ Ok m
-      → seen st (links (below - 1) link known) ≡ seen st (links (below - 1 - 1) (link_of m) (Some link ∷ known))
+  pub step : (below : ℕ) (m : Mscw) → 2 ≤ below → look_seen st (linked_frame link below) ≡ Ok m
+      → look_seen st (links (below - 1) link known) ≡ look_seen st (links (below - 1 - 1) (link_of m) (Some link ∷ known))
   step below m h f =
-      ap (λ (j : ℕ). seen st (links j link known)) j_is ∙ linked_on (below - 1 - 1) below (Ok m) two_below f
+      ap (λ (j : ℕ). look_seen st (links j link known)) j_is ∙ linked_on (below - 1 - 1) below (Ok m) two_below f
     where
       j_is : below - 1 ≡ suc (below - 1 - 1)
       j_is = omega (arith, h)
@@ -41,11 +41,11 @@ module _ (st : Stacks) (link : Place) (known : List (Option Place)) where
       two_below : below ≡ below - 1 - 1 + 2
       two_below = omega (arith, h)
 
-  pub stop : (below : ℕ) (kind : InterruptKind) → 2 ≤ below → seen st (linked_frame link below) ≡ Err kind
-      → seen st (links (below - 1) link known) ≡ Err kind
+  pub stop : (below : ℕ) (kind : InterruptKind) → 2 ≤ below → look_seen st (linked_frame link below) ≡ Err kind
+      → look_seen st (links (below - 1) link known) ≡ Err kind
   stop below kind h f =
       let j_is : below - 1 ≡ suc (below - 1 - 1) = omega (arith, h) in
-      ap (λ (j : ℕ). seen st (links j link known)) j_is ∙ linked_on (below - 1 - 1) below (Err kind) (omega (arith, h)) f
+      ap (λ (j : ℕ). look_seen st (links j link known)) j_is ∙ linked_on (below - 1 - 1) below (Err kind) (omega (arith, h)) f
 
 -- nothing is known below
 pub unknown_set : (d rest : List (Option Place)) (n : ℕ) (x : Option Place) → d ≡ replicate (suc n) None ++ rest → set d n x ≡ replicate n None ++ x ∷ rest
@@ -83,7 +83,7 @@ drop_front (suc n) zs = drop_front n zs
 
 pub begun : (st : Stacks) (top link : Place) (level : ℕ) (d : List (Option Place)) → 2 ≤ level → level ≤ 31
     → d ≡ replicate level None ++ Some top ∷ replicate (31 - level) None
-    → seen st (linked top link level) ≡ seen st (links (level - 1 - 1) link (drop (level - 1 + 1) d))
+    → look_seen st (linked top link level) ≡ look_seen st (links (level - 1 - 1) link (drop (level - 1 + 1) d))
 begun st top link level d h k e =
     let j_is : level - 2 ≡ level - 1 - 1 = omega arith in
     let n_is : level ≡ level - 1 + 1 = omega (arith, h) in
@@ -91,10 +91,10 @@ begun st top link level d h k e =
     let known : Some top ∷ replicate (31 - level) None ≡ drop (level - 1 + 1) d =
     sym (drop_front level (Some top ∷ replicate (31 - level) None)) ∙ ap (λ (z : List (Option Place)). drop level z) (sym e)
     ∙ ap (λ (n : ℕ). drop n d) n_is in
-    ap (λ (b : Bool). seen st (cond b (links (level - 2) link (Some top ∷ replicate (32 - (level + 1)) None)) (stops BrokenChain))) (le-leb 2 level h)
-    ∙ ap (λ (m : ℕ). seen st (links (level - 2) link (Some top ∷ replicate m None))) m_is
-    ∙ ap (λ (j : ℕ). seen st (links j link (Some top ∷ replicate (31 - level) None))) j_is
-    ∙ ap (λ (z : List (Option Place)). seen st (links (level - 1 - 1) link z)) known
+    ap (λ (b : Bool). look_seen st (cond b (links (level - 2) link (Some top ∷ replicate (32 - (level + 1)) None)) (stops BrokenChain))) (le-leb 2 level h)
+    ∙ ap (λ (m : ℕ). look_seen st (links (level - 2) link (Some top ∷ replicate m None))) m_is
+    ∙ ap (λ (j : ℕ). look_seen st (links j link (Some top ∷ replicate (31 - level) None))) j_is
+    ∙ ap (λ (z : List (Option Place)). look_seen st (links (level - 1 - 1) link z)) known
 
 pub split_known : (d rest : List (Option Place)) (n j : ℕ) → d ≡ replicate n None ++ rest → j ≡ n → d ≡ replicate j None ++ drop j d
 split_known d rest n j e i =

@@ -4,6 +4,6 @@ use Rattle.b67_table.specs.declared.InterruptKind.{InterruptKind}
 use Rattle.b67_table.specs.declared.InterruptKind.TheVariants as interrupts
 use Rattle.b67_display.specs.declared.BrokenChain.{BrokenChain}
 
-abbrev pub shown : {A : Type 0} → Result A BrokenChain → Result A InterruptKind
-shown (Ok a) = Ok a
-shown (Err e) = Err interrupts.BrokenChain
+abbrev pub chain_shown : {A : Type 0} → Result A BrokenChain → Result A InterruptKind
+chain_shown (Ok a) = Ok a
+chain_shown (Err e) = Err interrupts.BrokenChain

@@ -7,9 +7,9 @@
 ghost use Rattle.std.specs.Prelude.{◌≡◌, ◌+◌, ◌≤◌, IfOk, IfSome};
 ghost use Rattle.b67_control.specs.Control.{Fits_mscw, Fits_rcw, as_mscw, as_rcw};
 ghost use Rattle.b67_store.specs.Store.{word_at};
-ghost use Rattle.b67_table.specs.Look.{read_as, seen};
+ghost use Rattle.b67_table.specs.Look.{read_as, look_seen};
 ghost use Rattle.b67_table.specs.Chains.{place, mark_at, control_at, linked_frame, linked, rebuilt};
-ghost use Rattle.b67_display.specs.Found.{shown};
+ghost use Rattle.b67_display.specs.Found.{chain_shown};
 
 mod showing;
 
@@ -55,7 +55,7 @@ pub fn control_above<C: Core>(core: &C, at: Place) -> Option<Rcw>
 
 /// The mark that stands at a place. An error comes exactly where none stands there.
 pub fn mark_at<C: Core>(core: &C, at: Place) -> Result<Mscw, BrokenChain>
-    ensures value { shown result ≡ seen (C.Core.stacks core.now) (mark_at at) }
+    ensures value { chain_shown result ≡ look_seen (C.Core.stacks core.now) (mark_at at) }
     ensures fits { IfOk result Fits_mscw }
 {
     mark_in(core, at).ok_or(BrokenChain)
@@ -63,7 +63,7 @@ pub fn mark_at<C: Core>(core: &C, at: Place) -> Result<Mscw, BrokenChain>
 
 /// The control word above the mark at a place. An error comes exactly where none stands there.
 pub fn control_at<C: Core>(core: &C, at: Place) -> Result<Rcw, BrokenChain>
-    ensures value { shown result ≡ seen (C.Core.stacks core.now) (control_at at) }
+    ensures value { chain_shown result ≡ look_seen (C.Core.stacks core.now) (control_at at) }
     ensures fits { IfOk result Fits_rcw }
 {
     control_above(core, at).ok_or(BrokenChain)
@@ -71,7 +71,7 @@ pub fn control_at<C: Core>(core: &C, at: Place) -> Result<Rcw, BrokenChain>
 
 // The mark of the frame of this level that a link names.
 fn linked_frame<C: Core>(core: &C, link: Place, level: u8) -> Result<Mscw, BrokenChain>
-    ensures { shown result ≡ seen (C.Core.stacks core.now) (linked_frame link level) }
+    ensures { chain_shown result ≡ look_seen (C.Core.stacks core.now) (linked_frame link level) }
 {
     let mark = mark_at(core, link)?;
     let control = control_at(core, link)?;
@@ -87,7 +87,7 @@ fn linked_frame<C: Core>(core: &C, link: Place, level: u8) -> Result<Mscw, Broke
 /// does not lead to stack 0.
 pub fn linked<C: Core>(core: &C, top: Place, link: Place, level: u8) -> Result<Display, BrokenChain>
     requires { level ≤ 31 }
-    ensures { shown result ≡ seen (C.Core.stacks core.now) (linked top link level) }
+    ensures { chain_shown result ≡ look_seen (C.Core.stacks core.now) (linked top link level) }
 {
     if level < 2 {
         return Err(BrokenChain);
@@ -119,7 +119,7 @@ pub fn linked<C: Core>(core: &C, top: Place, link: Place, level: u8) -> Result<D
 /// comes exactly where no mark stands there, or where [`linked`] has one from its static link on.
 pub fn rebuild<C: Core>(core: &C, top: Place, level: u8) -> Result<Display, BrokenChain>
     requires { level ≤ 31 }
-    ensures { shown result ≡ seen (C.Core.stacks core.now) (rebuilt top level) }
+    ensures { chain_shown result ≡ look_seen (C.Core.stacks core.now) (rebuilt top level) }
 {
     let mark = mark_at(core, top)?;
     let link = Place {

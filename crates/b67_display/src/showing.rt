@@ -1,7 +1,7 @@
 // Displays that stay as they are below a level.
 ghost use Rattle.std.specs.Prelude.{◌≡◌, ◌≤◌, ◌∷◌, [], take, length, true, None, Some, Ok};
 ghost use Rattle.b67_control.specs.Display.{levels, place_at};
-ghost use Rattle.b67_table.specs.Look.{seen};
+ghost use Rattle.b67_table.specs.Look.{look_seen};
 ghost use Rattle.b67_table.specs.Chains.{place, linked};
 ghost use Rattle.b67_display.specs.Shown.{IsShown, shown_at};
 
@@ -27,7 +27,7 @@ pub fn links_as<C: Core>(core: &C, display: &Display, link: Place, level: u8) ->
     requires most { level ≤ 31 }
     requires size { length display.now ≡ levels }
     requires begins { take 2 display.now ≡ Some (place 0 0) ∷ None ∷ [] }
-    ensures { result ≡ true → (top : Place) → seen (C.Core.stacks core.now) (linked top link level) ≡ Ok (shown_at display.now top level) }
+    ensures { result ≡ true → (top : Place) → look_seen (C.Core.stacks core.now) (linked top link level) ≡ Ok (shown_at display.now top level) }
 {
     let mut link = link;
     let mut below = level - 1;

@@ -15,23 +15,23 @@ use Rattle.b67_dump.specs.Cells.{spot_text, cell_lines}
 
 -- ---- the names of a block that have cells, in the order of declaration
 
-abbrev pub names_of : List Named → List (List ℕ)
-names_of ns = map (λ (n : Named). n.name) ns
+abbrev pub texts_of_names : List Named → List (List ℕ)
+texts_of_names ns = map (λ (n : Named). n.name) ns
 
 -- procedures, labels and files have no cells that are shown
-abbrev pub names_in : PDecl → List (List ℕ)
-names_in (tree.simple kind ns) = names_of ns
-names_in (tree.events ns) = names_of ns
-names_in (tree.tasks ns) = names_of ns
-names_in (tree.arrays kind ns pairs) = names_of ns
-names_in (tree.files ns) = []
-names_in (tree.labels ns) = []
-names_in (tree.forward h) = []
-names_in (tree.procedure h s) = []
+abbrev pub texts_in_declaration : PDecl → List (List ℕ)
+texts_in_declaration (tree.simple kind ns) = texts_of_names ns
+texts_in_declaration (tree.events ns) = texts_of_names ns
+texts_in_declaration (tree.tasks ns) = texts_of_names ns
+texts_in_declaration (tree.arrays kind ns pairs) = texts_of_names ns
+texts_in_declaration (tree.files ns) = []
+texts_in_declaration (tree.labels ns) = []
+texts_in_declaration (tree.forward h) = []
+texts_in_declaration (tree.procedure h s) = []
 
 abbrev pub declared_in : PDecls → List (List ℕ)
 declared_in tree.no_decls = []
-declared_in (tree.decls d ds) = names_in d ++ declared_in ds
+declared_in (tree.decls d ds) = texts_in_declaration d ++ declared_in ds
 
 abbrev pub parameter_names : List Parameter → List (List ℕ)
 parameter_names ps = map (λ (p : Parameter). p.name) ps

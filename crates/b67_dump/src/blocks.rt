@@ -5,7 +5,7 @@ ghost use Rattle.algol_meaning.specs.SeenTree.{decl, decls};
 ghost use Rattle.algol_cells.specs.SeenScope as scope;
 ghost use Rattle.algol_instances.specs.SeenInstance.{named_cells};
 ghost use Rattle.b67_dump.specs.Seen.{cell_found};
-ghost use Rattle.b67_dump.specs.Snapshots.{cell_named, lines_named, named_lines, names_of, names_in, declared_in, parameter_names, result_names, shown_names};
+ghost use Rattle.b67_dump.specs.Snapshots.{cell_named, lines_named, named_lines, texts_of_names, texts_in_declaration, declared_in, parameter_names, result_names, shown_names};
 
 use crate::cells::push_cell;
 use algol_cells::{Block, Cell, Owner, Parameter};
@@ -49,7 +49,7 @@ fn push_names(
     cells: &[NamedCell<'_>],
     names: &[Named],
 ) -> Result<(), AllocError>
-    ensures { OnOk result (lines.new.items ≡ lines.old.items ++ named_lines (named_cells cells.now) (names_of names.now)) }
+    ensures { OnOk result (lines.new.items ≡ lines.old.items ++ named_lines (named_cells cells.now) (texts_of_names names.now)) }
 {
     'names: for n in names {
         push_named(alloc, lines, cells, &n.name)?;
@@ -79,7 +79,7 @@ fn push_result(
     cells: &[NamedCell<'_>],
     owner: Option<Owner<'_>>,
 ) -> Result<(), AllocError>
-    ensures { OnOk result (lines.new.items ≡ lines.old.items ++ named_lines (named_cells cells.now) (result_names (scope.result_of owner.entry) (scope.name_of owner.entry))) }
+    ensures { OnOk result (lines.new.items ≡ lines.old.items ++ named_lines (named_cells cells.now) (result_names (scope.result_of_owner owner.entry) (scope.name_of owner.entry))) }
 {
     match owner {
         None => Ok(()),
@@ -100,7 +100,7 @@ fn push_declared(
     cells: &[NamedCell<'_>],
     d: &Decl,
 ) -> Result<(), AllocError>
-    ensures { OnOk result (lines.new.items ≡ lines.old.items ++ named_lines (named_cells cells.now) (names_in (decl d.now))) }
+    ensures { OnOk result (lines.new.items ≡ lines.old.items ++ named_lines (named_cells cells.now) (texts_in_declaration (decl d.now))) }
 {
     match d {
         Decl::Simple(_, names) => push_names(alloc, lines, cells, names.items()),

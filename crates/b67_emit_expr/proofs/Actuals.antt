@@ -13,7 +13,7 @@ use Rattle.b67_templates.specs.Cells as wants
 use Rattle.b67_templates.specs.Cells.{Wanted}
 use Rattle.b67_templates.specs.Code.{ActualsAt}
 use Rattle.b67_templates.specs.Emitting.{Emitted}
-use Rattle.b67_templates.specs.Fitting.{is_by_name, ActualsFit}
+use Rattle.b67_templates.specs.Fitting.{wanted_by_name, ActualsFit}
 use Rattle.b67_templates.specs.Paying.{if_known}
 use Rattle.b67_emitter.specs.declared.names.Names.{Names}
 use Rattle.b67_emitter.specs.Values.{meanings}
@@ -78,12 +78,12 @@ module _ (s : Names) (scopes : Scopes) (context : Context) (level : ℕ) where
   pub record Left (a b : Built) (sorts : List Sort) (wanted : List Wanted) (es left : PExprs) (modes : List Bool) : Type 0 where
     pub sorts_left : List Sort
     pub wanted_left : List Wanted
-    pub modes_are : modes ≡ map is_by_name wanted_left
+    pub modes_are : modes ≡ map wanted_by_name wanted_left
     pub fit : ActualsFit scopes (meanings s) context.level context.block sorts_left wanted_left left
     pub code : Completes a b sorts wanted es sorts_left wanted_left left
 
 module _ (s : Names) (scopes : Scopes) (context : Context) (level : ℕ) (a : Built) (sorts : List Sort) (wanted : List Wanted) (es : PExprs) where
-  pub all_left : (modes : List Bool) → modes ≡ map is_by_name wanted → ActualsFit scopes (meanings s) context.level context.block sorts wanted es →
+  pub all_left : (modes : List Bool) → modes ≡ map wanted_by_name wanted → ActualsFit scopes (meanings s) context.level context.block sorts wanted es →
       Left s scopes context level a a sorts wanted es es modes
   all_left modes are fit = record {
     sorts_left = sorts;
@@ -114,7 +114,7 @@ module _ (s : Names) (scopes : Scopes) (context : Context) (level : ℕ) (a : Bu
       HasActual s level (if_known (slice_get modes i)) e
   next_has b modes i e rest outer l = by l.sorts_left l.wanted_left l.modes_are l.fit
     where
-      by : (ss : List Sort) (ws : List Wanted) → drop i modes ≡ map is_by_name ws → ActualsFit scopes (meanings s) context.level context.block ss ws (tree.more e rest) →
+      by : (ss : List Sort) (ws : List Wanted) → drop i modes ≡ map wanted_by_name ws → ActualsFit scopes (meanings s) context.level context.block ss ws (tree.more e rest) →
           HasActual s level (if_known (slice_get modes i)) e
       by [] [] are fit = absurd fit
       by [] (w ∷ ws) are fit = absurd fit
@@ -124,7 +124,7 @@ module _ (s : Names) (scopes : Scopes) (context : Context) (level : ℕ) (a : Bu
         own = context.level;
         block = context.block;
         wanted = w;
-        mode = sym (ap if_known (next_mode modes i (is_by_name w) (map is_by_name ws) are));
+        mode = sym (ap if_known (next_mode modes i (wanted_by_name w) (map wanted_by_name ws) are));
         outer = outer;
         fits = (first_fits s scopes context.level context.block sort ss ws rest w e fit).1;
       }
@@ -134,18 +134,18 @@ module _ (s : Names) (scopes : Scopes) (context : Context) (level : ℕ) (a : Bu
       Left s scopes context level a b sorts wanted es (tree.more e rest) (drop i modes) → Left s scopes context level a c sorts wanted es rest (drop (i + 1) modes)
   next_left b c modes i e rest actual l = by l.sorts_left l.wanted_left l.modes_are l.fit l.code
     where
-      by : (ss : List Sort) (ws : List Wanted) → drop i modes ≡ map is_by_name ws → ActualsFit scopes (meanings s) context.level context.block ss ws (tree.more e rest) →
+      by : (ss : List Sort) (ws : List Wanted) → drop i modes ≡ map wanted_by_name ws → ActualsFit scopes (meanings s) context.level context.block ss ws (tree.more e rest) →
           Completes s scopes context level a b sorts wanted es ss ws (tree.more e rest) → Left s scopes context level a c sorts wanted es rest (drop (i + 1) modes)
       by [] [] are fit h = absurd fit
       by [] (w ∷ ws) are fit h = absurd fit
       by (sort ∷ ss) [] are fit h = absurd fit
       by (sort ∷ ss) (w ∷ ws) are fit h =
           let first = first_fits s scopes context.level context.block sort ss ws rest w e fit in
-          let mode = sym (ap if_known (next_mode modes i (is_by_name w) (map is_by_name ws) are)) in
+          let mode = sym (ap if_known (next_mode modes i (wanted_by_name w) (map wanted_by_name ws) are)) in
           record {
             sorts_left = ss;
             wanted_left = ws;
-            modes_are = modes_after modes i (is_by_name w) (map is_by_name ws) are;
+            modes_are = modes_after modes i (wanted_by_name w) (map wanted_by_name ws) are;
             fit = first.2;
             code = weaker (λ qs. (t : ℕ) → ActualsAt scopes context qs level ss ws rest (size c.operators) t → ActualsAt scopes context qs level sorts wanted es (size a.operators) t)
                 (then h (actual.code scopes context w mode first.1))

@@ -16,7 +16,7 @@ use Rattle.algol_meaning.specs.Settle.{sorts_of}
 use Rattle.b67_ops.specs.declared.Couple.{Couple}
 use Rattle.b67_ops.specs.declared.Operator.TheVariants as ops
 use Rattle.b67_ops.specs.declared.PlainKind.TheVariants as kinds
-use Rattle.b67_ops.specs.Spelling.{IsSeen}
+use Rattle.b67_ops.specs.Spelling.{CoupleIsSeen}
 use Rattle.b67_segment.specs.Operators.{size}
 use Rattle.b67_segment.specs.Building.{Built, level_set}
 use Rattle.b67_templates.specs.Contexts.{Context}
@@ -24,7 +24,7 @@ use Rattle.b67_templates.specs.Cells.{Wanted, parameter_wants, IsProcedure}
 use Rattle.b67_templates.specs.Code.{BegunAt, ActualsAt}
 use Rattle.b67_templates.specs.Fragments.{Has}
 use Rattle.b67_templates.specs.Emitting.{Emitted}
-use Rattle.b67_templates.specs.Fitting.{Told, is_by_name, ProcedureFits, ActualsFit}
+use Rattle.b67_templates.specs.Fitting.{Told, wanted_by_name, ProcedureFits, ActualsFit}
 use Rattle.b67_templates.specs.Paying.{modes_of, if_known, mode_at, given_syllables, inline, inline_given}
 use Rattle.b67_emitter.specs.declared.names.Names.{Names}
 use Rattle.b67_emitter.specs.Values.{couples, meant, meanings, AreNear, HasCall, CallEmitted, FilledEmitted, filled_syllables}
@@ -58,7 +58,7 @@ module _ (s : Names) (level : ℕ) (c : Call) (h : HasCall s level (call c)) whe
   pub known_call : IsSome (couples s c.name.spot)
   known_call = known_procedure s h.own h.scopes c.name h.callee own_procedure
 
-  pub seen_call : (couple : Couple) → AreNear s → couples s c.name.spot ≡ Some couple → IsSeen level couple
+  pub seen_call : (couple : Couple) → AreNear s → couples s c.name.spot ≡ Some couple → CoupleIsSeen level couple
   seen_call couple near is =
       seen_further level h.own couple h.outer (near.own c.name.spot couple is) (seen_procedure s h.own h.scopes c.name h.callee couple near is own_procedure)
 
@@ -67,7 +67,7 @@ module _ (s : Names) (level : ℕ) (c : Call) (h : HasCall s level (call c)) whe
       let F : PExprs → Type 0 = λ es. ActualsFit h.scopes (meanings s) h.own h.block (sorts_of ((block_numbered h.scopes.blocks h.callee).parameters)) (parameter_wants h.scopes h.callee) es in
       subst F (own_actuals c h.name h.actuals h.call_is) h.fits
 
-  pub own_wanted : own_modes s c.name ≡ map is_by_name (parameter_wants h.scopes h.callee)
+  pub own_wanted : own_modes s c.name ≡ map wanted_by_name (parameter_wants h.scopes h.callee)
   own_wanted = ap modes_of own_procedure.modes
 
 -- .. also where another builder has that level
@@ -88,7 +88,7 @@ rest_syllables s c = ap (λ (p : PCall). filled_syllables s p) (call_is c)
 -- or not: those from a number on are left.
 abbrev pub LeftOf : Names → ℕ → Built → Built → List Bool → ℕ → List Expr → List Expr → Type 0
 LeftOf s level a b modes i xs left =
-    (scopes : Scopes) (context : Context) (sorts : List Sort) (wanted : List Wanted) → modes ≡ map is_by_name wanted →
+    (scopes : Scopes) (context : Context) (sorts : List Sort) (wanted : List Wanted) → modes ≡ map wanted_by_name wanted →
     ActualsFit scopes (meanings s) context.level context.block sorts wanted (exprs xs) → Left s scopes context level a b sorts wanted (exprs xs) (exprs left) (drop i modes)
 
 -- the actuals from a place on
@@ -136,7 +136,7 @@ module _ (s : Names) (level : ℕ) (b d e : Built) (c : Call) (i : ℕ) (xs left
       let L : List Expr → Type 0 = λ ys. LeftOf s level b d (own_modes s c.name) i c.actuals ys in
       subst L done (subst X whole filled)
 
-  own_filled : (scopes : Scopes) (context : Context) (sorts : List Sort) (wanted : List Wanted) → own_modes s c.name ≡ map is_by_name wanted →
+  own_filled : (scopes : Scopes) (context : Context) (sorts : List Sort) (wanted : List Wanted) → own_modes s c.name ≡ map wanted_by_name wanted →
       ActualsFit scopes (meanings s) context.level context.block sorts wanted (exprs c.actuals) →
       Emitted b e (λ qs. (m : ℕ) × ActualsAt scopes context qs level sorts wanted (exprs c.actuals) (size b.operators) m × Has qs level m (ops.Plain kinds.Entr) (size e.operators))
   own_filled scopes context sorts wanted are fit =

@@ -13,7 +13,7 @@ use Rattle.algol_tree.specs.Types.{taken_by}
 use Rattle.algol_tree.specs.Scopes.{Scopes, use_of}
 use Rattle.algol_paths.specs.Arrays.{Shape}
 use Rattle.b67_ops.specs.declared.Couple.{Couple}
-use Rattle.b67_ops.specs.Spelling.{IsSeen}
+use Rattle.b67_ops.specs.Spelling.{CoupleIsSeen}
 use Rattle.b67_segment.specs.Building.{Built}
 use Rattle.b67_templates.specs.Cells.{IsRead, of_variable, of_formal, IsArray, declared, formal}
 use Rattle.b67_templates.specs.Fitting as fitting
@@ -71,10 +71,10 @@ module _ (s : Names) (level : ℕ) where
   known_procedure scopes n callee p = some (couples s n.spot) p.couple p.known_is
 
   pub seen_procedure : (scopes : Scopes) (n : Named) (callee : ℕ) (c : Couple) → AreNear s → couples s n.spot ≡ Some c →
-      ProcedureFits scopes (meanings s) level n callee → IsSeen level c
+      ProcedureFits scopes (meanings s) level n callee → CoupleIsSeen level c
   seen_procedure scopes n callee c near is p =
       let same : p.couple ≡ c = cc (p.known_is, is) in
-      let I : Couple → Type 0 = λ d. IsSeen level d in
+      let I : Couple → Type 0 = λ d. CoupleIsSeen level d in
       subst I same (seen_up level p.couple (use_of scopes n).up (near.own n.spot p.couple p.known_is) p.procedure.level_is)
 
   -- the couple of an array is of a level that many up, whichever way its name stands for it
@@ -86,10 +86,10 @@ module _ (s : Names) (level : ℕ) where
   known_array scopes n shape f = some (couples s n.spot) f.couple f.known_is
 
   pub seen_array : (scopes : Scopes) (n : Named) (shape : Shape) (c : Couple) → AreNear s → couples s n.spot ≡ Some c →
-      ArrayFits scopes (meanings s) level n shape → IsSeen level c
+      ArrayFits scopes (meanings s) level n shape → CoupleIsSeen level c
   seen_array scopes n shape c near is f =
       let same : f.couple ≡ c = cc (f.known_is, is) in
-      let I : Couple → Type 0 = λ d. IsSeen level d in
+      let I : Couple → Type 0 = λ d. CoupleIsSeen level d in
       subst I same (seen_up level f.couple (use_of scopes n).up (near.own n.spot f.couple f.known_is) (level_up scopes n shape f.couple f.array))
 
   -- .. of what is read, too
@@ -101,10 +101,10 @@ module _ (s : Names) (level : ℕ) where
   name_known scopes kind n (inl ((c, is, v), none)) = some (couples s n.spot) c is
   name_known scopes kind n (inr (callee, p, none, is)) = known_procedure scopes n callee p
 
-  name_seen : (scopes : Scopes) (kind : Kind) (n : Named) (c : Couple) → AreNear s → couples s n.spot ≡ Some c → NameMeans s scopes level kind n → IsSeen level c
+  name_seen : (scopes : Scopes) (kind : Kind) (n : Named) (c : Couple) → AreNear s → couples s n.spot ≡ Some c → NameMeans s scopes level kind n → CoupleIsSeen level c
   name_seen scopes kind n c near is (inl ((d, known, v), none)) =
       let same : d ≡ c = cc (known, is) in
-      let I : Couple → Type 0 = λ x. IsSeen level x in
+      let I : Couple → Type 0 = λ x. CoupleIsSeen level x in
       subst I same (seen_up level d (use_of scopes n).up (near.own n.spot d known) (read_up scopes kind n d v))
   name_seen scopes kind n c near is (inr (callee, p, none, typed)) = seen_procedure scopes n callee c near is p
 
@@ -114,17 +114,17 @@ module _ (s : Names) (level : ℕ) where
   left_near own None c near near' is = near c is
   left_near own (Some d) c near near' is = near' c is
 
-  seen_left : (n : Named) (c d : Couple) (up : ℕ) → AreNear s → lefts s n.spot ≡ Some c → lefts s n.spot ≡ Some d → d.level + up ≡ level → IsSeen level c
+  seen_left : (n : Named) (c d : Couple) (up : ℕ) → AreNear s → lefts s n.spot ≡ Some c → lefts s n.spot ≡ Some d → d.level + up ≡ level → CoupleIsSeen level c
   seen_left n c d up near is known at =
       let same : d ≡ c = cc (known, is) in
-      let I : Couple → Type 0 = λ x. IsSeen level x in
+      let I : Couple → Type 0 = λ x. CoupleIsSeen level x in
       subst I same (seen_up level d up (left_near (couples s n.spot) (results s n.spot) d (near.own n.spot) (near.result n.spot) known) at)
 
   pub known_place : (scopes : Scopes) (kind : Kind) (n : Named) → PlaceFits scopes (meanings s) level kind n → IsSome (lefts s n.spot)
   known_place scopes kind n (fitting.own (d, known, v) off) = some (lefts s n.spot) d known
   known_place scopes kind n (fitting.resolved d known on v) = some (lefts s n.spot) d known
 
-  pub seen_place : (scopes : Scopes) (kind : Kind) (n : Named) (c : Couple) → AreNear s → lefts s n.spot ≡ Some c → PlaceFits scopes (meanings s) level kind n → IsSeen level c
+  pub seen_place : (scopes : Scopes) (kind : Kind) (n : Named) (c : Couple) → AreNear s → lefts s n.spot ≡ Some c → PlaceFits scopes (meanings s) level kind n → CoupleIsSeen level c
   seen_place scopes kind n c near is (fitting.own (d, known, v) off) = seen_left n c d (use_of scopes n).up near is known v.level_is
   seen_place scopes kind n c near is (fitting.resolved d known on v) = seen_left n c d (use_of scopes n).up near is known v.level_is
 
@@ -132,5 +132,5 @@ module _ (s : Names) (level : ℕ) where
   pub known_name : (n : Named) → NameHasCode s level n → IsSome (couples s n.spot)
   known_name n h = name_known s h.own h.scopes h.kind n h.fits
 
-  pub seen_name : (n : Named) (c : Couple) → AreNear s → couples s n.spot ≡ Some c → NameHasCode s level n → IsSeen level c
+  pub seen_name : (n : Named) (c : Couple) → AreNear s → couples s n.spot ≡ Some c → NameHasCode s level n → CoupleIsSeen level c
   seen_name n c near is h = seen_further level h.own c h.outer (near.own n.spot c is) (name_seen s h.own h.scopes h.kind n c near is h.fits)

@@ -13,7 +13,7 @@ use Rattle.algol_tree.specs.Sorts.{Sort, is_variable, procedure_in}
 use Rattle.algol_meaning.specs.Statements.{alone}
 use Rattle.b67_ops.specs.declared.Couple.{Couple}
 use Rattle.b67_ops.specs.declared.Operator.TheVariants as ops
-use Rattle.b67_ops.specs.Spelling.{IsSeen}
+use Rattle.b67_ops.specs.Spelling.{CoupleIsSeen}
 use Rattle.b67_segment.specs.Operators.{size}
 use Rattle.b67_segment.specs.Building.{Built}
 use Rattle.b67_templates.specs.Contexts.{Context}
@@ -24,7 +24,7 @@ use Rattle.b67_templates.specs.Code.{NameActualAt}
 use Rattle.b67_templates.specs.Fragments.{Has}
 use Rattle.b67_templates.specs.Emitting.{Emitted}
 use Rattle.b67_templates.specs.Fitting as fitting
-use Rattle.b67_templates.specs.Fitting.{Meant, a_procedure, is_by_name, ExprFits, NameActualFits}
+use Rattle.b67_templates.specs.Fitting.{Meant, a_procedure, wanted_by_name, ExprFits, NameActualFits}
 use Rattle.b67_emitter.specs.declared.meanings.Given.{Given}
 use Rattle.b67_emitter.specs.declared.names.Names.{Names}
 use Rattle.b67_emitter.specs.Values.{couples, meant, actuals, meanings, given_as, given_alone, given, AreNear}
@@ -56,7 +56,7 @@ module _ (s : Names) (scopes : Scopes) (level block : ℕ) (kind : Kind) where
       (modes : List Bool) × (meant s n.spot ≡ a_procedure modes)
   procedure_alone n c own (inl ((d, known, v), none), unknown, plain) =
       absurd (no_cell (is_some (procedure_in ((use_of scopes n).sort))) (record { expr = alone n; kind = kind }) (read_no_procedure scopes level n kind d v) own.own)
-  procedure_alone n c own (inr (callee, p, alone_is, is), unknown, plain) = (map is_by_name (parameter_wants scopes callee), p.modes)
+  procedure_alone n c own (inr (callee, p, alone_is, is), unknown, plain) = (map wanted_by_name (parameter_wants scopes callee), p.modes)
 
   cell_given : (e : PExpr) (c : Couple) → IsOwnActual scopes block level e kind c → ExprFits scopes (meanings s) level block kind e → given s e ≡ given_as false (actuals s (first_spot e))
   cell_given (tree.variable (tree.subscripted n tree.none)) c own fits =
@@ -87,14 +87,14 @@ module _ (s : Names) (scopes : Scopes) (level block : ℕ) (kind : Kind) where
   known_given e (fitting.names c known own) fits = some (given s e) (record { couple = c; loads = false }) (actual_given e c known own fits)
 
   seen_as : (e : PExpr) (g : Given) (c : Couple) (loads : Bool) → given s e ≡ Some g → given s e ≡ Some (record { couple = c; loads = loads }) → (further : ℕ) → level ≤ further →
-      c.index < 2 + MOST_BLOCK_CELLS → IsSeen level c → IsSeen further g.couple
+      c.index < 2 + MOST_BLOCK_CELLS → CoupleIsSeen level c → CoupleIsSeen further g.couple
   seen_as e g c loads is found further outer close seen =
       let same : record { couple = c; loads = loads } ≡ g = cc (is, found) in
-      let I : Given → Type 0 = λ x. IsSeen further x.couple in
+      let I : Given → Type 0 = λ x. CoupleIsSeen further x.couple in
       subst I same (seen_further further level c outer close seen)
 
   pub seen_given : (e : PExpr) (g : Given) (further : ℕ) → level ≤ further → AreNear s → given s e ≡ Some g → NameActualFits scopes (meanings s) level block kind e →
-      ExprFits scopes (meanings s) level block kind e → IsSeen further g.couple
+      ExprFits scopes (meanings s) level block kind e → CoupleIsSeen further g.couple
   seen_given e g further outer near is (fitting.refers_to n c alone_is meant_is known v there) fits =
       seen_as e g c false is (variable_given e n c alone_is meant_is known) further outer (near.own n.spot c known) (seen_up level c (use_of scopes n).up (near.own n.spot c known) v.level_is)
   seen_given e g further outer near is (fitting.passes_on n c alone_is meant_is known v) fits =
@@ -131,7 +131,7 @@ module _ (s : Names) (scopes : Scopes) (context : Context) (level : ℕ) (kind :
 -- ---- what is wanted by name
 
 -- it is given by name, of a kind
-named_fits : (s : Names) (scopes : Scopes) (level block : ℕ) (wanted : Wanted) (e : PExpr) → is_by_name wanted ≡ true → ActualFits s scopes level block wanted e →
+named_fits : (s : Names) (scopes : Scopes) (level block : ℕ) (wanted : Wanted) (e : PExpr) → wanted_by_name wanted ≡ true → ActualFits s scopes level block wanted e →
     (kind : Kind) × (wanted ≡ cells.by_name kind) × NameActualFits scopes (meanings s) level block kind e × ExprFits scopes (meanings s) level block kind e
 named_fits s scopes level block (cells.by_name kind) e on fits = (kind, refl, fits.0, fits.1)
 named_fits s scopes level block (cells.value kind) e on fits = absurd (let clash : false ≡ true = on in cc)
@@ -143,7 +143,7 @@ module _ (s : Names) (level : ℕ) (e : PExpr) (h : HasActual s level true e) wh
   pub known_named : IsSome (given s e)
   known_named = let own = named_fits s h.scopes h.own h.block h.wanted e h.mode h.fits in known_given s h.scopes h.own h.block own.0 e own.2 own.3
 
-  pub seen_named : (g : Given) → AreNear s → given s e ≡ Some g → IsSeen level g.couple
+  pub seen_named : (g : Given) → AreNear s → given s e ≡ Some g → CoupleIsSeen level g.couple
   seen_named g near is =
       let own = named_fits s h.scopes h.own h.block h.wanted e h.mode h.fits in
       seen_given s h.scopes h.own h.block own.0 e g level h.outer near is own.2 own.3

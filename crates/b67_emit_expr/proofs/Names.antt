@@ -8,17 +8,17 @@ use Rattle.algol_tree.specs.Scopes.{Scopes}
 use Rattle.b67_ops.specs.declared.Couple.{Couple}
 use Rattle.b67_ops.specs.declared.Operator.TheVariants as ops
 use Rattle.b67_ops.specs.declared.PlainKind.TheVariants as kinds
-use Rattle.b67_ops.specs.Spelling.{IsSeen}
+use Rattle.b67_ops.specs.Spelling.{CoupleIsSeen}
 use Rattle.b67_segment.specs.Operators.{size}
 use Rattle.b67_segment.specs.Building.{Built, level_set}
 use Rattle.b67_templates.specs.Contexts.{Context}
 use Rattle.b67_templates.specs.Cells.{IsProcedure}
 use Rattle.b67_templates.specs.Code as codes
-use Rattle.b67_templates.specs.Code.{NameAt, PlaceAt, BegunAt, without, reads, calls}
+use Rattle.b67_templates.specs.Code.{NameAt, PlaceAt, BegunAt, without_actuals, reads, calls}
 use Rattle.b67_templates.specs.Fragments.{Has}
 use Rattle.b67_templates.specs.Emitting.{Emitted}
 use Rattle.b67_templates.specs.Fitting as fitting
-use Rattle.b67_templates.specs.Fitting.{PlaceFits, is_name}
+use Rattle.b67_templates.specs.Fitting.{PlaceFits, meant_is_name}
 use Rattle.b67_emitter.specs.declared.names.Names.{Names}
 use Rattle.b67_emitter.specs.Values.{couples, results, lefts, meant, meanings, AreNear}
 use Rattle.b67_emitter.proofs.Appends.{same_level}
@@ -59,7 +59,7 @@ module _ (s : Names) (n : Named) (a b : Built) (c : Couple) (known : couples s n
           let same : p.couple ≡ c = cc (p.known_is, known) in
           let P : Couple → Type 0 = λ x. IsProcedure scopes context.level n callee x in
           weaker (λ qs. NameAt scopes context qs (level_set a) kind n (size a.operators) (size b.operators))
-          (call_part scopes context n callee a m m b (λ qs. without scopes context qs (level_set a)) level (begun scopes context n callee (subst P same p.procedure))
+          (call_part scopes context n callee a m m b (λ qs. without_actuals scopes context qs (level_set a)) level (begun scopes context n callee (subst P same p.procedure))
           (emitted_none m (λ qs. size m.operators ≡ size m.operators) (λ qs. refl)) enter)
           (λ qs x. calls callee x alone is)
 
@@ -69,7 +69,7 @@ module _ (s : Names) (level : ℕ) (n : Named) (h : NameHasPlace s level n) wher
   pub known_left : IsSome (lefts s n.spot)
   known_left = known_place s h.own h.scopes h.kind n h.fits
 
-  pub seen_left : (c : Couple) → AreNear s → lefts s n.spot ≡ Some c → IsSeen level c
+  pub seen_left : (c : Couple) → AreNear s → lefts s n.spot ≡ Some c → CoupleIsSeen level c
   seen_left c near is =
       seen_further level h.own c h.outer (left_near s level (couples s n.spot) (results s n.spot) c (near.own n.spot) (near.result n.spot) is)
       (seen_place s h.own h.scopes h.kind n c near is h.fits)
@@ -82,7 +82,7 @@ module _ (s : Names) (n : Named) (c : Couple) (known : lefts s n.spot ≡ Some c
       let H : Couple → Type 0 = λ x. Emitted a b (λ qs. Has qs (level_set a) (size a.operators) (ops.Namc x) (size b.operators)) in
       subst H same h
 
-  pub own_place : is_name (meant s n.spot) ≡ false → PlaceEmitted s (level_set a) a b n
+  pub own_place : meant_is_name (meant s n.spot) ≡ false → PlaceEmitted s (level_set a) a b n
   own_place off = record { code = λ scopes context kind fits. by scopes context kind fits }
     where
       by : (scopes : Scopes) (context : Context) (kind : Kind) → PlaceFits scopes (meanings s) context.level kind n →
@@ -91,7 +91,7 @@ module _ (s : Names) (n : Named) (c : Couple) (known : lefts s n.spot ≡ Some c
           weaker (λ qs. PlaceAt scopes context qs (level_set a) n kind (size a.operators) (size b.operators)) (named_as d is) (λ qs x. codes.own (d, v, x))
       by scopes context kind (fitting.resolved d is named v) = absurd (let clash : true ≡ false = sym named ∙ off in cc)
 
-  pub resolved_place : is_name (meant s n.spot) ≡ true → (e : Built) → b.level ≡ a.level →
+  pub resolved_place : meant_is_name (meant s n.spot) ≡ true → (e : Built) → b.level ≡ a.level →
       Emitted b e (λ qs. Has qs (level_set b) (size b.operators) (ops.Plain kinds.Eval) (size e.operators)) → PlaceEmitted s (level_set a) a e n
   resolved_place on e l k = record { code = λ scopes context kind fits. by scopes context kind fits }
     where

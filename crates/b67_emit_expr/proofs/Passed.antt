@@ -9,19 +9,19 @@ use Rattle.algol_tree.specs.Scopes.{Scopes, use_of}
 use Rattle.algol_tree.specs.Sorts.{is_formal}
 use Rattle.algol_paths.specs.Arrays.{Lows, Shape}
 use Rattle.b67_ops.specs.declared.Couple.{Couple}
-use Rattle.b67_ops.specs.Spelling.{IsSeen}
+use Rattle.b67_ops.specs.Spelling.{CoupleIsSeen}
 use Rattle.b67_segment.specs.Operators.{size}
 use Rattle.b67_segment.specs.Building.{Built}
 use Rattle.b67_templates.specs.Contexts.{Context}
 use Rattle.b67_templates.specs.Cells as wants
-use Rattle.b67_templates.specs.Cells.{Wanted, Agrees, IsArray, IsEvent}
+use Rattle.b67_templates.specs.Cells.{Wanted, ShapeAgrees, IsArray, IsEvent}
 use Rattle.b67_templates.specs.Code.{ArrayActualAt}
 use Rattle.b67_templates.specs.Events.{EventActualAt}
 use Rattle.b67_templates.specs.Emitting.{Emitted}
-use Rattle.b67_templates.specs.Fitting.{Meant, a_variable, a_name, a_procedure, an_event, another, is_by_name, is_event, ArrayFits, EventFits, its_own, its_actual, ExprFits}
+use Rattle.b67_templates.specs.Fitting.{Meant, a_variable, a_name, a_procedure, an_event, another, wanted_by_name, meant_is_event, ArrayFits, EventFits, its_own, its_actual, ExprFits}
 use Rattle.b67_templates.specs.Paying.{inline}
 use Rattle.b67_emitter.specs.declared.names.Names.{Names}
-use Rattle.b67_emitter.specs.Values.{couples, lows, meant, event_in, meanings, AreNear, HasCode, ValueEmitted}
+use Rattle.b67_emitter.specs.Values.{couples, lows, meant, meant_event_in, meanings, AreNear, HasCode, ValueEmitted}
 use Rattle.b67_emitter.proofs.Composing.{weaker}
 use Rattle.b67_emitter.proofs.OnEvents.{event_there, event_found, event_seen}
 use Rattle.b67_emitter.proofs.Seen.{some, seen_further}
@@ -35,7 +35,7 @@ alone_is (tree.variable (tree.subscripted m tree.none)) n is = let same : m ≡ 
 alone_is e n is = absurd (let clash : None ≡ Some n = is in cc)
 
 -- what is meant is no event
-no_event : (m : Meant) → is_event m ≡ false → event_in m ≡ None
+no_event : (m : Meant) → meant_is_event m ≡ false → meant_event_in m ≡ None
 no_event a_variable off = refl
 no_event a_name off = refl
 no_event (a_procedure modes) off = refl
@@ -87,8 +87,8 @@ module _ (s : Names) where
     array_passed : (shape : Shape) → ArrayFits scopes (meanings s) level n shape → IsSome (passed s n)
     array_passed shape fits =
         let l : Lows = record { list = shape.lows; formal = is_formal ((use_of scopes n).sort) } in
-        let P : Option Lows → Type 0 = λ o. IsSome (passed_as (event_in (meant s n.spot)) o) in
-        subst P (sym fits.lows_are) (some_passed (event_in (meant s n.spot)) l)
+        let P : Option Lows → Type 0 = λ o. IsSome (passed_as (meant_event_in (meant s n.spot)) o) in
+        subst P (sym fits.lows_are) (some_passed (meant_event_in (meant s n.spot)) l)
 
     -- an array is no event, so its lower bounds tell whether it is a parameter
     array_formal : (shape : Shape) (formal : Bool) → AreNear s → passed s n ≡ Some formal → ArrayFits scopes (meanings s) level n shape → formal ≡ is_formal ((use_of scopes n).sort)
@@ -100,9 +100,9 @@ module _ (s : Names) where
 
     event_passed : EventFits scopes (meanings s) level n → passed s n ≡ Some (is_formal ((use_of scopes n).sort))
     event_passed (its_own c known is own) =
-        ap (λ (m : Meant). passed_as (event_in m) (lows s n.spot)) is ∙ ap (λ sort. Some (is_formal sort)) (sym own.sort_is)
+        ap (λ (m : Meant). passed_as (meant_event_in m) (lows s n.spot)) is ∙ ap (λ sort. Some (is_formal sort)) (sym own.sort_is)
     event_passed (its_actual c known is own) =
-        ap (λ (m : Meant). passed_as (event_in m) (lows s n.spot)) is ∙ ap (λ sort. Some (is_formal sort)) (sym own.sort_is)
+        ap (λ (m : Meant). passed_as (meant_event_in m) (lows s n.spot)) is ∙ ap (λ sort. Some (is_formal sort)) (sym own.sort_is)
 
 -- ---- what is wanted of an actual, as it was found
 
@@ -110,22 +110,22 @@ module _ (s : Names) (level block : ℕ) (e : PExpr) where
   -- the name is that of an array of a shape that agrees with this, or of an event
   abbrev IsPassed : Scopes → Wanted → Named → Type 0
   IsPassed scopes wanted n =
-      ((shape : Shape) × (wanted ≡ wants.array shape) × ((a : Shape) × ArrayFits scopes (meanings s) level n a × Agrees shape a))
+      ((shape : Shape) × (wanted ≡ wants.array shape) × ((a : Shape) × ArrayFits scopes (meanings s) level n a × ShapeAgrees shape a))
       ⊎ ((wanted ≡ wants.event) × EventFits scopes (meanings s) level n)
 
   -- an array or an event
-  wanted_passed : (scopes : Scopes) (wanted : Wanted) (n : Named) → is_by_name wanted ≡ false → passed_alone s e ≡ Some n → ActualFits s scopes level block wanted e → IsPassed scopes wanted n
+  wanted_passed : (scopes : Scopes) (wanted : Wanted) (n : Named) → wanted_by_name wanted ≡ false → passed_alone s e ≡ Some n → ActualFits s scopes level block wanted e → IsPassed scopes wanted n
   wanted_passed scopes (wants.value kind) n off is fits =
       let found = found_alone s e n is in
       let F : PExpr → Type 0 = λ x. ActualFits s scopes level block (wants.value kind) x in
       let own : F (tree.variable (tree.subscripted n tree.none)) = subst F (alone_is e n found.0) fits in
-      let none : passed s n ≡ None = ap (λ (o : Option Lows). passed_as (event_in (meant s n.spot)) o) own.1 ∙ ap (λ (o : Option Bool). passed_as o None) (no_event (meant s n.spot) own.2) in
+      let none : passed s n ≡ None = ap (λ (o : Option Lows). passed_as (meant_event_in (meant s n.spot)) o) own.1 ∙ ap (λ (o : Option Bool). passed_as o None) (no_event (meant s n.spot) own.2) in
       let S : Option Bool → Type 0 = λ o. IsSome o in
       absurd (let clash : S None = subst S none found.1 in cc)
   wanted_passed scopes (wants.array shape) n off is (m, same, fits) =
       let found = found_alone s e n is in
       let one : m ≡ n = cc (sym same ∙ alone_is e n found.0) in
-      let F : Named → Type 0 = λ x. (a : Shape) × ArrayFits scopes (meanings s) level x a × Agrees shape a in
+      let F : Named → Type 0 = λ x. (a : Shape) × ArrayFits scopes (meanings s) level x a × ShapeAgrees shape a in
       inl (shape, refl, subst F one fits)
   wanted_passed scopes wants.event n off is (m, same, fits) =
       let found = found_alone s e n is in
@@ -136,7 +136,7 @@ module _ (s : Names) (level block : ℕ) (e : PExpr) where
   wanted_passed scopes wants.other n off is fits = absurd fits
 
   -- a value
-  wanted_value : (scopes : Scopes) (wanted : Wanted) → is_by_name wanted ≡ false → passed_alone s e ≡ None → ActualFits s scopes level block wanted e →
+  wanted_value : (scopes : Scopes) (wanted : Wanted) → wanted_by_name wanted ≡ false → passed_alone s e ≡ None → ActualFits s scopes level block wanted e →
       (kind : Kind) × (wanted ≡ wants.value kind) × ExprFits scopes (meanings s) level block kind e
   wanted_value scopes (wants.value kind) off none fits = (kind, refl, fits)
   wanted_value scopes (wants.array shape) off none (n, same, (a, fits, agrees)) = absurd (not_found s e n same (array_passed s scopes level n a fits) none)
@@ -161,10 +161,10 @@ module _ (s : Names) (level : ℕ) (e : PExpr) where
             let own = event_there s h.scopes h.own n fits in
             some (couples s n.spot) own.0 own.1
 
-    pub seen_actual : (c : Couple) → AreNear s → couples s n.spot ≡ Some c → HasActual s level false e → IsSeen level c
+    pub seen_actual : (c : Couple) → AreNear s → couples s n.spot ≡ Some c → HasActual s level false e → CoupleIsSeen level c
     seen_actual c near known h = seen_further level h.own c h.outer (near.own n.spot c known) (by (wanted_passed s h.own h.block e h.scopes h.wanted n h.mode is h.fits))
       where
-        by : IsPassed s h.own h.block e h.scopes h.wanted n → IsSeen h.own c
+        by : IsPassed s h.own h.block e h.scopes h.wanted n → CoupleIsSeen h.own c
         by (inl (shape, wish, (a, fits, agrees))) = seen_array s h.own h.scopes n a c near known fits
         by (inr (wish, fits)) = event_seen s h.scopes h.own n c near known fits
 
@@ -172,7 +172,7 @@ module _ (s : Names) (level : ℕ) (e : PExpr) where
     actual_syllables = let found = found_alone s e n is in ap (inline (meanings s)) (alone_is e n found.0)
 
     pub passed_form : (a b : Built) (c : Couple) (own : Bool) → AreNear s → couples s n.spot ≡ Some c → passed s n ≡ Some own →
-        ((scopes : Scopes) (context : Context) (shape x : Shape) (m : Named) → IsArray scopes context.level m x c → own ≡ is_formal ((use_of scopes m).sort) → Agrees shape x →
+        ((scopes : Scopes) (context : Context) (shape x : Shape) (m : Named) → IsArray scopes context.level m x c → own ≡ is_formal ((use_of scopes m).sort) → ShapeAgrees shape x →
         Emitted a b (λ qs. ArrayActualAt scopes context qs level shape m (size a.operators) (size b.operators))) →
         ((scopes : Scopes) (context : Context) (m : Named) → IsEvent scopes context.level m c → own ≡ is_formal ((use_of scopes m).sort) →
         Emitted a b (λ qs. EventActualAt scopes context qs level m (size a.operators) (size b.operators))) → ActualEmitted s level a b false e

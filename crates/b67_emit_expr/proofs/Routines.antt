@@ -21,26 +21,26 @@ use Rattle.b67_emitter.specs.Values.{HasCode, RoutineEmitted, HasReference, elem
 use Rattle.b67_emitter.proofs.Appends.{same_level}
 use Rattle.b67_emitter.proofs.Composing.{weaker, no_exits, then, all_aimed, aimed_later}
 use Rattle.b67_emit_expr.specs.Applying.{AppliedEmitted}
-use Rattle.b67_emit_expr.specs.Placing.{place_of, plain_of}
+use Rattle.b67_emit_expr.specs.Placing.{element_place_of, plain_of}
 use Rattle.b67_emit_expr.proofs.Elements.{IsElement, is_element, is_alone}
 use Rattle.b67_emit_expr.proofs.Calls.{emitted_none}
 use Rattle.b67_emit_expr.proofs.Listed.{nowhere, hole_lies}
 
 -- ---- which actuals have a place
 
-place_none : (e : PExpr) → place_of e ≡ None → has_place e ≡ false
+place_none : (e : PExpr) → element_place_of e ≡ None → has_place e ≡ false
 place_none (tree.variable (tree.subscripted n (tree.more e es))) is =
     let found : PVariable = tree.subscripted n (tree.more e es) in absurd (let clash : Some found ≡ None = is in cc)
 place_none e is = refl
 
-place_some : (e : PExpr) (w : PVariable) → place_of e ≡ Some w → (e ≡ tree.variable w) × IsElement w
+place_some : (e : PExpr) (w : PVariable) → element_place_of e ≡ Some w → (e ≡ tree.variable w) × IsElement w
 place_some (tree.variable (tree.subscripted n (tree.more e es))) w is =
     let same : tree.subscripted n (tree.more e es) ≡ w = cc in
     let I : PVariable → Type 0 = λ x. IsElement x in
     (ap (λ (x : PVariable). tree.variable x) same, subst I same tt)
 place_some e w is = absurd (let clash : None ≡ Some w = is in cc)
 
-module _ (e : PExpr) (found : Option Variable) (is : plain_of found ≡ place_of e) where
+module _ (e : PExpr) (found : Option Variable) (is : plain_of found ≡ element_place_of e) where
   pub found_none : found ≡ None → has_place e ≡ false
   found_none none = place_none e (sym is ∙ ap plain_of none)
 
@@ -54,13 +54,13 @@ module _ (e : PExpr) (found : Option Variable) (is : plain_of found ≡ place_of
   found_element v some = let own = found_some v some in own.1
 
 -- .. as it is told by its subscripts
-pub alone_placed : (v : Variable) → v.subs ≡ [] → None ≡ place_of (tree.variable (variable v))
-alone_placed v none = ap (λ (w : PVariable). place_of (tree.variable w)) (sym (is_alone v none))
+pub alone_placed : (v : Variable) → v.subs ≡ [] → None ≡ element_place_of (tree.variable (variable v))
+alone_placed v none = ap (λ (w : PVariable). element_place_of (tree.variable w)) (sym (is_alone v none))
 
-pub subscripts_placed : (v : Variable) → 0 < length v.subs → Some (variable v) ≡ place_of (tree.variable (variable v))
+pub subscripts_placed : (v : Variable) → 0 < length v.subs → Some (variable v) ≡ element_place_of (tree.variable (variable v))
 subscripts_placed v some = by (variable v) (is_element v some)
   where
-    by : (w : PVariable) → IsElement w → Some w ≡ place_of (tree.variable w)
+    by : (w : PVariable) → IsElement w → Some w ≡ element_place_of (tree.variable w)
     by (tree.subscripted n tree.none) is = absurd is
     by (tree.subscripted n (tree.more e es)) is = refl
 

@@ -17,19 +17,19 @@ use Rattle.algol_paths.specs.Arrays.{Shape}
 use Rattle.b67_ops.specs.declared.Couple.{Couple}
 use Rattle.b67_ops.specs.declared.Operator.TheVariants as ops
 use Rattle.b67_ops.specs.declared.PlainKind.TheVariants as kinds
-use Rattle.b67_ops.specs.Spelling.{IsSeen}
+use Rattle.b67_ops.specs.Spelling.{CoupleIsSeen}
 use Rattle.b67_segment.specs.Operators.{size}
 use Rattle.b67_segment.specs.Building.{Built, level_set}
 use Rattle.b67_templates.specs.Contexts.{Context}
 use Rattle.b67_templates.specs.Cells.{IsArray}
 use Rattle.b67_templates.specs.Code.{SubscriptsAt}
-use Rattle.b67_templates.specs.Fragments.{Has, IsWhole}
+use Rattle.b67_templates.specs.Fragments.{Has, IsWholeNumber}
 use Rattle.b67_templates.specs.Emitting.{Emitted}
 use Rattle.b67_templates.specs.Fitting.{Told, ArrayFits, ExprFits, SubscriptsFit}
 use Rattle.b67_templates.specs.Paying.{inline, inline_all}
 use Rattle.algol_lows.specs.declared.bounds.Lows.{Lows}
 use Rattle.b67_emitter.specs.declared.names.Names.{Names}
-use Rattle.b67_emitter.specs.Values.{couples, lows, told, meanings, AreNear, HasCode, ElementFits}
+use Rattle.b67_emitter.specs.Values.{couples, lows, told_lows as told, meanings, AreNear, HasCode, ElementFits}
 use Rattle.b67_emitter.proofs.Appends.{same_level}
 use Rattle.b67_emitter.proofs.Composing.{then, weaker}
 use Rattle.b67_emitter.proofs.Seen.{some, seen_further}
@@ -92,7 +92,7 @@ module _ (s : Names) (scopes : Scopes) (level block : ℕ) where
   as_many (l ∷ m ∷ n ∷ ns) xs fit = absurd fit
 
   abbrev IsFitting : ℤ → Expr → Type 0
-  IsFitting low x = IsWhole low × ExprFits scopes (meanings s) level block types.Number (expr x)
+  IsFitting low x = IsWholeNumber low × ExprFits scopes (meanings s) level block types.Number (expr x)
 
   named_as : (low l : ℤ) (x y : Expr) → low ≡ l → x ≡ y → IsFitting l y → IsFitting low x
   named_as low l x y p q h = let F : ℤ → Expr → Type 0 = IsFitting in subst (λ z. F z x) (sym p) (subst (F l) (sym q) h)
@@ -126,7 +126,7 @@ module _ (s : Names) (scopes : Scopes) (level block : ℕ) where
   none_fits (l ∷ m ∷ n ∷ ns) fit = fit
 
 -- a lower bound that is read as an integer of the machine
-pub read_back : (low : ℤ) → IsWhole low → to_z w64 (of_z w64 low) ≡ low
+pub read_back : (low : ℤ) → IsWholeNumber low → to_z w64 (of_z w64 low) ≡ low
 read_back low h = let bound : unsigned_abs low < 2 ^ 63 = omega (arith, h) in to_z-of_z w64 low (fits_signed_from_abs w64 low bound)
 
 -- ---- their code
@@ -215,8 +215,8 @@ module _ (s : Names) (level : ℕ) (v : Variable) where
     pub known_element : IsSome (couples s v.name.spot)
     known_element = known_array s h.own h.scopes v.name h.shape own
 
-    pub seen_element : (m : ℕ) (c : Couple) → m ≡ level → AreNear s → couples s v.name.spot ≡ Some c → IsSeen m c
-    seen_element m c same near is = let I : ℕ → Type 0 = λ l. IsSeen l c in
+    pub seen_element : (m : ℕ) (c : Couple) → m ≡ level → AreNear s → couples s v.name.spot ≡ Some c → CoupleIsSeen m c
+    seen_element m c same near is = let I : ℕ → Type 0 = λ l. CoupleIsSeen l c in
         subst I (sym same) (seen_further level h.own c h.outer (near.own v.name.spot c is) (seen_array s h.own h.scopes v.name h.shape c near is own))
 
     -- its subscripts and the lower bounds, as they were found
@@ -243,7 +243,7 @@ module _ (s : Names) (level : ℕ) (v : Variable) where
       pub first_back : (x : Expr) → x ≡ get_or xs 0 x → to_z w64 (of_z w64 (get_or ls 0 (pos 0))) ≡ get_or ls 0 (pos 0)
       first_back x is = read_back (get_or ls 0 (pos 0)) (first_fits s h.scopes h.own h.block ls xs (get_or ls 0 (pos 0)) x own_fit refl is).0
 
-      pub first_whole : (x : Expr) → x ≡ get_or xs 0 x → IsWhole (to_z w64 (of_z w64 (get_or ls 0 (pos 0))))
+      pub first_whole : (x : Expr) → x ≡ get_or xs 0 x → IsWholeNumber (to_z w64 (of_z w64 (get_or ls 0 (pos 0))))
       first_whole x is = (first_fits s h.scopes h.own h.block ls xs (to_z w64 (of_z w64 (get_or ls 0 (pos 0)))) x own_fit (first_back x is) is).0
 
       pub second_has : (x : Expr) → 1 < length xs → x ≡ get_or xs 1 x → HasCode s level (expr x)
@@ -252,7 +252,7 @@ module _ (s : Names) (level : ℕ) (v : Variable) where
       pub second_back : (x : Expr) → 1 < length xs → x ≡ get_or xs 1 x → to_z w64 (of_z w64 (get_or ls 1 (pos 0))) ≡ get_or ls 1 (pos 0)
       second_back x many is = read_back (get_or ls 1 (pos 0)) (second_fits s h.scopes h.own h.block ls xs (get_or ls 1 (pos 0)) x own_fit many refl is).0
 
-      pub second_whole : (x : Expr) → 1 < length xs → x ≡ get_or xs 1 x → IsWhole (to_z w64 (of_z w64 (get_or ls 1 (pos 0))))
+      pub second_whole : (x : Expr) → 1 < length xs → x ≡ get_or xs 1 x → IsWholeNumber (to_z w64 (of_z w64 (get_or ls 1 (pos 0))))
       second_whole x many is = (second_fits s h.scopes h.own h.block ls xs (to_z w64 (of_z w64 (get_or ls 1 (pos 0)))) x own_fit many (second_back x many is) is).0
 
   -- the couple of the array and its lower bounds, as they were found

@@ -11,13 +11,13 @@ use Rattle.b67_segment.specs.Operators.{Placed, size}
 use Rattle.b67_segment.specs.Building.{Built}
 use Rattle.b67_templates.specs.Contexts.{Context}
 use Rattle.b67_templates.specs.Cells as wants
-use Rattle.b67_templates.specs.Cells.{Wanted, Agrees}
+use Rattle.b67_templates.specs.Cells.{Wanted, ShapeAgrees}
 use Rattle.b67_templates.specs.Code.{ExprAt, ArrayActualAt, NameActualAt}
 use Rattle.b67_templates.specs.Events.{EventActualAt}
 use Rattle.b67_templates.specs.Emitting.{Emitted}
-use Rattle.b67_templates.specs.Fitting.{is_by_name, ArrayFits, EventFits, NameActualFits, ExprFits}
+use Rattle.b67_templates.specs.Fitting.{wanted_by_name, ArrayFits, EventFits, NameActualFits, ExprFits}
 use Rattle.b67_emitter.specs.declared.names.Names.{Names}
-use Rattle.b67_emitter.specs.Values.{lows, meant, meanings, event_in}
+use Rattle.b67_emitter.specs.Values.{lows, meant, meanings, meant_event_in}
 
 -- ---- the name by itself of an array or of an event
 
@@ -32,7 +32,7 @@ passed_as None l = formal_in l
 
 -- whether the array or the event that the name means is a parameter; none where it means neither
 abbrev pub passed : Names → Named → Option Bool
-passed s n = passed_as (event_in (meant s n.spot)) (lows s n.spot)
+passed s n = passed_as (meant_event_in (meant s n.spot)) (lows s n.spot)
 
 abbrev pub if_passed : Names → Option Named → Option Named
 if_passed s None = None
@@ -50,7 +50,7 @@ abbrev pub ActualFits : Names → Scopes → ℕ → ℕ → Wanted → PExpr �
 ActualFits s scopes level block (wants.value kind) e = ExprFits scopes (meanings s) level block kind e
 ActualFits s scopes level block (wants.array shape) e =
     (n : Named) × (e ≡ tree.variable (tree.subscripted n tree.none))
-    × ((a : Shape) × ArrayFits scopes (meanings s) level n a × Agrees shape a)
+    × ((a : Shape) × ArrayFits scopes (meanings s) level n a × ShapeAgrees shape a)
 ActualFits s scopes level block (wants.by_name kind) e = NameActualFits scopes (meanings s) level block kind e × ExprFits scopes (meanings s) level block kind e
 ActualFits s scopes level block wants.event e = (n : Named) × (e ≡ tree.variable (tree.subscripted n tree.none)) × EventFits scopes (meanings s) level n
 ActualFits s scopes level block wants.other e = ⊥
@@ -71,14 +71,14 @@ pub record HasActual (s : Names) (level : ℕ) (by_name : Bool) (e : PExpr) : Ty
   pub own : ℕ
   pub block : ℕ
   pub wanted : Wanted
-  pub mode : is_by_name wanted ≡ by_name
+  pub mode : wanted_by_name wanted ≡ by_name
   pub outer : own ≤ level
   pub fits : ActualFits s scopes own block wanted e
 
 -- From the first builder to the second the actual's code was appended.
 pub record ActualEmitted (s : Names) (level : ℕ) (before after : Built) (by_name : Bool) (e : PExpr) : Type 0 where
   pub code :
-      (scopes : Scopes) (context : Context) (wanted : Wanted) → is_by_name wanted ≡ by_name → ActualFits s scopes context.level context.block wanted e →
+      (scopes : Scopes) (context : Context) (wanted : Wanted) → wanted_by_name wanted ≡ by_name → ActualFits s scopes context.level context.block wanted e →
       Emitted before after (λ qs. ActualAt scopes context qs level wanted e (size before.operators) (size after.operators))
 
 -- what makes the reference of a cell one that is read alike everywhere: where the cell has such a reference, that is loaded

@@ -6,9 +6,9 @@ use Rattle.algol_tree.specs.Plain as tree
 use Rattle.algol_tree.specs.Plain.{PExpr, PVariable}
 
 -- the element that an actual is, none where it is not subscripted
-abbrev pub place_of : PExpr → Option PVariable
-place_of (tree.variable (tree.subscripted n (tree.more e es))) = Some (tree.subscripted n (tree.more e es))
-place_of _ = None
+abbrev pub element_place_of : PExpr → Option PVariable
+element_place_of (tree.variable (tree.subscripted n (tree.more e es))) = Some (tree.subscripted n (tree.more e es))
+element_place_of _ = None
 
 abbrev pub plain_of : Option Variable → Option PVariable
 plain_of None = None

@@ -9,7 +9,7 @@ ghost use Rattle.b67_segment.specs.Operators.{size};
 ghost use Rattle.b67_segment.specs.Building.{level_set};
 ghost use Rattle.b67_templates.specs.Paying.{given_syllables, inline};
 ghost use Rattle.b67_emitter.specs.Values.{AreNear, meanings, HasCode, ValueEmitted, ValueWithExits, HasCall, CallEmitted, FilledEmitted, filled_syllables};
-ghost use Rattle.b67_templates.specs.Fragments.{IsWhole};
+ghost use Rattle.b67_templates.specs.Fragments.{IsWholeNumber};
 ghost use Rattle.b67_emit_expr.specs.Applying.{AppliedEmitted};
 ghost use Rattle.b67_emit_expr.specs.Passing.{HasActual, ActualEmitted};
 ghost use Rattle.b67_emit_expr.specs.Subscripting.{SubscriptEmitted, HasSubscripts, SubscriptsEmitted};
@@ -212,7 +212,7 @@ fn subscript(
     requires set { IsSome out.old.level }
     requires near { AreNear names.now }
     requires code { HasCode names.now (level_set out.old) (expr e.now) }
-    requires whole { IsWhole low }
+    requires whole { IsWholeNumber low }
     requires room { size out.old.operators + inline (meanings names.now) (expr e.now) + 21 ≤ MOST_SEGMENT_SYLLABLES }
     ensures code { OnOk result (SubscriptEmitted names.now (level_set out.old) out.old out.new low (expr e.now)) }
     ensures level { OnOk result (out.new.level ≡ out.old.level) }

@@ -12,18 +12,18 @@ use Rattle.algol_tree.specs.Plain as tree
 use Rattle.algol_tree.specs.Plain.{PExpr, PStmt, PStmts}
 use Rattle.b67_segment.specs.declared.code.Format.{Format}
 use Rattle.b67_segment.specs.declared.code.Phrase.{Phrase}
-use Rattle.b67_templates.specs.Code.{AreParts, IsPart, text, word}
+use Rattle.b67_templates.specs.Code.{AreParts, IsCodePart, text, word}
 use Rattle.b67_faithful.specs.Lines.{format_for, formats_for, part_for, stmt_lines, stmts_lines}
 use Rattle.b67_emit_stmt.specs.declared.draft.Draft.{Draft}
 use Rattle.b67_emit_stmt.specs.declared.draft.Label.{Label}
-use Rattle.b67_emit_stmt.specs.Drafts.{Adds, AddsStmt, AddsStmts, Noted, noted, spots_of}
+use Rattle.b67_emit_stmt.specs.Drafts.{DraftAdds, AddsStmt, AddsStmts, DraftNoted, draft_noted, spots_of}
 use Rattle.b67_emit_stmt.specs.Labels.{label_spots, label_spots_in}
 use Rattle.b67_emit_stmt.proofs.Lists.{front_more}
 use Rattle.b67_emit_stmt.proofs.Shapes.{block_as}
 
 -- ---- one format
 
-part_is : (t : PhraseText) (p : Phrase) → IsPart t p → p ≡ part_for t
+part_is : (t : PhraseText) (p : Phrase) → IsCodePart t p → p ≡ part_for t
 part_is t p (text bytes) = refl
 part_is t p (word letters) = refl
 
@@ -49,16 +49,16 @@ spots_after old mid new xs ys first second = second ∙ ap (λ (l : List Spot). 
 
 -- ---- what is noted, one piece after another
 
-none_noted : (x : Noted) → Adds x x [] []
+none_noted : (x : DraftNoted) → DraftAdds x x [] []
 none_noted x = record { formats = sym (append-nil x.formats); labels = sym (append-nil (spots_of x.labels)) }
 
-notes_then : (x y z : Noted) (ls ms : List (List PhraseText)) (ss ts : List Spot) → Adds x y ls ss → Adds y z ms ts → Adds x z (ls ++ ms) (ss ++ ts)
+notes_then : (x y z : DraftNoted) (ls ms : List (List PhraseText)) (ss ts : List Spot) → DraftAdds x y ls ss → DraftAdds y z ms ts → DraftAdds x z (ls ++ ms) (ss ++ ts)
 notes_then x y z ls ms ss ts h k = record {
   formats = both_added x.formats y.formats z.formats ls ms (ls ++ ms) refl h.formats k.formats;
   labels = spots_after (spots_of x.labels) (spots_of y.labels) (spots_of z.labels) ss ts h.labels k.labels;
 }
 
-notes_for : (x y : Noted) (ls ms : List (List PhraseText)) (ss ts : List Spot) → ls ≡ ms → ss ≡ ts → Adds x y ls ss → Adds x y ms ts
+notes_for : (x y : DraftNoted) (ls ms : List (List PhraseText)) (ss ts : List Spot) → ls ≡ ms → ss ≡ ts → DraftAdds x y ls ss → DraftAdds x y ms ts
 notes_for x y ls ms ss ts same same' h = record {
   formats = h.formats ∙ ap (λ l. x.formats ++ formats_for l) same;
   labels = h.labels ∙ ap (λ (l : List Spot). spots_of x.labels ++ l) same';
@@ -68,40 +68,40 @@ notes_for x y ls ms ss ts same same' h = record {
 
 -- nothing
 pub none_added : (x : Draft) → AddsStmts x x tree.no_stmts
-none_added x = none_noted (noted x)
+none_added x = none_noted (draft_noted x)
 
 -- what a statement without statements in it notes that is no line and no label
-pub plain_added : (x y : Draft) → noted y ≡ noted x → Adds (noted x) (noted y) [] []
-plain_added x y e = let A : Noted → Type 0 = λ n. Adds (noted x) n [] [] in subst A (sym e) (none_noted (noted x))
+pub plain_added : (x y : Draft) → draft_noted y ≡ draft_noted x → DraftAdds (draft_noted x) (draft_noted y) [] []
+plain_added x y e = let A : DraftNoted → Type 0 = λ n. DraftAdds (draft_noted x) n [] [] in subst A (sym e) (none_noted (draft_noted x))
 
 -- where nothing was noted before
-pub then_added : (x y z : Draft) (s : PStmt) → noted y ≡ noted x → AddsStmt y z s → AddsStmt x z s
-then_added x y z s e h = let A : Noted → Type 0 = λ n. Adds n (noted z) (stmt_lines s) (label_spots s) in subst A e h
+pub then_added : (x y z : Draft) (s : PStmt) → draft_noted y ≡ draft_noted x → AddsStmt y z s → AddsStmt x z s
+then_added x y z s e h = let A : DraftNoted → Type 0 = λ n. DraftAdds n (draft_noted z) (stmt_lines s) (label_spots s) in subst A e h
 
-pub all_then_added : (x y z : Draft) (ss : PStmts) → noted y ≡ noted x → AddsStmts y z ss → AddsStmts x z ss
-all_then_added x y z ss e h = let A : Noted → Type 0 = λ n. Adds n (noted z) (stmts_lines ss) (label_spots_in ss) in subst A e h
+pub all_then_added : (x y z : Draft) (ss : PStmts) → draft_noted y ≡ draft_noted x → AddsStmts y z ss → AddsStmts x z ss
+all_then_added x y z ss e h = let A : DraftNoted → Type 0 = λ n. DraftAdds n (draft_noted z) (stmts_lines ss) (label_spots_in ss) in subst A e h
 
 -- a statement in another form
 pub added_as : (x y : Draft) (p q : PStmt) → p ≡ q → AddsStmt x y q → AddsStmt x y p
 added_as x y p q same h = let A : PStmt → Type 0 = λ s. AddsStmt x y s in subst A (sym same) h
 
 -- a statement that notes nothing, in another form
-pub none_as : (x y : Draft) (p q : PStmt) → p ≡ q → noted y ≡ noted x → stmt_lines q ≡ [] → label_spots q ≡ [] → AddsStmt x y p
+pub none_as : (x y : Draft) (p q : PStmt) → p ≡ q → draft_noted y ≡ draft_noted x → stmt_lines q ≡ [] → label_spots q ≡ [] → AddsStmt x y p
 none_as x y p q same e lines spots =
-    added_as x y p q same (notes_for (noted x) (noted y) [] (stmt_lines q) [] (label_spots q) (sym lines) (sym spots) (plain_added x y e))
+    added_as x y p q same (notes_for (draft_noted x) (draft_noted y) [] (stmt_lines q) [] (label_spots q) (sym lines) (sym spots) (plain_added x y e))
 
 pub else_added : (x y z : Draft) (c : PExpr) (p q : PStmt) → AddsStmt x y p → AddsStmt y z q → AddsStmt x z (tree.if_else c p q)
-else_added x y z c p q h k = notes_then (noted x) (noted y) (noted z) (stmt_lines p) (stmt_lines q) (label_spots p) (label_spots q) h k
+else_added x y z c p q h k = notes_then (draft_noted x) (draft_noted y) (draft_noted z) (stmt_lines p) (stmt_lines q) (label_spots p) (label_spots q) h k
 
 -- a label, and the statement after it
 pub label_added : (x y z : Draft) (l : Label) (n : Named) (s : PStmt) → y.formats.items ≡ x.formats.items → y.labels.items ≡ x.labels.items ++ l ∷ [] → l.spot ≡ n.spot → AddsStmt y z s →
     AddsStmt x z (tree.label n s)
 label_added x y z l n s fs ls at h =
-    let first : Adds (noted x) (noted y) [] (n.spot ∷ []) = record {
+    let first : DraftAdds (draft_noted x) (draft_noted y) [] (n.spot ∷ []) = record {
       formats = fs ∙ sym (append-nil x.formats.items);
       labels = ap spots_of ls ∙ map-append (λ (i : Label). i.spot) x.labels.items (l ∷ []) ∙ ap (λ (i : Spot). spots_of x.labels.items ++ i ∷ []) at;
     } in
-    notes_then (noted x) (noted y) (noted z) [] (stmt_lines s) (n.spot ∷ []) (label_spots s) first h
+    notes_then (draft_noted x) (draft_noted y) (draft_noted z) [] (stmt_lines s) (n.spot ∷ []) (label_spots s) first h
 
 -- ---- statements one after another
 
@@ -130,9 +130,9 @@ pub next_added : (x y z : Draft) (xs : List Stmt) (i : ℕ) (s : Stmt) → i < l
 next_added x y z xs i s h e done here =
     let these = stmts (take i xs) in
     let those = stmts (take (i + 1) xs) in
-    notes_for (noted x) (noted z) (stmts_lines these ++ stmt_lines (stmt s)) (stmts_lines those) (label_spots_in these ++ label_spots (stmt s)) (label_spots_in those)
+    notes_for (draft_noted x) (draft_noted z) (stmts_lines these ++ stmt_lines (stmt s)) (stmts_lines those) (label_spots_in these ++ label_spots (stmt s)) (label_spots_in those)
     (sym (next_lines xs i s h e)) (sym (next_spots xs i s h e))
-    (notes_then (noted x) (noted y) (noted z) (stmts_lines these) (stmt_lines (stmt s)) (label_spots_in these) (label_spots (stmt s)) done here)
+    (notes_then (draft_noted x) (draft_noted y) (draft_noted z) (stmts_lines these) (stmt_lines (stmt s)) (label_spots_in these) (label_spots (stmt s)) done here)
 
 -- all of them
 pub all_added : (x y : Draft) (xs : List Stmt) (i : ℕ) → length xs ≤ i → AddsStmts x y (stmts (take i xs)) → AddsStmts x y (stmts xs)

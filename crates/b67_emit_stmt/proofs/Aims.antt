@@ -11,13 +11,13 @@ use Rattle.b67_templates.specs.Emitting.{AreExits, EmittedWithExits}
 use Rattle.b67_emitter.specs.Aiming.{Aimed}
 use Rattle.b67_emit_stmt.specs.declared.draft.Draft.{Draft}
 use Rattle.b67_emit_stmt.specs.declared.draft.Known.{Known}
-use Rattle.b67_emit_stmt.specs.Drafts.{Emits, noted}
+use Rattle.b67_emit_stmt.specs.Drafts.{Emits, draft_noted}
 use Rattle.b67_emit_stmt.proofs.Arms.{Closed, Stands}
 use Rattle.b67_emit_stmt.proofs.Drafts.{closed, emits_weaker, exits_there}
 
 -- the exits of a body go to the place after it
 pub body_closed : (s : Known) (sc : Place) (level : ℕ) (x : PStmt) (a b d : Draft) (first : ℕ) → first ≡ length a.exits.items → Emits (stmt_syllables s x) a b (Stands sc level x a b) →
-    Aimed (drop first b.exits.items) b.out d.out → d.exits.items ≡ take first b.exits.items → noted d ≡ noted b →
+    Aimed (drop first b.exits.items) b.out d.out → d.exits.items ≡ take first b.exits.items → draft_noted d ≡ draft_noted b →
     Emits (stmt_syllables s x) a d (Closed sc level x a d)
 body_closed s sc level x a b d first is h aimed es fs =
     let A : ℕ → Type 0 = λ n. Aimed (drop n b.exits.items) b.out d.out in

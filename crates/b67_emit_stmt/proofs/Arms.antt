@@ -20,7 +20,7 @@ use Rattle.b67_templates.specs.Emitting.{EmittedWithExits}
 use Rattle.b67_emitter.specs.Aiming.{Aimed}
 use Rattle.b67_emit_stmt.specs.declared.draft.Draft.{Draft}
 use Rattle.b67_emit_stmt.specs.declared.draft.Known.{Known}
-use Rattle.b67_emit_stmt.specs.Drafts.{Emits, noted}
+use Rattle.b67_emit_stmt.specs.Drafts.{Emits, draft_noted}
 use Rattle.b67_emit_stmt.proofs.Drafts.{emits_then, emits_weaker, hole_closed}
 
 module _ (sc : Place) (level : ℕ) where
@@ -58,8 +58,8 @@ module _ (sc : Place) (level : ℕ) where
 
   pub then_arm : (known : Known) (c : PExpr) (x : PStmt) (a b d e f g : Draft) (holes : List ℕ) → Emits (expr_syllables known c) a b (Tested c a b) →
       EmittedWithExits b.out d.out [] holes (λ qs target. BranchAt qs level Brfl (size b.out.operators) target (size d.out.operators)) →
-      size d.out.operators ≤ size b.out.operators + 3 → d.exits.items ≡ b.exits.items → noted d ≡ noted b →
-      Emits (stmt_syllables known x) d e (Stands x d e) → Emits 3 e f (Left Brun e f) → Aimed holes f.out g.out → g.exits.items ≡ f.exits.items → noted g ≡ noted f →
+      size d.out.operators ≤ size b.out.operators + 3 → d.exits.items ≡ b.exits.items → draft_noted d ≡ draft_noted b →
+      Emits (stmt_syllables known x) d e (Stands x d e) → Emits 3 e f (Left Brun e f) → Aimed holes f.out g.out → g.exits.items ≡ f.exits.items → draft_noted g ≡ draft_noted f →
       Emits (expr_syllables known c + stmt_syllables known x + 6) a g (Chosen c x a g)
   then_arm known c x a b d e f g holes h hole wide es fs i j aimed es' fs' =
       let T : List Placed → ℕ → Type 0 = λ qs t. BranchAt qs level Brfl (size b.out.operators) t (size d.out.operators) in
@@ -119,9 +119,9 @@ module _ (sc : Place) (level : ℕ) where
   pub thru_arm : (known : Known) (n : PExpr) (x : PStmt) (a b d e f g i j k : Draft) (holes : List ℕ) → Emits (expr_syllables known n) a b (Valued n a b) →
       Emits 3 b d (λ later qs target. AllAt qs level (kinds.Dupl ∷ kinds.One ∷ kinds.Less ∷ []) (size b.out.operators) (size d.out.operators)) →
       EmittedWithExits d.out e.out [] holes (λ qs target. BranchAt qs level Brtr (size d.out.operators) target (size e.out.operators)) →
-      size e.out.operators ≤ size d.out.operators + 3 → e.exits.items ≡ d.exits.items → noted e ≡ noted d →
+      size e.out.operators ≤ size d.out.operators + 3 → e.exits.items ≡ d.exits.items → draft_noted e ≡ draft_noted d →
       Emits 2 e f (λ later qs target. AllAt qs level (kinds.One ∷ kinds.Subt ∷ []) (size e.out.operators) (size f.out.operators)) →
-      Emits (stmt_syllables known x) f g (Closed x f g) → Emits 3 g i (Turned b g i) → Aimed holes i.out j.out → j.exits.items ≡ i.exits.items → noted j ≡ noted i →
+      Emits (stmt_syllables known x) f g (Closed x f g) → Emits 3 g i (Turned b g i) → Aimed holes i.out j.out → j.exits.items ≡ i.exits.items → draft_noted j ≡ draft_noted i →
       Emits 1 j k (λ later qs target. Has qs level (size j.out.operators) (ops.Plain kinds.Dlet) (size k.out.operators)) →
       Emits (stmt_syllables known (tree.thru n x)) a k (Stands (tree.thru n x) a k)
   thru_arm known n x a b d e f g i j k holes h test hole wide es fs less body turn aimed es' fs' last =

@@ -8,7 +8,7 @@ use Rattle.b67_templates.specs.Emitting.{Emitted}
 use Rattle.b67_emit_stmt.specs.declared.draft.Draft.{Draft}
 use Rattle.b67_emit_stmt.specs.declared.draft.Known.{Known}
 use Rattle.b67_emit_stmt.specs.Bodies.{BeginAt, EmitsBegin, EmitsCells}
-use Rattle.b67_emit_stmt.specs.Drafts.{Emits, IsAt}
+use Rattle.b67_emit_stmt.specs.Drafts.{Emits, DraftIsAt}
 use Rattle.b67_emit_stmt.specs.Fits.{DeclsFit}
 use Rattle.b67_emit_stmt.specs.Lengths.{decls_syllables}
 use Rattle.b67_emit_stmt.specs.Places.{Later, Place, DeclsAt}
@@ -17,7 +17,7 @@ use Rattle.b67_emit_stmt.proofs.Blocks.{level_at}
 use Rattle.b67_emit_stmt.proofs.Drafts.{emits_then, emits_weaker, level_after, piece}
 use Rattle.b67_emit_stmt.proofs.Parts.{leveled, on_ok_two}
 
-pub made_behind : (s : Known) (level many : ℕ) (ds : PDecls) (es : List PExpr) (ats : List ℕ) (a b : Draft) → IsAt level a → EmitsCells s level a b many ds es ats → {T E : Type 0} (r : Result T E) (e : Built) →
+pub made_behind : (s : Known) (level many : ℕ) (ds : PDecls) (es : List PExpr) (ats : List ℕ) (a b : Draft) → DraftIsAt level a → EmitsCells s level a b many ds es ats → {T E : Type 0} (r : Result T E) (e : Built) →
     OnOk r
     ((sc : Place) (later : Later) → DeclsFit sc s (level_set b.out) ds →
     Emitted b.out e (λ qs. DeclsAt sc later qs (level_set b.out) ds (size b.out.operators) (size e.operators))) →

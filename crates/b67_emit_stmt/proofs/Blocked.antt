@@ -18,10 +18,10 @@ use Rattle.b67_segment.specs.Building.{Built, level_set}
 use Rattle.algol_tree.specs.Blocks.{number_at}
 use Rattle.b67_templates.specs.Cells.{actuals_in_block}
 use Rattle.b67_templates.specs.Fitting.{BlockFits}
-use Rattle.b67_emit_stmt.specs.Fits.{InsideFits, StmtFits}
+use Rattle.b67_emit_stmt.specs.Fits.{InsideFits, EmittedStmtFits}
 use Rattle.b67_emit_stmt.specs.declared.draft.Draft.{Draft}
-use Rattle.b67_emit_stmt.specs.Bodies.{EmitsInner, HaveFitInside, HaveInside, InnerAt, IsSmall, inner_syllables, variables_in}
-use Rattle.b67_emit_stmt.specs.Drafts.{IsAt, IsReady}
+use Rattle.b67_emit_stmt.specs.Bodies.{EmitsInner, HaveFitInside, HaveInside, InnerAt, IsSmallBlock, inner_syllables, variables_in}
+use Rattle.b67_emit_stmt.specs.Drafts.{DraftIsAt, IsReady}
 use Rattle.b67_emit_stmt.specs.Emits.{EmitsStmt, EmitsStmts, HasFit, HaveFit}
 use Rattle.b67_emit_stmt.specs.Lengths.{celled_in, stmt_syllables, stmts_syllables}
 use Rattle.b67_emit_stmt.proofs.Arms.{Stands, block_arm}
@@ -70,7 +70,7 @@ module _ (s : Known) (a : Draft) (x : Stmt) (body : Body) (ss : List Stmt) (t : 
 
 -- the level is set one further in
 module _ (s : Known) (level : ℕ) (a : Draft) (inner : Built) (is : inner ≡ record a.out { level = Some (level + 1) }) where
-  pub inner_at : IsAt level a → IsAt (level + 1) (record a { out = inner })
+  pub inner_at : DraftIsAt level a → DraftIsAt (level + 1) (record a { out = inner })
   inner_at at = record { set = ap (λ (b : Built). b.level) is; outer = omega (arith, at.outer) }
 
   pub inner_ready : (n : ℕ) → IsReady s a n → IsReady s (record a { out = inner }) n
@@ -78,7 +78,7 @@ module _ (s : Known) (level : ℕ) (a : Draft) (inner : Built) (is : inner ≡ r
       let R : Built → Type 0 = λ b. IsReady s (record a { out = b }) n in
       subst R (sym is) (record { set = search rules; near = r.near; inner = r.inner; many = r.many; segment = r.segment; few = r.few; room = r.room })
 
-  pub inner_fits : (ds : PDecls) (ss : PStmts) → IsAt level a → HaveFitInside s a ds ss → HaveInside s (level + 1) ds ss
+  pub inner_fits : (ds : PDecls) (ss : PStmts) → DraftIsAt level a → HaveFitInside s a ds ss → HaveInside s (level + 1) ds ss
   inner_fits ds ss at fits =
       let F : ℕ → Type 0 = λ l. HaveInside s (l + 1) ds ss in
       subst F (ap (λ (o : Option ℕ). unwrap_or o 0) at.set) fits
@@ -93,7 +93,7 @@ module _ (s : Known) (sc : Place) (level : ℕ) (spot : Spot) (ss : PStmts) wher
   abbrev within : Place
   within = inside (number_at sc.scopes.blocks spot) sc
 
-  declared : (t : Bool) (ds : List Decl) → t ≡ (length ds == 0) → t ≡ false → StmtFits sc s level (tree.block (tree.body spot (decls ds) ss)) →
+  declared : (t : Bool) (ds : List Decl) → t ≡ (length ds == 0) → t ≡ false → EmittedStmtFits sc s level (tree.block (tree.body spot (decls ds) ss)) →
       BlockFits sc.scopes level (decls ds) ss × (sc.segment ≡ s.segment) × InsideFits within s (level + 1) (decls ds) ss
   declared t [] e h fit = absurd (let clash : true ≡ false = sym e ∙ h in cc)
   declared t (d ∷ ds) e h fit = (fit.0, fit.1, (fit.2, fit.3, fit.4))
@@ -119,13 +119,13 @@ module _ (s : Known) (a : Draft) (x : Stmt) (body : Body) (ss : List Stmt) (ds :
       BlockFits fits.0.scopes (level_set a.out) (decls body.decls) (stmts ss) × (fits.0.segment ≡ s.segment)
       × InsideFits (in_it fits.0) s (level_set a.out + 1) (decls body.decls) (stmts ss)
   parts fits =
-      let F : PStmt → Type 0 = λ y. StmtFits fits.0 s (level_set a.out) y in
+      let F : PStmt → Type 0 = λ y. EmittedStmtFits fits.0 s (level_set a.out) y in
       declared s fits.0 (level_set a.out) body.spot (stmts ss) t body.decls tested h (subst F (block_as x body ss is same) fits.1)
 
   -- of the declarations
-  pub few_cells : HasFit s a (stmt x) → IsSmall (variables_in (decls ds)) (decls ds) (celled_in s (decls ds) (stmts ss))
+  pub few_cells : HasFit s a (stmt x) → IsSmallBlock (variables_in (decls ds)) (decls ds) (celled_in s (decls ds) (stmts ss))
   few_cells fits =
-      let L : List Decl → Type 0 = λ l. IsSmall (variables_in (decls l)) (decls l) (celled_in s (decls l) (stmts ss)) in
+      let L : List Decl → Type 0 = λ l. IsSmallBlock (variables_in (decls l)) (decls l) (celled_in s (decls l) (stmts ss)) in
       let all = parts fits in
       let own = decls body.decls in
       let many = as_many (actuals_in_block fits.0.scopes own (stmts ss)) (celled_in s own (stmts ss)) (celled_inside (in_it fits.0) s (level_set a.out + 1) own (stmts ss) all.2) in
@@ -136,7 +136,7 @@ module _ (s : Known) (a : Draft) (x : Stmt) (body : Body) (ss : List Stmt) (ds :
       let L : List Decl → Type 0 = λ l. InsideFits (in_it fits.0) s (level_set a.out + 1) (decls l) (stmts ss) in
       (in_it fits.0, (parts fits).1, subst L (sym ds_are) (parts fits).2)
 
-  pub inside_level : (level : ℕ) → IsAt level a → HasFit s a (stmt x) → level + 1 ≤ MOST_LEVEL
+  pub inside_level : (level : ℕ) → DraftIsAt level a → HasFit s a (stmt x) → level + 1 ≤ MOST_LEVEL
   inside_level level at fits =
       let set : level_set a.out ≡ level = ap (λ (o : Option ℕ). unwrap_or o 0) at.set in
       omega (arith, (parts fits).0.0, set)

@@ -23,10 +23,10 @@ use Rattle.b67_emitter.specs.Values.{meanings}
 use Rattle.b67_emit_stmt.specs.declared.draft.Draft.{Draft}
 use Rattle.b67_emit_stmt.specs.declared.draft.Known.{Known}
 use Rattle.b67_emit_stmt.specs.Actuals.{images, exprs_of, AreInner, HaveValues}
-use Rattle.b67_emit_stmt.specs.Bodies.{AreActuals, BeginAt, BlockAt, EmitsBegin, EmitsBlock, EmitsEnded, EmitsInner, EmitsInside, EmitsRoutines, EndedAt, HaveFitInside, HaveInside, InnerAt, InsideAt, IsSmall, block_syllables, ended_syllables, inner_syllables, inside_syllables, variables_in}
-use Rattle.b67_emit_stmt.specs.Drafts.{Emits, IsAt, IsReady, noted}
+use Rattle.b67_emit_stmt.specs.Bodies.{AreActuals, BeginAt, BlockAt, EmitsBegin, EmitsBlock, EmitsEnded, EmitsInner, EmitsInside, EmitsRoutines, EndedAt, HaveFitInside, HaveInside, InnerAt, InsideAt, IsSmallBlock, block_syllables, ended_syllables, inner_syllables, inside_syllables, variables_in}
+use Rattle.b67_emit_stmt.specs.Drafts.{Emits, DraftIsAt, IsReady, draft_noted}
 use Rattle.b67_emit_stmt.specs.Emits.{EmitsStmts, HaveFit}
-use Rattle.b67_emit_stmt.specs.Fits.{InsideFits, StmtsFit}
+use Rattle.b67_emit_stmt.specs.Fits.{InsideFits, EmittedStmtsFit}
 use Rattle.b67_emit_stmt.specs.Lengths.{begin_syllables, celled_in, routines_syllables, stmts_syllables}
 use Rattle.b67_emit_stmt.specs.Places.{Place, CellsAt, RoutinesAt, StmtsAt}
 use Rattle.b67_emit_stmt.proofs.Aims.{exits_lie, hole_as}
@@ -39,7 +39,7 @@ use Rattle.b67_emit_stmt.proofs.Valued.{actuals_inside}
 
 -- ---- at the level that is set
 
-pub level_at : {level : ℕ} (a : Draft) → IsAt level a → level_set a.out ≡ level
+pub level_at : {level : ℕ} (a : Draft) → DraftIsAt level a → level_set a.out ≡ level
 level_at a at = ap (λ (o : Option ℕ). unwrap_or o 0) at.set
 
 -- ---- actuals
@@ -77,7 +77,7 @@ module _ (s : Known) (inner : AreInner (meanings s.names.now)) (level : ℕ) (sc
 
 -- ---- a block up to its end
 
-module _ (s : Known) (level many : ℕ) (ds : PDecls) (ss : PStmts) (es : List PExpr) (ats : List ℕ) (a b : Draft) (at : IsAt level a) (fits : HaveInside s level ds ss)
+module _ (s : Known) (level many : ℕ) (ds : PDecls) (ss : PStmts) (es : List PExpr) (ats : List ℕ) (a b : Draft) (at : DraftIsAt level a) (fits : HaveInside s level ds ss)
     (begun : EmitsBegin s level a b many ds es ats) where
   begun_there : Emits (begin_syllables s many ds es) a b
       (λ later qs target. BeginAt fits.0 later qs level many ds (some_of es) ats (size a.out.operators) (size b.out.operators))
@@ -90,23 +90,23 @@ module _ (s : Known) (level many : ℕ) (ds : PDecls) (ss : PStmts) (es : List P
   stmts_ready r = ready_after s a (inside_syllables s many ds ss es) (stmts_syllables s ss) r begun_there (omega arith)
 
   pub stmts_fit : HaveFit s b ss
-  stmts_fit = let F : ℕ → Type 0 = λ l. StmtsFit fits.0 s l ss in (fits.0, subst F (sym behind_begin) fits.2.2)
+  stmts_fit = let F : ℕ → Type 0 = λ l. EmittedStmtsFit fits.0 s l ss in (fits.0, subst F (sym behind_begin) fits.2.2)
 
-  pub stmts_level : IsAt level b
+  pub stmts_level : DraftIsAt level b
   stmts_level = at_after begun_there at
 
   module _ (c : Draft) (first : ℕ) (is : first ≡ length a.exits.items) (behind : EmitsStmts s b c ss) where
     performed : (sc : Place) → InsideFits sc s level ds ss → Emits (stmts_syllables s ss) b c
         (λ later qs target. StmtsAt sc later qs level ss (size b.out.operators) (size c.out.operators) target)
     performed sc fit =
-        let F : ℕ → Type 0 = λ l. StmtsFit sc s l ss in
+        let F : ℕ → Type 0 = λ l. EmittedStmtsFit sc s l ss in
         at_level {b = b} {c = c} level (λ l later qs target. StmtsAt sc later qs l ss (size b.out.operators) (size c.out.operators) target) behind_begin (behind sc (subst F (sym behind_begin) fit.2))
 
     -- what leaves the statements can be aimed
     pub block_exits : (first ≤ length c.exits.items) × AreExits c.out.operators (drop first c.exits.items) 0 (size c.out.operators)
     block_exits = exits_lie a c first is (emits_then begun_there (performed fits.0 fits.2))
 
-    module _ (d : Draft) (aimed : Aimed (drop first c.exits.items) c.out d.out) (es' : d.exits.items ≡ take first c.exits.items) (fs : noted d ≡ noted c) where
+    module _ (d : Draft) (aimed : Aimed (drop first c.exits.items) c.out d.out) (es' : d.exits.items ≡ take first c.exits.items) (fs : draft_noted d ≡ draft_noted c) where
       -- with the exits of the statements aimed
       pub inside_stands : EmitsInside s level a d many ds ss es ats
       inside_stands = λ sc actuals same are fit.
@@ -129,7 +129,7 @@ module _ (s : Known) (level many : ℕ) (ds : PDecls) (ss : PStmts) (es : List P
 -- ---- a block with its end
 
 -- so many cells of 0, and actuals with these trees
-pub small_there : (many n : ℕ) (ds : PDecls) (es own : List PExpr) → many ≡ n → es ≡ own → IsSmall n ds own → IsSmall many ds es
+pub small_there : (many n : ℕ) (ds : PDecls) (es own : List PExpr) → many ≡ n → es ≡ own → IsSmallBlock n ds own → IsSmallBlock many ds es
 small_there many n ds es own is are small = omega (arith, is, ap (λ (l : List PExpr). length l) are, small)
 
 module _ (s : Known) (level : ℕ) (ds : PDecls) (ss : PStmts) (es : List PExpr) (a : Draft) (many : ℕ) (is : many ≡ variables_in ds) where
@@ -141,7 +141,7 @@ module _ (s : Known) (level : ℕ) (ds : PDecls) (ss : PStmts) (es : List PExpr)
   pub ended_inside : IsReady s a (ended_syllables s ds ss es) → IsReady s a (inside_syllables s many ds ss es)
   ended_inside ready = ready_less s a (ended_syllables s ds ss es) (inside_syllables s many ds ss es) ready (omega (arith, ended_room))
 
-  module _ (ats : List ℕ) (d : Draft) (at : IsAt level a) (fits : HaveInside s level ds ss) (inside : EmitsInside s level a d many ds ss es ats) where
+  module _ (ats : List ℕ) (d : Draft) (at : DraftIsAt level a) (fits : HaveInside s level ds ss) (inside : EmitsInside s level a d many ds ss es ats) where
     inside_there : Emits (inside_syllables s many ds ss es) a d
         (λ later qs target. InsideAt fits.0 later qs level many ds ss (some_of es) ats (size a.out.operators) (size d.out.operators))
     inside_there = inside fits.0 (some_of es) fits.1 (some_are es) fits.2
@@ -152,7 +152,7 @@ module _ (s : Known) (level : ℕ) (ds : PDecls) (ss : PStmts) (es : List PExpr)
     pub exit_room : IsReady s a (ended_syllables s ds ss es) → size d.out.operators + 1 ≤ MOST_SEGMENT_SYLLABLES
     exit_room ready = omega (arith, ended_room, inside_there.short, ready.room)
 
-    pub ended_stands : (begin : ℕ) → begin ≡ size a.out.operators → (e : Draft) → e.exits.items ≡ d.exits.items → noted e ≡ noted d →
+    pub ended_stands : (begin : ℕ) → begin ≡ size a.out.operators → (e : Draft) → e.exits.items ≡ d.exits.items → draft_noted e ≡ draft_noted d →
         Emitted d.out e.out (λ qs. Has qs (level_set d.out) (size d.out.operators) (ops.Plain kinds.Exit) (size e.out.operators)) →
         size e.out.operators ≡ size d.out.operators + 1 → EmitsEnded s level a e ds ss es ats begin
     ended_stands begin begin_is e es' fs' exit wide = record {
@@ -170,7 +170,7 @@ module _ (s : Known) (level : ℕ) (ds : PDecls) (ss : PStmts) (es : List PExpr)
 
 -- ---- .. and with the code of its actuals before it
 
-module _ (s : Known) (inner : AreInner (meanings s.names.now)) (level : ℕ) (ds : PDecls) (ss : PStmts) (es : List PExpr) (a : Draft) (at : IsAt level a) (are : es ≡ celled_in s ds ss) where
+module _ (s : Known) (inner : AreInner (meanings s.names.now)) (level : ℕ) (ds : PDecls) (ss : PStmts) (es : List PExpr) (a : Draft) (at : DraftIsAt level a) (are : es ≡ celled_in s ds ss) where
   actuals_there : (sc : Place) → InsideFits sc s level ds ss → AreActuals sc s level es (actuals_in_block sc.scopes ds ss)
   actuals_there sc fit = let own = own_actuals s inner level sc ds ss fit in record { same = own.same ∙ sym are; values = own.values }
 
@@ -190,7 +190,7 @@ module _ (s : Known) (inner : AreInner (meanings s.names.now)) (level : ℕ) (ds
         Emits (routines_syllables s es) a r (λ later qs target. RoutinesAt sc later qs level (actuals_in_block sc.scopes ds ss) ats)
     first_code sc fit = routines sc (actuals_in_block sc.scopes ds ss) (actuals_there sc fit)
 
-    pub ended_level : HaveInside s level ds ss → IsAt level r
+    pub ended_level : HaveInside s level ds ss → DraftIsAt level r
     ended_level fits = at_after (first_code fits.0 fits.2) at
 
     pub ended_ready : HaveInside s level ds ss → IsReady s a (block_syllables s ds ss) → IsReady s r (ended_syllables s ds ss es)
@@ -233,7 +233,7 @@ module _ (s : Known) (ds : PDecls) (ss : PStmts) (a b : Draft) (over_level : b.o
   pub inside_fit : HaveFitInside s a ds ss → HaveFitInside s b ds ss
   inside_fit fits = let F : ℕ → Type 0 = λ l. InsideFits fits.0 s (l + 1) ds ss in (fits.0, fits.1, subst F (sym (level_same a.out b.out over_level)) fits.2)
 
-  pub block_ready : noted b ≡ noted a → IsReady s a (inner_syllables s ds ss) → IsReady s b (block_syllables s ds ss)
+  pub block_ready : draft_noted b ≡ draft_noted a → IsReady s a (inner_syllables s ds ss) → IsReady s b (block_syllables s ds ss)
   block_ready fs r = ready_behind s a b (inner_syllables s ds ss) (block_syllables s ds ss) r over_level fs (omega (arith, wide)) (omega (arith, wide))
 
   -- the branch over the code, which is aimed after it
@@ -254,7 +254,7 @@ module _ (s : Known) (ds : PDecls) (ss : PStmts) (a b : Draft) (over_level : b.o
       pub entry_level : HaveFitInside s a ds ss → d.out.level ≡ a.out.level
       entry_level fits = aimed.level ∙ (inside_code fits).code.level ∙ over_level
 
-      pub entry_inner : HaveFitInside s a ds ss → (level : ℕ) → IsAt level a → level + 1 ≡ level_set d.out + 1
+      pub entry_inner : HaveFitInside s a ds ss → (level : ℕ) → DraftIsAt level a → level + 1 ≡ level_set d.out + 1
       entry_inner fits level at = sym (ap (λ (o : Option ℕ). unwrap_or o 0 + 1) (entry_level fits ∙ at.set))
 
       pub entry_room : HaveFitInside s a ds ss → IsReady s a (inner_syllables s ds ss) → size d.out.operators + 14 ≤ MOST_SEGMENT_SYLLABLES
@@ -264,8 +264,8 @@ module _ (s : Known) (ds : PDecls) (ss : PStmts) (a b : Draft) (over_level : b.o
       pub entry_place : HaveFitInside s a ds ss → IsReady s a (inner_syllables s ds ss) → begin < size c.out.operators → begin < MOST_SEGMENT_SYLLABLES
       entry_place fits r begun = omega (arith, begun, (inside_code fits).short, wide, r.room)
 
-      pub inner_stands : (e : Draft) → b.exits.items ≡ a.exits.items → noted b ≡ noted a → d.exits.items ≡ c.exits.items →
-          noted d ≡ noted c → e.exits.items ≡ d.exits.items → noted e ≡ noted d →
+      pub inner_stands : (e : Draft) → b.exits.items ≡ a.exits.items → draft_noted b ≡ draft_noted a → d.exits.items ≡ c.exits.items →
+          draft_noted d ≡ draft_noted c → e.exits.items ≡ d.exits.items → draft_noted e ≡ draft_noted d →
           Emitted d.out e.out (λ qs. EntryAt qs (level_set d.out) s.segment begin (size d.out.operators) (size e.out.operators)) →
           size e.out.operators ≤ size d.out.operators + 14 → EmitsInner s a e ds ss
       inner_stands e es fs es' fs' es'' fs'' entry short = λ sc same fit.

@@ -12,14 +12,14 @@ use Rattle.b67_segment.specs.Operators.{Placed, size}
 use Rattle.b67_segment.specs.Building.{Built}
 use Rattle.b67_templates.specs.Code.{AreDimensions}
 use Rattle.b67_templates.specs.Emitting.{Emitted}
-use Rattle.b67_templates.specs.Fragments.{Has, AllAt, IntrinsicAt, IsWhole, NumberAt}
+use Rattle.b67_templates.specs.Fragments.{Has, AllAt, IntrinsicAt, IsWholeNumber, NumberAt}
 use Rattle.b67_emitter.proofs.Composing.{then, weaker}
 use Rattle.b67_emit_stmt.specs.declared.draft.Known.{Known}
-use Rattle.b67_emit_stmt.specs.Fits.{BoundsFit, ExprFits}
+use Rattle.b67_emit_stmt.specs.Fits.{BoundsFit, EmittedExprFits}
 use Rattle.b67_emit_stmt.specs.Places.{Later, Place, ArraysAt, BoundsAt, ExprAt}
 
 -- a lower bound is an i64
-pub whole_fits : (z : ℤ) → IsWhole z → FitsSigned w64 z
+pub whole_fits : (z : ℤ) → IsWholeNumber z → FitsSigned w64 z
 whole_fits z h = fits_signed_from_abs w64 z (omega (arith, h))
 
 -- the bounds from one on fit
@@ -30,7 +30,7 @@ bounds_left sc s level (suc i) (p ∷ ps) fit = bounds_left sc s level i ps fit.
 
 -- .. and so the next
 pub bounds_next : (sc : Place) (s : Known) (level i : ℕ) (ps : List Pair) (p : Pair) (rest : List Pair) → drop i ps ≡ p ∷ rest → BoundsFit sc s level (pairs ps) →
-    IsWhole p.low × ExprFits sc s level types.Number (expr p.high)
+    IsWholeNumber p.low × EmittedExprFits sc s level types.Number (expr p.high)
 bounds_next sc s level i ps p rest is fit =
     let F : List Pair → Type 0 = λ l. BoundsFit sc s level (pairs l) in
     let there = subst F is (bounds_left sc s level i ps fit) in

@@ -11,13 +11,13 @@ use Rattle.b67_ops.specs.declared.Operator.TheVariants.{Branch}
 use Rattle.b67_ops.specs.declared.BranchKind.{BranchKind}
 use Rattle.b67_ops.specs.declared.BranchKind.TheVariants.{Brun}
 use Rattle.b67_segment.specs.Operators.{Placed, StandsAmong, size}
-use Rattle.b67_templates.specs.Fragments.{Has, BranchAt, Goes, over, stop}
-use Rattle.b67_templates.specs.Emitting.{Keeps, Emitted, is_among, Leaves, AreExits}
+use Rattle.b67_templates.specs.Fragments.{Has, BranchAt, FragmentGoes, over, stop}
+use Rattle.b67_templates.specs.Emitting.{OperatorsStay, Emitted, number_is_among, Leaves, AreExits}
 use Rattle.b67_emitter.specs.Aiming.{Aimed}
 use Rattle.b67_emitter.proofs.Exits.{next-behind, is_among-append, or-left, or-right, none_before, none_behind, exits_kept, exits-append}
 use Rattle.b67_emit_stmt.specs.declared.draft.Draft.{Draft}
 use Rattle.b67_emit_stmt.specs.declared.draft.Known.{Known}
-use Rattle.b67_emit_stmt.specs.Drafts.{Agrees, AreListed, Grows, HasFew, Emits, noted}
+use Rattle.b67_emit_stmt.specs.Drafts.{DraftAgrees, FormatsCanBeListed, NotedGrows, HasFew, Emits, draft_noted}
 use Rattle.b67_emit_stmt.specs.Cases.{EntriesAt}
 use Rattle.b67_emit_stmt.specs.Lengths.{stmt_syllables, stmts_syllables}
 use Rattle.b67_emit_stmt.proofs.Notes.{agrees_front, agrees_same, formats_same, grows_equal, grows_then, listed_equal}
@@ -49,7 +49,7 @@ entries_more ps level (suc many) f m t h k e = (h.0, entries_more ps level many 
 
 pub cases-append : (sc : Place) (later : Later) (qs : List Placed) (level : ℕ) (xs : List Stmt) (y : Stmt) (entry u p x : ℕ) →
     CasesAt sc later qs level (stmts xs) entry u → BranchAt qs level Brun (entry + 3 * length xs) p (entry + 3 * length xs + 3) →
-    StmtAt sc later qs level (stmt y) p x u → Goes qs level x u → CasesAt sc later qs level (stmts (xs ++ y ∷ [])) entry u
+    StmtAt sc later qs level (stmt y) p x u → FragmentGoes qs level x u → CasesAt sc later qs level (stmts (xs ++ y ∷ [])) entry u
 cases-append sc later qs level [] y entry u p x h b s g =
     let B : ℕ → Type 0 = λ e. BranchAt qs level Brun e p (e + 3) in
     let same : entry + 3 * 0 ≡ entry = omega arith in
@@ -59,20 +59,20 @@ cases-append sc later qs level (z ∷ xs) y entry u p x h b s g =
     let same : entry + 3 * length (z ∷ xs) ≡ entry + 3 + 3 * length xs = omega arith in
     (h.0, h.1, h.2, h.3, h.4, cases-append sc later qs level xs y (entry + 3) u p x h.5 (subst B same b) s g)
 
-single_out : (x at : ℕ) → x ≢ at → is_among (x ∷ []) at ≡ false
+single_out : (x at : ℕ) → x ≢ at → number_is_among (x ∷ []) at ≡ false
 single_out x at h = let e : nat_eq x at ≡ false = ne_eqb x at h in rw e refl
 
-single_in : (x : ℕ) → is_among (x ∷ []) x ≡ true
+single_in : (x : ℕ) → number_is_among (x ∷ []) x ≡ true
 single_in x = let e : nat_eq x x ≡ true = eq-eqb x x refl in rw e refl
 
 -- what stands in the table up to a place, and after the table, stands still, but the exits, which go to that target
 pub record Partly (exits : List ℕ) (target from upto behind to : ℕ) (ps qs : List Placed) : Type 0 where
   pub table :
-      (at level next : ℕ) (op : Operator) → is_among exits at ≡ false → from ≤ at → at < upto → next ≤ to → StandsAmong ps at level op next → StandsAmong qs at level op next
+      (at level next : ℕ) (op : Operator) → number_is_among exits at ≡ false → from ≤ at → at < upto → next ≤ to → StandsAmong ps at level op next → StandsAmong qs at level op next
   pub code :
-      (at level next : ℕ) (op : Operator) → is_among exits at ≡ false → behind ≤ at → next ≤ to → StandsAmong ps at level op next → StandsAmong qs at level op next
+      (at level next : ℕ) (op : Operator) → number_is_among exits at ≡ false → behind ≤ at → next ≤ to → StandsAmong ps at level op next → StandsAmong qs at level op next
   pub aimed :
-      (at level next old : ℕ) (kind : BranchKind) → is_among exits at ≡ true → behind ≤ at → next ≤ to → StandsAmong ps at level (Branch kind old) next →
+      (at level next old : ℕ) (kind : BranchKind) → number_is_among exits at ≡ true → behind ≤ at → next ≤ to → StandsAmong ps at level (Branch kind old) next →
       StandsAmong qs at level (Branch kind target) next
 
 -- The statements that are done stand after the table, and the branches to the others are not aimed yet.
@@ -81,21 +81,21 @@ pub record Midcase (known : Known) (sc : Place) (level : ℕ) (done : List Stmt)
   pub begun : size a.out.operators ≤ size t.out.operators
   pub grown : size t.out.operators ≤ size c.out.operators
   pub short : size c.out.operators + 3 * length done ≤ size t.out.operators + stmts_syllables known (stmts done)
-  pub notes : Grows (size a.out.operators) (noted a) (noted c)
+  pub notes : NotedGrows (size a.out.operators) (draft_noted a) (draft_noted c)
   pub few : HasFew c
   pub more : length c.formats.items + size a.out.operators ≤ length a.formats.items + size c.out.operators
-  pub listed : AreListed a.formats.items → AreListed c.formats.items
-  pub kept : Keeps 0 (size a.out.operators) a.out.operators c.out.operators
+  pub listed : FormatsCanBeListed a.formats.items → FormatsCanBeListed c.formats.items
+  pub kept : OperatorsStay 0 (size a.out.operators) a.out.operators c.out.operators
   pub exits : List ℕ
   pub added : c.exits.items ≡ a.exits.items ++ exits
   pub are : AreExits c.out.operators exits (size t.out.operators) (size c.out.operators)
   pub pending : EntriesAt c.out.operators level left (size a.out.operators + 3 * length done) (size t.out.operators)
   pub claimed :
-      (later : Later) → Agrees (noted c) later → (qs : List Placed) (target : ℕ) → size c.out.operators ≤ target →
+      (later : Later) → DraftAgrees (draft_noted c) later → (qs : List Placed) (target : ℕ) → size c.out.operators ≤ target →
       Partly exits target (size a.out.operators) (size a.out.operators + 3 * length done) (size t.out.operators) (size c.out.operators) c.out.operators qs →
       CasesAt sc later qs level (stmts done) (size a.out.operators) target
 
-pub midcase-first : (known : Known) (sc : Place) (level many : ℕ) (a t : Draft) → HasFew a → t.exits.items ≡ a.exits.items → noted t ≡ noted a →
+pub midcase-first : (known : Known) (sc : Place) (level many : ℕ) (a t : Draft) → HasFew a → t.exits.items ≡ a.exits.items → draft_noted t ≡ draft_noted a →
     Emitted a.out t.out (λ qs. EntriesAt qs level many (size a.out.operators) (size t.out.operators)) → Midcase known sc level [] many a t t
 midcase-first known sc level many a t few es fs h =
     let here = h.claimed t.out.operators (λ at level next op lo hi s. s) in
@@ -118,7 +118,7 @@ midcase-first known sc level many a t few es fs h =
     }
 
 module _ (known : Known) (sc : Place) (level : ℕ) (done : List Stmt) (left : ℕ) (a t c d e f : Draft) (s : Stmt) (entry n : ℕ) (m : Midcase known sc level done (suc left) a t c)
-    (is : entry ≡ size a.out.operators + 3 * length done) (aim : Aimed (entry ∷ []) c.out d.out) (es : d.exits.items ≡ c.exits.items) (fs : noted d ≡ noted c)
+    (is : entry ≡ size a.out.operators + 3 * length done) (aim : Aimed (entry ∷ []) c.out d.out) (es : d.exits.items ≡ c.exits.items) (fs : draft_noted d ≡ draft_noted c)
     (g : Emits n d f
     (λ later qs target.
     StmtAt sc later qs level (stmt s) (size d.out.operators) (size e.out.operators) target × BranchAt qs level Brun (size e.out.operators) target (size f.out.operators)))
@@ -150,17 +150,17 @@ module _ (known : Known) (sc : Place) (level : ℕ) (done : List Stmt) (left : �
       (exits_kept f.out.operators f.out.operators g.code.exits (size d.out.operators) (size f.out.operators) (size t.out.operators) (size f.out.operators)
       (omega (arith, aim.place, m.grown)) (omega arith) (λ at l next old kind lo hi st. (old, st)) g.code.are)
 
-  no_new : (at : ℕ) → at < size c.out.operators → is_among g.code.exits at ≡ false
+  no_new : (at : ℕ) → at < size c.out.operators → number_is_among g.code.exits at ≡ false
   no_new at lo = none_before f.out.operators g.code.exits (size d.out.operators) (size f.out.operators) at g.code.are (omega (arith, aim.place))
 
-  no_old : (at : ℕ) → size c.out.operators ≤ at → is_among m.exits at ≡ false
+  no_old : (at : ℕ) → size c.out.operators ≤ at → number_is_among m.exits at ≡ false
   no_old at hi = none_behind c.out.operators m.exits (size t.out.operators) (size c.out.operators) at m.are hi
 
-  old_alone : (at : ℕ) (b : Bool) → at < size c.out.operators → is_among m.exits at ≡ b → is_among (m.exits ++ g.code.exits) at ≡ b
-  old_alone at b lo q = is_among-append m.exits g.code.exits at ∙ or-left (is_among m.exits at) (is_among g.code.exits at) (no_new at lo) ∙ q
+  old_alone : (at : ℕ) (b : Bool) → at < size c.out.operators → number_is_among m.exits at ≡ b → number_is_among (m.exits ++ g.code.exits) at ≡ b
+  old_alone at b lo q = is_among-append m.exits g.code.exits at ∙ or-left (number_is_among m.exits at) (number_is_among g.code.exits at) (no_new at lo) ∙ q
 
-  new_alone : (at : ℕ) (b : Bool) → size c.out.operators ≤ at → is_among g.code.exits at ≡ b → is_among (m.exits ++ g.code.exits) at ≡ b
-  new_alone at b hi q = is_among-append m.exits g.code.exits at ∙ or-right (is_among m.exits at) (is_among g.code.exits at) (no_old at hi) ∙ q
+  new_alone : (at : ℕ) (b : Bool) → size c.out.operators ≤ at → number_is_among g.code.exits at ≡ b → number_is_among (m.exits ++ g.code.exits) at ≡ b
+  new_alone at b hi q = is_among-append m.exits g.code.exits at ∙ or-right (number_is_among m.exits at) (number_is_among g.code.exits at) (no_old at hi) ∙ q
 
   module _ (qs : List Placed) (target : ℕ)
       (l : Partly (m.exits ++ g.code.exits) target (size a.out.operators) (size a.out.operators + 3 * length (done ++ s ∷ [])) (size t.out.operators) (size f.out.operators) f.out.operators qs) where
@@ -207,7 +207,7 @@ module _ (known : Known) (sc : Place) (level : ℕ) (done : List Stmt) (left : �
           forward = omega (arith, within, m.grown, aim.place);
         }
 
-    stand : (later : Later) → Agrees (noted f) later → size f.out.operators ≤ target →
+    stand : (later : Later) → DraftAgrees (draft_noted f) later → size f.out.operators ≤ target →
         CasesAt sc later qs level (stmts (done ++ s ∷ [])) (size a.out.operators) target
     unfolding x
     stand later k hi =

@@ -11,18 +11,18 @@ use Rattle.algol_tree.specs.Sorts.{Sort, is_variable, procedure_in}
 use Rattle.algol_tree.specs.Types.{taken_by}
 use Rattle.algol_tree.specs.Blocks.{block_numbered}
 use Rattle.algol_tree.specs.Scopes.{Scopes, use_of}
-use Rattle.algol_meaning.specs.Settle.{block_of, sorts_of}
+use Rattle.algol_meaning.specs.Settle.{block_of_sort, sorts_of}
 use Rattle.algol_meaning.specs.Statements.{alone}
 use Rattle.b67_ops.specs.declared.Couple.{Couple}
 use Rattle.b67_templates.specs.Cells as wants
 use Rattle.b67_templates.specs.Cells.{Wanted, Actual, parameter_wants, own_actual, actuals_in, actuals_among, actuals_given, actuals_in_pairs, actuals_in_decls, actuals_in_stmt, actuals_in_stmts, actuals_in_block, IsRead, of_variable, of_formal}
 use Rattle.b67_templates.specs.Fitting as fitting
-use Rattle.b67_templates.specs.Fitting.{Meant, Told, a_variable, a_name, a_procedure, is_by_name, ProcedureFits, ExprFits, SubscriptsFit, ActualsFit, NameActualFits, BoundsFit, DeclsFit, LineFits}
+use Rattle.b67_templates.specs.Fitting.{Meant, Told, a_variable, a_name, a_procedure, wanted_by_name, ProcedureFits, ExprFits, SubscriptsFit, ActualsFit, NameActualFits, BoundsFit, DeclsFit, LineFits}
 use Rattle.b67_templates.specs.Paying.{modes_of, stands}
 use Rattle.b67_emitter.specs.Values.{meanings}
 use Rattle.b67_emit_stmt.specs.declared.draft.Known.{Known}
-use Rattle.b67_emit_stmt.specs.Actuals.{exprs_of, celled, cells_in, cells_among, cells_given, cells_in_pairs, cells_in_decls, cells_in_stmt, cells_in_stmts, cells_in_block}
-use Rattle.b67_emit_stmt.specs.Fits.{StmtFits, StmtsFit, InsideFits}
+use Rattle.b67_emit_stmt.specs.Actuals.{exprs_of, celled, cells_in_actual, cells_among, cells_given, cells_in_pairs, cells_in_decls, cells_in_stmt, cells_in_stmts, cells_in_block}
+use Rattle.b67_emit_stmt.specs.Fits.{EmittedStmtFits, EmittedStmtsFit, InsideFits}
 use Rattle.b67_emit_stmt.specs.Places.{Place}
 
 both : (xs ys : List Actual) {ps qs : List PExpr} → exprs_of xs ≡ ps → exprs_of ys ≡ qs → exprs_of (xs ++ ys) ≡ ps ++ qs
@@ -78,7 +78,7 @@ module _ (sc : Scopes) (told : Told) (level block : ℕ) where
   -- ---- all in an expression
 
   mutual
-    pub celled_in : (k : Kind) (e : PExpr) → ExprFits sc told level block k e → exprs_of (actuals_in sc e) ≡ cells_in told e
+    pub celled_in : (k : Kind) (e : PExpr) → ExprFits sc told level block k e → exprs_of (actuals_in sc e) ≡ cells_in_actual told e
     celled_in k (tree.number z spot) f = refl
     celled_in k (tree.truth b spot) f = refl
     celled_in k (tree.variable (tree.subscripted n tree.none)) f = refl
@@ -90,7 +90,7 @@ module _ (sc : Scopes) (told : Told) (level block : ℕ) where
     celled_in k (tree.two op a b) f = both _ _ (celled_in (taken_by op) a f.1) (celled_in (taken_by op) b f.2)
     celled_in k (tree.if c x y spot) f = both _ _ (both _ _ (celled_in types.Truth c f.0) (celled_in k x f.1)) (celled_in k y f.2)
     celled_in k (tree.call (tree.called n es)) f =
-        subst (λ (j : ℕ). exprs_of (actuals_given sc (parameter_wants sc j) es) ≡ cells_given told (modes_of (told.meant n.spot)) es) (sym (ap block_of ((f.1).procedure).sort_is))
+        subst (λ (j : ℕ). exprs_of (actuals_given sc (parameter_wants sc j) es) ≡ cells_given told (modes_of (told.meant n.spot)) es) (sym (ap block_of_sort ((f.1).procedure).sort_is))
         (subst (λ (m : Meant). exprs_of (actuals_given sc (parameter_wants sc f.0) es) ≡ cells_given told (modes_of m) es) (sym (f.1).modes)
         (celled_given (sorts_of ((block_numbered sc.blocks f.0).parameters)) (parameter_wants sc f.0) es f.2))
     celled_in k (tree.tested x es spot) f = refl
@@ -100,7 +100,7 @@ module _ (sc : Scopes) (told : Told) (level block : ℕ) where
     celled_among (low ∷ low' ∷ []) (tree.more e (tree.more e' tree.none)) f = both _ _ (celled_in types.Number e f.1) (both _ _ (celled_in types.Number e' f.3) refl)
     celled_among _ _ f = absurd f
 
-    celled_given : (ss : List Sort) (ws : List Wanted) (es : PExprs) → ActualsFit sc told level block ss ws es → exprs_of (actuals_given sc ws es) ≡ cells_given told (map is_by_name ws) es
+    celled_given : (ss : List Sort) (ws : List Wanted) (es : PExprs) → ActualsFit sc told level block ss ws es → exprs_of (actuals_given sc ws es) ≡ cells_given told (map wanted_by_name ws) es
     celled_given [] [] tree.none f = refl
     celled_given (s ∷ ss) (wants.value kind ∷ ws) (tree.more e es) f = both _ _ (celled_in kind e f.1) (celled_given ss ws es f.2)
     celled_given (s ∷ ss) (wants.array shape ∷ ws) (tree.more (tree.variable (tree.subscripted n tree.none)) es) f = celled_given ss ws es f.2
@@ -112,7 +112,7 @@ module _ (sc : Scopes) (told : Told) (level block : ℕ) where
       ActualsFit sc told level block (sorts_of ((block_numbered sc.blocks callee).parameters)) (parameter_wants sc callee) es →
       exprs_of (actuals_given sc (wants.wants_of sc n) es) ≡ cells_given told (modes_of (told.meant n.spot)) es
   celled_called n es callee p f =
-      subst (λ (j : ℕ). exprs_of (actuals_given sc (parameter_wants sc j) es) ≡ cells_given told (modes_of (told.meant n.spot)) es) (sym (ap block_of (p.procedure).sort_is))
+      subst (λ (j : ℕ). exprs_of (actuals_given sc (parameter_wants sc j) es) ≡ cells_given told (modes_of (told.meant n.spot)) es) (sym (ap block_of_sort (p.procedure).sort_is))
       (subst (λ (m : Meant). exprs_of (actuals_given sc (parameter_wants sc callee) es) ≡ cells_given told (modes_of m) es) (sym p.modes)
       (celled_given (sorts_of ((block_numbered sc.blocks callee).parameters)) (parameter_wants sc callee) es f))
 
@@ -144,11 +144,11 @@ module _ (sc : Place) (s : Known) where
   abbrev told : Told
   told = meanings s.names.now
 
-  abbrev at : (level : ℕ) (k : Kind) (e : PExpr) → ExprFits sc.scopes told level sc.block k e → exprs_of (actuals_in sc.scopes e) ≡ cells_in told e
+  abbrev at : (level : ℕ) (k : Kind) (e : PExpr) → ExprFits sc.scopes told level sc.block k e → exprs_of (actuals_in sc.scopes e) ≡ cells_in_actual told e
   at level = celled_in sc.scopes told level sc.block
 
   mutual
-    celled_stmt : (level : ℕ) (x : PStmt) → StmtFits sc s level x → exprs_of (actuals_in_stmt sc.scopes x) ≡ cells_in_stmt told x
+    celled_stmt : (level : ℕ) (x : PStmt) → EmittedStmtFits sc s level x → exprs_of (actuals_in_stmt sc.scopes x) ≡ cells_in_stmt told x
     celled_stmt level tree.empty f = refl
     celled_stmt level (tree.assign (tree.subscripted n tree.none) e) f = at level f.0 e f.2
     celled_stmt level (tree.assign (tree.subscripted n (tree.more i is)) e) f =
@@ -170,7 +170,7 @@ module _ (sc : Place) (s : Known) where
     celled_stmt level (tree.event act e) f = refl
     celled_stmt level (tree.process (tree.called n es) task) f = celled_called sc.scopes told level sc.block n es f.0 f.1 f.2
 
-    celled_stmts : (level : ℕ) (ss : PStmts) → StmtsFit sc s level ss → exprs_of (actuals_in_stmts sc.scopes ss) ≡ cells_in_stmts told ss
+    celled_stmts : (level : ℕ) (ss : PStmts) → EmittedStmtsFit sc s level ss → exprs_of (actuals_in_stmts sc.scopes ss) ≡ cells_in_stmts told ss
     celled_stmts level tree.no_stmts f = refl
     celled_stmts level (tree.stmts x xs) f = both _ _ (celled_stmt level x f.0) (celled_stmts level xs f.1)
 

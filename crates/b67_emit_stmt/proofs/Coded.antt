@@ -24,7 +24,7 @@ use Rattle.b67_emit_stmt.specs.declared.draft.Draft.{Draft}
 use Rattle.b67_emit_stmt.specs.declared.draft.Known.{Known}
 use Rattle.b67_emit_stmt.specs.Actuals.{exprs_of, images, HaveValues}
 use Rattle.b67_emit_stmt.specs.Bodies.{AreActuals, CodesEmitted, EmitsRoutines}
-use Rattle.b67_emit_stmt.specs.Drafts.{Emits, HasFew, IsAt}
+use Rattle.b67_emit_stmt.specs.Drafts.{Emits, HasFew, DraftIsAt}
 use Rattle.b67_emit_stmt.specs.Lengths.{expr_syllables, routines_syllables}
 use Rattle.b67_emit_stmt.specs.Places.{Later, Place, RoutinesAt, context_in}
 use Rattle.b67_emit_stmt.proofs.Drafts.{emits_none, emits_weaker, level_same, piece}
@@ -180,7 +180,7 @@ module _ (s : Known) (level : ℕ) (xs : List (Bor Expr)) (a : Draft) where
       (λ later qs target hi p. subst (λ (l : List Actual). RoutinesAt sc later qs level l []) (sym (none_own own xs none are.same)) refl)
 
   -- the level is one higher for a while
-  module _ (inner : Built) (d' outer : Built) (places : List ℕ) (at : IsAt level a) (i : inner ≡ record a.out { level = Some (level + 1) }) (few : HasFew a)
+  module _ (inner : Built) (d' outer : Built) (places : List ℕ) (at : DraftIsAt level a) (i : inner ≡ record a.out { level = Some (level + 1) }) (few : HasFew a)
       (codes : CodesEmitted s level inner d' (images xs) places) (short : size d'.operators ≤ size inner.operators + routines_syllables s (images xs))
       (o : outer ≡ record d' { level = Some level }) where
     pub some_emitted : EmitsRoutines s level a (record a { out = outer }) (images xs) places

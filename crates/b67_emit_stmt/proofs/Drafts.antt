@@ -10,7 +10,7 @@ use Rattle.b67_emitter.specs.Aiming.{Aimed}
 use Rattle.b67_emitter.proofs.Exits.{exits_kept}
 use Rattle.b67_emitter.proofs.Composing.{weaker_exits, no_exits, then_exits, all_aimed, aimed_later}
 use Rattle.b67_emit_stmt.specs.declared.draft.Draft.{Draft}
-use Rattle.b67_emit_stmt.specs.Drafts.{Agrees, HasFew, Emits, noted}
+use Rattle.b67_emit_stmt.specs.Drafts.{DraftAgrees, HasFew, Emits, draft_noted}
 use Rattle.b67_emit_stmt.specs.Places.{Later}
 use Rattle.b67_emit_stmt.proofs.Notes.{agrees_front, agrees_same, formats_same, grows_equal, grows_then, listed_equal, unknown}
 
@@ -32,13 +32,13 @@ at_level {n} {b} {c} level P e h = let F : ℕ → Type 0 = λ l. Emits n b c (P
 -- ---- pieces
 
 -- code without exits
-pub piece : {n : ℕ} {d e : Draft} {P : Later → List Placed → Type 0} → e.exits.items ≡ d.exits.items → noted e ≡ noted d → HasFew d →
+pub piece : {n : ℕ} {d e : Draft} {P : Later → List Placed → Type 0} → e.exits.items ≡ d.exits.items → draft_noted e ≡ draft_noted d → HasFew d →
     ((later : Later) → Emitted d.out e.out (P later)) → size e.out.operators ≤ size d.out.operators + n → Emits n d e (λ later qs target. P later qs)
 piece {n} {d} {e} {P} same fs few h short =
     let first = h unknown in
-    let whole : Emitted d.out e.out (λ qs. (later : Later) → Agrees (noted e) later → P later qs) =
+    let whole : Emitted d.out e.out (λ qs. (later : Later) → DraftAgrees (draft_noted e) later → P later qs) =
     record { level = first.level; grown = first.grown; kept = first.kept; claimed = λ qs k later f. (h later).claimed qs k } in
-    let E : List ℕ → Type 0 = λ es. EmittedWithExits d.out e.out d.exits.items es (λ qs target. (later : Later) → Agrees (noted e) later → P later qs) in
+    let E : List ℕ → Type 0 = λ es. EmittedWithExits d.out e.out d.exits.items es (λ qs target. (later : Later) → DraftAgrees (draft_noted e) later → P later qs) in
     record {
       code = subst E (sym same) (no_exits d.exits.items whole);
       short = short;
@@ -49,10 +49,10 @@ piece {n} {d} {e} {P} same fs few h short =
     }
 
 -- a branch that leaves early
-pub exit_piece : {n : ℕ} {d e : Draft} {P : List Placed → ℕ → Type 0} → noted e ≡ noted d → HasFew d →
+pub exit_piece : {n : ℕ} {d e : Draft} {P : List Placed → ℕ → Type 0} → draft_noted e ≡ draft_noted d → HasFew d →
     EmittedWithExits d.out e.out d.exits.items e.exits.items P → size e.out.operators ≤ size d.out.operators + n → Emits n d e (λ later qs target. P qs target)
 exit_piece {n} {d} {e} {P} fs few h short = record {
-  code = weaker_exits (λ qs target. (later : Later) → Agrees (noted e) later → P qs target) h (λ qs target hi p later f. p);
+  code = weaker_exits (λ qs target. (later : Later) → DraftAgrees (draft_noted e) later → P qs target) h (λ qs target hi p later f. p);
   short = short;
   notes = grows_equal fs;
   few = omega (arith, formats_same fs, few, h.grown);
@@ -65,11 +65,11 @@ exit_piece {n} {d} {e} {P} fs few h short = record {
 pub emits_then : {m n : ℕ} {a b c : Draft} {P Q : Later → List Placed → ℕ → Type 0} → Emits m a b P → Emits n b c Q →
     Emits (m + n) a c (λ later qs target. P later qs target × Q later qs target)
 emits_then {m} {n} {a} {b} {c} {P} {Q} e f =
-    let P' : List Placed → ℕ → Type 0 = λ qs target. (later : Later) → Agrees (noted b) later → P later qs target in
-    let Q' : List Placed → ℕ → Type 0 = λ qs target. (later : Later) → Agrees (noted c) later → Q later qs target in
+    let P' : List Placed → ℕ → Type 0 = λ qs target. (later : Later) → DraftAgrees (draft_noted b) later → P later qs target in
+    let Q' : List Placed → ℕ → Type 0 = λ qs target. (later : Later) → DraftAgrees (draft_noted c) later → Q later qs target in
     record {
       code =
-          weaker_exits (λ qs target. (later : Later) → Agrees (noted c) later → P later qs target × Q later qs target)
+          weaker_exits (λ qs target. (later : Later) → DraftAgrees (draft_noted c) later → P later qs target × Q later qs target)
           (then_exits a.out b.out c.out P' Q' a.exits.items b.exits.items c.exits.items e.code f.code)
           (λ qs target hi pq later k. (pq.0 later (agrees_front f.notes k), pq.1 later k));
       short = omega (arith, e.short, f.short);
@@ -83,7 +83,7 @@ pub emits_weaker : {m n : ℕ} {a b : Draft} {P : Later → List Placed → ℕ 
     ((later : Later) (qs : List Placed) (target : ℕ) → size b.out.operators ≤ target → P later qs target → Q later qs target) → Emits n a b Q
 emits_weaker {m} {n} {a} {b} {P} Q e le f = record {
   code =
-      weaker_exits (λ qs target. (later : Later) → Agrees (noted b) later → Q later qs target) e.code
+      weaker_exits (λ qs target. (later : Later) → DraftAgrees (draft_noted b) later → Q later qs target) e.code
       (λ qs target hi p later k. f later qs target hi (p later k));
   short = omega (arith, e.short, le);
   notes = e.notes;
@@ -115,17 +115,17 @@ emits_none a few = record {
 
 -- the exits that were added go to the place after the code
 pub closed : {n : ℕ} {a b c : Draft} {P : Later → List Placed → ℕ → Type 0} → Emits n a b P → Aimed (drop (length a.exits.items) b.exits.items) b.out c.out →
-    c.exits.items ≡ take (length a.exits.items) b.exits.items → noted c ≡ noted b →
+    c.exits.items ≡ take (length a.exits.items) b.exits.items → draft_noted c ≡ draft_noted b →
     Emits n a c (λ later qs target. P later qs (size b.out.operators))
 closed {n} {a} {b} {c} {P} e g es fs =
-    let P' : List Placed → ℕ → Type 0 = λ qs target. (later : Later) → Agrees (noted b) later → P later qs target in
+    let P' : List Placed → ℕ → Type 0 = λ qs target. (later : Later) → DraftAgrees (draft_noted b) later → P later qs target in
     let xs = a.exits.items in
     let there : Emitted a.out c.out (λ qs. P' qs (size b.out.operators)) = all_aimed a.out b.out c.out P' xs b.exits.items e.code g in
     let back : c.exits.items ≡ xs = es ∙ ap (take (length xs)) e.code.added ∙ take_at xs e.code.exits (length xs) refl in
     let E : List ℕ → Type 0 = λ ys. EmittedWithExits a.out c.out xs ys (λ qs target. P' qs (size b.out.operators)) in
     record {
       code =
-          weaker_exits (λ qs target. (later : Later) → Agrees (noted c) later → P later qs (size b.out.operators))
+          weaker_exits (λ qs target. (later : Later) → DraftAgrees (draft_noted c) later → P later qs (size b.out.operators))
           (subst E (sym back) (no_exits xs there))
           (λ qs target hi p later k. p later (agrees_same fs k));
       short = omega (arith, e.short, g.place);
@@ -137,11 +137,11 @@ closed {n} {a} {b} {c} {P} e g es fs =
 
 -- branches of code before go to the place after it
 pub hole_closed : (m : ℕ) {n : ℕ} {a b c d : Draft} {holes : List ℕ} {P : List Placed → ℕ → Type 0} {Q : Later → List Placed → ℕ → Type 0} →
-    EmittedWithExits a.out b.out [] holes P → size b.out.operators ≤ size a.out.operators + m → b.exits.items ≡ a.exits.items → noted b ≡ noted a →
-    Emits n b c Q → Aimed holes c.out d.out → d.exits.items ≡ c.exits.items → noted d ≡ noted c →
+    EmittedWithExits a.out b.out [] holes P → size b.out.operators ≤ size a.out.operators + m → b.exits.items ≡ a.exits.items → draft_noted b ≡ draft_noted a →
+    Emits n b c Q → Aimed holes c.out d.out → d.exits.items ≡ c.exits.items → draft_noted d ≡ draft_noted c →
     Emits (m + n) a d (λ later qs target. P qs (size c.out.operators) × Q later qs target)
 hole_closed m {n} {a} {b} {c} {d} {holes} {P} {Q} e wide es fs f g es' fs' =
-    let Q' : List Placed → ℕ → Type 0 = λ qs target. (later : Later) → Agrees (noted c) later → Q later qs target in
+    let Q' : List Placed → ℕ → Type 0 = λ qs target. (later : Later) → DraftAgrees (draft_noted c) later → Q later qs target in
     let C : List Placed → ℕ → Type 0 = λ qs target. P qs (size c.out.operators) × Q' qs target in
     let X : List ℕ → Type 0 = λ xs. EmittedWithExits a.out d.out xs c.exits.items C in
     let Y : List ℕ → Type 0 = λ ys. EmittedWithExits a.out d.out a.exits.items ys C in
@@ -149,7 +149,7 @@ hole_closed m {n} {a} {b} {c} {d} {holes} {P} {Q} e wide es fs f g es' fs' =
     subst Y (sym es') (subst X es (aimed_later a.out b.out c.out d.out P Q' holes b.exits.items c.exits.items e f.code g)) in
     record {
       code =
-          weaker_exits (λ qs target. (later : Later) → Agrees (noted d) later → P qs (size c.out.operators) × Q later qs target) there
+          weaker_exits (λ qs target. (later : Later) → DraftAgrees (draft_noted d) later → P qs (size c.out.operators) × Q later qs target) there
           (λ qs target hi p later k. (p.0, p.1 later (agrees_same fs' k)));
       short = omega (arith, wide, f.short, g.place);
       notes = grows_then e.grown (grows_equal {n = size a.out.operators} fs)

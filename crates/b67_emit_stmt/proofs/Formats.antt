@@ -12,9 +12,9 @@ use Rattle.b67_listing.specs.Listings.{IsPhrase}
 use Rattle.b67_segment.specs.declared.code.Format.{Format}
 use Rattle.b67_segment.specs.declared.code.Phrase.{Phrase}
 use Rattle.b67_segment.specs.declared.code.Phrase.TheVariants as parts
-use Rattle.b67_templates.specs.Code.{AreParts, IsPart, text, word, word_part}
+use Rattle.b67_templates.specs.Code.{AreParts, IsCodePart, text, word, word_part}
 use Rattle.b67_templates.specs.Fitting.{IsNarrowWord, PhraseFits, PhrasesFit}
-use Rattle.b67_emit_stmt.specs.Drafts.{AreListed}
+use Rattle.b67_emit_stmt.specs.Drafts.{FormatsCanBeListed}
 
 abbrev CanStand : ℕ → Type 0
 CanStand b = (32 ≤ b) × (b ≤ 126) × (b ≢ 34)
@@ -32,7 +32,7 @@ word_listed : (letters : List ℕ) → IsNarrowWord letters → IsPhrase (word_p
 word_listed [] narrow = omega arith
 word_listed (letter ∷ digits) narrow = of_letter (letter == 73) (value_of digits) narrow
 
-phrase_listed : (t : PhraseText) (p : Phrase) → IsPart t p → PhraseFits t → IsPhrase p
+phrase_listed : (t : PhraseText) (p : Phrase) → IsCodePart t p → PhraseFits t → IsPhrase p
 phrase_listed t p (text bytes) h = λ k d lo. let byte = h k d lo in can_stand _ byte.0 byte.1
 phrase_listed t p (word letters) h = word_listed letters h
 
@@ -42,5 +42,5 @@ phrases_listed (t ∷ ts) ps e h =
     subst (λ (l : List Phrase). All IsPhrase l) (sym e.2) (All-cons IsPhrase e.0 e.1 (phrase_listed t e.0 e.3 h.0) (phrases_listed ts e.1 e.4 h.1))
 
 -- with the format of such phrases
-pub format_listed : (xs : List Format) (f : Format) (ts : List PhraseText) → AreParts ts f.phrases → PhrasesFit ts → AreListed xs → AreListed (xs ++ f ∷ [])
+pub format_listed : (xs : List Format) (f : Format) (ts : List PhraseText) → AreParts ts f.phrases → PhrasesFit ts → FormatsCanBeListed xs → FormatsCanBeListed (xs ++ f ∷ [])
 format_listed xs f ts e h l = All-push (λ (format : Format). All IsPhrase format.phrases) xs f l (phrases_listed ts f.phrases e h)

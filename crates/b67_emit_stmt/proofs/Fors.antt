@@ -14,9 +14,9 @@ use Rattle.b67_emit_stmt.specs.Lengths.{expr_syllables, stmt_syllables}
 use Rattle.b67_templates.specs.Emitting.{Emitted}
 use Rattle.b67_emit_stmt.specs.declared.draft.Draft.{Draft}
 use Rattle.b67_emit_stmt.specs.declared.draft.Known.{Known}
-use Rattle.b67_emit_stmt.specs.Drafts.{Emits, IsAt, IsReady}
+use Rattle.b67_emit_stmt.specs.Drafts.{Emits, DraftIsAt, IsReady}
 use Rattle.b67_emit_stmt.specs.Emits.{EmitsBody, HasFit}
-use Rattle.b67_emit_stmt.specs.Fits.{AssignFits, ExprFits, ReadFits, StmtFits, VariableFits}
+use Rattle.b67_emit_stmt.specs.Fits.{AssignFits, EmittedExprFits, ReadFits, EmittedStmtFits, VariableFits}
 use Rattle.b67_emit_stmt.specs.Places.{Later, Place, AssignAt, ExprAt, StepAt}
 use Rattle.b67_emit_stmt.proofs.Arms.{Closed}
 use Rattle.b67_emit_stmt.proofs.Drafts.{emits_then, level_after, level_same}
@@ -25,12 +25,12 @@ use Rattle.b67_emit_stmt.proofs.Matched as matched
 use Rattle.b67_emit_stmt.proofs.Parts.{set_same, variable_at}
 use Rattle.b67_emit_stmt.proofs.Ready.{body_piece, fit_after, ready_after}
 
-module _ (s : Known) (sc : Place) (v : Named) (first p l : PExpr) (x : PStmt) (a : Draft) (b' d' : Built) (fits : StmtFits sc s (level_set a.out) (tree.for v first p l x))
+module _ (s : Known) (sc : Place) (v : Named) (first p l : PExpr) (x : PStmt) (a : Draft) (b' d' : Built) (fits : EmittedStmtFits sc s (level_set a.out) (tree.for v first p l x))
     (ready : IsReady s a (stmt_syllables s (tree.for v first p l x)))
     (assign : (sc' : Place) (later : Later) → AssignFits sc' s (level_set a.out) v first →
     Emitted a.out b' (λ qs. AssignAt sc' later qs (level_set a.out) v first (size a.out.operators) (size b'.operators)))
     (assign_level : b'.level ≡ a.out.level) (assign_short : size b'.operators ≤ size a.out.operators + (4 + expr_syllables s first))
-    (difference : (sc' : Place) (later : Later) → ReadFits sc' s (level_set b') types.Number v → ExprFits sc' s (level_set b') types.Number l →
+    (difference : (sc' : Place) (later : Later) → ReadFits sc' s (level_set b') types.Number v → EmittedExprFits sc' s (level_set b') types.Number l →
     Emitted b' d' (λ qs. ExprAt sc' later qs (level_set b') types.Number (tree.two operators.Sub (alone v) l) (size b'.operators) (size d'.operators) (size d'.operators)))
     (difference_level : d'.level ≡ b'.level) (difference_short : size d'.operators ≤ size b'.operators + (3 + expr_syllables s l)) where
   abbrev b : Draft
@@ -56,12 +56,12 @@ module _ (s : Known) (sc : Place) (v : Named) (first p l : PExpr) (x : PStmt) (a
   step_ready = ready_after s a (stmt_syllables s (tree.for v first p l x)) (13 + expr_syllables s p) ready (emits_then begun tested) (omega arith)
 
   module _ (e : Draft)
-      (step : (sc' : Place) → ExprFits sc' s (level_set d') types.Number p →
+      (step : (sc' : Place) → EmittedExprFits sc' s (level_set d') types.Number p →
       Emits (13 + expr_syllables s p) d e (λ later qs target. StepAt sc' later qs (level_set d') p (size d'.operators) target (size e.out.operators))) where
     stepped : Emits (13 + expr_syllables s p) d e (λ later qs target. StepAt sc later qs level p (size d'.operators) target (size e.out.operators))
     stepped = matched.stepped s sc level p d e behind_test step fits.2
 
-    pub body_needs : (own : ℕ) → IsAt own a → IsReady s e (stmt_syllables s x) × HasFit s e x × IsAt own e
+    pub body_needs : (own : ℕ) → DraftIsAt own a → IsReady s e (stmt_syllables s x) × HasFit s e x × DraftIsAt own e
     body_needs own at =
         let all = emits_then (emits_then begun tested) stepped in
         (ready_after s a (stmt_syllables s (tree.for v first p l x)) (stmt_syllables s x) ready all (omega arith), fit_after s sc x all fits.4, at_after all at)
@@ -73,9 +73,9 @@ module _ (s : Known) (sc : Place) (v : Named) (first p l : PExpr) (x : PStmt) (a
       behind_body : level_set f.out ≡ level
       behind_body = level_after (emits_then stepped performed) ∙ behind_test
 
-      pub advance_fits : (sc' : Place) × VariableFits sc' s (level_set f.out) v × ExprFits sc' s (level_set f.out) types.Number p
+      pub advance_fits : (sc' : Place) × VariableFits sc' s (level_set f.out) v × EmittedExprFits sc' s (level_set f.out) types.Number p
       advance_fits =
-          let E : ℕ → Type 0 = λ n. ExprFits sc s n types.Number p in
+          let E : ℕ → Type 0 = λ n. EmittedExprFits sc s n types.Number p in
           (sc, variable_at s (level_set f.out) level sc v behind_body fits.0, subst E (sym behind_body) fits.2)
 
       pub advance_needs : IsSome f.out.level × (size f.out.operators + (7 + expr_syllables s p) ≤ MOST_SEGMENT_SYLLABLES)
@@ -85,7 +85,7 @@ module _ (s : Known) (sc : Place) (v : Named) (first p l : PExpr) (x : PStmt) (a
       )
 
       module _ (n' : Built)
-          (advance : (sc' : Place) (later : Later) → VariableFits sc' s (level_set f.out) v → ExprFits sc' s (level_set f.out) types.Number p →
+          (advance : (sc' : Place) (later : Later) → VariableFits sc' s (level_set f.out) v → EmittedExprFits sc' s (level_set f.out) types.Number p →
           Emitted f.out n' (λ qs. AssignAt sc' later qs (level_set f.out) v (tree.two operators.Add (alone v) p) (size f.out.operators) (size n'.operators)))
           (advance_level : n'.level ≡ f.out.level) (advance_short : size n'.operators ≤ size f.out.operators + (7 + expr_syllables s p)) where
         pub turn_needs : (start : ℕ) → start ≡ size b'.operators → IsSome n'.level × (start ≤ size n'.operators) × (size n'.operators + 3 ≤ MOST_SEGMENT_SYLLABLES)

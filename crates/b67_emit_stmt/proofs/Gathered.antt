@@ -27,7 +27,7 @@ use Rattle.algol_tree.specs.Plain.{PExpr, PExprs, PStmt, PStmts, PDecl, PDecls}
 use Rattle.b67_templates.specs.Cells.{has_place}
 use Rattle.b67_templates.specs.Fitting.{Told}
 use Rattle.b67_templates.specs.Paying.{if_known}
-use Rattle.b67_emit_stmt.specs.Actuals.{celled, cells_in, cells_among, cells_given, cells_in_pairs, cells_in_decls, cells_in_stmt}
+use Rattle.b67_emit_stmt.specs.Actuals.{celled, cells_in_actual, cells_among, cells_given, cells_in_pairs, cells_in_decls, cells_in_stmt}
 use Rattle.b67_emit_stmt.proofs.Made.{arrays_are, makes_no, makes_none}
 use Rattle.b67_emit_stmt.proofs.Shapes.{assign_as, block_as}
 
@@ -119,7 +119,7 @@ case_as p e ss xs is same = ap stmt is ∙ own e ss ∙ ap (λ (l : List Stmt). 
 -- ---- the actuals of a call
 
 given_at : (told : Told) (modes : List Bool) (i : ℕ) (e : PExpr) (es : PExprs) →
-    cells_given told (drop i modes) (tree.more e es) ≡ celled told (if_known (slice_get modes i)) e ++ cells_in told e ++ cells_given told (drop (suc i) modes) es
+    cells_given told (drop i modes) (tree.more e es) ≡ celled told (if_known (slice_get modes i)) e ++ cells_in_actual told e ++ cells_given told (drop (suc i) modes) es
 given_at told [] zero e es = refl
 given_at told [] (suc i) e es = refl
 given_at told (mode ∷ modes) zero e es = refl
@@ -127,10 +127,10 @@ given_at told (mode ∷ modes) (suc i) e es = given_at told modes i e es
 
 -- the mode of the next is that of its number
 pub given_next : (told : Told) (modes : List Bool) (i : ℕ) (e : PExpr) (es : PExprs) →
-    cells_given told (drop i modes) (tree.more e es) ≡ celled told (if_known (slice_get modes i)) e ++ cells_in told e ++ cells_given told (drop (i + 1) modes) es
+    cells_given told (drop i modes) (tree.more e es) ≡ celled told (if_known (slice_get modes i)) e ++ cells_in_actual told e ++ cells_given told (drop (i + 1) modes) es
 given_next told modes i e es =
     let n : suc i ≡ i + 1 = omega arith in
-    given_at told modes i e es ∙ ap (λ (k : ℕ). celled told (if_known (slice_get modes i)) e ++ cells_in told e ++ cells_given told (drop k modes) es) n
+    given_at told modes i e es ∙ ap (λ (k : ℕ). celled told (if_known (slice_get modes i)) e ++ cells_in_actual told e ++ cells_given told (drop k modes) es) n
 
 -- ---- what is subscripted
 
@@ -145,10 +145,10 @@ subscripted v empty n is many = by v.subs (is ∙ ap (λ (k : ℕ). k == 0) many
 
 module _ (told : Told) where
   pub assign_cells : (p : Stmt) (v : Variable) (e : Expr) (es : List Expr) → p ≡ shapes.Assign v e → es ≡ v.subs →
-      cells_in_stmt told (stmt p) ≡ cells_among told (exprs es) ++ cells_in told (expr e)
+      cells_in_stmt told (stmt p) ≡ cells_among told (exprs es) ++ cells_in_actual told (expr e)
   assign_cells p v e es is same =
       ap (cells_in_stmt told) (assign_as p v e is) ∙ ap (λ w. cells_in_stmt told (tree.assign w (expr e))) (variable_is v)
-      ∙ ap (λ (l : List Expr). cells_among told (exprs l) ++ cells_in told (expr e)) (sym same)
+      ∙ ap (λ (l : List Expr). cells_among told (exprs l) ++ cells_in_actual told (expr e)) (sym same)
 
 -- ---- a block that declares something, whose actuals are its own
 

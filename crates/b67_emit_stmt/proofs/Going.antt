@@ -22,7 +22,7 @@ use Rattle.b67_emitter.proofs.Composing.{then, weaker}
 use Rattle.b67_emit_stmt.specs.declared.draft.Draft.{Draft}
 use Rattle.b67_emit_stmt.specs.declared.draft.Known.{Known}
 use Rattle.b67_emit_stmt.specs.declared.draft.Label.{Label}
-use Rattle.b67_emit_stmt.specs.Drafts.{AreListed, Emits, HasFew}
+use Rattle.b67_emit_stmt.specs.Drafts.{FormatsCanBeListed, Emits, HasFew}
 use Rattle.b67_emit_stmt.specs.Fits.{LabelFits}
 use Rattle.b67_emit_stmt.specs.Lengths.{stmt_syllables}
 use Rattle.b67_emit_stmt.specs.Places.{Later, Place, GoToAt, StmtAt}
@@ -97,7 +97,7 @@ label_piece a b l out es fs ls at few =
       };
       few = omega (arith, ap (λ (i : List Format). length i) fs, few, same);
       more = omega (arith, ap (λ (i : List Format). length i) fs, same);
-      listed = λ i. subst AreListed (sym fs) i;
+      listed = λ i. subst FormatsCanBeListed (sym fs) i;
     }
 
 pub label_arm : (s : Known) (sc : Place) (level : ℕ) (n : Named) (x : PStmt) (a b c : Draft) → size b.out.operators ≡ size a.out.operators →

@@ -4,12 +4,12 @@ use Rattle.b67_segment.specs.Operators.{Placed}
 use Rattle.b67_segment.specs.Building.{Built}
 use Rattle.b67_emit_stmt.specs.declared.draft.Draft.{Draft}
 use Rattle.b67_emit_stmt.specs.Places.{Later}
-use Rattle.b67_emit_stmt.specs.Drafts.{Emits, IsAt}
+use Rattle.b67_emit_stmt.specs.Drafts.{Emits, DraftIsAt}
 
-pub at_same : {level : ℕ} (a b : Draft) → b.out.level ≡ a.out.level → IsAt level a → IsAt level b
+pub at_same : {level : ℕ} (a b : Draft) → b.out.level ≡ a.out.level → DraftIsAt level a → DraftIsAt level b
 at_same a b e h = record { set = e ∙ h.set; outer = h.outer }
 
-pub at_after : {n level : ℕ} {a b : Draft} {P : Later → List Placed → ℕ → Type 0} → Emits n a b P → IsAt level a → IsAt level b
+pub at_after : {n level : ℕ} {a b : Draft} {P : Later → List Placed → ℕ → Type 0} → Emits n a b P → DraftIsAt level a → DraftIsAt level b
 at_after {n} {level} {a} {b} e h = at_same a b e.code.level h
 
 -- code that was added while another level was set

@@ -12,9 +12,9 @@ use Rattle.b67_segment.specs.Building.{Built}
 use Rattle.b67_templates.specs.Emitting.{Emitted}
 use Rattle.b67_emitter.proofs.Composing.{then, weaker}
 use Rattle.b67_segment.specs.declared.code.Phrase.{Phrase}
-use Rattle.b67_templates.specs.Code.{AreParts, IsPart}
+use Rattle.b67_templates.specs.Code.{AreParts, IsCodePart}
 use Rattle.b67_templates.specs.Fitting.{PhraseFits, PhrasesFit}
-use Rattle.b67_emit_stmt.specs.Fits.{ExprFits, LineFits}
+use Rattle.b67_emit_stmt.specs.Fits.{EmittedExprFits, LineFits}
 use Rattle.b67_emit_stmt.specs.Lengths.{expr_syllables, items_syllables}
 
 -- a number is no less for more digits
@@ -23,7 +23,7 @@ value_grows n [] = omega arith
 value_grows n (d ∷ ds) = omega (arith, value_grows (n * 10 + (d - 48)) ds)
 
 -- each phrase so far is a part, and then the next is
-pub parts_more : (ts : List PhraseText) (ps : List Phrase) (t : PhraseText) (p : Phrase) → AreParts ts ps → IsPart t p → AreParts (ts ++ t ∷ []) (ps ++ p ∷ [])
+pub parts_more : (ts : List PhraseText) (ps : List Phrase) (t : PhraseText) (p : Phrase) → AreParts ts ps → IsCodePart t p → AreParts (ts ++ t ∷ []) (ps ++ p ∷ [])
 parts_more [] ps t p h k = rw h (p, [], refl, k, refl)
 parts_more (x ∷ ts) ps t p h k =
     rw h.2 (h.0, h.1 ++ p ∷ [], refl, h.3, parts_more ts h.1 t p h.4 k)
@@ -35,7 +35,7 @@ phrase_fits [] t us h = h.0
 phrase_fits (x ∷ ts) t us h = phrase_fits ts t us h.1
 
 pub line_fits : (sc : Place) (known : Known) (level : ℕ) (xs : List Expr) (y : Expr) (ys : List Expr) → LineFits sc known level (exprs (xs ++ y ∷ ys)) →
-    ExprFits sc known level types.Number (expr y)
+    EmittedExprFits sc known level types.Number (expr y)
 line_fits sc known level [] y ys h = h.0
 line_fits sc known level (x ∷ xs) y ys h = line_fits sc known level xs y ys h.1
 

@@ -7,10 +7,10 @@ use Rattle.b67_emit_stmt.specs.declared.draft.Known.{Known}
 use Rattle.b67_segment.specs.Operators.{Placed, size}
 use Rattle.b67_segment.specs.Building.{level_set}
 use Rattle.b67_emit_stmt.specs.Lengths.{stmt_syllables, stmts_syllables}
-use Rattle.b67_emit_stmt.specs.Fits.{StmtFits, StmtsFit}
+use Rattle.b67_emit_stmt.specs.Fits.{EmittedStmtFits, EmittedStmtsFit}
 use Rattle.b67_emitter.specs.Aiming.{Aimed}
 use Rattle.b67_emit_stmt.specs.declared.draft.Draft.{Draft}
-use Rattle.b67_emit_stmt.specs.Drafts.{Emits, HasFew, IsReady, noted}
+use Rattle.b67_emit_stmt.specs.Drafts.{Emits, HasFew, IsReady, draft_noted}
 use Rattle.b67_emit_stmt.specs.Emits.{EmitsStmt}
 use Rattle.b67_emit_stmt.proofs.Drafts.{closed, emits_none, emits_then, emits_weaker, level_after, set_after}
 use Rattle.b67_emit_stmt.proofs.Lists.{around, fits-append, front_more, stands-append, syllables-append}
@@ -23,10 +23,10 @@ pub together_none : (s : Known) (sc : Place) (level : ℕ) (xs : List Stmt) (a :
 together_none s sc level xs a few = emits_weaker (StandTogether sc level (take 0 xs) a a) (emits_none a few) (omega arith) (λ later qs target hi p. refl)
 
 -- the next statement fits
-pub next_fits : (s : Known) (sc : Place) (level : ℕ) (xs : List Stmt) (i : ℕ) (x : Stmt) → i < length xs → x ≡ get_or xs i x → StmtsFit sc s level (stmts xs) →
-    StmtFits sc s level (stmt x)
+pub next_fits : (s : Known) (sc : Place) (level : ℕ) (xs : List Stmt) (i : ℕ) (x : Stmt) → i < length xs → x ≡ get_or xs i x → EmittedStmtsFit sc s level (stmts xs) →
+    EmittedStmtFits sc s level (stmt x)
 next_fits s sc level xs i x h e fit =
-    let F : List Stmt → Type 0 = λ l. StmtsFit sc s level (stmts l) in
+    let F : List Stmt → Type 0 = λ l. EmittedStmtsFit sc s level (stmts l) in
     fits-append sc s level (take i xs) x (drop (i + 1) xs) (subst F (around xs i x h e) fit)
 
 -- the syllables before the next statement, its own and those after it are those of the list
@@ -42,7 +42,7 @@ more_syllables s xs i x h e =
 
 module _ (s : Known) (sc : Place) (level : ℕ) (xs : List Stmt) (i : ℕ) (x : Stmt) (lo : i < length xs) (is : x ≡ get_or xs i x) (a b d : Draft) (first : ℕ)
     (at : first ≡ length a.exits.items) (h : Emits (stmts_syllables s (stmts (take i xs))) a b (StandTogether sc level (take i xs) a b))
-    (aimed : Aimed (drop first b.exits.items) b.out d.out) (es : d.exits.items ≡ take first b.exits.items) (fs : noted d ≡ noted b) where
+    (aimed : Aimed (drop first b.exits.items) b.out d.out) (es : d.exits.items ≡ take first b.exits.items) (fs : draft_noted d ≡ draft_noted b) where
   -- the exits of those that are done go to the next
   done : Emits (stmts_syllables s (stmts (take i xs))) a d (λ later qs target. StandTogether sc level (take i xs) a b later qs (size b.out.operators))
   done =
@@ -67,7 +67,7 @@ module _ (s : Known) (sc : Place) (level : ℕ) (xs : List Stmt) (i : ℕ) (x : 
     room = omega (arith, next_syllables s xs i x lo is, done.short, r.room, le);
   }
 
-  pub together_more : (e : Draft) → level_set a.out ≡ level → StmtFits sc s level (stmt x) → EmitsStmt s d e (stmt x) →
+  pub together_more : (e : Draft) → level_set a.out ≡ level → EmittedStmtFits sc s level (stmt x) → EmitsStmt s d e (stmt x) →
       Emits (stmts_syllables s (stmts (take (i + 1) xs))) a e (StandTogether sc level (take (i + 1) xs) a e)
   together_more e q fit k =
       let S : List Stmt → Later → List Placed → ℕ → Type 0 = λ l later qs target. StandTogether sc level l a e later qs target in

@@ -6,7 +6,7 @@ use Rattle.algol_tree.specs.Image.{stmt, stmts}
 use Rattle.b67_emit_stmt.specs.declared.draft.Known.{Known}
 use Rattle.b67_emit_stmt.specs.Places.{Later, Place, StmtAt, StmtsAt}
 use Rattle.b67_segment.specs.Operators.{Placed}
-use Rattle.b67_emit_stmt.specs.Fits.{StmtFits, StmtsFit}
+use Rattle.b67_emit_stmt.specs.Fits.{EmittedStmtFits, EmittedStmtsFit}
 use Rattle.b67_emit_stmt.specs.Lengths.{stmt_syllables, stmts_syllables}
 
 -- a list around one of its items
@@ -26,8 +26,8 @@ syllables-append s (x ∷ xs) y ys = omega (arith, syllables-append s xs y ys)
 
 -- ---- fitting
 
-pub fits-append : (sc : Place) (known : Known) (level : ℕ) (xs : List Stmt) (y : Stmt) (ys : List Stmt) → StmtsFit sc known level (stmts (xs ++ y ∷ ys)) →
-    StmtFits sc known level (stmt y)
+pub fits-append : (sc : Place) (known : Known) (level : ℕ) (xs : List Stmt) (y : Stmt) (ys : List Stmt) → EmittedStmtsFit sc known level (stmts (xs ++ y ∷ ys)) →
+    EmittedStmtFits sc known level (stmt y)
 fits-append sc known level [] y ys h = h.0
 fits-append sc known level (x ∷ xs) y ys h = fits-append sc known level xs y ys h.1
 

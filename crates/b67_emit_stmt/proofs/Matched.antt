@@ -10,7 +10,7 @@ use Rattle.algol_tree.specs.declared.tree.Op.TheVariants as operators
 use Rattle.algol_tree.specs.declared.tree.PhraseText.{PhraseText}
 use Rattle.algol_tree.specs.Plain as tree
 use Rattle.algol_tree.specs.Plain.{PCall, PExpr, PExprs, PStmt}
-use Rattle.b67_emit_stmt.specs.Places.{Later, Place, AssignAt, CallStmtAt, ExprAt, GoToAt, OnEventsAt, StartAt, StepAt, WriteAt}
+use Rattle.b67_emit_stmt.specs.Places.{Later, Place, AssignAt, CallStmtAt, ExprAt, GoToAt, OnEventsAt, StartAt, StepAt, WriteListAt}
 use Rattle.b67_emit_stmt.specs.declared.draft.Known.{Known}
 use Rattle.algol_meaning.specs.Statements as meaning
 use Rattle.b67_segment.specs.declared.TheConstants.{MOST_SEGMENT_SYLLABLES}
@@ -20,9 +20,9 @@ use Rattle.b67_emit_stmt.specs.Lengths.{expr_syllables, stmt_syllables, write_sy
 use Rattle.b67_templates.specs.Emitting.{Emitted}
 use Rattle.b67_deeds.specs.Deeds as deeds
 use Rattle.b67_ops.specs.Intrinsics.{intrinsic_of}
-use Rattle.b67_emit_stmt.specs.Fits.{AssignFits, CallStmtFits, EventFits, ExprFits, LabelFits, ReadFits, StartFits, VariableFits, StmtFits, WriteFits}
+use Rattle.b67_emit_stmt.specs.Fits.{AssignFits, CallStmtFits, EventFits, EmittedExprFits, LabelFits, ReadFits, StartFits, VariableFits, EmittedStmtFits, WriteFits}
 use Rattle.b67_emit_stmt.specs.declared.draft.Draft.{Draft}
-use Rattle.b67_emit_stmt.specs.Drafts.{Emits, IsReady, HasFew, noted}
+use Rattle.b67_emit_stmt.specs.Drafts.{Emits, IsReady, HasFew, draft_noted}
 use Rattle.b67_emit_stmt.specs.Emits.{HasFit, EmitsStmt, EmitsThen}
 use Rattle.b67_emit_stmt.proofs.Arms.{Stands, if_else_arm}
 use Rattle.b67_emit_stmt.proofs.Drafts.{at_level, emits_none, emits_weaker, level_after, piece}
@@ -70,7 +70,7 @@ pub ready_less : (s : Known) (a : Draft) (m k : ℕ) → IsReady s a m → k ≤
 ready_less s a m k r le = record { set = r.set; near = r.near; inner = r.inner; many = r.many; segment = r.segment; few = r.few; room = omega (arith, le, r.room) }
 
 -- what a call needs after code by which nothing is noted
-pub ready_behind : (s : Known) (a b : Draft) (m k : ℕ) → IsReady s a m → b.out.level ≡ a.out.level → noted b ≡ noted a →
+pub ready_behind : (s : Known) (a b : Draft) (m k : ℕ) → IsReady s a m → b.out.level ≡ a.out.level → draft_noted b ≡ draft_noted a →
     size a.out.operators ≤ size b.out.operators → size b.out.operators + k ≤ size a.out.operators + m → IsReady s b k
 ready_behind s a b m k r l fs grown le = record {
   set = set_same a.out b.out l r.set;
@@ -82,8 +82,8 @@ ready_behind s a b m k r l fs grown le = record {
   room = omega (arith, le, r.room);
 }
 
-pub fit_at : (s : Known) (sc : Place) (x : PStmt) (b : Draft) (level : ℕ) → level_set b.out ≡ level → StmtFits sc s level x → HasFit s b x
-fit_at s sc x b level q fit = let F : ℕ → Type 0 = λ l. StmtFits sc s l x in (sc, subst F (sym q) fit)
+pub fit_at : (s : Known) (sc : Place) (x : PStmt) (b : Draft) (level : ℕ) → level_set b.out ≡ level → EmittedStmtFits sc s level x → HasFit s b x
+fit_at s sc x b level q fit = let F : ℕ → Type 0 = λ l. EmittedStmtFits sc s l x in (sc, subst F (sym q) fit)
 
 -- ---- forms
 
@@ -104,7 +104,7 @@ set_ahead {n} {a} {b} d e l h = set_same a.out d (l ∙ e.code.level) h
 -- ---- parts of FOR
 
 module _ (s : Known) (sc : Place) (level : ℕ) where
-  pub assigned : (n : Named) (e : PExpr) (a b : Draft) → level_set a.out ≡ level → b.exits.items ≡ a.exits.items → noted b ≡ noted a → HasFew a →
+  pub assigned : (n : Named) (e : PExpr) (a b : Draft) → level_set a.out ≡ level → b.exits.items ≡ a.exits.items → draft_noted b ≡ draft_noted a → HasFew a →
       ((sc' : Place) (later : Later) → AssignFits sc' s (level_set a.out) n e →
       Emitted a.out b.out (λ qs. AssignAt sc' later qs (level_set a.out) n e (size a.out.operators) (size b.out.operators))) →
       size b.out.operators ≤ size a.out.operators + (4 + expr_syllables s e) → AssignFits sc s level n e →
@@ -114,17 +114,17 @@ module _ (s : Known) (sc : Place) (level : ℕ) where
       piece {n = 4 + expr_syllables s e} {d = a} {e = b} es fs few
       (λ later. leveled (λ l qs. AssignAt sc later qs l n e (size a.out.operators) (size b.out.operators)) level q (h sc later (subst F (sym q) fit))) short
 
-  pub compared : (n : Named) (e : PExpr) (a b : Draft) → level_set a.out ≡ level → b.exits.items ≡ a.exits.items → noted b ≡ noted a → HasFew a →
-      ((sc' : Place) (later : Later) → ReadFits sc' s (level_set a.out) types.Number n → ExprFits sc' s (level_set a.out) types.Number e →
+  pub compared : (n : Named) (e : PExpr) (a b : Draft) → level_set a.out ≡ level → b.exits.items ≡ a.exits.items → draft_noted b ≡ draft_noted a → HasFew a →
+      ((sc' : Place) (later : Later) → ReadFits sc' s (level_set a.out) types.Number n → EmittedExprFits sc' s (level_set a.out) types.Number e →
       Emitted a.out b.out
       (λ qs.
       ExprAt sc' later qs (level_set a.out) types.Number (tree.two operators.Sub (meaning.alone n) e) (size a.out.operators) (size b.out.operators) (size b.out.operators))) →
-      size b.out.operators ≤ size a.out.operators + (3 + expr_syllables s e) → ReadFits sc s level types.Number n → ExprFits sc s level types.Number e →
+      size b.out.operators ≤ size a.out.operators + (3 + expr_syllables s e) → ReadFits sc s level types.Number n → EmittedExprFits sc s level types.Number e →
       Emits (3 + expr_syllables s e) a b
       (λ later qs target. ExprAt sc later qs level types.Number (tree.two operators.Sub (meaning.alone n) e) (size a.out.operators) (size b.out.operators) (size b.out.operators))
   compared n e a b q es fs few h short name fit =
       let N : ℕ → Type 0 = λ l. ReadFits sc s l types.Number n in
-      let F : ℕ → Type 0 = λ l. ExprFits sc s l types.Number e in
+      let F : ℕ → Type 0 = λ l. EmittedExprFits sc s l types.Number e in
       piece {n = 3 + expr_syllables s e} {d = a} {e = b} es fs few
       (λ later.
       leveled
@@ -133,34 +133,34 @@ module _ (s : Known) (sc : Place) (level : ℕ) where
       short
 
   -- what the difference and the step want, at a level that is the same
-  pub compared_fits : (n : Named) (e : PExpr) (level' : ℕ) → level' ≡ level → ReadFits sc s level types.Number n → ExprFits sc s level types.Number e →
-      (sc' : Place) × ReadFits sc' s level' types.Number n × ExprFits sc' s level' types.Number e
+  pub compared_fits : (n : Named) (e : PExpr) (level' : ℕ) → level' ≡ level → ReadFits sc s level types.Number n → EmittedExprFits sc s level types.Number e →
+      (sc' : Place) × ReadFits sc' s level' types.Number n × EmittedExprFits sc' s level' types.Number e
   compared_fits n e level' q name fit =
-      let F : ℕ → Type 0 = λ l. (sc' : Place) × ReadFits sc' s l types.Number n × ExprFits sc' s l types.Number e in subst F (sym q) (sc, name, fit)
+      let F : ℕ → Type 0 = λ l. (sc' : Place) × ReadFits sc' s l types.Number n × EmittedExprFits sc' s l types.Number e in subst F (sym q) (sc, name, fit)
 
-  pub stepped_fits : (e : PExpr) (level' : ℕ) → level' ≡ level → ExprFits sc s level types.Number e → (sc' : Place) × ExprFits sc' s level' types.Number e
+  pub stepped_fits : (e : PExpr) (level' : ℕ) → level' ≡ level → EmittedExprFits sc s level types.Number e → (sc' : Place) × EmittedExprFits sc' s level' types.Number e
   stepped_fits e level' q fit =
-      let F : ℕ → Type 0 = λ l. (sc' : Place) × ExprFits sc' s l types.Number e in subst F (sym q) (sc, fit)
+      let F : ℕ → Type 0 = λ l. (sc' : Place) × EmittedExprFits sc' s l types.Number e in subst F (sym q) (sc, fit)
 
   pub stepped : (e : PExpr) (a b : Draft) → level_set a.out ≡ level →
-      ((sc' : Place) → ExprFits sc' s (level_set a.out) types.Number e →
+      ((sc' : Place) → EmittedExprFits sc' s (level_set a.out) types.Number e →
       Emits (13 + expr_syllables s e) a b (λ later qs target. StepAt sc' later qs (level_set a.out) e (size a.out.operators) target (size b.out.operators))) →
-      ExprFits sc s level types.Number e →
+      EmittedExprFits sc s level types.Number e →
       Emits (13 + expr_syllables s e) a b (λ later qs target. StepAt sc later qs level e (size a.out.operators) target (size b.out.operators))
   stepped e a b q h fit =
-      let F : ℕ → Type 0 = λ l. ExprFits sc s l types.Number e in
+      let F : ℕ → Type 0 = λ l. EmittedExprFits sc s l types.Number e in
       at_level level (λ l later qs target. StepAt sc later qs l e (size a.out.operators) target (size b.out.operators)) q (h sc (subst F (sym q) fit))
 
-  pub advanced : (n : Named) (e : PExpr) (a b : Draft) → level_set a.out ≡ level → b.exits.items ≡ a.exits.items → noted b ≡ noted a → HasFew a →
-      ((sc' : Place) (later : Later) → VariableFits sc' s (level_set a.out) n → ExprFits sc' s (level_set a.out) types.Number e →
+  pub advanced : (n : Named) (e : PExpr) (a b : Draft) → level_set a.out ≡ level → b.exits.items ≡ a.exits.items → draft_noted b ≡ draft_noted a → HasFew a →
+      ((sc' : Place) (later : Later) → VariableFits sc' s (level_set a.out) n → EmittedExprFits sc' s (level_set a.out) types.Number e →
       Emitted a.out b.out
       (λ qs. AssignAt sc' later qs (level_set a.out) n (tree.two operators.Add (meaning.alone n) e) (size a.out.operators) (size b.out.operators))) →
-      size b.out.operators ≤ size a.out.operators + (7 + expr_syllables s e) → VariableFits sc s level n → ExprFits sc s level types.Number e →
+      size b.out.operators ≤ size a.out.operators + (7 + expr_syllables s e) → VariableFits sc s level n → EmittedExprFits sc s level types.Number e →
       Emits (7 + expr_syllables s e) a b
       (λ later qs target. AssignAt sc later qs level n (tree.two operators.Add (meaning.alone n) e) (size a.out.operators) (size b.out.operators))
   advanced n e a b q es fs few h short name fit =
       let N : ℕ → Type 0 = λ l. VariableFits sc s l n in
-      let F : ℕ → Type 0 = λ l. ExprFits sc s l types.Number e in
+      let F : ℕ → Type 0 = λ l. EmittedExprFits sc s l types.Number e in
       piece {n = 7 + expr_syllables s e} {d = a} {e = b} es fs few
       (λ later.
       leveled (λ l qs. AssignAt sc later qs l n (tree.two operators.Add (meaning.alone n) e) (size a.out.operators) (size b.out.operators)) level q
@@ -170,7 +170,7 @@ module _ (s : Known) (sc : Place) (level : ℕ) where
 -- ---- whole statements
 
 module _ (s : Known) (a b : Draft) (p : PStmt) where
-  pub call_emitted : (c : PCall) (n : Named) (es : PExprs) → p ≡ tree.call_of (tree.called n es) → c ≡ tree.called n es → b.exits.items ≡ a.exits.items → noted b ≡ noted a → HasFew a →
+  pub call_emitted : (c : PCall) (n : Named) (es : PExprs) → p ≡ tree.call_of (tree.called n es) → c ≡ tree.called n es → b.exits.items ≡ a.exits.items → draft_noted b ≡ draft_noted a → HasFew a →
       ((sc : Place) (later : Later) → CallStmtFits sc s (level_set a.out) n es →
       Emitted a.out b.out (λ qs. CallStmtAt sc later qs (level_set a.out) n es (size a.out.operators) (size b.out.operators))) →
       size b.out.operators ≤ size a.out.operators + (expr_syllables s (tree.call c) + 1) → EmitsStmt s a b p
@@ -178,14 +178,14 @@ module _ (s : Known) (a b : Draft) (p : PStmt) where
       let level = level_set a.out in
       let Z : PCall → Type 0 = λ x. size b.out.operators ≤ size a.out.operators + (expr_syllables s (tree.call x) + 1) in
       let most = expr_syllables s (tree.call (tree.called n es)) + 1 in
-      let F : PStmt → Type 0 = λ x. StmtFits sc s level x in
+      let F : PStmt → Type 0 = λ x. EmittedStmtFits sc s level x in
       let E : PStmt → Type 0 = λ x. Emits (stmt_syllables s x) a b (Stands sc level x a b) in
       let code : Emits most a b (λ later qs target. CallStmtAt sc later qs level n es (size a.out.operators) (size b.out.operators)) =
       piece {n = most} {d = a} {e = b} xs fs few (λ later. h sc later (subst F is fit)) (subst Z same short) in
       subst E (sym is) (emits_weaker (Stands sc level (tree.call_of (tree.called n es)) a b) code (omega arith) (λ later qs target hi x. x))
 
   pub start_emitted : (c : PCall) (n : Named) (es : PExprs) (task : Option Named) → p ≡ tree.process (tree.called n es) task → c ≡ tree.called n es → b.exits.items ≡ a.exits.items →
-      noted b ≡ noted a → HasFew a →
+      draft_noted b ≡ draft_noted a → HasFew a →
       ((sc : Place) (later : Later) → StartFits sc s (level_set a.out) n es task →
       Emitted a.out b.out (λ qs. StartAt sc later qs (level_set a.out) n es task (size a.out.operators) (size b.out.operators))) →
       size b.out.operators ≤ size a.out.operators + (expr_syllables s (tree.call c) + 6) → EmitsStmt s a b p
@@ -193,31 +193,31 @@ module _ (s : Known) (a b : Draft) (p : PStmt) where
       let level = level_set a.out in
       let Z : PCall → Type 0 = λ x. size b.out.operators ≤ size a.out.operators + (expr_syllables s (tree.call x) + 6) in
       let most = expr_syllables s (tree.call (tree.called n es)) + 6 in
-      let F : PStmt → Type 0 = λ x. StmtFits sc s level x in
+      let F : PStmt → Type 0 = λ x. EmittedStmtFits sc s level x in
       let E : PStmt → Type 0 = λ x. Emits (stmt_syllables s x) a b (Stands sc level x a b) in
       let code : Emits most a b (λ later qs target. StartAt sc later qs level n es task (size a.out.operators) (size b.out.operators)) =
       piece {n = most} {d = a} {e = b} xs fs few (λ later. h sc later (subst F is fit)) (subst Z same short) in
       subst E (sym is) (emits_weaker (Stands sc level (tree.process (tree.called n es) task) a b) code (omega arith) (λ later qs target hi x. x))
 
-  pub go_to_emitted : (n : Named) → p ≡ tree.go_to n → b.exits.items ≡ a.exits.items → noted b ≡ noted a → HasFew a →
+  pub go_to_emitted : (n : Named) → p ≡ tree.go_to n → b.exits.items ≡ a.exits.items → draft_noted b ≡ draft_noted a → HasFew a →
       ((sc : Place) (later : Later) → LabelFits sc s (level_set a.out) n →
       Emitted a.out b.out (λ qs. GoToAt sc later qs (level_set a.out) n (size a.out.operators) (size b.out.operators))) → size b.out.operators ≤ size a.out.operators + 40 →
       EmitsStmt s a b p
   go_to_emitted n is xs fs few h short = λ sc fit.
       let level = level_set a.out in
-      let F : PStmt → Type 0 = λ x. StmtFits sc s level x in
+      let F : PStmt → Type 0 = λ x. EmittedStmtFits sc s level x in
       let E : PStmt → Type 0 = λ x. Emits (stmt_syllables s x) a b (Stands sc level x a b) in
       let code : Emits 40 a b (λ later qs target. GoToAt sc later qs level n (size a.out.operators) (size b.out.operators)) =
       piece {n = 40} {d = a} {e = b} xs fs few (λ later. h sc later (subst F is fit)) short in
       subst E (sym is) (emits_weaker (Stands sc level (tree.go_to n) a b) code (omega arith) (λ later qs target hi x. x))
 
-  pub event_emitted : (act : EventAct) (e : EventName) → p ≡ tree.event act e → b.exits.items ≡ a.exits.items → noted b ≡ noted a → HasFew a →
+  pub event_emitted : (act : EventAct) (e : EventName) → p ≡ tree.event act e → b.exits.items ≡ a.exits.items → draft_noted b ≡ draft_noted a → HasFew a →
       ((sc : Place) (later : Later) → EventFits sc s (level_set a.out) e.name →
       Emitted a.out b.out (λ qs. OnEventsAt sc later qs (level_set a.out) (intrinsic_of (deeds.acts act)) (e.name ∷ []) (size a.out.operators) (size b.out.operators))) →
       size b.out.operators ≤ size a.out.operators + 6 → EmitsStmt s a b p
   event_emitted act e is xs fs few h short = λ sc fit.
       let level = level_set a.out in
-      let F : PStmt → Type 0 = λ x. StmtFits sc s level x in
+      let F : PStmt → Type 0 = λ x. EmittedStmtFits sc s level x in
       let E : PStmt → Type 0 = λ x. Emits (stmt_syllables s x) a b (Stands sc level x a b) in
       let code : Emits 6 a b (λ later qs target. OnEventsAt sc later qs level (intrinsic_of (deeds.acts act)) (e.name ∷ []) (size a.out.operators) (size b.out.operators)) =
       piece {n = 6} {d = a} {e = b} xs fs few (λ later. h sc later (subst F is fit)) short in
@@ -225,17 +225,17 @@ module _ (s : Known) (a b : Draft) (p : PStmt) where
 
   pub write_emitted : (n : Named) (spot : Spot) (phrases : List PhraseText) (es : PExprs) → p ≡ tree.write n spot phrases es →
       ((sc : Place) → WriteFits sc s (level_set a.out) phrases es →
-      Emits (write_syllables s es) a b (λ later qs target. WriteAt sc later qs (level_set a.out) phrases es (size a.out.operators) (size b.out.operators))) → EmitsStmt s a b p
+      Emits (write_syllables s es) a b (λ later qs target. WriteListAt sc later qs (level_set a.out) phrases es (size a.out.operators) (size b.out.operators))) → EmitsStmt s a b p
   write_emitted n spot phrases es is h = λ sc fit.
       let level = level_set a.out in
-      let F : PStmt → Type 0 = λ x. StmtFits sc s level x in
+      let F : PStmt → Type 0 = λ x. EmittedStmtFits sc s level x in
       let E : PStmt → Type 0 = λ x. Emits (stmt_syllables s x) a b (Stands sc level x a b) in
       subst E (sym is) (emits_weaker (Stands sc level (tree.write n spot phrases es) a b) (h sc (subst F is fit)) (omega arith) (λ later qs target hi x. x))
 
 pub else_emitted : (s : Known) (a b d : Draft) (p : PStmt) (e : PExpr) (x y : PStmt) → p ≡ tree.if_else e x y → EmitsThen s a b e x → EmitsStmt s b d y → EmitsStmt s a d p
 else_emitted s a b d p e x y is h k = λ sc fit.
     let level = level_set a.out in
-    let F : PStmt → Type 0 = λ z. StmtFits sc s level z in
+    let F : PStmt → Type 0 = λ z. EmittedStmtFits sc s level z in
     let E : PStmt → Type 0 = λ z. Emits (stmt_syllables s z) a d (Stands sc level z a d) in
     let there = subst F is fit in
     let first = h sc there.0 there.1 in

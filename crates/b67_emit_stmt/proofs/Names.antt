@@ -6,7 +6,7 @@ use Rattle.algol_tree.specs.declared.tree.Kind.{Kind}
 use Rattle.algol_tree.specs.declared.tree.Named.{Named}
 use Rattle.algol_tree.specs.Scopes.{Scopes}
 use Rattle.b67_ops.specs.declared.Couple.{Couple}
-use Rattle.b67_ops.specs.Spelling.{level_bits, index_bits, IsSeen}
+use Rattle.b67_ops.specs.Spelling.{level_bits, index_bits, CoupleIsSeen}
 use Rattle.b67_templates.specs.Cells.{IsRead, of_variable, of_formal}
 use Rattle.b67_templates.specs.Fitting as fitting
 use Rattle.b67_templates.specs.Fitting.{Told, PlaceFits, on_left, couple_on_left}
@@ -29,7 +29,7 @@ index_room level =
     (either (nat_le level 3) 2 (if nat_le level 7 then 3 else (if nat_le level 15 then 4 else 5)) (lit≤ tt)
     (either (nat_le level 7) 3 (if nat_le level 15 then 4 else 5) (lit≤ tt) (either (nat_le level 15) 4 5 (lit≤ tt) (lit≤ tt))))
 
-pub seen : (level : ℕ) (c : Couple) → c.level ≤ level → c.index < 512 → IsSeen level c
+pub seen : (level : ℕ) (c : Couple) → c.level ≤ level → c.index < 512 → CoupleIsSeen level c
 seen level c h k = record { level_seen = h; index_fits = omega (arith, index_room level) }
 
 some_same : (c d : Couple) → Some c ≡ Some d → c ≡ d
@@ -59,7 +59,7 @@ read_level sc level k n c (of_variable v) = omega (arith, v.level_is)
 read_level sc level k n c (of_formal v) = omega (arith, v.level_is)
 
 pub name_seen : (sc : Scopes) (known : Spot → Option Couple) (level : ℕ) (k : Kind) (n : Named) (c : Couple) →
-    (d : Couple) × (known n.spot ≡ Some d) × IsRead sc level n k d → known n.spot ≡ Some c → c.index < 512 → IsSeen level c
+    (d : Couple) × (known n.spot ≡ Some d) × IsRead sc level n k d → known n.spot ≡ Some c → c.index < 512 → CoupleIsSeen level c
 name_seen sc known level k n c fit e near =
     seen level c (read_level sc level k n c (read_is sc known level k n c fit e)) near
 

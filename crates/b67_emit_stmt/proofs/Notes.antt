@@ -4,7 +4,7 @@ use Rattle.std.specs.List.{AllByRecursion}
 use Rattle.std.proofs.lemmas.List.{append-nil}
 use Rattle.std.specs.Prelude.{None, Some}
 use Rattle.b67_emit_stmt.specs.declared.draft.Label.{Label}
-use Rattle.b67_emit_stmt.specs.Drafts.{Agrees, AreListed, Grows, IsFront, Noted}
+use Rattle.b67_emit_stmt.specs.Drafts.{DraftAgrees, FormatsCanBeListed, NotedGrows, IsFront, DraftNoted}
 use Rattle.b67_emit_stmt.specs.Places.{Later}
 
 -- ---- lists
@@ -37,15 +37,15 @@ earlier : (m n : ℕ) (ls : List Label) → m ≤ n → AreBehind n ls → AreBe
 earlier m n [] le h = tt
 earlier m n (l ∷ ls) le h = (omega (arith, le, h.0), earlier m n ls le h.1)
 
-pub grows_equal : {n : ℕ} {x y : Noted} → y ≡ x → Grows n x y
+pub grows_equal : {n : ℕ} {x y : DraftNoted} → y ≡ x → NotedGrows n x y
 grows_equal {n} {x} {y} e = record {
-  formats = ([], ap (λ (z : Noted). z.formats) e ∙ sym (append-nil x.formats));
+  formats = ([], ap (λ (z : DraftNoted). z.formats) e ∙ sym (append-nil x.formats));
   labels = [];
-  labels_are = ap (λ (z : Noted). z.labels) e ∙ sym (append-nil x.labels);
+  labels_are = ap (λ (z : DraftNoted). z.labels) e ∙ sym (append-nil x.labels);
   behind = tt;
 }
 
-pub grows_then : {m n : ℕ} {x y z : Noted} → m ≤ n → Grows m x y → Grows n y z → Grows m x z
+pub grows_then : {m n : ℕ} {x y z : DraftNoted} → m ≤ n → NotedGrows m x y → NotedGrows n y z → NotedGrows m x z
 grows_then {m} {n} {x} {y} {z} le g h = record {
   formats = front_trans x.formats y.formats z.formats g.formats h.formats;
   labels = g.labels ++ h.labels;
@@ -54,7 +54,7 @@ grows_then {m} {n} {x} {y} {z} le g h = record {
 }
 
 -- what agrees with all that was noted agrees with what was noted first
-pub agrees_front : {n : ℕ} {x y : Noted} {later : Later} → Grows n x y → Agrees y later → Agrees x later
+pub agrees_front : {n : ℕ} {x y : DraftNoted} {later : Later} → NotedGrows n x y → DraftAgrees y later → DraftAgrees x later
 agrees_front {n} {x} {y} {later} g a =
     let P : Label → Type 0 = λ l. later.labels l.spot ≡ Some l.place in
     let A : List Label → Type 0 = λ l. AllByRecursion P l in
@@ -63,15 +63,15 @@ agrees_front {n} {x} {y} {later} g a =
       labels = all_front P x.labels g.labels (subst A g.labels_are a.labels);
     }
 
-pub agrees_same : {x y : Noted} {later : Later} → y ≡ x → Agrees y later → Agrees x later
-agrees_same {x} {y} {later} e a = let A : Noted → Type 0 = λ n. Agrees n later in subst A e a
+pub agrees_same : {x y : DraftNoted} {later : Later} → y ≡ x → DraftAgrees y later → DraftAgrees x later
+agrees_same {x} {y} {later} e a = let A : DraftNoted → Type 0 = λ n. DraftAgrees n later in subst A e a
 
-pub listed_equal : {x y : Noted} → y ≡ x → AreListed x.formats → AreListed y.formats
-listed_equal {x} {y} e h = let A : Noted → Type 0 = λ n. AreListed n.formats in subst A (sym e) h
+pub listed_equal : {x y : DraftNoted} → y ≡ x → FormatsCanBeListed x.formats → FormatsCanBeListed y.formats
+listed_equal {x} {y} e h = let A : DraftNoted → Type 0 = λ n. FormatsCanBeListed n.formats in subst A (sym e) h
 
 -- as many formats
-pub formats_same : {x y : Noted} → y ≡ x → length y.formats ≡ length x.formats
-formats_same {x} {y} e = ap (λ (n : Noted). length n.formats) e
+pub formats_same : {x y : DraftNoted} → y ≡ x → length y.formats ≡ length x.formats
+formats_same {x} {y} e = ap (λ (n : DraftNoted). length n.formats) e
 
 -- where nothing is known yet
 abbrev pub unknown : Later

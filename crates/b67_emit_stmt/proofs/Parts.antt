@@ -20,7 +20,7 @@ use Rattle.b67_segment.specs.Building.{Built, level_set}
 use Rattle.b67_templates.specs.Fragments.{Has}
 use Rattle.b67_templates.specs.Cells.{IsVariable, IsRead}
 use Rattle.b67_templates.specs.Emitting.{Emitted}
-use Rattle.b67_emit_stmt.specs.Fits.{ExprFits, VariableFits}
+use Rattle.b67_emit_stmt.specs.Fits.{EmittedExprFits, VariableFits}
 use Rattle.b67_emitter.specs.Values.{HasCode, ValueEmitted}
 use Rattle.b67_emitter.proofs.Composing.{then, weaker}
 
@@ -37,7 +37,7 @@ pub plain_at : {b c : Built} (kind : PlainKind) (level : ℕ) → level_set b �
 plain_at {b} {c} kind level e h = leveled (λ l qs. Has qs l (size b.operators) (ops.Plain kind) (size c.operators)) level e h
 
 -- the expression has code at a level that is the same
-pub code_at : (s : Known) (level' level : ℕ) (sc : Place) (k : Kind) (e : PExpr) → level' ≡ level → ExprFits sc s level k e → HasCode s.names.now level' e
+pub code_at : (s : Known) (level' level : ℕ) (sc : Place) (k : Kind) (e : PExpr) → level' ≡ level → EmittedExprFits sc s level k e → HasCode s.names.now level' e
 code_at s level' level sc k e q fit =
     let at_most : level ≤ level' = omega (arith, q) in record { scopes = sc.scopes; own = level; block = sc.block; kind = k; outer = at_most; fits = fit }
 
@@ -45,10 +45,10 @@ pub variable_at : (s : Known) (level' level : ℕ) (sc : Place) (n : Named) → 
 variable_at s level' level sc n q fit = let F : ℕ → Type 0 = λ l. VariableFits sc s l n in subst F (sym q) fit
 
 pub value_at : (s : Known) (b c : Built) (level : ℕ) (sc : Place) (later : Later) (k : Kind) (e : PExpr) → level_set b ≡ level →
-    ValueEmitted s.names.now (level_set b) b c e → ExprFits sc s level k e →
+    ValueEmitted s.names.now (level_set b) b c e → EmittedExprFits sc s level k e →
     Emitted b c (λ qs. ExprAt sc later qs level k e (size b.operators) (size c.operators) (size c.operators))
 value_at s b c level sc later k e q v fit =
-    let F : ℕ → Type 0 = λ l. ExprFits sc s l k e in
+    let F : ℕ → Type 0 = λ l. EmittedExprFits sc s l k e in
     leveled (λ l qs. ExprAt sc later qs l k e (size b.operators) (size c.operators) (size c.operators)) level q
     (v.code sc.scopes (context_in sc later (level_set b)) k (subst F (sym q) fit))
 

@@ -11,7 +11,7 @@ use Rattle.b67_ops.specs.declared.Couple.{Couple}
 use Rattle.b67_ops.specs.declared.Operator.TheVariants as ops
 use Rattle.b67_ops.specs.declared.PlainKind.TheVariants as kinds
 use Rattle.b67_ops.specs.declared.intrinsic.Intrinsic.TheVariants.{Start}
-use Rattle.b67_ops.specs.Spelling.{IsSeen}
+use Rattle.b67_ops.specs.Spelling.{CoupleIsSeen}
 use Rattle.b67_segment.specs.Operators.{Placed, size}
 use Rattle.b67_segment.specs.Building.{Built}
 use Rattle.b67_templates.specs.Cells.{IsProcedure, parameter_wants}
@@ -38,10 +38,10 @@ module _ (s : Known) (sc : Place) (level : ℕ) (n : Named) (es : PExprs) (task 
   pub started_known : IsSome (couples s.names.now n.spot)
   started_known = some (couples s.names.now n.spot) (fit.1).couple (fit.1).known_is
 
-  pub started_seen : (c : Couple) → AreNear s.names.now → couples s.names.now n.spot ≡ Some c → IsSeen level c
+  pub started_seen : (c : Couple) → AreNear s.names.now → couples s.names.now n.spot ≡ Some c → CoupleIsSeen level c
   started_seen c near is =
       let same : (fit.1).couple ≡ c = cc ((fit.1).known_is, is) in
-      let I : Couple → Type 0 = λ d. IsSeen level d in
+      let I : Couple → Type 0 = λ d. CoupleIsSeen level d in
       subst I same (seen_up level (fit.1).couple (use_of sc.scopes n).up (near.own n.spot (fit.1).couple (fit.1).known_is) (fit.1).procedure.level_is)
 
   pub actuals_have : (l : ℕ) (c : PCall) → l ≡ level → c ≡ tree.called n es → HasCall s.names.now l c

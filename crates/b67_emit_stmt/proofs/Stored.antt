@@ -11,11 +11,11 @@ use Rattle.b67_templates.specs.Code as codes
 use Rattle.b67_templates.specs.Fragments.{Has}
 use Rattle.b67_templates.specs.Emitting.{Emitted}
 use Rattle.b67_templates.specs.Fitting as fitting
-use Rattle.b67_templates.specs.Fitting.{is_name}
+use Rattle.b67_templates.specs.Fitting.{meant_is_name}
 use Rattle.b67_emitter.specs.Values.{lefts, meant}
 use Rattle.b67_emitter.proofs.Composing.{then, weaker}
 use Rattle.b67_emit_stmt.specs.declared.draft.Known.{Known}
-use Rattle.b67_emit_stmt.specs.Fits.{PlaceFits}
+use Rattle.b67_emit_stmt.specs.Fits.{EmittedPlaceFits}
 use Rattle.b67_emit_stmt.specs.Places.{Later, Place, PlaceAt}
 use Rattle.b67_emit_stmt.proofs.Drafts.{level_same}
 
@@ -27,14 +27,14 @@ module _ (s : Known) (n : Named) (c : Couple) (known : lefts s.names.now n.spot 
       let H : Couple → Type 0 = λ x. Emitted a b (λ qs. Has qs (level_set a) (size a.operators) (ops.Namc x) (size b.operators)) in
       subst H same h
 
-  pub own_place : is_name (meant s.names.now n.spot) ≡ false → PlaceFits sc s (level_set a) k n →
+  pub own_place : meant_is_name (meant s.names.now n.spot) ≡ false → EmittedPlaceFits sc s (level_set a) k n →
       Emitted a b (λ qs. PlaceAt sc later qs (level_set a) n k (size a.operators) (size b.operators))
   own_place off (fitting.own (d, is, v) unnamed) =
       weaker (λ qs. PlaceAt sc later qs (level_set a) n k (size a.operators) (size b.operators)) (named_as d is) (λ qs x. codes.own (d, v, x))
   own_place off (fitting.resolved d is named v) = absurd (let clash : true ≡ false = sym named ∙ off in cc)
 
-  pub resolved_place : is_name (meant s.names.now n.spot) ≡ true → (e : Built) → b.level ≡ a.level →
-      Emitted b e (λ qs. Has qs (level_set b) (size b.operators) (ops.Plain kinds.Eval) (size e.operators)) → PlaceFits sc s (level_set a) k n →
+  pub resolved_place : meant_is_name (meant s.names.now n.spot) ≡ true → (e : Built) → b.level ≡ a.level →
+      Emitted b e (λ qs. Has qs (level_set b) (size b.operators) (ops.Plain kinds.Eval) (size e.operators)) → EmittedPlaceFits sc s (level_set a) k n →
       Emitted a e (λ qs. PlaceAt sc later qs (level_set a) n k (size a.operators) (size e.operators))
   resolved_place on e l x (fitting.own f unnamed) = absurd (let clash : true ≡ false = sym on ∙ unnamed in cc)
   resolved_place on e l x (fitting.resolved d is named v) =

@@ -15,9 +15,9 @@ use Rattle.b67_emitter.specs.Values.{HasReference, ReferenceEmitted, ValueEmitte
 use Rattle.b67_emitter.proofs.Composing.{then, weaker}
 use Rattle.b67_emit_stmt.specs.declared.draft.Draft.{Draft}
 use Rattle.b67_emit_stmt.specs.declared.draft.Known.{Known}
-use Rattle.b67_emit_stmt.specs.Drafts.{HasFew, IsReady, noted}
+use Rattle.b67_emit_stmt.specs.Drafts.{HasFew, IsReady, draft_noted}
 use Rattle.b67_emit_stmt.specs.Emits.{EmitsStmt}
-use Rattle.b67_emit_stmt.specs.Fits.{ExprFits, StoreFits}
+use Rattle.b67_emit_stmt.specs.Fits.{EmittedExprFits, StoreFits}
 use Rattle.b67_emit_stmt.specs.Places.{Later, Place, StmtAt, StoredAt, context_in}
 use Rattle.b67_emit_stmt.proofs.Arms.{Stands}
 use Rattle.b67_emit_stmt.proofs.Drafts.{emits_weaker, level_same, piece}
@@ -32,7 +32,7 @@ module _ (s : Known) (sc : Place) (level : ℕ) where
   store_has (tree.subscripted n (tree.more i is)) e fit = element sc.scopes level sc.block n fit.0 (tree.more i is) (omega arith) refl (fit.1, fit.2)
 
   -- the kind of the value
-  pub store_value : (v : PVariable) (e : PExpr) → StoreFits sc s level v e → (k : Kind) × ExprFits sc s level k e
+  pub store_value : (v : PVariable) (e : PExpr) → StoreFits sc s level v e → (k : Kind) × EmittedExprFits sc s level k e
   store_value (tree.subscripted n tree.none) e fit = (fit.0, fit.2)
   store_value (tree.subscripted n (tree.more i is)) e fit = (fit.0.kind, fit.3)
 
@@ -63,7 +63,7 @@ stored : (sc : Place) (later : Later) (qs : List Placed) (level : ℕ) (v : PVar
 stored sc later qs level (tree.subscripted n tree.none) e f t u h = h
 stored sc later qs level (tree.subscripted n (tree.more i is)) e f t u h = h
 
-pub store_emitted : (s : Known) (a b : Draft) (p : PStmt) (v : PVariable) (e : PExpr) → p ≡ tree.assign v e → b.exits.items ≡ a.exits.items → noted b ≡ noted a →
+pub store_emitted : (s : Known) (a b : Draft) (p : PStmt) (v : PVariable) (e : PExpr) → p ≡ tree.assign v e → b.exits.items ≡ a.exits.items → draft_noted b ≡ draft_noted a →
     HasFew a →
     ((sc : Place) (later : Later) → StoreFits sc s (level_set a.out) v e →
     Emitted a.out b.out (λ qs. StoredAt sc later qs (level_set a.out) v e (size a.out.operators) (size b.out.operators))) →

@@ -7,7 +7,7 @@ use Rattle.algol_tree.specs.declared.tree.Stmt.{Stmt}
 use Rattle.algol_tree.specs.Image.{stmt, stmts}
 use Rattle.algol_tree.specs.Plain as tree
 use Rattle.algol_tree.specs.Plain.{PExpr}
-use Rattle.b67_emit_stmt.specs.Places.{Later, Place, CasesAt, ExprAt, TableAt}
+use Rattle.b67_emit_stmt.specs.Places.{Later, Place, CasesAt, ExprAt, CaseTableAt}
 use Rattle.b67_emit_stmt.specs.declared.draft.Known.{Known}
 use Rattle.b67_ops.specs.declared.Operator.TheVariants as ops
 use Rattle.b67_ops.specs.declared.PlainKind.TheVariants as kinds
@@ -16,15 +16,15 @@ use Rattle.b67_ops.specs.declared.intrinsic.Intrinsic.TheVariants.{Select}
 use Rattle.b67_segment.specs.declared.TheConstants.{MOST_SEGMENT_SYLLABLES}
 use Rattle.b67_segment.specs.Operators.{Placed, size}
 use Rattle.b67_segment.specs.Building.{Built, level_set}
-use Rattle.b67_templates.specs.Fragments.{Has, BranchAt, IntrinsicAt, IsWhole, NumberAt, two_bytes}
+use Rattle.b67_templates.specs.Fragments.{Has, BranchAt, IntrinsicAt, IsWholeNumber, NumberAt, two_bytes}
 use Rattle.b67_templates.specs.Code.{stmts_count}
 use Rattle.b67_emit_stmt.specs.Lengths.{expr_syllables, stmt_syllables, stmts_syllables}
 use Rattle.b67_templates.specs.Emitting.{AreExits, Emitted, EmittedWithExits}
-use Rattle.b67_emit_stmt.specs.Fits.{StmtFits, StmtsFit}
+use Rattle.b67_emit_stmt.specs.Fits.{EmittedStmtFits, EmittedStmtsFit}
 use Rattle.b67_emitter.specs.Aiming.{Aimed}
 use Rattle.b67_emitter.proofs.Composing.{then, weaker}
 use Rattle.b67_emit_stmt.specs.declared.draft.Draft.{Draft}
-use Rattle.b67_emit_stmt.specs.Drafts.{Emits, HasFew, IsAt, IsReady, Noted, noted}
+use Rattle.b67_emit_stmt.specs.Drafts.{Emits, HasFew, DraftIsAt, IsReady, DraftNoted, draft_noted}
 use Rattle.b67_emit_stmt.specs.Emits.{EmitsStmt, HasFit}
 use Rattle.b67_emit_stmt.specs.Cases.{EntriesAt, SelectAt}
 use Rattle.b67_emit_stmt.proofs.Arms.{Stands}
@@ -67,7 +67,7 @@ entries_whole level n many a b e h = let E : ℕ → Type 0 = λ m. Emitted a b 
 -- ---- the call of SELECT
 
 module _ (sc : Place) (later : Later) (level many : ℕ) (e : PExpr) (a b d x y z : Built) (place : ℕ) where
-  pub select_part : place ≡ size z.operators → IsWhole (pos place) → Emitted a b (λ qs. IntrinsicAt qs level Select (size a.operators) (size b.operators)) →
+  pub select_part : place ≡ size z.operators → IsWholeNumber (pos place) → Emitted a b (λ qs. IntrinsicAt qs level Select (size a.operators) (size b.operators)) →
       Emitted b d (λ qs. ExprAt sc later qs level types.Number e (size b.operators) (size d.operators) (size d.operators)) →
       Emitted d x (λ qs. NumberAt qs level (pos many) (size d.operators) (size x.operators)) →
       Emitted x y (λ qs. Has qs level (size x.operators) (ops.Lt16 place) (size y.operators)) →
@@ -89,13 +89,13 @@ pub case_arm : (s : Known) (sc : Place) (level : ℕ) (e : PExpr) (ss : List Stm
 case_arm s sc level e ss a b d h i =
     emits_weaker (Stands sc level (tree.case e (stmts ss)) a d) (emits_then h i) (omega arith)
     (λ later qs target hi p.
-    let T : ℕ → Type 0 = λ n. TableAt sc later qs level n p.0.1 (size b.out.operators) in
+    let T : ℕ → Type 0 = λ n. CaseTableAt sc later qs level n p.0.1 (size b.out.operators) in
     (p.0.0, p.0.1, size b.out.operators, p.0.2, p.0.3, subst T (count_is ss) p.0.4, p.1))
 
 -- ---- the statements after the table, one after another
 
 -- none is done
-pub cases_begun : (s : Known) (sc : Place) (level many : ℕ) (xs : List Stmt) (a t : Draft) → many ≡ length xs → HasFew a → t.exits.items ≡ a.exits.items → noted t ≡ noted a →
+pub cases_begun : (s : Known) (sc : Place) (level many : ℕ) (xs : List Stmt) (a t : Draft) → many ≡ length xs → HasFew a → t.exits.items ≡ a.exits.items → draft_noted t ≡ draft_noted a →
     Emitted a.out t.out (λ qs. EntriesAt qs level many (size a.out.operators) (size t.out.operators)) → Midcase s sc level (take 0 xs) (length xs - 0) a t t
 cases_begun s sc level many xs a t is few es fs h =
     let M : ℕ → Type 0 = λ n. Midcase s sc level [] n a t t in
@@ -140,7 +140,7 @@ module _ (s : Known) (sc : Place) (level : ℕ) (xs : List Stmt) (i : ℕ) (x : 
   pub entry_below : entry + 3 ≤ size t.out.operators
   entry_below = omega (arith, at, lo, table_size)
 
-  next_ready : (d : Draft) (n : ℕ) → Aimed (entry ∷ []) b.out d.out → noted d ≡ noted b → stmts_syllables s (stmts xs) ≤ n → IsReady s a n →
+  next_ready : (d : Draft) (n : ℕ) → Aimed (entry ∷ []) b.out d.out → draft_noted d ≡ draft_noted b → stmts_syllables s (stmts xs) ≤ n → IsReady s a n →
       IsReady s d (stmt_syllables s (stmt x) + 3)
   next_ready d n aimed fs le r =
       let split : length xs ≡ length (take i xs) + (1 + length (drop (i + 1) xs)) =
@@ -151,7 +151,7 @@ module _ (s : Known) (sc : Place) (level : ℕ) (xs : List Stmt) (i : ℕ) (x : 
         inner = r.inner;
         many = r.many;
         segment = r.segment;
-        few = omega (arith, m.few, ap (λ (n : Noted). length n.formats) fs, aimed.place);
+        few = omega (arith, m.few, ap (λ (n : DraftNoted). length n.formats) fs, aimed.place);
         room = omega (arith, aimed.place, m.short, table_size, split, few_statements s (drop (i + 1) xs), next_syllables s xs i x lo is, le, r.room);
       }
 
@@ -159,8 +159,8 @@ module _ (s : Known) (sc : Place) (level : ℕ) (xs : List Stmt) (i : ℕ) (x : 
   next_level d q aimed = level_same b.out d.out aimed.level ∙ level_same a.out b.out m.level_is ∙ q
 
   -- what the next statement needs
-  pub stmt_needs : (d : Draft) (n : ℕ) → Aimed (entry ∷ []) b.out d.out → noted d ≡ noted b → stmts_syllables s (stmts xs) ≤ n → IsReady s a n → level_set a.out ≡ level →
-      StmtsFit sc s level (stmts xs) → (own : ℕ) → IsAt own a → IsReady s d (stmt_syllables s (stmt x)) × HasFit s d (stmt x) × IsAt own d
+  pub stmt_needs : (d : Draft) (n : ℕ) → Aimed (entry ∷ []) b.out d.out → draft_noted d ≡ draft_noted b → stmts_syllables s (stmts xs) ≤ n → IsReady s a n → level_set a.out ≡ level →
+      EmittedStmtsFit sc s level (stmts xs) → (own : ℕ) → DraftIsAt own a → IsReady s d (stmt_syllables s (stmt x)) × HasFit s d (stmt x) × DraftIsAt own d
   stmt_needs d n aimed fs le r q fits own at = (
     ready_less s d (stmt_syllables s (stmt x) + 3) (stmt_syllables s (stmt x)) (next_ready d n aimed fs le r) (omega arith),
     fit_at s sc (stmt x) d level (next_level d q aimed) (next_fits s sc level xs i x lo is fits),
@@ -168,14 +168,14 @@ module _ (s : Known) (sc : Place) (level : ℕ) (xs : List Stmt) (i : ℕ) (x : 
   )
 
   -- .. and the branch after it
-  pub exit_needs : (d : Draft) (n : ℕ) → Aimed (entry ∷ []) b.out d.out → noted d ≡ noted b → stmts_syllables s (stmts xs) ≤ n → IsReady s a n → level_set a.out ≡ level →
-      StmtsFit sc s level (stmts xs) → (e : Draft) → EmitsStmt s d e (stmt x) → IsSome e.out.level × (size e.out.operators + 3 ≤ MOST_SEGMENT_SYLLABLES)
+  pub exit_needs : (d : Draft) (n : ℕ) → Aimed (entry ∷ []) b.out d.out → draft_noted d ≡ draft_noted b → stmts_syllables s (stmts xs) ≤ n → IsReady s a n → level_set a.out ≡ level →
+      EmittedStmtsFit sc s level (stmts xs) → (e : Draft) → EmitsStmt s d e (stmt x) → IsSome e.out.level × (size e.out.operators + 3 ≤ MOST_SEGMENT_SYLLABLES)
   exit_needs d n aimed fs le r q fits e k =
       let part = stmt_piece s sc (stmt x) d e level (next_level d q aimed) k (next_fits s sc level xs i x lo is fits) in
       (set_behind a.out part (aimed.level ∙ m.level_is) r.set, omega (arith, part.short, (next_ready d n aimed fs le r).room))
 
-  pub cases_more : (d e f : Draft) → level_set a.out ≡ level → Aimed (entry ∷ []) b.out d.out → d.exits.items ≡ b.exits.items → noted d ≡ noted b →
-      StmtFits sc s level (stmt x) → EmitsStmt s d e (stmt x) → noted f ≡ noted e →
+  pub cases_more : (d e f : Draft) → level_set a.out ≡ level → Aimed (entry ∷ []) b.out d.out → d.exits.items ≡ b.exits.items → draft_noted d ≡ draft_noted b →
+      EmittedStmtFits sc s level (stmt x) → EmitsStmt s d e (stmt x) → draft_noted f ≡ draft_noted e →
       EmittedWithExits e.out f.out e.exits.items f.exits.items (λ qs target. BranchAt qs (level_set e.out) Brun (size e.out.operators) target (size f.out.operators)) →
       size f.out.operators ≡ size e.out.operators + 3 → Midcase s sc level (take (i + 1) xs) (length xs - (i + 1)) a t f
   cases_more d e f q aimed es fs fit k fs' h wide =

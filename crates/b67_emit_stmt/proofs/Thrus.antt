@@ -12,9 +12,9 @@ use Rattle.b67_emitter.specs.Aiming.{Aimed}
 use Rattle.b67_emitter.specs.Values.{ValueEmitted}
 use Rattle.b67_emit_stmt.specs.declared.draft.Draft.{Draft}
 use Rattle.b67_emit_stmt.specs.declared.draft.Known.{Known}
-use Rattle.b67_emit_stmt.specs.Drafts.{Emits, IsAt, IsReady}
+use Rattle.b67_emit_stmt.specs.Drafts.{Emits, DraftIsAt, IsReady}
 use Rattle.b67_emit_stmt.specs.Emits.{EmitsBody, HasFit}
-use Rattle.b67_emit_stmt.specs.Fits.{StmtFits}
+use Rattle.b67_emit_stmt.specs.Fits.{EmittedStmtFits}
 use Rattle.b67_emit_stmt.specs.Places.{Place}
 use Rattle.b67_emit_stmt.proofs.Arms.{Closed}
 use Rattle.b67_emit_stmt.proofs.Drafts.{level_same}
@@ -23,7 +23,7 @@ use Rattle.b67_emit_stmt.proofs.Matched.{fit_at, ready_behind, set_ahead, set_be
 use Rattle.b67_emit_stmt.proofs.Parts.{set_same}
 use Rattle.b67_emit_stmt.proofs.Ready.{body_piece, value_piece}
 
-module _ (s : Known) (sc : Place) (p : PExpr) (x : PStmt) (a : Draft) (b' d' e' f' : Built) (fits : StmtFits sc s (level_set a.out) (tree.thru p x))
+module _ (s : Known) (sc : Place) (p : PExpr) (x : PStmt) (a : Draft) (b' d' e' f' : Built) (fits : EmittedStmtFits sc s (level_set a.out) (tree.thru p x))
     (ready : IsReady s a (stmt_syllables s (tree.thru p x))) (value : ValueEmitted s.names.now (level_set a.out) a.out b' p) (value_level : b'.level ≡ a.out.level)
     (value_short : size b'.operators ≤ size a.out.operators + expr_syllables s p) (tests_level : d'.level ≡ b'.level) (tests_wide : size d'.operators ≡ size b'.operators + 3)
     (branch_level : e'.level ≡ d'.level) (branch_wide : size e'.operators ≡ size d'.operators + 3) (less_level : f'.level ≡ e'.level)
@@ -34,7 +34,7 @@ module _ (s : Known) (sc : Place) (p : PExpr) (x : PStmt) (a : Draft) (b' d' e' 
   same : f'.level ≡ a.out.level
   same = less_level ∙ branch_level ∙ tests_level ∙ value_level
 
-  pub body_needs : (own : ℕ) → IsAt own a → IsReady s f (stmt_syllables s x) × HasFit s f x × IsAt own f
+  pub body_needs : (own : ℕ) → DraftIsAt own a → IsReady s f (stmt_syllables s x) × HasFit s f x × DraftIsAt own f
   body_needs own at =
       let b : Draft = record a { out = b' } in
       let v = value_piece s a b (level_set a.out) sc types.Number p refl refl refl ready.few value value_short fits.0 in (

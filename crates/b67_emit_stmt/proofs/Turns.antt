@@ -15,7 +15,7 @@ use Rattle.b67_segment.specs.Operators.{size}
 use Rattle.b67_segment.specs.Building.{Built, level_set}
 use Rattle.b67_emit_stmt.specs.Lengths.{expr_syllables}
 use Rattle.b67_templates.specs.Emitting.{AreExits, Emitted, EmittedWithExits}
-use Rattle.b67_emit_stmt.specs.Fits.{AssignFits, ExprFits, ReadFits, StmtFits, VariableFits}
+use Rattle.b67_emit_stmt.specs.Fits.{AssignFits, EmittedExprFits, ReadFits, EmittedStmtFits, VariableFits}
 use Rattle.b67_templates.specs.Fragments.{Has, AllAt, BranchAt, TurnAt}
 use Rattle.b67_emitter.specs.Aiming.{Aimed}
 use Rattle.b67_emitter.specs.Values.{ValueEmitted}
@@ -42,7 +42,7 @@ module _ (s : Known) (p : PExpr) (x : PStmt) (a n : Draft) (b' d' e' f' o' : Bui
     (turn : Emitted n.out o' (λ qs. TurnAt qs (level_set n.out) (size n.out.operators) start (size o'.operators))) (turn_level : o'.level ≡ n.out.level)
     (turn_wide : size o'.operators ≡ size n.out.operators + 3) where
   -- the branch past the last turn can be aimed
-  pub thru_lies : (sc : Place) → ExprFits sc s (level_set a.out) types.Number p → StmtFits sc s (level_set a.out) x → AreExits o'.operators (over ∷ []) 0 (size o'.operators)
+  pub thru_lies : (sc : Place) → EmittedExprFits sc s (level_set a.out) types.Number p → EmittedStmtFits sc s (level_set a.out) x → AreExits o'.operators (over ∷ []) 0 (size o'.operators)
   thru_lies sc number fit =
       let level = level_set a.out in
       let b : Draft = record a { out = b' } in
@@ -93,13 +93,13 @@ pub for_emitted : (s : Known) (v : Named) (first p l : PExpr) (x : PStmt) (a e f
     ((sc : Place) (later : Later) → AssignFits sc s (level_set a.out) v first →
     Emitted a.out b' (λ qs. AssignAt sc later qs (level_set a.out) v first (size a.out.operators) (size b'.operators))) →
     b'.level ≡ a.out.level → size b'.operators ≤ size a.out.operators + (4 + expr_syllables s first) → start ≡ size b'.operators →
-    ((sc : Place) (later : Later) → ReadFits sc s (level_set b') types.Number v → ExprFits sc s (level_set b') types.Number l →
+    ((sc : Place) (later : Later) → ReadFits sc s (level_set b') types.Number v → EmittedExprFits sc s (level_set b') types.Number l →
     Emitted b' d' (λ qs. ExprAt sc later qs (level_set b') types.Number (tree.two operators.Sub (alone v) l) (size b'.operators) (size d'.operators) (size d'.operators))) →
     d'.level ≡ b'.level → size d'.operators ≤ size b'.operators + (3 + expr_syllables s l) →
-    ((sc : Place) → ExprFits sc s (level_set d') types.Number p →
+    ((sc : Place) → EmittedExprFits sc s (level_set d') types.Number p →
     Emits (13 + expr_syllables s p) (record a { out = d' }) e (λ later qs target. StepAt sc later qs (level_set d') p (size d'.operators) target (size e.out.operators))) →
     EmitsBody s e f x →
-    ((sc : Place) (later : Later) → VariableFits sc s (level_set f.out) v → ExprFits sc s (level_set f.out) types.Number p →
+    ((sc : Place) (later : Later) → VariableFits sc s (level_set f.out) v → EmittedExprFits sc s (level_set f.out) types.Number p →
     Emitted f.out n' (λ qs. AssignAt sc later qs (level_set f.out) v (tree.two operators.Add (alone v) p) (size f.out.operators) (size n'.operators))) →
     n'.level ≡ f.out.level → size n'.operators ≤ size f.out.operators + (7 + expr_syllables s p) →
     Emitted n' o' (λ qs. TurnAt qs (level_set n') (size n'.operators) start (size o'.operators)) → size o'.operators ≡ size n'.operators + 3 →

@@ -10,7 +10,7 @@ use Rattle.algol_tree.specs.Types.{taken_by}
 use Rattle.algol_tree.specs.Blocks.{block_numbered}
 use Rattle.algol_tree.specs.Cells.{first_spot}
 use Rattle.algol_tree.specs.Scopes.{Scopes, use_of}
-use Rattle.algol_meaning.specs.Settle.{block_of, sorts_of}
+use Rattle.algol_meaning.specs.Settle.{block_of_sort, sorts_of}
 use Rattle.algol_meaning.specs.Statements.{alone}
 use Rattle.b67_ops.specs.declared.TheConstants.{MOST_LEVEL}
 use Rattle.b67_templates.specs.Cells as wants
@@ -21,7 +21,7 @@ use Rattle.b67_emitter.specs.Values.{meanings}
 use Rattle.b67_emit_stmt.specs.declared.draft.Known.{Known}
 use Rattle.b67_emit_stmt.specs.Actuals.{AreInner, HaveValues, cells_in_block}
 use Rattle.b67_emit_stmt.specs.Bodies.{AreActuals}
-use Rattle.b67_emit_stmt.specs.Fits.{StmtFits, StmtsFit, InsideFits}
+use Rattle.b67_emit_stmt.specs.Fits.{EmittedStmtFits, EmittedStmtsFit, InsideFits}
 use Rattle.b67_emit_stmt.specs.Places.{Place}
 use Rattle.b67_emit_stmt.proofs.Celled.{variable_no_procedure, formal_no_procedure, celled_inside}
 
@@ -73,7 +73,7 @@ module _ (sc : Scopes) (told : Told) (inner : AreInner told) (level block : ℕ)
     have_in k (tree.if c x y spot) f =
         have_both (actuals_in sc c ++ actuals_in sc x) (actuals_in sc y) (have_both (actuals_in sc c) (actuals_in sc x) (have_in types.Truth c f.0) (have_in k x f.1)) (have_in k y f.2)
     have_in k (tree.call (tree.called n es)) f =
-        subst (λ (j : ℕ). Have (actuals_given sc (parameter_wants sc j) es)) (sym (ap block_of ((f.1).procedure).sort_is))
+        subst (λ (j : ℕ). Have (actuals_given sc (parameter_wants sc j) es)) (sym (ap block_of_sort ((f.1).procedure).sort_is))
         (have_given (sorts_of ((block_numbered sc.blocks f.0).parameters)) (parameter_wants sc f.0) es f.2)
     have_in k (tree.tested x es spot) f = tt
 
@@ -96,7 +96,7 @@ module _ (sc : Scopes) (told : Told) (inner : AreInner told) (level block : ℕ)
   pub have_called : (n : Named) (es : PExprs) (callee : ℕ) → ProcedureFits sc told level n callee →
       ActualsFit sc told level block (sorts_of ((block_numbered sc.blocks callee).parameters)) (parameter_wants sc callee) es → Have (actuals_given sc (wants.wants_of sc n) es)
   have_called n es callee p f =
-      subst (λ (j : ℕ). Have (actuals_given sc (parameter_wants sc j) es)) (sym (ap block_of (p.procedure).sort_is))
+      subst (λ (j : ℕ). Have (actuals_given sc (parameter_wants sc j) es)) (sym (ap block_of_sort (p.procedure).sort_is))
       (have_given (sorts_of ((block_numbered sc.blocks callee).parameters)) (parameter_wants sc callee) es f)
 
   pub have_bounds : (pairs : List PPair) → BoundsFit sc told level block pairs → Have (actuals_in_pairs sc pairs)
@@ -141,7 +141,7 @@ module _ (sc : Place) (s : Known) (inner : AreInner (meanings s.names.now)) wher
   of_stmt = actuals_in_stmt sc.scopes
 
   mutual
-    have_stmt : (level : ℕ) (x : PStmt) → StmtFits sc s level x → In level (actuals_in_stmt sc.scopes x)
+    have_stmt : (level : ℕ) (x : PStmt) → EmittedStmtFits sc s level x → In level (actuals_in_stmt sc.scopes x)
     have_stmt level tree.empty f = tt
     have_stmt level (tree.assign (tree.subscripted n tree.none) e) f = at level f.0 e f.2
     have_stmt level (tree.assign (tree.subscripted n (tree.more i is)) e) f =
@@ -166,7 +166,7 @@ module _ (sc : Place) (s : Known) (inner : AreInner (meanings s.names.now)) wher
     have_stmt level (tree.event act e) f = tt
     have_stmt level (tree.process (tree.called n es) task) f = have_called sc.scopes told inner level sc.block n es f.0 f.1 f.2
 
-    have_stmts : (level : ℕ) (ss : PStmts) → StmtsFit sc s level ss → In level (actuals_in_stmts sc.scopes ss)
+    have_stmts : (level : ℕ) (ss : PStmts) → EmittedStmtsFit sc s level ss → In level (actuals_in_stmts sc.scopes ss)
     have_stmts level tree.no_stmts f = tt
     have_stmts level (tree.stmts x xs) f = two level (of_stmt x) (actuals_in_stmts sc.scopes xs) (have_stmt level x f.0) (have_stmts level xs f.1)
 

@@ -4,7 +4,7 @@ use Rattle.std.specs.Prelude.{slice_get}
 use Rattle.std.proofs.lemmas.List.{append-nil}
 use Rattle.algol_tree.specs.declared.tree.PhraseText.{PhraseText}
 use Rattle.algol_tree.specs.Plain.{PExprs}
-use Rattle.b67_emit_stmt.specs.Places.{Later, Place, LineAt, WriteAt}
+use Rattle.b67_emit_stmt.specs.Places.{Later, Place, LineAt, WriteListAt}
 use Rattle.b67_ops.specs.declared.Operator.TheVariants as ops
 use Rattle.b67_ops.specs.declared.PlainKind.TheVariants as kinds
 use Rattle.b67_ops.specs.declared.intrinsic.Intrinsic.TheVariants.{Write}
@@ -16,7 +16,7 @@ use Rattle.b67_templates.specs.Fitting.{PhrasesFit}
 use Rattle.b67_templates.specs.Emitting.{Emitted, EmittedWithExits}
 use Rattle.b67_emitter.proofs.Composing.{no_exits, then}
 use Rattle.b67_emit_stmt.specs.declared.draft.Draft.{Draft}
-use Rattle.b67_emit_stmt.specs.Drafts.{Agrees, AreListed, IsFront, HasFew, Emits, noted}
+use Rattle.b67_emit_stmt.specs.Drafts.{DraftAgrees, FormatsCanBeListed, IsFront, HasFew, Emits, draft_noted}
 use Rattle.b67_emit_stmt.proofs.Formats.{format_listed}
 use Rattle.b67_emit_stmt.proofs.Notes.{unknown}
 
@@ -37,11 +37,11 @@ module _ (sc : Place) (level : ℕ) (phrases : List PhraseText) (es : PExprs) (a
       Emitted b.out c.out (λ qs. NumberAt qs level (pos (length a.formats.items)) (size b.out.operators) (size c.out.operators)) →
       ((later : Later) → Emitted c.out d.out (λ qs. LineAt sc later qs level es (size c.out.operators) (size d.out.operators))) →
       Emitted d.out e.out (λ qs. Has qs level (size d.out.operators) (ops.Plain kinds.Entr) (size e.out.operators)) →
-      Emits most a e (λ later qs target. WriteAt sc later qs level phrases es (size a.out.operators) (size e.out.operators))
+      Emits most a e (λ later qs target. WriteListAt sc later qs level phrases es (size a.out.operators) (size e.out.operators))
   write_part most same fs ls few more short parts fit numbers h i j k =
       let first = then (then (then h i) (j unknown)) k in
-      let C : Later → List Placed → Type 0 = λ later qs. WriteAt sc later qs level phrases es (size a.out.operators) (size e.out.operators) in
-      let whole : Emitted a.out e.out (λ qs. (later : Later) → Agrees (noted e) later → C later qs) =
+      let C : Later → List Placed → Type 0 = λ later qs. WriteListAt sc later qs level phrases es (size a.out.operators) (size e.out.operators) in
+      let whole : Emitted a.out e.out (λ qs. (later : Later) → DraftAgrees (draft_noted e) later → C later qs) =
       record {
         level = first.level;
         grown = first.grown;
@@ -60,12 +60,12 @@ module _ (sc : Place) (level : ℕ) (phrases : List PhraseText) (es : PExprs) (a
               enter = p.1;
             };
       } in
-      let E : List ℕ → Type 0 = λ ys. EmittedWithExits a.out e.out a.exits.items ys (λ qs target. (later : Later) → Agrees (noted e) later → C later qs) in
+      let E : List ℕ → Type 0 = λ ys. EmittedWithExits a.out e.out a.exits.items ys (λ qs target. (later : Later) → DraftAgrees (draft_noted e) later → C later qs) in
       record {
         code = subst E (sym same) (no_exits a.exits.items whole);
         short = short;
         notes = record { formats = (f ∷ [], fs); labels = []; labels_are = ls ∙ sym (append-nil a.labels.items); behind = tt };
         few = omega (arith, ap length fs, length-append a.formats.items (f ∷ []), few, more);
         more = omega (arith, ap length fs, length-append a.formats.items (f ∷ []), more);
-        listed = λ l. subst AreListed (sym fs) (format_listed a.formats.items f phrases parts fit l);
+        listed = λ l. subst FormatsCanBeListed (sym fs) (format_listed a.formats.items f phrases parts fit l);
       }

@@ -12,7 +12,7 @@ use Rattle.b67_templates.specs.Code.{routine_controls}
 use Rattle.b67_templates.specs.Emitting.{Emitted}
 use Rattle.b67_emitter.proofs.Composing.{then, weaker}
 use Rattle.b67_emit_stmt.specs.declared.draft.Draft.{Draft}
-use Rattle.b67_emit_stmt.specs.Drafts.{Emits, HasFew, noted}
+use Rattle.b67_emit_stmt.specs.Drafts.{Emits, HasFew, draft_noted}
 use Rattle.b67_emit_stmt.specs.Places.{Later, Place, CellsAt, MadeAt}
 use Rattle.b67_emit_stmt.proofs.Drafts.{piece}
 
@@ -62,7 +62,7 @@ controls_long segment level segments actuals ats same =
     let procedures : length (procedure_controls level segments) ≡ length segments = length-map segments (λ (segment : ℕ). code_at segment 0 (level + 1)) in
     omega (arith, length-append (procedure_controls level segments) (routine_controls segment level actuals ats), procedures, routines_long segment level actuals ats same)
 
-module _ (sc : Place) (level many : ℕ) (segments : List ℕ) (actuals : List Actual) (ats : List ℕ) (as_long : length ats ≡ length actuals) (most : ℕ) (a d : Draft) (b e : Built) (es : d.exits.items ≡ a.exits.items) (fs : noted d ≡ noted a) (few : HasFew a)
+module _ (sc : Place) (level many : ℕ) (segments : List ℕ) (actuals : List Actual) (ats : List ℕ) (as_long : length ats ≡ length actuals) (most : ℕ) (a d : Draft) (b e : Built) (es : d.exits.items ≡ a.exits.items) (fs : draft_noted d ≡ draft_noted a) (few : HasFew a)
     (zeros : Emitted a.out b (λ qs. AllAt qs level (replicate many kinds.Zero) (size a.out.operators) (size b.operators)))
     (words : Emitted b e (λ qs. ControlsAt qs level (procedure_controls level segments ++ routine_controls sc.segment level actuals ats) (size b.operators) (size e.operators)))
     (short : size d.out.operators ≤ size a.out.operators + most) where

@@ -11,7 +11,7 @@ use Rattle.b67_ops.specs.declared.Couple.{Couple}
 use Rattle.b67_ops.specs.declared.TheConstants.{MOST_LEVEL}
 use Rattle.b67_templates.specs.Cells.{Actual}
 use Rattle.b67_templates.specs.Fitting.{Told, ExprFits}
-use Rattle.b67_templates.specs.Paying.{modes_of, has_cell}
+use Rattle.b67_templates.specs.Paying.{modes_of, actual_has_cell}
 
 -- the trees of these
 abbrev pub images : List (Bor Expr) → List PExpr
@@ -19,19 +19,19 @@ images es = map (λ (e : Bor Expr). expr e.now) es
 
 module _ (told : Told) where
   abbrev pub celled : Bool → PExpr → List PExpr
-  celled mode e = if mode && has_cell told e then e ∷ [] else []
+  celled mode e = if mode && actual_has_cell told e then e ∷ [] else []
 
   abbrev mutual
-    pub cells_in : PExpr → List PExpr
-    cells_in (tree.variable (tree.subscripted n es)) = cells_among es
-    cells_in (tree.call c) = cells_in_call c
-    cells_in (tree.paren e spot) = cells_in e
-    cells_in (tree.plus e spot) = cells_in e
-    cells_in (tree.neg e spot) = cells_in e
-    cells_in (tree.not e spot) = cells_in e
-    cells_in (tree.two op x y) = cells_in x ++ cells_in y
-    cells_in (tree.if c x y spot) = cells_in c ++ cells_in x ++ cells_in y
-    cells_in _ = []
+    pub cells_in_actual : PExpr → List PExpr
+    cells_in_actual (tree.variable (tree.subscripted n es)) = cells_among es
+    cells_in_actual (tree.call c) = cells_in_call c
+    cells_in_actual (tree.paren e spot) = cells_in_actual e
+    cells_in_actual (tree.plus e spot) = cells_in_actual e
+    cells_in_actual (tree.neg e spot) = cells_in_actual e
+    cells_in_actual (tree.not e spot) = cells_in_actual e
+    cells_in_actual (tree.two op x y) = cells_in_actual x ++ cells_in_actual y
+    cells_in_actual (tree.if c x y spot) = cells_in_actual c ++ cells_in_actual x ++ cells_in_actual y
+    cells_in_actual _ = []
 
     pub cells_in_call : PCall → List PExpr
     cells_in_call (tree.called n es) = cells_given (modes_of (told.meant n.spot)) es
@@ -39,17 +39,17 @@ module _ (told : Told) where
     -- of subscripts, and of items
     pub cells_among : PExprs → List PExpr
     cells_among tree.none = []
-    cells_among (tree.more e es) = cells_in e ++ cells_among es
+    cells_among (tree.more e es) = cells_in_actual e ++ cells_among es
 
     -- of a call: each comes before those within it
     pub cells_given : List Bool → PExprs → List PExpr
     cells_given modes tree.none = []
-    cells_given [] (tree.more e es) = cells_in e ++ cells_given [] es
-    cells_given (mode ∷ modes) (tree.more e es) = celled mode e ++ cells_in e ++ cells_given modes es
+    cells_given [] (tree.more e es) = cells_in_actual e ++ cells_given [] es
+    cells_given (mode ∷ modes) (tree.more e es) = celled mode e ++ cells_in_actual e ++ cells_given modes es
 
   abbrev pub cells_in_pairs : List PPair → List PExpr
   cells_in_pairs [] = []
-  cells_in_pairs (p ∷ pairs) = cells_in p.high ++ cells_in_pairs pairs
+  cells_in_pairs (p ∷ pairs) = cells_in_actual p.high ++ cells_in_pairs pairs
 
   abbrev pub cells_in_decls : PDecls → List PExpr
   cells_in_decls tree.no_decls = []
@@ -60,16 +60,16 @@ module _ (told : Told) where
   abbrev mutual
     pub cells_in_stmt : PStmt → List PExpr
     cells_in_stmt (tree.label n s) = cells_in_stmt s
-    cells_in_stmt (tree.assign (tree.subscripted n es) e) = cells_among es ++ cells_in e
+    cells_in_stmt (tree.assign (tree.subscripted n es) e) = cells_among es ++ cells_in_actual e
     cells_in_stmt (tree.call_of c) = cells_in_call c
     cells_in_stmt (tree.block (tree.body spot tree.no_decls ss)) = cells_in_stmts ss
-    cells_in_stmt (tree.if_then c x) = cells_in c ++ cells_in_stmt x
-    cells_in_stmt (tree.if_else c x y) = cells_in c ++ cells_in_stmt x ++ cells_in_stmt y
-    cells_in_stmt (tree.while c b) = cells_in c ++ cells_in_stmt b
-    cells_in_stmt (tree.until b c) = cells_in_stmt b ++ cells_in c
-    cells_in_stmt (tree.for v a s l b) = cells_in a ++ cells_in s ++ cells_in l ++ cells_in_stmt b
-    cells_in_stmt (tree.thru e b) = cells_in e ++ cells_in_stmt b
-    cells_in_stmt (tree.case e ss) = cells_in e ++ cells_in_stmts ss
+    cells_in_stmt (tree.if_then c x) = cells_in_actual c ++ cells_in_stmt x
+    cells_in_stmt (tree.if_else c x y) = cells_in_actual c ++ cells_in_stmt x ++ cells_in_stmt y
+    cells_in_stmt (tree.while c b) = cells_in_actual c ++ cells_in_stmt b
+    cells_in_stmt (tree.until b c) = cells_in_stmt b ++ cells_in_actual c
+    cells_in_stmt (tree.for v a s l b) = cells_in_actual a ++ cells_in_actual s ++ cells_in_actual l ++ cells_in_stmt b
+    cells_in_stmt (tree.thru e b) = cells_in_actual e ++ cells_in_stmt b
+    cells_in_stmt (tree.case e ss) = cells_in_actual e ++ cells_in_stmts ss
     cells_in_stmt (tree.process c task) = cells_in_call c
     cells_in_stmt (tree.write n spot phrases es) = cells_among es
     cells_in_stmt _ = []

@@ -12,11 +12,11 @@ use Rattle.b67_templates.specs.Code as code
 use Rattle.b67_templates.specs.Code.{routine_controls}
 use Rattle.b67_templates.specs.Emitting.{Emitted}
 use Rattle.b67_emitter.specs.Values.{meanings}
-use Rattle.b67_templates.specs.Fragments.{Has, Goes, EntryAt, ControlsAt}
+use Rattle.b67_templates.specs.Fragments.{Has, FragmentGoes, EntryAt, ControlsAt}
 use Rattle.b67_emit_stmt.specs.declared.draft.Draft.{Draft}
 use Rattle.b67_emit_stmt.specs.declared.draft.Known.{Known}
 use Rattle.b67_emit_stmt.specs.Drafts.{Emits}
-use Rattle.b67_emit_stmt.specs.Fits.{AreNumbered, DeclsFit, InsideFits, number_in}
+use Rattle.b67_emit_stmt.specs.Fits.{AreNumbered, DeclsFit, InsideFits, procedure_number_in}
 use Rattle.b67_emit_stmt.specs.Places.{Later, Place, CellsAt, RoutinesAt, DeclsAt, StmtsAt, context_in}
 use Rattle.b67_emit_stmt.specs.Actuals.{exprs_of, HaveValues}
 use Rattle.b67_emit_stmt.specs.Lengths.{routines_syllables, cells_syllables, begin_syllables, stmts_syllables, celled_in}
@@ -28,12 +28,12 @@ abbrev pub variables_in : PDecls → ℕ
 variables_in ds = length (variables ds)
 
 -- so many cells of 0 and those of procedures, of actuals, of arrays, of events and of tasks are no more than a block may have
-abbrev pub IsSmall : ℕ → PDecls → List PExpr → Type 0
-IsSmall many ds es = many + length (procedures ds) + length es + length (made_of ds) ≤ MOST_BLOCK_CELLS
+abbrev pub IsSmallBlock : ℕ → PDecls → List PExpr → Type 0
+IsSmallBlock many ds es = many + length (procedures ds) + length es + length (made_of ds) ≤ MOST_BLOCK_CELLS
 
 -- the numbers that are known of procedures
-abbrev pub numbers_of : Known → List Named → List ℕ
-numbers_of s ns = map (λ (n : Named). number_in s.procedures.now n.spot) ns
+abbrev pub procedure_numbers_of : Known → List Named → List ℕ
+procedure_numbers_of s ns = map (λ (n : Named). procedure_number_in s.procedures.now n.spot) ns
 
 -- these are the actuals of a block that have cells, each of which has a value in it, and its code a level
 pub record AreActuals (sc : Place) (s : Known) (level : ℕ) (es : List PExpr) (actuals : List Actual) : Type 0 where
@@ -141,7 +141,7 @@ inner_syllables s ds ss = 3 + block_syllables s ds ss + 14
 -- the code of a block one level further in, which stands before its entry
 abbrev pub InnerAt : Place → Later → List Placed → ℕ → PDecls → PStmts → ℕ → ℕ → Type 0
 InnerAt sc later ps level ds ss f t =
-    (o : ℕ) × (at : ℕ) × Goes ps level f o × BlockAt sc later ps (level + 1) ds ss at × EntryAt ps level sc.segment at o t
+    (o : ℕ) × (at : ℕ) × FragmentGoes ps level f o × BlockAt sc later ps (level + 1) ds ss at × EntryAt ps level sc.segment at o t
 
 abbrev pub EmitsInner : Known → Draft → Draft → PDecls → PStmts → Type 0
 EmitsInner s before after ds ss =

@@ -23,26 +23,26 @@ use Rattle.b67_emit_stmt.specs.Places.{Later}
 -- ---- what is noted beside the code
 
 -- the formats of lines, and where the statements after labels begin
-pub record Noted : Type 0 where
+pub record DraftNoted : Type 0 where
   pub formats : List Format
   pub labels : List Label
 
-abbrev pub noted : Draft → Noted
-noted d = record { formats = d.formats.items; labels = d.labels.items }
+abbrev pub draft_noted : Draft → DraftNoted
+draft_noted d = record { formats = d.formats.items; labels = d.labels.items }
 
 -- these are the first of those
 abbrev pub IsFront : {X : Type 0} → List X → List X → Type 0
 IsFront {X} xs ys = (more : List X) × (ys ≡ xs ++ more)
 
 -- more was noted, and the statements after the labels among it begin at this place or after it
-pub record Grows (from : ℕ) (before after : Noted) : Type 0 where
+pub record NotedGrows (from : ℕ) (before after : DraftNoted) : Type 0 where
   pub formats : IsFront before.formats after.formats
   pub labels : List Label
   pub labels_are : after.labels ≡ before.labels ++ labels
   pub behind : AllByRecursion (λ (l : Label). from ≤ l.place) labels
 
 -- what is known when all code is there agrees with what was noted so far
-pub record Agrees (n : Noted) (later : Later) : Type 0 where
+pub record DraftAgrees (n : DraftNoted) (later : Later) : Type 0 where
   pub formats : IsFront n.formats later.formats
   pub labels : AllByRecursion (λ (l : Label). later.labels l.spot ≡ Some l.place) n.labels
 
@@ -56,11 +56,11 @@ abbrev pub HasFew : Draft → Type 0
 HasFew d = length d.formats.items ≤ most_formats + size d.out.operators
 
 -- the formats can be listed: their texts can stand between quotes
-abbrev pub AreListed : List Format → Type 0
-AreListed formats = All (λ (format : Format). All IsPhrase format.phrases) formats
+abbrev pub FormatsCanBeListed : List Format → Type 0
+FormatsCanBeListed formats = All (λ (format : Format). All IsPhrase format.phrases) formats
 
 -- The level that is set is this one, which is that of a block.
-pub record IsAt (level : ℕ) (d : Draft) : Type 0 where
+pub record DraftIsAt (level : ℕ) (d : Draft) : Type 0 where
   pub set : d.out.level ≡ Some level
   pub outer : OUTER_LEVEL ≤ level
 
@@ -79,13 +79,13 @@ pub record IsReady (s : Known) (d : Draft) (syllables : ℕ) : Type 0 where
 pub record Emits (most : ℕ) (before after : Draft) (claim : Later → List Placed → ℕ → Type 0) : Type 0 where
   pub code :
       EmittedWithExits before.out after.out before.exits.items after.exits.items
-      (λ qs target. (later : Later) → Agrees (noted after) later → claim later qs target)
+      (λ qs target. (later : Later) → DraftAgrees (draft_noted after) later → claim later qs target)
   pub short : size after.out.operators ≤ size before.out.operators + most
-  pub notes : Grows (size before.out.operators) (noted before) (noted after)
+  pub notes : NotedGrows (size before.out.operators) (draft_noted before) (draft_noted after)
   pub few : HasFew after
   -- at most one for each syllable
   pub more : length after.formats.items + size before.out.operators ≤ length before.formats.items + size after.out.operators
-  pub listed : AreListed before.formats.items → AreListed after.formats.items
+  pub listed : FormatsCanBeListed before.formats.items → FormatsCanBeListed after.formats.items
 
 -- ---- exactly what was noted
 
@@ -93,16 +93,16 @@ abbrev pub spots_of : List Label → List Spot
 spots_of ls = map (λ (l : Label). l.spot) ls
 
 -- the formats of these lines and the labels that stand at these places were noted, and no other
-pub record Adds (before after : Noted) (lines : List (List PhraseText)) (spots : List Spot) : Type 0 where
+pub record DraftAdds (before after : DraftNoted) (lines : List (List PhraseText)) (spots : List Spot) : Type 0 where
   pub formats : after.formats ≡ before.formats ++ formats_for lines
   pub labels : spots_of after.labels ≡ spots_of before.labels ++ spots
 
 -- those of a line, of a statement, of statements
 abbrev pub AddsLine : Draft → Draft → List PhraseText → Type 0
-AddsLine before after phrases = Adds (noted before) (noted after) (phrases ∷ []) []
+AddsLine before after phrases = DraftAdds (draft_noted before) (draft_noted after) (phrases ∷ []) []
 
 abbrev pub AddsStmt : Draft → Draft → PStmt → Type 0
-AddsStmt before after s = Adds (noted before) (noted after) (stmt_lines s) (label_spots s)
+AddsStmt before after s = DraftAdds (draft_noted before) (draft_noted after) (stmt_lines s) (label_spots s)
 
 abbrev pub AddsStmts : Draft → Draft → PStmts → Type 0
-AddsStmts before after ss = Adds (noted before) (noted after) (stmts_lines ss) (label_spots_in ss)
+AddsStmts before after ss = DraftAdds (draft_noted before) (draft_noted after) (stmts_lines ss) (label_spots_in ss)

@@ -10,7 +10,7 @@ use Rattle.algol_tree.specs.Plain as tree
 use Rattle.algol_tree.specs.Plain.{PExpr, PExprs, PVariable, PPair, PStmt, PStmts, PDecls}
 use Rattle.algol_tree.specs.Blocks.{number_at}
 use Rattle.algol_tree.specs.Scopes.{Scopes}
-use Rattle.algol_places.specs.Numbers.{number_of}
+use Rattle.algol_places.specs.Numbers.{place_number_of}
 use Rattle.algol_paths.specs.Segments.{segment_of}
 use Rattle.b67_ops.specs.declared.TheConstants.{MOST_LEVEL}
 use Rattle.b67_templates.specs.Contexts.{nothing}
@@ -29,13 +29,13 @@ next_to None = 0
 next_to (Some number) = number + 1
 
 -- the number of the procedure whose name stands there, where the names of all stand so: its place among them, from 1
-abbrev pub number_in : List Spot → Spot → ℕ
-number_in spots spot = next_to (number_of spots spot)
+abbrev pub procedure_number_in : List Spot → Spot → ℕ
+procedure_number_in spots spot = next_to (place_number_of spots spot)
 
 -- the number that is known of a procedure whose block has this level is that of its segment
 pub record IsNumbered (sc : Scopes) (s : Known) (level : ℕ) (n : Named) : Type 0 where
-  pub is : segment_of sc.blocks (number_at sc.blocks n.spot) ≡ number_in s.procedures.now n.spot
-  pub few : number_in s.procedures.now n.spot ≤ MOST_PROCEDURES
+  pub is : segment_of sc.blocks (number_at sc.blocks n.spot) ≡ procedure_number_in s.procedures.now n.spot
+  pub few : procedure_number_in s.procedures.now n.spot ≤ MOST_PROCEDURES
   pub inner : level ≤ MOST_LEVEL
 
 -- .. of each that is declared at a level
@@ -49,11 +49,11 @@ module _ (sc : Place) (s : Known) (level : ℕ) where
   abbrev pub ReadFits : Kind → Named → Type 0
   ReadFits k n = fitting.ReadFits sc.scopes (meanings s.names.now) level k n
 
-  abbrev pub PlaceFits : Kind → Named → Type 0
-  PlaceFits k n = fitting.PlaceFits sc.scopes (meanings s.names.now) level k n
+  abbrev pub EmittedPlaceFits : Kind → Named → Type 0
+  EmittedPlaceFits k n = fitting.PlaceFits sc.scopes (meanings s.names.now) level k n
 
-  abbrev pub ExprFits : Kind → PExpr → Type 0
-  ExprFits k e = fitting.ExprFits sc.scopes (meanings s.names.now) level sc.block k e
+  abbrev pub EmittedExprFits : Kind → PExpr → Type 0
+  EmittedExprFits k e = fitting.ExprFits sc.scopes (meanings s.names.now) level sc.block k e
 
   abbrev pub AssignFits : Named → PExpr → Type 0
   AssignFits n e = fitting.AssignFits sc.scopes (meanings s.names.now) level sc.block n e
@@ -66,7 +66,7 @@ module _ (sc : Place) (s : Known) (level : ℕ) where
 
   -- a variable or a parameter by name that is read and assigned
   abbrev pub VariableFits : Named → Type 0
-  VariableFits n = ReadFits types.Number n × PlaceFits types.Number n
+  VariableFits n = ReadFits types.Number n × EmittedPlaceFits types.Number n
 
   abbrev pub ElementAssignFits : Named → PExprs → PExpr → Type 0
   ElementAssignFits n es e = fitting.ElementAssignFits sc.scopes (meanings s.names.now) level sc.block n es e
@@ -110,15 +110,15 @@ module _ (scopes : Scopes) (segment : ℕ) (s : Known) where
     Fits level block (tree.block (tree.body spot (tree.decls d ds) ss)) =
         BlockFits scopes level (tree.decls d ds) ss × (segment ≡ s.segment) × AreNumbered scopes s (level + 1) (procedures (tree.decls d ds))
         × DeclsFit (place (number_at scopes.blocks spot)) s (level + 1) (tree.decls d ds) × AllFit (level + 1) (number_at scopes.blocks spot) ss
-    Fits level block (tree.if_then c x) = ExprFits (place block) s level types.Truth c × Fits level block x
-    Fits level block (tree.if_else c x y) = ExprFits (place block) s level types.Truth c × Fits level block x × Fits level block y
-    Fits level block (tree.while c b) = ExprFits (place block) s level types.Truth c × Fits level block b
-    Fits level block (tree.until b c) = Fits level block b × ExprFits (place block) s level types.Truth c
+    Fits level block (tree.if_then c x) = EmittedExprFits (place block) s level types.Truth c × Fits level block x
+    Fits level block (tree.if_else c x y) = EmittedExprFits (place block) s level types.Truth c × Fits level block x × Fits level block y
+    Fits level block (tree.while c b) = EmittedExprFits (place block) s level types.Truth c × Fits level block b
+    Fits level block (tree.until b c) = Fits level block b × EmittedExprFits (place block) s level types.Truth c
     Fits level block (tree.for v a t l b) =
-        VariableFits (place block) s level v × ExprFits (place block) s level types.Number a × ExprFits (place block) s level types.Number t
-        × ExprFits (place block) s level types.Number l × Fits level block b
-    Fits level block (tree.thru e b) = ExprFits (place block) s level types.Number e × Fits level block b
-    Fits level block (tree.case e ss) = ExprFits (place block) s level types.Number e × AllFit level block ss
+        VariableFits (place block) s level v × EmittedExprFits (place block) s level types.Number a × EmittedExprFits (place block) s level types.Number t
+        × EmittedExprFits (place block) s level types.Number l × Fits level block b
+    Fits level block (tree.thru e b) = EmittedExprFits (place block) s level types.Number e × Fits level block b
+    Fits level block (tree.case e ss) = EmittedExprFits (place block) s level types.Number e × AllFit level block ss
     Fits level block (tree.write n spot phrases es) = WriteFits (place block) s level phrases es
     Fits level block (tree.label n x) = LabelFits (place block) s level n × Fits level block x
     Fits level block (tree.go_to n) = LabelFits (place block) s level n
@@ -130,12 +130,12 @@ module _ (scopes : Scopes) (segment : ℕ) (s : Known) where
     AllFit level block (tree.stmts x xs) = Fits level block x × AllFit level block xs
 
 module _ (sc : Place) (s : Known) (level : ℕ) where
-  abbrev pub StmtFits : PStmt → Type 0
-  StmtFits x = Fits sc.scopes sc.segment s level sc.block x
+  abbrev pub EmittedStmtFits : PStmt → Type 0
+  EmittedStmtFits x = Fits sc.scopes sc.segment s level sc.block x
 
-  abbrev pub StmtsFit : PStmts → Type 0
-  StmtsFit xs = AllFit sc.scopes sc.segment s level sc.block xs
+  abbrev pub EmittedStmtsFit : PStmts → Type 0
+  EmittedStmtsFit xs = AllFit sc.scopes sc.segment s level sc.block xs
 
   -- the procedures, the arrays and the statements of a block at this level
   abbrev pub InsideFits : PDecls → PStmts → Type 0
-  InsideFits ds xs = AreNumbered sc.scopes s level (procedures ds) × DeclsFit sc s level ds × StmtsFit xs
+  InsideFits ds xs = AreNumbered sc.scopes s level (procedures ds) × DeclsFit sc s level ds × EmittedStmtsFit xs

@@ -92,11 +92,11 @@ module _ (sc : Place) (later : Later) (ps : List Placed) (level : ℕ) where
   abbrev pub LineAt : PExprs → ℕ → ℕ → Type 0
   LineAt es f t = code.LineAt sc.scopes (context_in sc later level) ps level es f t
 
-  abbrev pub WriteAt : List PhraseText → PExprs → ℕ → ℕ → Type 0
-  WriteAt phrases es f t = code.WriteAt sc.scopes (context_in sc later level) ps level phrases es f t
+  abbrev pub WriteListAt : List PhraseText → PExprs → ℕ → ℕ → Type 0
+  WriteListAt phrases es f t = code.WriteAt sc.scopes (context_in sc later level) ps level phrases es f t
 
-  abbrev pub TableAt : ℕ → ℕ → ℕ → Type 0
-  TableAt many f table = code.TableAt sc.scopes (context_in sc later level) ps level many f table
+  abbrev pub CaseTableAt : ℕ → ℕ → ℕ → Type 0
+  CaseTableAt many f table = code.TableAt sc.scopes (context_in sc later level) ps level many f table
 
   abbrev pub PastAt : ℕ → ℕ → ℕ → Type 0
   PastAt f u to = code.PastAt sc.scopes (context_in sc later level) ps level f u to

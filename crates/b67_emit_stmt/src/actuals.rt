@@ -4,7 +4,7 @@ ghost use Rattle.std.specs.Prelude.{◌≡◌, ◌++◌, IfOk, OnOk};
 ghost use Rattle.algol_tree.specs.Image as plain;
 ghost use Rattle.algol_tree.specs.Image.{expr, exprs, call, stmt, stmts, decls};
 ghost use Rattle.b67_emitter.specs.Values.{meanings};
-ghost use Rattle.b67_emit_stmt.specs.Actuals.{images, celled, cells_in, cells_among, cells_in_call, cells_in_pairs, cells_in_decls, cells_in_stmt, cells_in_stmts, cells_in_block};
+ghost use Rattle.b67_emit_stmt.specs.Actuals.{images, celled, cells_in_actual, cells_among, cells_in_call, cells_in_pairs, cells_in_decls, cells_in_stmt, cells_in_stmts, cells_in_block};
 
 use algol_tree::{Call, Decl, Expr, Pair, Stmt};
 use b67_emitter::{Names, has_cell, takes_name};
@@ -13,7 +13,7 @@ use std::alloc::{AllocError, Global};
 /// Those in an expression.
 #[cycle(actuals)]
 fn in_expr<'a>(e: &'a Expr, names: &Names, to: &mut Vec<&'a Expr>) -> Result<(), AllocError>
-    ensures { OnOk result (images to.new.items ≡ images to.old.items ++ cells_in (meanings names.now) (expr e.now)) }
+    ensures { OnOk result (images to.new.items ≡ images to.old.items ++ cells_in_actual (meanings names.now) (expr e.now)) }
 {
     match e {
         Expr::Variable(v) => in_exprs(v.subs.items(), names, to),

@@ -7,9 +7,9 @@ ghost use Rattle.b67_ops.specs.declared.TheConstants.{MOST_LEVEL};
 ghost use Rattle.b67_segment.specs.declared.TheConstants.{MOST_SEGMENT_SYLLABLES};
 ghost use Rattle.b67_segment.specs.Operators.{size};
 ghost use Rattle.b67_segment.specs.Building.{level_set};
-ghost use Rattle.b67_emit_stmt.specs.Drafts.{AddsStmts, IsAt, IsReady};
+ghost use Rattle.b67_emit_stmt.specs.Drafts.{AddsStmts, DraftIsAt, IsReady};
 ghost use Rattle.b67_emit_stmt.specs.Actuals.{images};
-ghost use Rattle.b67_emit_stmt.specs.Bodies.{EmitsBlock, EmitsEnded, EmitsInner, EmitsInside, HaveFitInside, HaveInside, IsSmall, block_syllables, ended_syllables, inner_syllables, inside_syllables, variables_in};
+ghost use Rattle.b67_emit_stmt.specs.Bodies.{EmitsBlock, EmitsEnded, EmitsInner, EmitsInside, HaveFitInside, HaveInside, IsSmallBlock, block_syllables, ended_syllables, inner_syllables, inside_syllables, variables_in};
 ghost use Rattle.b67_emit_stmt.specs.Lengths.{celled_in};
 
 use crate::actuals::actuals_of;
@@ -33,9 +33,9 @@ impl<'a, E: ExprEmitter> StmtEmitter<'a, E> {
         places: &[u16],
         to: &mut Draft,
     ) -> Result<(), AllocError>
-        requires level { IsAt self.now.level to.old }
+        requires level { DraftIsAt self.now.level to.old }
         requires ready { IsReady self.now.known.now to.old (inside_syllables self.now.known.now many (decls ds.now) (stmts ss.now) (images actuals.now)) }
-        requires few { IsSmall many (decls ds.now) (images actuals.now) }
+        requires few { IsSmallBlock many (decls ds.now) (images actuals.now) }
         requires inner { 1 ≤ length actuals.now → self.now.level + 1 ≤ MOST_LEVEL }
         requires placed { length places.now ≡ length actuals.now }
         requires places { All (λ (at : ℕ). at < MOST_SEGMENT_SYLLABLES) places.now }
@@ -61,9 +61,9 @@ impl<'a, E: ExprEmitter> StmtEmitter<'a, E> {
         places: &[u16],
         to: &mut Draft,
     ) -> Result<u16, AllocError>
-        requires level { IsAt self.now.level to.old }
+        requires level { DraftIsAt self.now.level to.old }
         requires ready { IsReady self.now.known.now to.old (ended_syllables self.now.known.now (decls ds.now) (stmts ss.now) (images actuals.now)) }
-        requires few { IsSmall (variables_in (decls ds.now)) (decls ds.now) (images actuals.now) }
+        requires few { IsSmallBlock (variables_in (decls ds.now)) (decls ds.now) (images actuals.now) }
         requires inner { 1 ≤ length actuals.now → self.now.level + 1 ≤ MOST_LEVEL }
         requires placed { length places.now ≡ length actuals.now }
         requires places { All (λ (at : ℕ). at < MOST_SEGMENT_SYLLABLES) places.now }
@@ -80,9 +80,9 @@ impl<'a, E: ExprEmitter> StmtEmitter<'a, E> {
     /// The code of a block within another, at its level: that of its actuals, and the block, which begins at the place that is given.
     #[cycle(statements)]
     fn block(&self, ss: &[Stmt], ds: &[Decl], to: &mut Draft) -> Result<u16, AllocError>
-        requires level { IsAt self.now.level to.old }
+        requires level { DraftIsAt self.now.level to.old }
         requires ready { IsReady self.now.known.now to.old (block_syllables self.now.known.now (decls ds.now) (stmts ss.now)) }
-        requires few { IsSmall (variables_in (decls ds.now)) (decls ds.now) (celled_in self.now.known.now (decls ds.now) (stmts ss.now)) }
+        requires few { IsSmallBlock (variables_in (decls ds.now)) (decls ds.now) (celled_in self.now.known.now (decls ds.now) (stmts ss.now)) }
         requires fits { HaveInside self.now.known.now self.now.level (decls ds.now) (stmts ss.now) }
         ensures code { IfOk result (EmitsBlock self.now.known.now self.now.level to.old to.new (decls ds.now) (stmts ss.now)) }
         ensures begin { IfOk result (λ begin. begin < size to.new.out.operators) }
@@ -96,10 +96,10 @@ impl<'a, E: ExprEmitter> StmtEmitter<'a, E> {
     /// The code of a block one level further in, and where the block begins.
     #[cycle(statements)]
     fn block_inside(&self, ss: &[Stmt], ds: &[Decl], to: &mut Draft) -> Result<u16, AllocError>
-        requires level { IsAt self.now.level to.old }
+        requires level { DraftIsAt self.now.level to.old }
         requires inner { self.now.level + 1 ≤ MOST_LEVEL }
         requires ready { IsReady self.now.known.now to.old (block_syllables self.now.known.now (decls ds.now) (stmts ss.now)) }
-        requires few { IsSmall (variables_in (decls ds.now)) (decls ds.now) (celled_in self.now.known.now (decls ds.now) (stmts ss.now)) }
+        requires few { IsSmallBlock (variables_in (decls ds.now)) (decls ds.now) (celled_in self.now.known.now (decls ds.now) (stmts ss.now)) }
         requires fits { HaveFitInside self.now.known.now to.old (decls ds.now) (stmts ss.now) }
         ensures code { IfOk result (EmitsBlock self.now.known.now (level_set to.old.out + 1) to.old to.new (decls ds.now) (stmts ss.now)) }
         ensures begin { IfOk result (λ begin. begin < size to.new.out.operators) }
@@ -124,10 +124,10 @@ impl<'a, E: ExprEmitter> StmtEmitter<'a, E> {
         ds: &[Decl],
         to: &mut Draft,
     ) -> Result<(), AllocError>
-        requires level { IsAt self.now.level to.old }
+        requires level { DraftIsAt self.now.level to.old }
         requires inner { self.now.level + 1 ≤ MOST_LEVEL }
         requires ready { IsReady self.now.known.now to.old (inner_syllables self.now.known.now (decls ds.now) (stmts ss.now)) }
-        requires few { IsSmall (variables_in (decls ds.now)) (decls ds.now) (celled_in self.now.known.now (decls ds.now) (stmts ss.now)) }
+        requires few { IsSmallBlock (variables_in (decls ds.now)) (decls ds.now) (celled_in self.now.known.now (decls ds.now) (stmts ss.now)) }
         requires fits { HaveFitInside self.now.known.now to.old (decls ds.now) (stmts ss.now) }
         ensures code { OnOk result (EmitsInner self.now.known.now to.old to.new (decls ds.now) (stmts ss.now)) }
         ensures lines { OnOk result (AddsStmts to.old to.new (stmts ss.now)) }

@@ -4,14 +4,14 @@ ghost use Rattle.std.specs.Prelude.{◌≡◌, ◌+◌, ◌*◌, ◌≤◌, IsSo
 ghost use Rattle.algol_tree.specs.Image.{expr, stmts};
 ghost use Rattle.algol_tree.specs.Plain as tree;
 ghost use Rattle.b67_emit_stmt.specs.Lengths.{expr_syllables, stmt_syllables, stmts_syllables};
-ghost use Rattle.b67_emit_stmt.specs.Drafts.{AddsStmt, AddsStmts, IsAt, IsReady};
+ghost use Rattle.b67_emit_stmt.specs.Drafts.{AddsStmt, AddsStmts, DraftIsAt, IsReady};
 ghost use Rattle.b67_emit_stmt.specs.Emits.{HasFit, HaveFit, EmitsStmt, EmitsCases};
 ghost use Rattle.algol_tree.specs.declared.tree.Kind.TheVariants as types;
 ghost use Rattle.b67_emit_stmt.specs.Places.{Later, Place};
 ghost use Rattle.b67_segment.specs.declared.TheConstants.{MOST_SEGMENT_SYLLABLES};
 ghost use Rattle.b67_segment.specs.Operators.{size};
 ghost use Rattle.b67_segment.specs.Building.{level_set};
-ghost use Rattle.b67_emit_stmt.specs.Fits.{ExprFits};
+ghost use Rattle.b67_emit_stmt.specs.Fits.{EmittedExprFits};
 ghost use Rattle.b67_templates.specs.Emitting.{Emitted};
 ghost use Rattle.b67_emitter.specs.Values.{AreNear};
 ghost use Rattle.b67_emit_stmt.specs.Cases.{EntriesAt, SelectAt};
@@ -52,9 +52,9 @@ impl<'a, E: ExprEmitter> StmtEmitter<'a, E> {
         requires set { IsSome out.old.level }
         requires near { AreNear self.now.known.now.names.now }
         requires few { many ≤ MOST_SEGMENT_SYLLABLES }
-        requires fits { (sc : Place) × ExprFits sc self.now.known.now (level_set out.old) types.Number (expr e.now) }
+        requires fits { (sc : Place) × EmittedExprFits sc self.now.known.now (level_set out.old) types.Number (expr e.now) }
         requires room { size out.old.operators + (19 + expr_syllables self.now.known.now (expr e.now)) ≤ MOST_SEGMENT_SYLLABLES }
-        ensures code { OnOk result ((sc : Place) (later : Later) → ExprFits sc self.now.known.now (level_set out.old) types.Number (expr e.now) → Emitted out.old out.new (λ qs. SelectAt sc later qs (level_set out.old) (expr e.now) many (size out.old.operators) (size out.new.operators))) }
+        ensures code { OnOk result ((sc : Place) (later : Later) → EmittedExprFits sc self.now.known.now (level_set out.old) types.Number (expr e.now) → Emitted out.old out.new (λ qs. SelectAt sc later qs (level_set out.old) (expr e.now) many (size out.old.operators) (size out.new.operators))) }
         ensures level { OnOk result (out.new.level ≡ out.old.level) }
         ensures size { OnOk result (size out.new.operators ≤ size out.old.operators + (19 + expr_syllables self.now.known.now (expr e.now))) }
     {
@@ -69,7 +69,7 @@ impl<'a, E: ExprEmitter> StmtEmitter<'a, E> {
     /// The table of branches, and after it the statements to which they go.
     #[cycle(statements)]
     fn cases(&self, ss: &[Stmt], to: &mut Draft) -> Result<(), AllocError>
-        requires level { IsAt self.now.level to.old }
+        requires level { DraftIsAt self.now.level to.old }
         requires ready { IsReady self.now.known.now to.old (stmts_syllables self.now.known.now (stmts ss.now)) }
         requires fits { HaveFit self.now.known.now to.old (stmts ss.now) }
         ensures code { OnOk result (EmitsCases self.now.known.now to.old to.new (stmts ss.now)) }
@@ -89,7 +89,7 @@ impl<'a, E: ExprEmitter> StmtEmitter<'a, E> {
     /// CASE.
     #[cycle(statements)]
     pub(crate) fn case(&self, ss: &[Stmt], e: &Expr, to: &mut Draft) -> Result<(), AllocError>
-        requires level { IsAt self.now.level to.old }
+        requires level { DraftIsAt self.now.level to.old }
         requires ready { IsReady self.now.known.now to.old (stmt_syllables self.now.known.now (tree.case (expr e.now) (stmts ss.now))) }
         requires fits { HasFit self.now.known.now to.old (tree.case (expr e.now) (stmts ss.now)) }
         ensures code { OnOk result (EmitsStmt self.now.known.now to.old to.new (tree.case (expr e.now) (stmts ss.now))) }

@@ -13,9 +13,9 @@ ghost use Rattle.b67_templates.specs.Cells as frames;
 ghost use Rattle.b67_templates.specs.Fragments.{AllAt, ControlsAt, procedure_controls};
 ghost use Rattle.b67_templates.specs.Emitting.{Emitted};
 ghost use Rattle.b67_emit_stmt.specs.Actuals.{images};
-ghost use Rattle.b67_emit_stmt.specs.Bodies.{EmitsCells, numbers_of};
-ghost use Rattle.b67_emit_stmt.specs.Drafts.{HasFew, IsAt, noted};
-ghost use Rattle.b67_emit_stmt.specs.Fits.{AreNumbered, number_in};
+ghost use Rattle.b67_emit_stmt.specs.Bodies.{EmitsCells, procedure_numbers_of};
+ghost use Rattle.b67_emit_stmt.specs.Drafts.{HasFew, DraftIsAt, draft_noted};
+ghost use Rattle.b67_emit_stmt.specs.Fits.{AreNumbered, procedure_number_in};
 ghost use Rattle.b67_emit_stmt.specs.Lengths.{cells_syllables};
 ghost use Rattle.b67_emit_stmt.specs.Places.{Place};
 
@@ -77,7 +77,7 @@ fn append_words(segments: &[u16], level: u8, out: &mut Builder) -> Result<(), Al
 #[tactic(auto, using(crate::proofs::Numbered::number_within))]
 fn number_of(procedures: &Places, spot: Spot) -> u16
     requires { length procedures.now ≤ MOST_PROCEDURES }
-    ensures { result ≡ number_in procedures.now spot }
+    ensures { result ≡ procedure_number_in procedures.now spot }
 {
     match procedures.number_of(spot) {
         None => 0,
@@ -89,7 +89,7 @@ impl<'a, E: ExprEmitter> StmtEmitter<'a, E> {
     /// The numbers of the procedures that are declared.
     fn numbers(&self, alloc: Global, ds: &[Decl]) -> Result<Vec<u16>, AllocError>
         requires { length self.now.known.now.procedures.now ≤ MOST_PROCEDURES }
-        ensures { IfOk result (λ numbers. numbers.items ≡ numbers_of self.now.known.now (frames.procedures (plain.decls ds.now))) }
+        ensures { IfOk result (λ numbers. numbers.items ≡ procedure_numbers_of self.now.known.now (frames.procedures (plain.decls ds.now))) }
     {
         let mut numbers = Vec::new(alloc);
         'decls: for d in ds {
@@ -133,7 +133,7 @@ impl<'a, E: ExprEmitter> StmtEmitter<'a, E> {
         places: &[u16],
         to: &mut Draft,
     ) -> Result<(), AllocError>
-        requires level { IsAt self.now.level to.old }
+        requires level { DraftIsAt self.now.level to.old }
         requires few { HasFew to.old }
         requires many { length self.now.known.now.procedures.now ≤ MOST_PROCEDURES }
         requires segment { self.now.known.now.segment < 2 ^ 10 }
@@ -144,7 +144,7 @@ impl<'a, E: ExprEmitter> StmtEmitter<'a, E> {
         requires numbered { (sc : Place) × AreNumbered sc.scopes self.now.known.now self.now.level (frames.procedures (plain.decls ds.now)) }
         requires room { size to.old.out.operators + cells_syllables self.now.known.now many (plain.decls ds.now) (images actuals.now) ≤ MOST_SEGMENT_SYLLABLES }
         ensures code { OnOk result (EmitsCells self.now.known.now self.now.level to.old to.new many (plain.decls ds.now) (images actuals.now) places.now) }
-        ensures notes { OnOk result (noted to.new ≡ noted to.old) }
+        ensures notes { OnOk result (draft_noted to.new ≡ draft_noted to.old) }
     {
         append_zeros(many, &mut to.out)?;
         let procedures = self.procedure_words(*to.exits.allocator(), ds, &mut to.out)?;

@@ -3,13 +3,13 @@
 ghost use Rattle.std.specs.Prelude.{◌≡◌, ◌+◌, ◌≤◌, List, IsSome, IfOk, OnOk};
 ghost use Rattle.algol_tree.specs.declared.TheConstants.{MOST_LINE_WIDTH};
 ghost use Rattle.algol_tree.specs.Image.{exprs};
-ghost use Rattle.b67_emit_stmt.specs.Places.{Later, Place, LineAt, WriteAt};
+ghost use Rattle.b67_emit_stmt.specs.Places.{Later, Place, LineAt, WriteListAt};
 ghost use Rattle.algol_tree.specs.Spelling.{value_of};
 ghost use Rattle.b67_segment.specs.declared.TheConstants.{MOST_SEGMENT_SYLLABLES};
 ghost use Rattle.b67_segment.specs.declared.code.Format.{Format};
 ghost use Rattle.b67_segment.specs.Operators.{size};
 ghost use Rattle.b67_segment.specs.Building.{level_set};
-ghost use Rattle.b67_templates.specs.Code.{AreParts, IsPart, word_part};
+ghost use Rattle.b67_templates.specs.Code.{AreParts, IsCodePart, word_part};
 ghost use Rattle.b67_templates.specs.Fitting.{IsNarrowWord, PhraseFits, PhrasesFit};
 ghost use Rattle.b67_emit_stmt.specs.Fits.{LineFits, WriteFits};
 ghost use Rattle.b67_templates.specs.Emitting.{Emitted};
@@ -53,7 +53,7 @@ fn word_phrase(word: &[u8]) -> Phrase
 
 fn phrase_of(alloc: Global, text: &PhraseText) -> Result<Phrase, AllocError>
     requires { PhraseFits text.now }
-    ensures { IfOk result (IsPart text.now) }
+    ensures { IfOk result (IsCodePart text.now) }
 {
     match text {
         PhraseText::Text(line) => Ok(Phrase::Text(Line::of(Vec::from_slice(alloc, line.bytes())?))),
@@ -101,7 +101,7 @@ impl<'a, E: ExprEmitter> StmtEmitter<'a, E> {
     ) -> Result<(), AllocError>
         requires ready { IsReady self.now.known.now to.old (write_syllables self.now.known.now (exprs items.now)) }
         requires fits { (sc : Place) × WriteFits sc self.now.known.now (level_set to.old.out) phrases.now (exprs items.now) }
-        ensures code { OnOk result ((sc : Place) → WriteFits sc self.now.known.now (level_set to.old.out) phrases.now (exprs items.now) → Emits (write_syllables self.now.known.now (exprs items.now)) to.old to.new (λ later qs target. WriteAt sc later qs (level_set to.old.out) phrases.now (exprs items.now) (size to.old.out.operators) (size to.new.out.operators))) }
+        ensures code { OnOk result ((sc : Place) → WriteFits sc self.now.known.now (level_set to.old.out) phrases.now (exprs items.now) → Emits (write_syllables self.now.known.now (exprs items.now)) to.old to.new (λ later qs target. WriteListAt sc later qs (level_set to.old.out) phrases.now (exprs items.now) (size to.old.out.operators) (size to.new.out.operators))) }
         ensures lines { OnOk result (AddsLine to.old to.new phrases.now) }
     {
         let number = to.formats.len();

@@ -4,7 +4,7 @@ ghost use Rattle.std.specs.Prelude.{OnOk};
 ghost use Rattle.algol_tree.specs.Image.{expr, stmt};
 ghost use Rattle.algol_tree.specs.Plain as tree;
 ghost use Rattle.b67_emit_stmt.specs.Lengths.{stmt_syllables};
-ghost use Rattle.b67_emit_stmt.specs.Drafts.{AddsStmt, IsAt, IsReady};
+ghost use Rattle.b67_emit_stmt.specs.Drafts.{AddsStmt, DraftIsAt, IsReady};
 ghost use Rattle.b67_emit_stmt.specs.Emits.{HasFit, EmitsStmt, EmitsBody};
 
 use crate::draft::{Draft, StmtEmitter};
@@ -19,7 +19,7 @@ impl<'a, E: ExprEmitter> StmtEmitter<'a, E> {
     /// A body, whose exits go to the place after it.
     #[cycle(statements)]
     fn loop_body(&self, b: &Stmt, to: &mut Draft) -> Result<(), AllocError>
-        requires level { IsAt self.now.level to.old }
+        requires level { DraftIsAt self.now.level to.old }
         requires ready { IsReady self.now.known.now to.old (stmt_syllables self.now.known.now (stmt b.now)) }
         requires fits { HasFit self.now.known.now to.old (stmt b.now) }
         ensures code { OnOk result (EmitsBody self.now.known.now to.old to.new (stmt b.now)) }
@@ -34,7 +34,7 @@ impl<'a, E: ExprEmitter> StmtEmitter<'a, E> {
     /// WHILE.
     #[cycle(statements)]
     pub(crate) fn while_loop(&self, b: &Stmt, c: &Expr, to: &mut Draft) -> Result<(), AllocError>
-        requires level { IsAt self.now.level to.old }
+        requires level { DraftIsAt self.now.level to.old }
         requires ready { IsReady self.now.known.now to.old (stmt_syllables self.now.known.now (tree.while (expr c.now) (stmt b.now))) }
         requires fits { HasFit self.now.known.now to.old (tree.while (expr c.now) (stmt b.now)) }
         ensures code { OnOk result (EmitsStmt self.now.known.now to.old to.new (tree.while (expr c.now) (stmt b.now))) }
@@ -50,7 +50,7 @@ impl<'a, E: ExprEmitter> StmtEmitter<'a, E> {
     /// DO with UNTIL.
     #[cycle(statements)]
     pub(crate) fn until_loop(&self, b: &Stmt, c: &Expr, to: &mut Draft) -> Result<(), AllocError>
-        requires level { IsAt self.now.level to.old }
+        requires level { DraftIsAt self.now.level to.old }
         requires ready { IsReady self.now.known.now to.old (stmt_syllables self.now.known.now (tree.until (stmt b.now) (expr c.now))) }
         requires fits { HasFit self.now.known.now to.old (tree.until (stmt b.now) (expr c.now)) }
         ensures code { OnOk result (EmitsStmt self.now.known.now to.old to.new (tree.until (stmt b.now) (expr c.now))) }
@@ -74,7 +74,7 @@ impl<'a, E: ExprEmitter> StmtEmitter<'a, E> {
         l: &Expr,
         to: &mut Draft,
     ) -> Result<(), AllocError>
-        requires level { IsAt self.now.level to.old }
+        requires level { DraftIsAt self.now.level to.old }
         requires ready { IsReady self.now.known.now to.old (stmt_syllables self.now.known.now (tree.for v.now (expr a.now) (expr s.now) (expr l.now) (stmt b.now))) }
         requires fits { HasFit self.now.known.now to.old (tree.for v.now (expr a.now) (expr s.now) (expr l.now) (stmt b.now)) }
         ensures code { OnOk result (EmitsStmt self.now.known.now to.old to.new (tree.for v.now (expr a.now) (expr s.now) (expr l.now) (stmt b.now))) }
@@ -92,7 +92,7 @@ impl<'a, E: ExprEmitter> StmtEmitter<'a, E> {
     /// THRU: one is taken off the count before the body.
     #[cycle(statements)]
     pub(crate) fn thru_loop(&self, b: &Stmt, e: &Expr, to: &mut Draft) -> Result<(), AllocError>
-        requires level { IsAt self.now.level to.old }
+        requires level { DraftIsAt self.now.level to.old }
         requires ready { IsReady self.now.known.now to.old (stmt_syllables self.now.known.now (tree.thru (expr e.now) (stmt b.now))) }
         requires fits { HasFit self.now.known.now to.old (tree.thru (expr e.now) (stmt b.now)) }
         ensures code { OnOk result (EmitsStmt self.now.known.now to.old to.new (tree.thru (expr e.now) (stmt b.now))) }

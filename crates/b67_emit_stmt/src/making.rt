@@ -12,8 +12,8 @@ ghost use Rattle.b67_templates.specs.Cells.{made_of, procedures};
 ghost use Rattle.b67_templates.specs.Emitting.{Emitted};
 ghost use Rattle.b67_emitter.specs.Values.{AreNear};
 ghost use Rattle.b67_emit_stmt.specs.Actuals.{images};
-ghost use Rattle.b67_emit_stmt.specs.Bodies.{EmitsBegin, IsSmall};
-ghost use Rattle.b67_emit_stmt.specs.Drafts.{IsAt, IsReady, noted};
+ghost use Rattle.b67_emit_stmt.specs.Bodies.{EmitsBegin, IsSmallBlock};
+ghost use Rattle.b67_emit_stmt.specs.Drafts.{DraftIsAt, IsReady, draft_noted};
 ghost use Rattle.b67_emit_stmt.specs.Fits.{AreNumbered, DeclsFit};
 ghost use Rattle.b67_emit_stmt.specs.Lengths.{begin_syllables, decls_syllables};
 ghost use Rattle.b67_emit_stmt.specs.Places.{Later, Place, DeclsAt, only};
@@ -71,15 +71,15 @@ impl<'a, E: ExprEmitter> StmtEmitter<'a, E> {
         places: &[u16],
         to: &mut Draft,
     ) -> Result<(), AllocError>
-        requires level { IsAt self.now.level to.old }
+        requires level { DraftIsAt self.now.level to.old }
         requires ready { IsReady self.now.known.now to.old (begin_syllables self.now.known.now many (plain.decls ds.now) (images actuals.now)) }
-        requires few { IsSmall many (plain.decls ds.now) (images actuals.now) }
+        requires few { IsSmallBlock many (plain.decls ds.now) (images actuals.now) }
         requires inner { 1 ≤ length actuals.now → self.now.level + 1 ≤ MOST_LEVEL }
         requires placed { length places.now ≡ length actuals.now }
         requires places { All (λ (at : ℕ). at < MOST_SEGMENT_SYLLABLES) places.now }
         requires fits { (sc : Place) × (sc.segment ≡ self.now.known.now.segment) × AreNumbered sc.scopes self.now.known.now self.now.level (procedures (plain.decls ds.now)) × DeclsFit sc self.now.known.now self.now.level (plain.decls ds.now) }
         ensures code { OnOk result (EmitsBegin self.now.known.now self.now.level to.old to.new many (plain.decls ds.now) (images actuals.now) places.now) }
-        ensures notes { OnOk result (noted to.new ≡ noted to.old) }
+        ensures notes { OnOk result (draft_noted to.new ≡ draft_noted to.old) }
     {
         self.cells(many, ds, actuals, places, to)?;
         self.make_all(ds, &mut to.out)

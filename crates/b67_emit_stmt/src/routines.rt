@@ -12,7 +12,7 @@ ghost use Rattle.b67_templates.specs.Cells.{Actual, has_place};
 ghost use Rattle.b67_emitter.specs.Values.{AreNear};
 ghost use Rattle.b67_emit_stmt.specs.Actuals.{images};
 ghost use Rattle.b67_emit_stmt.specs.Bodies.{AreActuals, CodesEmitted, EmitsRoutines, WordsEmitted};
-ghost use Rattle.b67_emit_stmt.specs.Drafts.{IsAt, IsReady, noted};
+ghost use Rattle.b67_emit_stmt.specs.Drafts.{DraftIsAt, IsReady, draft_noted};
 ghost use Rattle.b67_emit_stmt.specs.Lengths.{routines_syllables};
 ghost use Rattle.b67_emit_stmt.specs.Places.{Place};
 
@@ -67,14 +67,14 @@ impl<'a, E: ExprEmitter> StmtEmitter<'a, E> {
 
     /// The code of actuals of the block at this level, one after another, one level further in; and where each begins.
     pub fn routines(&self, actuals: &[&Expr], to: &mut Draft) -> Result<Vec<u16>, AllocError>
-        requires level { IsAt self.now.level to.old }
+        requires level { DraftIsAt self.now.level to.old }
         requires ready { IsReady self.now.known.now to.old (routines_syllables self.now.known.now (images actuals.now)) }
         requires fits { (sc : Place) × (own : List Actual) × AreActuals sc self.now.known.now self.now.level (images actuals.now) own }
         ensures code { IfOk result (λ places. EmitsRoutines self.now.known.now self.now.level to.old to.new (images actuals.now) places.items) }
         ensures places { IfOk result (λ places. All (λ (at : ℕ). at < MOST_SEGMENT_SYLLABLES) places.items) }
         ensures many { IfOk result (λ places. length places.items ≡ length actuals.now) }
         ensures exits { IfOk result (λ places. to.new.exits.items ≡ to.old.exits.items) }
-        ensures notes { IfOk result (λ places. noted to.new ≡ noted to.old) }
+        ensures notes { IfOk result (λ places. draft_noted to.new ≡ draft_noted to.old) }
     {
         let alloc = *to.exits.allocator();
         if actuals.is_empty() {

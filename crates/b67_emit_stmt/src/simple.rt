@@ -9,7 +9,7 @@ ghost use Rattle.b67_segment.specs.declared.TheConstants.{MOST_SEGMENT_SYLLABLES
 ghost use Rattle.b67_segment.specs.Operators.{size};
 ghost use Rattle.b67_segment.specs.Building.{level_set};
 ghost use Rattle.b67_emit_stmt.specs.Lengths.{expr_syllables};
-ghost use Rattle.b67_emit_stmt.specs.Fits.{AssignFits, CallStmtFits, LabelFits, PlaceFits, ReadFits, StartFits, StoreFits};
+ghost use Rattle.b67_emit_stmt.specs.Fits.{AssignFits, CallStmtFits, LabelFits, EmittedPlaceFits, ReadFits, StartFits, StoreFits};
 ghost use Rattle.b67_templates.specs.Emitting.{Emitted};
 ghost use Rattle.b67_emitter.specs.Values.{AreNear, place_syllables};
 
@@ -29,9 +29,9 @@ impl<'a, E: ExprEmitter> StmtEmitter<'a, E> {
     pub(crate) fn reference(&self, v: &Named, out: &mut Builder) -> Result<(), AllocError>
         requires set { IsSome out.old.level }
         requires near { AreNear self.now.known.now.names.now }
-        requires fits { (sc : Place) × (k : Kind) × PlaceFits sc self.now.known.now (level_set out.old) k v.now }
+        requires fits { (sc : Place) × (k : Kind) × EmittedPlaceFits sc self.now.known.now (level_set out.old) k v.now }
         requires room { size out.old.operators + 3 ≤ MOST_SEGMENT_SYLLABLES }
-        ensures code { OnOk result ((sc : Place) (k : Kind) (later : Later) → PlaceFits sc self.now.known.now (level_set out.old) k v.now → Emitted out.old out.new (λ qs. PlaceAt sc later qs (level_set out.old) v.now k (size out.old.operators) (size out.new.operators))) }
+        ensures code { OnOk result ((sc : Place) (k : Kind) (later : Later) → EmittedPlaceFits sc self.now.known.now (level_set out.old) k v.now → Emitted out.old out.new (λ qs. PlaceAt sc later qs (level_set out.old) v.now k (size out.old.operators) (size out.new.operators))) }
         ensures level { OnOk result (out.new.level ≡ out.old.level) }
         ensures size { OnOk result (size out.new.operators ≤ size out.old.operators + 3) }
     {

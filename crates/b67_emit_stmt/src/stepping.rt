@@ -15,10 +15,10 @@ ghost use Rattle.b67_segment.specs.Building.{level_set};
 ghost use Rattle.b67_templates.specs.Fragments.{AllAt, BranchAt};
 ghost use Rattle.b67_templates.specs.Code.{StepSign, literal_of};
 ghost use Rattle.b67_emit_stmt.specs.Lengths.{expr_syllables};
-ghost use Rattle.b67_emit_stmt.specs.Fits.{ExprFits, ReadFits, VariableFits};
+ghost use Rattle.b67_emit_stmt.specs.Fits.{EmittedExprFits, ReadFits, VariableFits};
 ghost use Rattle.b67_templates.specs.Emitting.{Emitted};
 ghost use Rattle.b67_emitter.specs.Values.{AreNear};
-ghost use Rattle.b67_emit_stmt.specs.Drafts.{Emits, HasFew, IsReady, noted};
+ghost use Rattle.b67_emit_stmt.specs.Drafts.{Emits, HasFew, IsReady, draft_noted};
 
 use crate::draft::{Draft, StmtEmitter};
 use algol_tree::{Expr, Named, Whole};
@@ -47,7 +47,7 @@ fn append_comparison(kind: PlainKind, to: &mut Draft) -> Result<(), AllocError>
     requires few { HasFew to.old }
     requires room { size to.old.out.operators + 5 ≤ MOST_SEGMENT_SYLLABLES }
     ensures code { OnOk result (Emits 5 to.old to.new (λ later qs target. (m : ℕ) × AllAt qs (level_set to.old.out) (kinds.Zero ∷ kind ∷ []) (size to.old.out.operators) m × BranchAt qs (level_set to.old.out) Brtr m target (size to.new.out.operators))) }
-    ensures notes { OnOk result (noted to.new ≡ noted to.old) }
+    ensures notes { OnOk result (draft_noted to.new ≡ draft_noted to.old) }
 {
     append_all(&mut to.out, &[PlainKind::Zero, kind])?;
     append_exit(&mut to.out, BranchKind::Brtr, &mut to.exits)
@@ -59,7 +59,7 @@ fn append_signed(step: i64, to: &mut Draft) -> Result<(), AllocError>
     requires few { HasFew to.old }
     requires room { size to.old.out.operators + 5 ≤ MOST_SEGMENT_SYLLABLES }
     ensures code { OnOk result ((sc : Place) → Emits 5 to.old to.new (λ later qs target. (sign : StepSign step) × SignedAt sc later qs (level_set to.old.out) sign (size to.old.out.operators) target (size to.new.out.operators))) }
-    ensures notes { OnOk result (noted to.new ≡ noted to.old) }
+    ensures notes { OnOk result (draft_noted to.new ≡ draft_noted to.old) }
 {
     if step > 0 {
         append_comparison(PlainKind::Grtr, to)
@@ -76,7 +76,7 @@ fn append_past(to: &mut Draft) -> Result<(), AllocError>
     requires few { HasFew to.old }
     requires room { size to.old.out.operators + 13 ≤ MOST_SEGMENT_SYLLABLES }
     ensures code { OnOk result ((sc : Place) → Emits 13 to.old to.new (λ later qs target. PastAt sc later qs (level_set to.old.out) (size to.old.out.operators) target (size to.new.out.operators))) }
-    ensures notes { OnOk result (noted to.new ≡ noted to.old) }
+    ensures notes { OnOk result (draft_noted to.new ≡ draft_noted to.old) }
 {
     let operators = [
         PlainKind::Dupl,
@@ -104,9 +104,9 @@ impl<'a, E: ExprEmitter> StmtEmitter<'a, E> {
     ) -> Result<(), AllocError>
         requires set { IsSome out.old.level }
         requires near { AreNear self.now.known.now.names.now }
-        requires fits { (sc : Place) × ReadFits sc self.now.known.now (level_set out.old) types.Number v.now × ExprFits sc self.now.known.now (level_set out.old) types.Number (expr l.now) }
+        requires fits { (sc : Place) × ReadFits sc self.now.known.now (level_set out.old) types.Number v.now × EmittedExprFits sc self.now.known.now (level_set out.old) types.Number (expr l.now) }
         requires room { size out.old.operators + (3 + expr_syllables self.now.known.now (expr l.now)) ≤ MOST_SEGMENT_SYLLABLES }
-        ensures code { OnOk result ((sc : Place) (later : Later) → ReadFits sc self.now.known.now (level_set out.old) types.Number v.now → ExprFits sc self.now.known.now (level_set out.old) types.Number (expr l.now) → Emitted out.old out.new (λ qs. ExprAt sc later qs (level_set out.old) types.Number (tree.two operators.Sub (alone v.now) (expr l.now)) (size out.old.operators) (size out.new.operators) (size out.new.operators))) }
+        ensures code { OnOk result ((sc : Place) (later : Later) → ReadFits sc self.now.known.now (level_set out.old) types.Number v.now → EmittedExprFits sc self.now.known.now (level_set out.old) types.Number (expr l.now) → Emitted out.old out.new (λ qs. ExprAt sc later qs (level_set out.old) types.Number (tree.two operators.Sub (alone v.now) (expr l.now)) (size out.old.operators) (size out.new.operators) (size out.new.operators))) }
         ensures level { OnOk result (out.new.level ≡ out.old.level) }
         ensures size { OnOk result (size out.new.operators ≤ size out.old.operators + (3 + expr_syllables self.now.known.now (expr l.now))) }
     {
@@ -119,9 +119,9 @@ impl<'a, E: ExprEmitter> StmtEmitter<'a, E> {
     pub(crate) fn advance(&self, v: &Named, s: &Expr, out: &mut Builder) -> Result<(), AllocError>
         requires set { IsSome out.old.level }
         requires near { AreNear self.now.known.now.names.now }
-        requires fits { (sc : Place) × VariableFits sc self.now.known.now (level_set out.old) v.now × ExprFits sc self.now.known.now (level_set out.old) types.Number (expr s.now) }
+        requires fits { (sc : Place) × VariableFits sc self.now.known.now (level_set out.old) v.now × EmittedExprFits sc self.now.known.now (level_set out.old) types.Number (expr s.now) }
         requires room { size out.old.operators + (7 + expr_syllables self.now.known.now (expr s.now)) ≤ MOST_SEGMENT_SYLLABLES }
-        ensures code { OnOk result ((sc : Place) (later : Later) → VariableFits sc self.now.known.now (level_set out.old) v.now → ExprFits sc self.now.known.now (level_set out.old) types.Number (expr s.now) → Emitted out.old out.new (λ qs. AssignAt sc later qs (level_set out.old) v.now (tree.two operators.Add (alone v.now) (expr s.now)) (size out.old.operators) (size out.new.operators))) }
+        ensures code { OnOk result ((sc : Place) (later : Later) → VariableFits sc self.now.known.now (level_set out.old) v.now → EmittedExprFits sc self.now.known.now (level_set out.old) types.Number (expr s.now) → Emitted out.old out.new (λ qs. AssignAt sc later qs (level_set out.old) v.now (tree.two operators.Add (alone v.now) (expr s.now)) (size out.old.operators) (size out.new.operators))) }
         ensures level { OnOk result (out.new.level ≡ out.old.level) }
         ensures size { OnOk result (size out.new.operators ≤ size out.old.operators + (7 + expr_syllables self.now.known.now (expr s.now))) }
     {
@@ -135,9 +135,9 @@ impl<'a, E: ExprEmitter> StmtEmitter<'a, E> {
     /// Leaves the loop where the difference on top is past the limit. Where the step is a literal, its sign is known.
     pub(crate) fn step(&self, s: &Expr, to: &mut Draft) -> Result<(), AllocError>
         requires ready { IsReady self.now.known.now to.old (13 + expr_syllables self.now.known.now (expr s.now)) }
-        requires fits { (sc : Place) × ExprFits sc self.now.known.now (level_set to.old.out) types.Number (expr s.now) }
-        ensures code { OnOk result ((sc : Place) → ExprFits sc self.now.known.now (level_set to.old.out) types.Number (expr s.now) → Emits (13 + expr_syllables self.now.known.now (expr s.now)) to.old to.new (λ later qs target. StepAt sc later qs (level_set to.old.out) (expr s.now) (size to.old.out.operators) target (size to.new.out.operators))) }
-        ensures notes { OnOk result (noted to.new ≡ noted to.old) }
+        requires fits { (sc : Place) × EmittedExprFits sc self.now.known.now (level_set to.old.out) types.Number (expr s.now) }
+        ensures code { OnOk result ((sc : Place) → EmittedExprFits sc self.now.known.now (level_set to.old.out) types.Number (expr s.now) → Emits (13 + expr_syllables self.now.known.now (expr s.now)) to.old to.new (λ later qs target. StepAt sc later qs (level_set to.old.out) (expr s.now) (size to.old.out.operators) target (size to.new.out.operators))) }
+        ensures notes { OnOk result (draft_noted to.new ≡ draft_noted to.old) }
     {
         match literal_of(s) {
             Some(step) => append_signed(step.number(), to),

@@ -4,7 +4,7 @@ ghost use Rattle.std.specs.Prelude.{◌+◌, OnOk};
 ghost use Rattle.algol_tree.specs.Image.{expr, stmt, stmts};
 ghost use Rattle.algol_tree.specs.Plain as tree;
 ghost use Rattle.b67_emit_stmt.specs.Lengths.{expr_syllables, stmt_syllables, stmts_syllables};
-ghost use Rattle.b67_emit_stmt.specs.Drafts.{AddsStmt, AddsStmts, IsAt, IsReady, noted};
+ghost use Rattle.b67_emit_stmt.specs.Drafts.{AddsStmt, AddsStmts, DraftIsAt, IsReady, draft_noted};
 ghost use Rattle.b67_emit_stmt.specs.Emits.{HasFit, HaveFit, EmitsStmt, EmitsStmts, EmitsThen, HasFitThen};
 
 use crate::draft::{Draft, Label, StmtEmitter};
@@ -17,7 +17,7 @@ impl<'a, E: ExprEmitter> StmtEmitter<'a, E> {
     /// IF without ELSE.
     #[cycle(statements)]
     fn if_then(&self, x: &Stmt, c: &Expr, to: &mut Draft) -> Result<(), AllocError>
-        requires level { IsAt self.now.level to.old }
+        requires level { DraftIsAt self.now.level to.old }
         requires ready { IsReady self.now.known.now to.old (stmt_syllables self.now.known.now (tree.if_then (expr c.now) (stmt x.now))) }
         requires fits { HasFit self.now.known.now to.old (tree.if_then (expr c.now) (stmt x.now)) }
         ensures code { OnOk result (EmitsStmt self.now.known.now to.old to.new (tree.if_then (expr c.now) (stmt x.now))) }
@@ -31,7 +31,7 @@ impl<'a, E: ExprEmitter> StmtEmitter<'a, E> {
     /// IF with ELSE, up to its second statement.
     #[cycle(statements)]
     fn then_part(&self, x: &Stmt, c: &Expr, to: &mut Draft) -> Result<(), AllocError>
-        requires level { IsAt self.now.level to.old }
+        requires level { DraftIsAt self.now.level to.old }
         requires ready { IsReady self.now.known.now to.old (expr_syllables self.now.known.now (expr c.now) + stmt_syllables self.now.known.now (stmt x.now) + 6) }
         requires fits { HasFitThen self.now.known.now to.old (expr c.now) (stmt x.now) }
         ensures code { OnOk result (EmitsThen self.now.known.now to.old to.new (expr c.now) (stmt x.now)) }
@@ -48,7 +48,7 @@ impl<'a, E: ExprEmitter> StmtEmitter<'a, E> {
     /// A statement after a label. Where it begins is noted.
     #[cycle(statements)]
     fn labelled(&self, s: &Stmt, n: &Named, to: &mut Draft) -> Result<(), AllocError>
-        requires level { IsAt self.now.level to.old }
+        requires level { DraftIsAt self.now.level to.old }
         requires ready { IsReady self.now.known.now to.old (stmt_syllables self.now.known.now (tree.label n.now (stmt s.now))) }
         requires fits { HasFit self.now.known.now to.old (tree.label n.now (stmt s.now)) }
         ensures code { OnOk result (EmitsStmt self.now.known.now to.old to.new (tree.label n.now (stmt s.now))) }
@@ -65,7 +65,7 @@ impl<'a, E: ExprEmitter> StmtEmitter<'a, E> {
     /// A statement.
     #[cycle(statements)]
     pub fn stmt(&self, s: &Stmt, to: &mut Draft) -> Result<(), AllocError>
-        requires level { IsAt self.now.level to.old }
+        requires level { DraftIsAt self.now.level to.old }
         requires ready { IsReady self.now.known.now to.old (stmt_syllables self.now.known.now (stmt s.now)) }
         requires fits { HasFit self.now.known.now to.old (stmt s.now) }
         ensures code { OnOk result (EmitsStmt self.now.known.now to.old to.new (stmt s.now)) }
@@ -105,7 +105,7 @@ impl<'a, E: ExprEmitter> StmtEmitter<'a, E> {
     /// Statements one after another. Each but the last goes on at the next.
     #[cycle(statements)]
     pub fn stmts(&self, ss: &[Stmt], to: &mut Draft) -> Result<(), AllocError>
-        requires level { IsAt self.now.level to.old }
+        requires level { DraftIsAt self.now.level to.old }
         requires ready { IsReady self.now.known.now to.old (stmts_syllables self.now.known.now (stmts ss.now)) }
         requires fits { HaveFit self.now.known.now to.old (stmts ss.now) }
         ensures code { OnOk result (EmitsStmts self.now.known.now to.old to.new (stmts ss.now)) }

@@ -22,21 +22,21 @@ use Rattle.algol_tree.specs.Plain.{PStmt, PStmts, PDecl, PDecls}
 use Rattle.b67_ops.specs.declared.TheConstants.{MOST_LEVEL, OUTER_LEVEL}
 use Rattle.b67_templates.specs.Labels.{labels_in}
 use Rattle.b67_emit_stmt.specs.declared.draft.Known.{Known}
-use Rattle.b67_emit_stmt.specs.Fits.{StmtFits, StmtsFit}
+use Rattle.b67_emit_stmt.specs.Fits.{EmittedStmtFits, EmittedStmtsFit}
 use Rattle.b67_emit_stmt.specs.Places.{Place, inside}
 use Rattle.b67_emit_stmt.proofs.Notes.{all_both}
 use Rattle.b67_emit_stmt.proofs.Gathered.{if_then_as}
 use Rattle.b67_emit_stmt.proofs.Shapes.{block_as, if_else_as}
 use Rattle.b67_emit_text.specs.declared.entries.Declared.{Declared}
-use Rattle.b67_emit_text.specs.Entries.{AreLow, AllLow, Entry, IsLeveled, entries_in_stmt, entries_in_stmts, entries_of, entry_of, own_entries}
+use Rattle.b67_emit_text.specs.Entries.{AreLow, AllLow, DeclaredLabel, IsLeveled, entries_in_stmt, entries_in_stmts, entries_of, entry_of, own_entries}
 
 -- first those of one part, and then those of another
-pub joined : (old mid new xs ys all : List Entry) → all ≡ xs ++ ys → mid ≡ old ++ xs → new ≡ mid ++ ys → new ≡ old ++ all
-joined old mid new xs ys all are first second = second ∙ ap (λ (l : List Entry). l ++ ys) first ∙ append_assoc old xs ys ∙ ap (λ (l : List Entry). old ++ l) (sym are)
+pub joined : (old mid new xs ys all : List DeclaredLabel) → all ≡ xs ++ ys → mid ≡ old ++ xs → new ≡ mid ++ ys → new ≡ old ++ all
+joined old mid new xs ys all are first second = second ∙ ap (λ (l : List DeclaredLabel). l ++ ys) first ∙ append_assoc old xs ys ∙ ap (λ (l : List DeclaredLabel). old ++ l) (sym are)
 
 -- the same where others are left
-pub carried : (old before after first rest all : List Entry) → after ≡ before ++ first → before ++ (first ++ rest) ≡ old ++ all → after ++ rest ≡ old ++ all
-carried old before after first rest all one h = ap (λ (l : List Entry). l ++ rest) one ∙ append_assoc before first rest ∙ h
+pub carried : (old before after first rest all : List DeclaredLabel) → after ≡ before ++ first → before ++ (first ++ rest) ≡ old ++ all → after ++ rest ≡ old ++ all
+carried old before after first rest all one h = ap (λ (l : List DeclaredLabel). l ++ rest) one ∙ append_assoc before first rest ∙ h
 
 -- ---- blocks
 
@@ -79,19 +79,19 @@ module _ (s : Stmt) (b : Body) (ss : List Stmt) (is : s ≡ shapes.Block b) (sam
   pub inner_low : t ≡ false → AreLow level (stmt s) → (level + 1 ≤ MOST_LEVEL) × AllLow (level + 1) (stmts ss)
   inner_low h low = low_more b.spot b.decls (stmts ss) level (sym tested ∙ h) (low_there low)
 
-  pub compound_entries : t ≡ true → (old new : List Entry) → new ≡ old ++ entries_in_stmts level (stmts ss) → new ≡ old ++ entries_in_stmt level (stmt s)
+  pub compound_entries : t ≡ true → (old new : List DeclaredLabel) → new ≡ old ++ entries_in_stmts level (stmts ss) → new ≡ old ++ entries_in_stmt level (stmt s)
   compound_entries h old new k =
-      k ∙ ap (λ (l : List Entry). old ++ l) (sym (ap (entries_in_stmt level) block_is ∙ same_there b.spot b.decls (stmts ss) level (sym tested ∙ h)))
+      k ∙ ap (λ (l : List DeclaredLabel). old ++ l) (sym (ap (entries_in_stmt level) block_is ∙ same_there b.spot b.decls (stmts ss) level (sym tested ∙ h)))
 
-  pub inner_entries : t ≡ false → (ds : List Decl) → ds ≡ b.decls → (old new : List Entry) → new ≡ old ++ entries_of (level + 1) (decls ds) (stmts ss) →
+  pub inner_entries : t ≡ false → (ds : List Decl) → ds ≡ b.decls → (old new : List DeclaredLabel) → new ≡ old ++ entries_of (level + 1) (decls ds) (stmts ss) →
       new ≡ old ++ entries_in_stmt level (stmt s)
   inner_entries h ds are old new k =
       k ∙ ap (λ (l : List Decl). old ++ entries_of (level + 1) (decls l) (stmts ss)) are
-      ∙ ap (λ (l : List Entry). old ++ l) (sym (ap (entries_in_stmt level) block_is ∙ more_there b.spot b.decls (stmts ss) level (sym tested ∙ h)))
+      ∙ ap (λ (l : List DeclaredLabel). old ++ l) (sym (ap (entries_in_stmt level) block_is ∙ more_there b.spot b.decls (stmts ss) level (sym tested ∙ h)))
 
 -- an IF with both branches
 pub both_entries : (s p q : Stmt) (e : Expr) (x : Box Stmt Global) (o : Option (Box Stmt Global)) (y : Box Stmt Global) → s ≡ shapes.If e x o → o ≡ Some y → p ≡ x.value →
-    q ≡ y.value → (level : ℕ) (old mid new : List Entry) → mid ≡ old ++ entries_in_stmt level (stmt p) → new ≡ mid ++ entries_in_stmt level (stmt q) →
+    q ≡ y.value → (level : ℕ) (old mid new : List DeclaredLabel) → mid ≡ old ++ entries_in_stmt level (stmt p) → new ≡ mid ++ entries_in_stmt level (stmt q) →
     new ≡ old ++ entries_in_stmt level (stmt s)
 both_entries s p q e x o y is some first second level old mid new h k =
     joined old mid new (entries_in_stmt level (stmt p)) (entries_in_stmt level (stmt q)) (entries_in_stmt level (stmt s))
@@ -102,11 +102,11 @@ both_entries s p q e x o y is some first second level old mid new h k =
 pub low_as : (level : ℕ) (p q : PStmt) → p ≡ q → AreLow level p → AreLow level q
 low_as level p q is low = let L : PStmt → Type 0 = λ x. AreLow level x in subst L is low
 
-pub entries_as : (level : ℕ) (p q : PStmt) → p ≡ q → (old new : List Entry) → new ≡ old ++ entries_in_stmt level q → new ≡ old ++ entries_in_stmt level p
+pub entries_as : (level : ℕ) (p q : PStmt) → p ≡ q → (old new : List DeclaredLabel) → new ≡ old ++ entries_in_stmt level q → new ≡ old ++ entries_in_stmt level p
 entries_as level p q is old new h = h ∙ ap (λ (x : PStmt). old ++ entries_in_stmt level x) (sym is)
 
-pub entries_none : (level : ℕ) (p q : PStmt) → p ≡ q → entries_in_stmt level q ≡ [] → (old : List Entry) → old ≡ old ++ entries_in_stmt level p
-entries_none level p q is none old = sym (append-nil old) ∙ ap (λ (l : List Entry). old ++ l) (sym (ap (entries_in_stmt level) is ∙ none))
+pub entries_none : (level : ℕ) (p q : PStmt) → p ≡ q → entries_in_stmt level q ≡ [] → (old : List DeclaredLabel) → old ≡ old ++ entries_in_stmt level p
+entries_none level p q is none old = sym (append-nil old) ∙ ap (λ (l : List DeclaredLabel). old ++ l) (sym (ap (entries_in_stmt level) is ∙ none))
 
 pub both_low : (s p q : Stmt) (e : Expr) (x : Box Stmt Global) (o : Option (Box Stmt Global)) (y : Box Stmt Global) → s ≡ shapes.If e x o → o ≡ Some y → p ≡ x.value →
     q ≡ y.value → (level : ℕ) → AreLow level (stmt s) → AreLow level (stmt p) × AreLow level (stmt q)
@@ -152,7 +152,7 @@ labels_same d left rest is other =
 -- entries of some names, and of others
 pub own_both : (level : ℕ) (ss : PStmts) (ms ns : List Named) → own_entries level ss (ms ++ ns) ≡ own_entries level ss ms ++ own_entries level ss ns
 own_both level ss [] ns = refl
-own_both level ss (m ∷ ms) ns = ap (λ (l : List Entry). record { level = level; name = m; stmts = ss } ∷ l) (own_both level ss ms ns)
+own_both level ss (m ∷ ms) ns = ap (λ (l : List DeclaredLabel). record { level = level; name = m; stmts = ss } ∷ l) (own_both level ss ms ns)
 
 -- ---- levels
 
@@ -162,7 +162,7 @@ module _ (s : Known) (sc : Place) where
   at block = inside block sc
 
   mutual
-    pub fit_low : (level block : ℕ) (x : PStmt) → StmtFits (at block) s level x → AreLow level x
+    pub fit_low : (level block : ℕ) (x : PStmt) → EmittedStmtFits (at block) s level x → AreLow level x
     fit_low level block tree.empty fit = tt
     fit_low level block (tree.label n x) fit = fit_low level block x fit.1
     fit_low level block (tree.assign v e) fit = tt
@@ -181,7 +181,7 @@ module _ (s : Known) (sc : Place) where
     fit_low level block (tree.event act e) fit = tt
     fit_low level block (tree.write n spot phrases es) fit = tt
 
-    pub fit_all_low : (level block : ℕ) (xs : PStmts) → StmtsFit (at block) s level xs → AllLow level xs
+    pub fit_all_low : (level block : ℕ) (xs : PStmts) → EmittedStmtsFit (at block) s level xs → AllLow level xs
     fit_all_low level block tree.no_stmts fit = tt
     fit_all_low level block (tree.stmts x xs) fit = (fit_low level block x fit.0, fit_all_low level block xs fit.1)
 

@@ -17,7 +17,7 @@ use Rattle.algol_meaning.specs.Statements.{is_labelled}
 use Rattle.b67_templates.specs.Labels.{label_before, label_in}
 use Rattle.b67_emit_stmt.specs.declared.draft.Label.{Label}
 use Rattle.b67_emit_stmt.proofs.Shapes.{label_as}
-use Rattle.b67_emit_text.specs.Entries.{place_in}
+use Rattle.b67_emit_text.specs.Entries.{label_place_in}
 
 -- the label before a statement, or before that
 module _ (s p : Stmt) (n : Named) (b : Box Stmt Global) (name : List ℕ) (is : s ≡ shapes.Label n b) (same : p ≡ b.value) where
@@ -78,7 +78,7 @@ module _ (left rest : List Stmt) (s : Stmt) (name : List ℕ) (is : left ≡ s �
 
 module _ (left rest : List Label) (l : Label) (spot : Spot) (is : left ≡ l ∷ rest) where
   abbrev place : Bool → Option ℕ
-  place b = if b then Some l.place else place_in rest spot
+  place b = if b then Some l.place else label_place_in rest spot
 
-  pub place_here : same_spot l.spot spot ≡ true → place_in left spot ≡ Some l.place
-  place_here h = ap (λ (ls : List Label). place_in ls spot) is ∙ ap place h
+  pub place_here : same_spot l.spot spot ≡ true → label_place_in left spot ≡ Some l.place
+  place_here h = ap (λ (ls : List Label). label_place_in ls spot) is ∙ ap place h

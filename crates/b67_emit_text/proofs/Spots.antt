@@ -16,8 +16,8 @@ use Rattle.b67_emit_stmt.specs.declared.draft.Label.{Label}
 use Rattle.b67_emit_stmt.specs.Drafts.{spots_of}
 use Rattle.b67_emit_stmt.specs.Labels.{label_spots, label_spots_in}
 use Rattle.b67_emit_stmt.proofs.Notes.{all_both}
-use Rattle.b67_emit_text.specs.Entries.{Entry, entries_in_stmt, entries_in_stmts, entries_of, own_entries, place_in}
-use Rattle.b67_emit_text.specs.Texts.{times}
+use Rattle.b67_emit_text.specs.Entries.{DeclaredLabel, entries_in_stmt, entries_in_stmts, entries_of, own_entries, label_place_in}
+use Rattle.b67_emit_text.specs.Texts.{spot_times}
 
 -- ---- places
 
@@ -83,24 +83,24 @@ list_among (tree.stmts s ss) name label h = by (is_labelled s name) (list_among 
 -- ---- the labels that blocks declare
 
 -- its label, if it stands in the list of its block, stands at one of these places
-abbrev pub Found : List Spot → Entry → Type 0
+abbrev pub Found : List Spot → DeclaredLabel → Type 0
 Found spots e = (label : Named) → label_in e.stmts e.name.name ≡ Some label → Among label.spot spots
 
-all_found : (P Q : Entry → Type 0) (es : List Entry) → ((e : Entry) → P e → Q e) → AllByRecursion P es → AllByRecursion Q es
+all_found : (P Q : DeclaredLabel → Type 0) (es : List DeclaredLabel) → ((e : DeclaredLabel) → P e → Q e) → AllByRecursion P es → AllByRecursion Q es
 all_found P Q [] f h = tt
 all_found P Q (e ∷ es) f h = (f e h.0, all_found P Q es f h.1)
 
-further : (xs ys : List Spot) (es : List Entry) → AllByRecursion (Found xs) es → AllByRecursion (Found (xs ++ ys)) es
+further : (xs ys : List Spot) (es : List DeclaredLabel) → AllByRecursion (Found xs) es → AllByRecursion (Found (xs ++ ys)) es
 further xs ys es h = all_found (Found xs) (Found (xs ++ ys)) es (λ e g label there. in_front label.spot xs ys (g label there)) h
 
-behind : (xs ys : List Spot) (es : List Entry) → AllByRecursion (Found ys) es → AllByRecursion (Found (xs ++ ys)) es
+behind : (xs ys : List Spot) (es : List DeclaredLabel) → AllByRecursion (Found ys) es → AllByRecursion (Found (xs ++ ys)) es
 behind xs ys es h = all_found (Found ys) (Found (xs ++ ys)) es (λ e g label there. in_back label.spot xs ys (g label there)) h
 
 own_found : (level : ℕ) (ss : PStmts) (ns : List Named) → AllByRecursion (Found (label_spots_in ss)) (own_entries level ss ns)
 own_found level ss [] = tt
 own_found level ss (n ∷ ns) = (λ label there. list_among ss n.name label there, own_found level ss ns)
 
-both_found : (xs ys : List Spot) (es fs : List Entry) → AllByRecursion (Found xs) es → AllByRecursion (Found ys) fs → AllByRecursion (Found (xs ++ ys)) (es ++ fs)
+both_found : (xs ys : List Spot) (es fs : List DeclaredLabel) → AllByRecursion (Found xs) es → AllByRecursion (Found ys) fs → AllByRecursion (Found (xs ++ ys)) (es ++ fs)
 both_found xs ys es fs h k = all_both (Found (xs ++ ys)) es fs (further xs ys es h) (behind xs ys fs k)
 
 mutual
@@ -149,7 +149,7 @@ each_there {X} P (y ∷ ys) (suc n) x all h = each_there P ys n x all.1 h
 pub record Noted (ls : List Label) (spot : Spot) : Type 0 where
   pub label : Label
   pub here : label.spot ≡ spot
-  pub place : place_in ls spot ≡ Some label.place
+  pub place : label_place_in ls spot ≡ Some label.place
   pub number : ℕ
   pub there : slice_get ls number ≡ Some label
 
@@ -158,7 +158,7 @@ noted_there [] spot h = absurd h
 noted_there (l ∷ ls) spot h = by (same_spot l.spot spot) refl h (noted_there ls spot)
   where
     place : Bool → Option ℕ
-    place b = if b then Some l.place else place_in ls spot
+    place b = if b then Some l.place else label_place_in ls spot
 
     by : (b : Bool) → same_spot l.spot spot ≡ b → Among spot (spots_of (l ∷ ls)) → (Among spot (spots_of ls) → Noted ls spot) → Noted (l ∷ ls) spot
     by true q g later = record { label = l; here = spot_same l.spot spot q; place = ap place q; number = zero; there = refl }
@@ -173,7 +173,7 @@ noted_there (l ∷ ls) spot h = by (same_spot l.spot spot) refl h (noted_there l
 
 -- the label is found where it was noted
 abbrev Own : List Label → Label → Type 0
-Own ls l = (place_in ls l.spot ≡ Some l.place) × (1 ≤ times l.spot (spots_of ls))
+Own ls l = (label_place_in ls l.spot ≡ Some l.place) × (1 ≤ spot_times l.spot (spots_of ls))
 
 counted : Bool → ℕ → ℕ
 counted b n = (if b then 1 else 0) + n
@@ -187,17 +187,17 @@ all_own : (P Q : Label → Type 0) (ls : List Label) → ((l : Label) → P l �
 all_own P Q [] f h = tt
 all_own P Q (l ∷ ls) f h = (f l h.0, all_own P Q ls f h.1)
 
-own_all : (ls : List Label) → ((spot : Spot) → times spot (spots_of ls) ≤ 1) → AllByRecursion (Own ls) ls
+own_all : (ls : List Label) → ((spot : Spot) → spot_times spot (spots_of ls) ≤ 1) → AllByRecursion (Own ls) ls
 unfolding counted
 own_all [] once = tt
 own_all (x ∷ xs) once = (
-  (ap (λ (b : Bool). if b then Some x.place else place_in xs x.spot) (spot_self x.spot), first),
-  all_own (Own xs) (Own (x ∷ xs)) xs other (own_all xs (λ spot. fewer (same_spot x.spot spot) (times spot (spots_of xs)) (once spot))),
+  (ap (λ (b : Bool). if b then Some x.place else label_place_in xs x.spot) (spot_self x.spot), first),
+  all_own (Own xs) (Own (x ∷ xs)) xs other (own_all xs (λ spot. fewer (same_spot x.spot spot) (spot_times spot (spots_of xs)) (once spot))),
 )
   where
-    first : 1 ≤ times x.spot (spots_of (x ∷ xs))
+    first : 1 ≤ spot_times x.spot (spots_of (x ∷ xs))
     first =
-        let one : times x.spot (spots_of (x ∷ xs)) ≡ 1 + times x.spot (spots_of xs) = ap (λ (b : Bool). (if b then 1 else 0) + times x.spot (spots_of xs)) (spot_self x.spot) in
+        let one : spot_times x.spot (spots_of (x ∷ xs)) ≡ 1 + spot_times x.spot (spots_of xs) = ap (λ (b : Bool). (if b then 1 else 0) + spot_times x.spot (spots_of xs)) (spot_self x.spot) in
         omega (arith, one)
 
     other : (l : Label) → Own xs l → Own (x ∷ xs) l
@@ -205,12 +205,12 @@ own_all (x ∷ xs) once = (
       where
         by : (b : Bool) → same_spot x.spot l.spot ≡ b → Own (x ∷ xs) l
         by true q =
-            let two : times l.spot (spots_of (x ∷ xs)) ≡ 1 + times l.spot (spots_of xs) = ap (λ (b : Bool). (if b then 1 else 0) + times l.spot (spots_of xs)) q in
+            let two : spot_times l.spot (spots_of (x ∷ xs)) ≡ 1 + spot_times l.spot (spots_of xs) = ap (λ (b : Bool). (if b then 1 else 0) + spot_times l.spot (spots_of xs)) q in
             absurd (omega (arith, two, once l.spot, h.1))
         by false q =
-            let same : times l.spot (spots_of (x ∷ xs)) ≡ 0 + times l.spot (spots_of xs) = ap (λ (b : Bool). (if b then 1 else 0) + times l.spot (spots_of xs)) q in
-            (ap (λ (b : Bool). if b then Some x.place else place_in xs l.spot) q ∙ h.0, omega (arith, same, h.1))
+            let same : spot_times l.spot (spots_of (x ∷ xs)) ≡ 0 + spot_times l.spot (spots_of xs) = ap (λ (b : Bool). (if b then 1 else 0) + spot_times l.spot (spots_of xs)) q in
+            (ap (λ (b : Bool). if b then Some x.place else label_place_in xs l.spot) q ∙ h.0, omega (arith, same, h.1))
 
 -- where no two stand at one place, each is found there
-pub placed_once : (ls : List Label) → ((spot : Spot) → times spot (spots_of ls) ≤ 1) → AllByRecursion (λ (l : Label). place_in ls l.spot ≡ Some l.place) ls
-placed_once ls once = all_own (Own ls) (λ (l : Label). place_in ls l.spot ≡ Some l.place) ls (λ l h. h.0) (own_all ls once)
+pub placed_once : (ls : List Label) → ((spot : Spot) → spot_times spot (spots_of ls) ≤ 1) → AllByRecursion (λ (l : Label). label_place_in ls l.spot ≡ Some l.place) ls
+placed_once ls once = all_own (Own ls) (λ (l : Label). label_place_in ls l.spot ≡ Some l.place) ls (λ l h. h.0) (own_all ls once)

@@ -10,12 +10,12 @@ use Rattle.b67_ops.specs.Spelling.{spelling}
 use Rattle.b67_segment.specs.Operators.{Placed, StandsAmong, aimed, aimed_from, size, text, width}
 use Rattle.b67_segment.specs.Building.{Built, IsBranchAt}
 use Rattle.b67_segment.proofs.Among.{StandsAmong-aimed, StandsAmong-branch}
-use Rattle.b67_templates.specs.Emitting.{Keeps}
+use Rattle.b67_templates.specs.Emitting.{OperatorsStay}
 use Rattle.b67_templates.specs.Fragments.{Has}
 use Rattle.b67_templates.specs.Labels.{table_place}
 use Rattle.b67_emit_stmt.specs.declared.draft.Label.{Label}
 use Rattle.b67_emit_text.specs.declared.entries.Declared.{Declared}
-use Rattle.b67_emit_text.specs.Entries.{Entry, HeadAimed, HeadAt, PendingAt, entry_of, leads}
+use Rattle.b67_emit_text.specs.Entries.{DeclaredLabel, HeadAimed, HeadAt, PendingAt, entry_of, leads}
 
 -- ---- one branch is aimed
 
@@ -58,19 +58,19 @@ length-aimed from place target (p ∷ ps) =
 
 -- ---- a table is kept
 
-pending_kept : (ps qs : List Placed) (from t : ℕ) (es : List Entry) → Keeps 0 t ps qs → from + 3 * length es ≤ t → PendingAt ps from es → PendingAt qs from es
+pending_kept : (ps qs : List Placed) (from t : ℕ) (es : List DeclaredLabel) → OperatorsStay 0 t ps qs → from + 3 * length es ≤ t → PendingAt ps from es → PendingAt qs from es
 pending_kept ps qs from t [] keep le h = tt
 pending_kept ps qs from t (e ∷ es) keep le h = (
   keep from e.level (from + 3) (Branch Brun 0) (omega arith) (omega (arith, le)) h.0,
   pending_kept ps qs (from + 3) t es keep (omega (arith, le)) h.1,
 )
 
-pub head_kept : (ps qs : List Placed) (level t : ℕ) (es : List Entry) → Keeps 0 t ps qs → 3 + 3 * length es ≤ t → HeadAt ps level es → HeadAt qs level es
+pub head_kept : (ps qs : List Placed) (level t : ℕ) (es : List DeclaredLabel) → OperatorsStay 0 t ps qs → 3 + 3 * length es ≤ t → HeadAt ps level es → HeadAt qs level es
 head_kept ps qs level t es keep le h =
     (keep 0 level 3 (Branch Brun 0) (omega arith) (omega (arith, le)) h.0, pending_kept ps qs (table_place 0) t es keep (omega (arith, le)) h.1)
 
 -- one more at its end
-pending_more : (ps : List Placed) (from to : ℕ) (es : List Entry) (e : Entry) → PendingAt ps from es → Has ps e.level to (Branch Brun 0) (to + 3) → to ≡ from + 3 * length es →
+pending_more : (ps : List Placed) (from to : ℕ) (es : List DeclaredLabel) (e : DeclaredLabel) → PendingAt ps from es → Has ps e.level to (Branch Brun 0) (to + 3) → to ≡ from + 3 * length es →
     PendingAt ps from (es ++ e ∷ [])
 pending_more ps from to [] e h k is =
     let H : ℕ → Type 0 = λ at. Has ps e.level at (Branch Brun 0) (at + 3) in
@@ -78,7 +78,7 @@ pending_more ps from to [] e h k is =
     (subst H here k, tt)
 pending_more ps from to (x ∷ es) e h k is = (h.0, pending_more ps (from + 3) to es e h.1 k (omega (arith, is)))
 
-pub head_more : (ps qs : List Placed) (level to next : ℕ) (es : List Entry) (e : Entry) → Keeps 0 to ps qs → to ≡ 3 + 3 * length es → HeadAt ps level es →
+pub head_more : (ps qs : List Placed) (level to next : ℕ) (es : List DeclaredLabel) (e : DeclaredLabel) → OperatorsStay 0 to ps qs → to ≡ 3 + 3 * length es → HeadAt ps level es →
     Has qs e.level to (Branch Brun 0) next → next ≡ to + 3 → HeadAt qs level (es ++ e ∷ [])
 head_more ps qs level to next es e keep is h k wide =
     let there = head_kept ps qs level to es keep (omega (arith, is)) h in
@@ -88,24 +88,24 @@ head_more ps qs level to next es e keep is h k wide =
 -- ---- .. and aimed, one branch after another
 
 -- The branches of the first so many entries are aimed, and those of the others are not.
-pub record Midway (es : List Entry) (number begin : ℕ) (labels : List Label) (before now : Built) : Type 0 where
+pub record Midway (es : List DeclaredLabel) (number begin : ℕ) (labels : List Label) (before now : Built) : Type 0 where
   pub level : now.level ≡ before.level
   pub place : size now.operators ≡ size before.operators
   pub others :
       (at level next : ℕ) (op : Operator) → table_place (length es) ≤ at → StandsAmong before.operators at level op next → StandsAmong now.operators at level op next
   pub over : (level : ℕ) → Has before.operators level 0 (Branch Brun 0) 3 → Has now.operators level 0 (Branch Brun begin) 3
   pub done :
-      (k : ℕ) (e : Entry) (target : ℕ) → k < number → slice_get es k ≡ Some e → leads labels e ≡ Some target →
+      (k : ℕ) (e : DeclaredLabel) (target : ℕ) → k < number → slice_get es k ≡ Some e → leads labels e ≡ Some target →
       Has now.operators e.level (table_place k) (Branch Brun target) (table_place k + 3)
   pub pending : PendingAt now.operators (table_place number) (drop number es)
 
 -- a branch before a table is aimed
-pending_aside : (ps : List Placed) (branch target from : ℕ) (es : List Entry) → branch < from → PendingAt ps from es → PendingAt (aimed_from 0 branch target ps) from es
+pending_aside : (ps : List Placed) (branch target from : ℕ) (es : List DeclaredLabel) → branch < from → PendingAt ps from es → PendingAt (aimed_from 0 branch target ps) from es
 pending_aside ps branch target from [] lo h = tt
 pending_aside ps branch target from (e ∷ es) lo h =
     (StandsAmong-aimed branch target (λ q. omega (arith, lo, q)) h.0, pending_aside ps branch target (from + 3) es (omega (arith, lo)) h.1)
 
-pub midway_first : (es : List Entry) (level begin : ℕ) (labels : List Label) (a b : Built) → HeadAt a.operators level es →
+pub midway_first : (es : List DeclaredLabel) (level begin : ℕ) (labels : List Label) (a b : Built) → HeadAt a.operators level es →
     b ≡ record a { operators = aimed_from 0 0 begin a.operators } → Midway es 0 begin labels a b
 midway_first es level begin labels a b h is =
     let M : Built → Type 0 = λ o. Midway es 0 begin labels a o in
@@ -120,19 +120,19 @@ midway_first es level begin labels a b h is =
     })
 
 -- the entry with this number
-drop_there : (es : List Entry) (number : ℕ) (e : Entry) (rest : List Entry) → drop number es ≡ e ∷ rest → slice_get es number ≡ Some e
+drop_there : (es : List DeclaredLabel) (number : ℕ) (e : DeclaredLabel) (rest : List DeclaredLabel) → drop number es ≡ e ∷ rest → slice_get es number ≡ Some e
 drop_there [] zero e rest h = absurd (let clash : [] ≡ e ∷ rest = h in cc)
 drop_there [] (suc n) e rest h = absurd (let clash : [] ≡ e ∷ rest = h in cc)
 drop_there (x ∷ es) zero e rest h = cc
 drop_there (x ∷ es) (suc n) e rest h = drop_there es n e rest h
 
-drop_within : (es : List Entry) (number : ℕ) (e : Entry) (rest : List Entry) → drop number es ≡ e ∷ rest → number < length es
+drop_within : (es : List DeclaredLabel) (number : ℕ) (e : DeclaredLabel) (rest : List DeclaredLabel) → drop number es ≡ e ∷ rest → number < length es
 drop_within [] zero e rest h = absurd (let clash : [] ≡ e ∷ rest = h in cc)
 drop_within [] (suc n) e rest h = absurd (let clash : [] ≡ e ∷ rest = h in cc)
 drop_within (x ∷ es) zero e rest h = omega arith
 drop_within (x ∷ es) (suc n) e rest h = omega (arith, drop_within es n e rest h)
 
-drop_rest : (es : List Entry) (number : ℕ) (e : Entry) (rest : List Entry) → drop number es ≡ e ∷ rest → drop (suc number) es ≡ rest
+drop_rest : (es : List DeclaredLabel) (number : ℕ) (e : DeclaredLabel) (rest : List DeclaredLabel) → drop number es ≡ e ∷ rest → drop (suc number) es ≡ rest
 drop_rest [] zero e rest h = absurd (let clash : [] ≡ e ∷ rest = h in cc)
 drop_rest [] (suc n) e rest h = absurd (let clash : [] ≡ e ∷ rest = h in cc)
 drop_rest (x ∷ es) zero e rest h = cc
@@ -145,15 +145,15 @@ lower k n lo other = le_other (nat_lt k n) refl
     le_other true q = ltb-true k n q
     le_other false q = absurd (other (let above : n ≤ k = ltb-false k n q in omega (arith, lo, above)))
 
-one_entry : (x y : Entry) → Some x ≡ Some y → x ≡ y
+one_entry : (x y : DeclaredLabel) → Some x ≡ Some y → x ≡ y
 one_entry x y e = cc
 
 one_target : (x y : ℕ) → Some x ≡ Some y → x ≡ y
 one_target x y e = cc
 
-module _ (es : List Entry) (number begin : ℕ) (labels : List Label) (e : Entry) (rest : List Entry) (is : drop number es ≡ e ∷ rest) (a b : Built) (m : Midway es number begin labels a b) where
+module _ (es : List DeclaredLabel) (number begin : ℕ) (labels : List Label) (e : DeclaredLabel) (rest : List DeclaredLabel) (is : drop number es ≡ e ∷ rest) (a b : Built) (m : Midway es number begin labels a b) where
   here : PendingAt b.operators (table_place number) (e ∷ rest)
-  here = let P : List Entry → Type 0 = λ l. PendingAt b.operators (table_place number) l in subst P is m.pending
+  here = let P : List DeclaredLabel → Type 0 = λ l. PendingAt b.operators (table_place number) l in subst P is m.pending
 
   -- its branch can be aimed
   pub branch_there : (branch : ℕ) → branch ≡ table_place number → IsBranchAt b.operators branch
@@ -163,7 +163,7 @@ module _ (es : List Entry) (number begin : ℕ) (labels : List Label) (e : Entry
 
   left : (c : Built) → PendingAt c.operators (table_place number + 3) rest → PendingAt c.operators (table_place (suc number)) (drop (suc number) es)
   left c h =
-      let P : List Entry → Type 0 = λ l. PendingAt c.operators (table_place (suc number)) l in
+      let P : List DeclaredLabel → Type 0 = λ l. PendingAt c.operators (table_place (suc number)) l in
       let Q : ℕ → Type 0 = λ p. PendingAt c.operators p rest in
       let next : table_place number + 3 ≡ table_place (suc number) = omega arith in
       subst P (sym (drop_rest es number e rest is)) (subst Q next h)
@@ -187,7 +187,7 @@ module _ (es : List Entry) (number begin : ℕ) (labels : List Label) (e : Entry
       there : slice_get es number ≡ Some e
       there = drop_there es number e rest is
 
-      done : (k : ℕ) (x : Entry) (to : ℕ) → k < suc number → slice_get es k ≡ Some x → leads labels x ≡ Some to →
+      done : (k : ℕ) (x : DeclaredLabel) (to : ℕ) → k < suc number → slice_get es k ≡ Some x → leads labels x ≡ Some to →
           Has (aimed_from 0 (table_place number) target b.operators) x.level (table_place k) (Branch Brun to) (table_place k + 3)
       done k x to lo found leads_to' = by (nat_eq k number) refl
         where
@@ -196,7 +196,7 @@ module _ (es : List Entry) (number begin : ℕ) (labels : List Label) (e : Entry
               let k_is : k ≡ number = eqb-true k number q in
               let x_is : e ≡ x = one_entry e x (sym there ∙ ap (λ (n : ℕ). slice_get es n) (sym k_is) ∙ found) in
               let to_is : target ≡ to = one_target target to (sym leads_to ∙ ap (leads labels) x_is ∙ leads_to') in
-              let H : ℕ → Entry → ℕ → Type 0 = λ n y t. Has (aimed_from 0 (table_place number) target b.operators) y.level (table_place n) (Branch Brun t) (table_place n + 3) in
+              let H : ℕ → DeclaredLabel → ℕ → Type 0 = λ n y t. Has (aimed_from 0 (table_place number) target b.operators) y.level (table_place n) (Branch Brun t) (table_place n + 3) in
               subst (λ n. H n x to) (sym k_is) (subst (λ y. H number y to) x_is (subst (H number e) to_is (StandsAmong-branch target here.0)))
           by false q =
               let other : k ≢ number = eqb-false k number q in
@@ -216,7 +216,7 @@ module _ (es : List Entry) (number begin : ℕ) (labels : List Label) (e : Entry
       there : slice_get es number ≡ Some e
       there = drop_there es number e rest is
 
-      done : (k : ℕ) (x : Entry) (to : ℕ) → k < suc number → slice_get es k ≡ Some x → leads labels x ≡ Some to →
+      done : (k : ℕ) (x : DeclaredLabel) (to : ℕ) → k < suc number → slice_get es k ≡ Some x → leads labels x ≡ Some to →
           Has b.operators x.level (table_place k) (Branch Brun to) (table_place k + 3)
       done k x to lo found leads_to' = by (nat_eq k number) refl
         where
@@ -228,7 +228,7 @@ module _ (es : List Entry) (number begin : ℕ) (labels : List Label) (e : Entry
           by false q = m.done k x to (lower k number lo (eqb-false k number q)) found leads_to'
 
 -- all are
-pub midway_last : (es : List Entry) (number begin : ℕ) (labels : List Label) (a b : Built) → length es ≤ number → Midway es number begin labels a b → HeadAimed es begin labels a b
+pub midway_last : (es : List DeclaredLabel) (number begin : ℕ) (labels : List Label) (a b : Built) → length es ≤ number → Midway es number begin labels a b → HeadAimed es begin labels a b
 midway_last es number begin labels a b le m = record {
   level = m.level;
   place = m.place;

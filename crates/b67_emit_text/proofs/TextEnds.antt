@@ -2,7 +2,7 @@
 use Rattle.std.proofs.Common.{◌≡◌, ℕ, Option, Some, None, List, sym, subst, ◌∙◌, arith}
 use Rattle.b67_ops.specs.declared.Operator.TheVariants as ops
 use Rattle.b67_ops.specs.declared.PlainKind.TheVariants as kinds
-use Rattle.b67_ops.specs.Spelling.{IsSeen}
+use Rattle.b67_ops.specs.Spelling.{CoupleIsSeen}
 use Rattle.b67_segment.specs.Operators.{Placed, size}
 use Rattle.b67_segment.specs.Building.{Built, level_set}
 use Rattle.b67_templates.specs.Fragments.{Has}
@@ -17,7 +17,7 @@ as_level : {b c : Built} (P : ℕ → List Placed → Type 0) (level : ℕ) → 
 as_level {b} {c} P level e h = let F : ℕ → Type 0 = λ l. Emitted b c (P l) in subst F e h
 
 -- the cell of the result can be named there
-pub result_seen : (l level : ℕ) (returned : Option ℕ) (index : ℕ) → level ≡ l → IsNear returned → returned ≡ Some index → IsSeen l (result_couple level index)
+pub result_seen : (l level : ℕ) (returned : Option ℕ) (index : ℕ) → level ≡ l → IsNear returned → returned ≡ Some index → CoupleIsSeen l (result_couple level index)
 result_seen l level returned index at near is =
     let close : IsNear (Some index) = subst IsNear is near in
     seen l (result_couple level index) (omega (arith, at)) (omega (arith, close))

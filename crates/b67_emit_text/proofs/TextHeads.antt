@@ -13,7 +13,7 @@ use Rattle.b67_emit_stmt.specs.Drafts.{IsReady}
 use Rattle.b67_emit_stmt.proofs.Matched.{ready_less}
 use Rattle.b67_emit_text.specs.declared.entries.Declared.{Declared}
 use Rattle.b67_emit_text.specs.Codes.{segment_syllables, text_syllables}
-use Rattle.b67_emit_text.specs.Entries.{AllLow, Entry, IsLeveled, entries_of, entry_of}
+use Rattle.b67_emit_text.specs.Entries.{AllLow, DeclaredLabel, IsLeveled, entries_of, entry_of}
 use Rattle.b67_emit_text.proofs.Entered.{entries_leveled, fit_all_low}
 
 -- as many entries as are gathered
@@ -26,14 +26,14 @@ none_celled (x ∷ xs) es are none = absurd (omega (arith, none))
 
 module _ (s : Known) (level : ℕ) (returned : Option ℕ) (ds : PDecls) (ss : PStmts) (found : List Declared) (are : map entry_of found ≡ entries_of level ds ss) where
   pub found_many : length found ≡ length (entries_of level ds ss)
-  found_many = sym (entries_many found) ∙ ap (λ (l : List Entry). length l) are
+  found_many = sym (entries_many found) ∙ ap (λ (l : List DeclaredLabel). length l) are
 
   -- there is room for the head
   pub head_room : (a : Draft) → IsReady s a (segment_syllables s level returned ds ss) → 3 + 3 * length found ≤ MOST_SEGMENT_SYLLABLES
   head_room a ready = omega (arith, found_many, ready.room)
 
   pub found_leveled : OUTER_LEVEL ≤ level → level ≤ MOST_LEVEL → AllLow level ss → AllByRecursion IsLeveled (map entry_of found)
-  found_leveled outer most low = let L : List Entry → Type 0 = λ l. AllByRecursion IsLeveled l in subst L (sym are) (entries_leveled level ds ss outer most low)
+  found_leveled outer most low = let L : List DeclaredLabel → Type 0 = λ l. AllByRecursion IsLeveled l in subst L (sym are) (entries_leveled level ds ss outer most low)
 
   pub head_wide : (n : ℕ) → n ≡ 3 + 3 * length found → n ≡ 3 + 3 * length (map entry_of found)
   head_wide n is = omega (arith, is, entries_many found)

@@ -16,9 +16,9 @@ use Rattle.b67_templates.specs.Cells.{procedures}
 use Rattle.b67_templates.specs.Fitting as fitting
 use Rattle.b67_emitter.specs.Values.{meanings}
 use Rattle.b67_emit_stmt.specs.declared.draft.Known.{Known}
-use Rattle.b67_emit_stmt.specs.Fits.{AreNumbered, InsideFits, IsNumbered, StmtFits, StmtsFit, next_to, number_in}
+use Rattle.b67_emit_stmt.specs.Fits.{AreNumbered, InsideFits, IsNumbered, EmittedStmtFits, EmittedStmtsFit, next_to, procedure_number_in}
 use Rattle.b67_emit_stmt.specs.Places.{Place}
-use Rattle.b67_emit_text.specs.Programs.{AreDue, block_of}
+use Rattle.b67_emit_text.specs.Programs.{AreDue, block_of_text}
 use Rattle.b67_emit_text.specs.Texts.{Text, HaveLevelsBody, outer_text, places_of, texts, texts_of, texts_in_body, texts_in_decl, texts_in_decls, texts_in_stmts}
 use Rattle.b67_emit_text.proofs.Spots.{spot_same, spot_self}
 use Rattle.b67_emit_text.proofs.TextStanding.{place_of}
@@ -51,7 +51,7 @@ module _ (place : Place) (s : Known) where
   module _ (same : place.segment ≡ s.segment) where
     mutual
       known_fits : (x : PStmt) (level block : ℕ) → fitting.StmtFits place.scopes (meanings s.names.now) level block x → Each Numbered (texts_of x of_statement level) →
-          StmtFits (in_block block) s level x
+          EmittedStmtFits (in_block block) s level x
       known_fits tree.empty level block fit h = tt
       known_fits (tree.label n t) level block fit h = (fit.0, known_fits t level block fit.1 h)
       known_fits (tree.assign (tree.subscripted n tree.none) e) level block fit h = fit
@@ -79,7 +79,7 @@ module _ (place : Place) (s : Known) where
       known_fits (tree.write n spot phrases es) level block fit h = fit
 
       pub known_all : (xs : PStmts) (level block : ℕ) → fitting.StmtsFit place.scopes (meanings s.names.now) level block xs → Each Numbered (texts_in_stmts xs level) →
-          StmtsFit (in_block block) s level xs
+          EmittedStmtsFit (in_block block) s level xs
       known_all tree.no_stmts level block fit h = tt
       known_all (tree.stmts x xs) level block fit h = (
         known_fits x level block fit.0 (each_left Numbered (texts_of x of_statement level) (texts_in_stmts xs level) h),
@@ -132,7 +132,7 @@ outer_within P (tree.body spot ds ss) h =
     (each_left P (texts_in_decls ds OUTER_LEVEL) (texts_in_stmts ss OUTER_LEVEL) h, each_right P (texts_in_decls ds OUTER_LEVEL) (texts_in_stmts ss OUTER_LEVEL) h)
 
 module _ (sc : Scopes) (known : Names) where
-  levels_by : (b : PBody) → fitting.StmtsFit sc (meanings known) (outer_text b).level (block_of sc (outer_text b)) (outer_text b).stmts →
+  levels_by : (b : PBody) → fitting.StmtsFit sc (meanings known) (outer_text b).level (block_of_text sc (outer_text b)) (outer_text b).stmts →
       Each (Fine sc (meanings known)) (texts_in_body b OUTER_LEVEL) → HaveLevelsBody b OUTER_LEVEL
   levels_by (tree.body spot ds ss) fit h =
       let F = Fine sc (meanings known) in (
@@ -153,8 +153,8 @@ module _ (sc : Scopes) (s : Known) (b : PBody) (are : s.procedures.now ≡ place
       let ts = texts_in_body b OUTER_LEVEL in
       let first = first_there 0 ts k t e in
       let number : Spot → ℕ = λ spot. segment_of sc.blocks (number_at sc.blocks spot) in
-      let number_is : number_in s.procedures.now n.spot ≡ first.place + 1 =
-      ap (λ l. number_in l n.spot) are ∙ ap (λ spot. number_in (places_of ts) spot) at ∙ ap next_to first.is ∙ omega arith in
+      let number_is : procedure_number_in s.procedures.now n.spot ≡ first.place + 1 =
+      ap (λ l. procedure_number_in l n.spot) are ∙ ap (λ spot. procedure_number_in (places_of ts) spot) at ∙ ap next_to first.is ∙ omega arith in
       let I : Scopes → Type 0 = λ x. IsNumbered x s t.level n in
       subst I (sym same)
       (record {

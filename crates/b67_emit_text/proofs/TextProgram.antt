@@ -21,13 +21,13 @@ use Rattle.b67_segment.specs.declared.code.Segment.{Segment}
 use Rattle.b67_templates.specs.Cells.{variables, actuals_in_block}
 use Rattle.b67_emit_stmt.specs.declared.draft.Known.{Known}
 use Rattle.b67_emit_text.specs.declared.texts.Procedure.{Procedure}
-use Rattle.b67_emit_stmt.specs.Drafts.{Agrees}
+use Rattle.b67_emit_stmt.specs.Drafts.{DraftAgrees}
 use Rattle.b67_emit_stmt.specs.Places.{Later}
 use Rattle.b67_emit_stmt.specs.Lengths.{celled_in}
 use Rattle.b67_emit_text.specs.Codes.{IsNear, result_index, zeros_for}
-use Rattle.b67_emit_text.specs.Programs.{AreDue, block_of}
-use Rattle.b67_emit_text.specs.Segments.{CanStand, IsMadeOf, TextFits, code_syllables, returned_in}
-use Rattle.b67_emit_text.specs.Texts.{Text, outer_text, places_of, text_of, texts, texts_in_body}
+use Rattle.b67_emit_text.specs.Programs.{AreDue, block_of_text}
+use Rattle.b67_emit_text.specs.Segments.{TextCanStand, IsMadeOf, TextFits, code_syllables, returned_in}
+use Rattle.b67_emit_text.specs.Texts.{Text, outer_text, places_of, text_of_procedure, texts, texts_in_body}
 use Rattle.b67_emit_stmt.proofs.Blocks.{as_many}
 use Rattle.b67_emit_stmt.proofs.Celled.{celled_inside}
 use Rattle.b67_emit_text.proofs.Paid.{inside_pays}
@@ -58,32 +58,32 @@ module _ (b : Body) where
 pub places_few : (b : PBody) (places : List Spot) → places ≡ places_of (texts_in_body b OUTER_LEVEL) → length (texts b) ≤ 1 + MOST_PROCEDURES → length places ≤ MOST_PROCEDURES
 places_few b places are few = omega (arith, ap length are, length-map (texts_in_body b OUTER_LEVEL) (λ (t : Text). t.spot), few)
 
-pub number_few : (b : PBody) (ps : List Procedure) → map text_of ps ≡ texts_in_body b OUTER_LEVEL → length (texts b) ≤ 1 + MOST_PROCEDURES → (i : ℕ) → i < length ps → i + 1 ≤ MOST_PROCEDURES
-number_few b ps found few i within = omega (arith, ap length found, length-map ps text_of, few, within)
+pub number_few : (b : PBody) (ps : List Procedure) → map text_of_procedure ps ≡ texts_in_body b OUTER_LEVEL → length (texts b) ≤ 1 + MOST_PROCEDURES → (i : ℕ) → i < length ps → i + 1 ≤ MOST_PROCEDURES
+number_few b ps found few i within = omega (arith, ap length found, length-map ps text_of_procedure, few, within)
 
 -- ---- the procedures
 
 -- those that were found, where there were none before
-pub texts_found : (b : PBody) (before now items : List Procedure) → before ≡ [] → map text_of now ≡ map text_of before ++ texts_in_body b OUTER_LEVEL → items ≡ now →
-    map text_of items ≡ texts_in_body b OUTER_LEVEL
-texts_found b before now items none found same = ap (map text_of) same ∙ found ∙ ap (λ l. map text_of l ++ texts_in_body b OUTER_LEVEL) none
+pub texts_found : (b : PBody) (before now items : List Procedure) → before ≡ [] → map text_of_procedure now ≡ map text_of_procedure before ++ texts_in_body b OUTER_LEVEL → items ≡ now →
+    map text_of_procedure items ≡ texts_in_body b OUTER_LEVEL
+texts_found b before now items none found same = ap (map text_of_procedure) same ∙ found ∙ ap (λ l. map text_of_procedure l ++ texts_in_body b OUTER_LEVEL) none
 
 -- where they stand
-pub places_found : (b : PBody) (before now items : List Procedure) (spots : List Spot) → before ≡ [] → map text_of now ≡ map text_of before ++ texts_in_body b OUTER_LEVEL →
-    items ≡ now → spots ≡ places_of (map text_of items) → spots ≡ places_of (texts_in_body b OUTER_LEVEL)
+pub places_found : (b : PBody) (before now items : List Procedure) (spots : List Spot) → before ≡ [] → map text_of_procedure now ≡ map text_of_procedure before ++ texts_in_body b OUTER_LEVEL →
+    items ≡ now → spots ≡ places_of (map text_of_procedure items) → spots ≡ places_of (texts_in_body b OUTER_LEVEL)
 places_found b before now items spots none found same are = are ∙ ap places_of (texts_found b before now items none found same)
 
-text_of_item : (ps : List Procedure) (i : ℕ) (p : Procedure) → i < length ps → p ≡ get_or ps i p → slice_get (map text_of ps) i ≡ Some (text_of p)
+text_of_item : (ps : List Procedure) (i : ℕ) (p : Procedure) → i < length ps → p ≡ get_or ps i p → slice_get (map text_of_procedure ps) i ≡ Some (text_of_procedure p)
 text_of_item [] i p within e = absurd (omega arith)
-text_of_item (q ∷ qs) zero p within e = ap (λ x. Some (text_of x)) (sym e)
+text_of_item (q ∷ qs) zero p within e = ap (λ x. Some (text_of_procedure x)) (sym e)
 text_of_item (q ∷ qs) (suc i) p within e = text_of_item qs i p (omega (arith, within)) e
 
-module _ (b : PBody) (ps : List Procedure) (are : map text_of ps ≡ texts_in_body b OUTER_LEVEL) where
-  pub text_there : (i : ℕ) (p : Procedure) → i < length ps → p ≡ get_or ps i p → slice_get (texts_in_body b OUTER_LEVEL) i ≡ Some (text_of p)
+module _ (b : PBody) (ps : List Procedure) (are : map text_of_procedure ps ≡ texts_in_body b OUTER_LEVEL) where
+  pub text_there : (i : ℕ) (p : Procedure) → i < length ps → p ≡ get_or ps i p → slice_get (texts_in_body b OUTER_LEVEL) i ≡ Some (text_of_procedure p)
   text_there i p within e = ap (λ l. slice_get l i) (sym are) ∙ text_of_item ps i p within e
 
   pub texts_many : length (texts b) ≡ 1 + length ps
-  texts_many = omega (arith, ap length are, length-map ps text_of)
+  texts_many = omega (arith, ap length are, length-map ps text_of_procedure)
 
   pub all_taken : (i : ℕ) → length ps ≤ i → take (i + 1) (texts b) ≡ texts b
   all_taken i le = take_all (i + 1) (texts b) (omega (arith, texts_many))
@@ -131,10 +131,10 @@ module _ (sc : Scopes) (known : Names) (b : PBody) (due : AreDue sc known (texts
     inside_there : TextFits (place_of sc t) s t
     inside_there = let D : Names → Type 0 = λ x. AreDue sc x (texts b) in fits_there sc s b are few (subst D (sym same) due) k t e is
 
-    segment_there : segment_of sc.blocks (block_of sc t) ≡ s.segment
+    segment_there : segment_of sc.blocks (block_of_text sc t) ≡ s.segment
     segment_there = (due k t e).segment ∙ sym is
 
-    pub can_stand : CanStand s t
+    pub can_stand : TextCanStand s t
     can_stand =
         let d = due k t e in
         let zeros = zeros_are t.result t.parameters t.name t.decls in
@@ -149,7 +149,7 @@ module _ (sc : Scopes) (known : Names) (b : PBody) (due : AreDue sc known (texts
           room = omega (arith, syllables_there s, d.room);
         }
 
-    pub stands_there : (all : Later) (segment : Segment) (formats : List Format) (made : IsMadeOf s t segment formats) → Agrees (record { formats = formats; labels = made.labels }) all →
+    pub stands_there : (all : Later) (segment : Segment) (formats : List Format) (made : IsMadeOf s t segment formats) → DraftAgrees (record { formats = formats; labels = made.labels }) all →
         6 * length segment.words ≤ code_syllables s t + 5 → TextStands sc all segment t
     stands_there all segment formats made known' short =
         text_at sc all known k t segment (due k t e) (made.code (place_of sc t) segment_there inside_there all known') (omega (arith, short, syllables_there s))

@@ -21,7 +21,7 @@ use Rattle.b67_segment.proofs.Among.{StandsAmong-kept}
 use Rattle.b67_segment.proofs.Filling.{noop}
 use Rattle.b67_templates.specs.Cells.{Actual, actuals_in_block}
 use Rattle.b67_templates.specs.Emitting.{Emitted, Leaves}
-use Rattle.b67_templates.specs.Fragments.{Goes, over, stop}
+use Rattle.b67_templates.specs.Fragments.{FragmentGoes, over, stop}
 use Rattle.b67_templates.specs.Labels.{table_place}
 use Rattle.b67_emitter.specs.Values.{AreNear, meanings}
 use Rattle.b67_emitter.proofs.Exits.{next-behind}
@@ -30,7 +30,7 @@ use Rattle.b67_emit_stmt.specs.declared.draft.Known.{Known}
 use Rattle.b67_emit_stmt.specs.declared.draft.Label.{Label}
 use Rattle.b67_emit_stmt.specs.Actuals.{AreInner}
 use Rattle.b67_emit_stmt.specs.Bodies.{AreActuals, EmitsInside, EmitsRoutines, HaveInside, InsideAt, inside_syllables}
-use Rattle.b67_emit_stmt.specs.Drafts.{AddsStmts, Agrees, AreListed, Emits, IsAt, IsReady, noted, spots_of}
+use Rattle.b67_emit_stmt.specs.Drafts.{AddsStmts, DraftAgrees, FormatsCanBeListed, Emits, DraftIsAt, IsReady, draft_noted, spots_of}
 use Rattle.b67_emit_stmt.specs.Fits.{InsideFits}
 use Rattle.b67_emit_stmt.specs.Labels.{label_spots_in}
 use Rattle.b67_emit_stmt.specs.Lengths.{celled_in, routines_syllables}
@@ -41,8 +41,8 @@ use Rattle.b67_emit_stmt.proofs.Levels.{at_after}
 use Rattle.b67_emit_stmt.proofs.Matched.{ready_less}
 use Rattle.b67_emit_stmt.proofs.Notes.{grows_equal, grows_then}
 use Rattle.b67_emit_stmt.proofs.Ready.{ready_after}
-use Rattle.b67_emit_text.specs.Codes.{EmitsText, EmitsTextEnd, EmitsWhole, EndingAt, IsMade, TextAt, TextEndAt, WholeAt, segment_syllables, text_end_syllables, text_syllables, zeros_for}
-use Rattle.b67_emit_text.specs.Entries.{Entry, EntryAt, HeadAimed, HeadAt, entries_of, leads, place_there}
+use Rattle.b67_emit_text.specs.Codes.{EmitsText, EmitsTextEnd, EmitsWhole, EndingAt, CodeIsMade, TextAt, TextEndAt, WholeAt, segment_syllables, text_end_syllables, text_syllables, zeros_for}
+use Rattle.b67_emit_text.specs.Entries.{DeclaredLabel, EntryAt, HeadAimed, HeadAt, entries_of, leads, place_there}
 use Rattle.b67_emit_text.proofs.Spots.{Among, Found, each_there, entries_found, noted_there}
 use Rattle.b67_emit_text.proofs.Tables.{head_kept}
 
@@ -69,7 +69,7 @@ module _ {level : ℕ} {formats : List Format} {a : Draft} (new : IsNew level fo
   set_new : IsSome a.out.level
   set_new = let S : Option ℕ → Type 0 = λ o. IsSome o in subst S (sym new.set) refl
 
-  pub at_new : OUTER_LEVEL ≤ level → IsAt level a
+  pub at_new : OUTER_LEVEL ≤ level → DraftIsAt level a
   at_new outer = record { set = new.set; outer = outer }
 
   pub ready_new : (s : Known) (n : ℕ) → AreNear s.names.now → AreInner (meanings s.names.now) → length s.procedures.now ≤ MOST_PROCEDURES → s.segment ≤ MOST_PROCEDURES →
@@ -91,7 +91,7 @@ none_of [] ys h = sym h
 none_of (x ∷ xs) ys h = cc
 
 -- it stands among its own operators and NOOPs after them
-stands_filled : {n : ℕ} {a b : Draft} {P : Later → List Placed → ℕ → Type 0} → Emits n a b P → b.exits.items ≡ [] → (later : Later) → Agrees (noted b) later →
+stands_filled : {n : ℕ} {a b : Draft} {P : Later → List Placed → ℕ → Type 0} → Emits n a b P → b.exits.items ≡ [] → (later : Later) → DraftAgrees (draft_noted b) later →
     P later (filled b.out.operators) (size b.out.operators)
 stands_filled {n} {a} {b} {P} h none later known =
     let ps = b.out.operators in
@@ -116,7 +116,7 @@ module _ (s : Known) (level : ℕ) (returned : Option ℕ) (ds : PDecls) (ss : P
   pub inside_ready : IsReady s a (text_end_syllables s returned ds ss es) → IsReady s a (inside_syllables s many ds ss es)
   inside_ready ready = ready_less s a (text_end_syllables s returned ds ss es) (inside_syllables s many ds ss es) ready (omega (arith, end_fits))
 
-  module _ (ats : List ℕ) (d : Draft) (at : IsAt level a) (fits : HaveInside s level ds ss) (inside : EmitsInside s level a d many ds ss es ats) where
+  module _ (ats : List ℕ) (d : Draft) (at : DraftIsAt level a) (fits : HaveInside s level ds ss) (inside : EmitsInside s level a d many ds ss es ats) where
     there : Emits (inside_syllables s many ds ss es) a d
         (λ later qs target. InsideAt fits.0 later qs level many ds ss (some_of es) ats (size a.out.operators) (size d.out.operators))
     there = inside fits.0 (some_of es) fits.1 (some_are es) fits.2
@@ -164,7 +164,7 @@ module _ (s : Known) (inner : AreInner (meanings s.names.now)) (level : ℕ) (re
         Emits (routines_syllables s es) a r (λ later qs target. RoutinesAt sc later qs level (actuals_in_block sc.scopes ds ss) ats)
     first_code sc fit = routines sc (actuals_in_block sc.scopes ds ss) (own sc fit)
 
-    pub text_level : HaveInside s level ds ss → IsAt level a → IsAt level r
+    pub text_level : HaveInside s level ds ss → DraftIsAt level a → DraftIsAt level r
     text_level fits at = at_after (first_code fits.0 fits.2) at
 
     pub text_ready : HaveInside s level ds ss → IsReady s a (text_syllables s returned ds ss) → IsReady s r (text_end_syllables s returned ds ss es)
@@ -195,17 +195,17 @@ module _ (s : Known) (level : ℕ) (returned : Option ℕ) (ds : PDecls) (ss : P
       let zero : begin ≡ 0 = omega (arith, start, made.near, ap (λ (l : List PExpr). routines_syllables s l) bare) in
       emits_weaker (λ later qs target. WholeAt sc later qs level returned ds ss) (made.code sc same fit) (omega arith)
       (λ later qs target hi p.
-      let G : ℕ → Type 0 = λ to. Goes qs level 0 to in
-      let Named_at : List Entry → Type 0 = λ es. (number : ℕ) (e : Entry) → slice_get es number ≡ Some e → EntryAt later.labels qs number e in
+      let G : ℕ → Type 0 = λ to. FragmentGoes qs level 0 to in
+      let Named_at : List DeclaredLabel → Type 0 = λ es. (number : ℕ) (e : DeclaredLabel) → slice_get es number ≡ Some e → EntryAt later.labels qs number e in
       record { begin = begin; over = subst G (sym zero) stop; text = p; tables = subst Named_at (sym none) (λ number e h. absurd (omega (arith, slice_get_within [] number e h))) })
 
   -- with a head
-  module _ (at : IsAt level a) (bare : a.exits.items ≡ []) (unlabelled : a.labels.items ≡ []) (es : List Entry) (are : es ≡ entries_of level ds ss) (o : Built) (head : HeadAt o.operators level es)
+  module _ (at : DraftIsAt level a) (bare : a.exits.items ≡ []) (unlabelled : a.labels.items ≡ []) (es : List DeclaredLabel) (are : es ≡ entries_of level ds ss) (o : Built) (head : HeadAt o.operators level es)
       (set : o.level ≡ Some level) (wide : size o.operators ≡ 3 + 3 * length es) where
     abbrev pub begun : Draft
     begun = record a { out = o }
 
-    pub begun_at : IsAt level begun
+    pub begun_at : DraftIsAt level begun
     begun_at = record { set = set; outer = at.outer }
 
     pub begun_ready : IsReady s a (segment_syllables s level returned ds ss) → IsReady s begun (text_syllables s returned ds ss)
@@ -216,7 +216,7 @@ module _ (s : Known) (level : ℕ) (returned : Option ℕ) (ds : PDecls) (ss : P
       many = ready.many;
       segment = ready.segment;
       few = omega (arith, ready.few, start, wide);
-      room = omega (arith, ready.room, start, wide, ap (λ (l : List Entry). length l) are);
+      room = omega (arith, ready.room, start, wide, ap (λ (l : List DeclaredLabel). length l) are);
     }
 
     module _ (d : Draft) (begin : ℕ) (made : EmitsText s level begun d returned ds ss begin) where
@@ -240,14 +240,14 @@ module _ (s : Known) (level : ℕ) (returned : Option ℕ) (ds : PDecls) (ss : P
               subst B (sym (text.notes.labels_are ∙ ap (λ (l : List Label). l ++ text.notes.labels) unlabelled)) text.notes.behind
 
           module _ (qs : List Placed) (leaves : (x l next : ℕ) (op : Operator) → next ≤ size p.operators → StandsAmong p.operators x l op next → StandsAmong qs x l op next) (later : Later)
-              (known : Agrees (noted d) later) where
-            tables : (number : ℕ) (e : Entry) → slice_get (entries_of level ds ss) number ≡ Some e → EntryAt later.labels qs number e
+              (known : DraftAgrees (draft_noted d) later) where
+            tables : (number : ℕ) (e : DeclaredLabel) → slice_get (entries_of level ds ss) number ≡ Some e → EntryAt later.labels qs number e
             tables number e there label stands =
                 let found = each_there (Found (label_spots_in ss)) (entries_of level ds ss) number e (entries_found level ds ss) there label stands in
                 let N : List Spot → Type 0 = λ l. Among label.spot l in
                 let n = noted_there d.labels.items label.spot (subst N (sym spots_are) found) in
                 let leads_to : leads d.labels.items e ≡ Some n.label.place = ap (place_there d.labels.items) stands ∙ n.place in
-                let there' : slice_get es number ≡ Some e = ap (λ (l : List Entry). slice_get l number) are ∙ there in
+                let there' : slice_get es number ≡ Some e = ap (λ (l : List DeclaredLabel). slice_get l number) are ∙ there in
                 let within : number < length es = slice_get_within es number e there' in
                 let branch = aimed.entries number e n.label.place there' leads_to in
                 let behind : size o.operators ≤ n.label.place = each_there (λ (l : Label). size o.operators ≤ l.place) d.labels.items n.number n.label labels_behind n.there in
@@ -296,7 +296,7 @@ module _ (s : Known) (level : ℕ) (returned : Option ℕ) (ds : PDecls) (ss : P
                 claimed = λ qs target hi leaves later known.
                     whole_there sc same fit qs (λ x l next op hi' st. leaves.others x l next op refl (omega (arith, start)) hi' st) later known target hi;
               };
-              short = omega (arith, m.short, aimed.place, wide, start, ap (λ (l : List Entry). length l) are);
+              short = omega (arith, m.short, aimed.place, wide, start, ap (λ (l : List DeclaredLabel). length l) are);
               notes = grows_then {m = size a.out.operators} {n = size o.operators} (omega (arith, start)) (grows_equal {n = size a.out.operators} refl) m.notes;
               few = omega (arith, m.few, aimed.place);
               more = omega (arith, m.more, aimed.place, start, wide);
@@ -313,8 +313,8 @@ module _ (s : Known) (level : ℕ) (formats : List Format) (returned : Option �
   short : size d.out.operators ≤ segment_syllables s level returned ds ss
   short = omega (arith, whole.short, new.start)
 
-  pub listed_after : AreListed formats → AreListed d.formats.items
-  listed_after l = whole.listed (subst AreListed (sym new.formats_are) l)
+  pub listed_after : FormatsCanBeListed formats → FormatsCanBeListed d.formats.items
+  listed_after l = whole.listed (subst FormatsCanBeListed (sym new.formats_are) l)
 
   pub few_after : segment_syllables s level returned ds ss + 5 ≤ MOST_SEGMENT_SYLLABLES → length d.formats.items ≤ length formats + MOST_SEGMENT_SYLLABLES
   few_after room = omega (arith, whole.more, short, new.start, ap length new.formats_are, room)
@@ -322,7 +322,7 @@ module _ (s : Known) (level : ℕ) (formats : List Format) (returned : Option �
   pub short_after : size d.out.operators + 5 ≤ segment_syllables s level returned ds ss + 5
   short_after = omega (arith, short)
 
-  pub text_stands : (segment : Segment) → d.exits.items ≡ [] → AddsStmts a d ss → Spells (filled d.out.operators) segment → IsMade s level returned ds ss segment d.formats.items
+  pub text_stands : (segment : Segment) → d.exits.items ≡ [] → AddsStmts a d ss → Spells (filled d.out.operators) segment → CodeIsMade s level returned ds ss segment d.formats.items
   text_stands segment none adds spells = record {
     labels = d.labels.items;
     spots = adds.labels ∙ ap (λ (l : List Label). spots_of l ++ label_spots_in ss) new.labels;

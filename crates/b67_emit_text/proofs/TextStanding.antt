@@ -12,26 +12,26 @@ use Rattle.b67_segment.specs.declared.code.Segment.{Segment}
 use Rattle.b67_segment.specs.Operators.{Placed}
 use Rattle.b67_segment.specs.Syllables.{Spells}
 use Rattle.b67_templates.specs.Contexts.{yields_of}
-use Rattle.b67_templates.specs.Cells.{result_of, variables, actuals_in_block}
+use Rattle.b67_templates.specs.Cells.{result_cells_of, variables, actuals_in_block}
 use Rattle.b67_templates.specs.Code.{CellsAt, control_pcws}
 use Rattle.b67_emit_stmt.specs.declared.draft.Label.{Label}
-use Rattle.b67_emit_stmt.specs.Drafts.{Agrees, IsFront, spots_of}
+use Rattle.b67_emit_stmt.specs.Drafts.{DraftAgrees, IsFront, spots_of}
 use Rattle.b67_emit_stmt.specs.Places.{Later, Place}
-use Rattle.b67_emit_text.specs.Programs.{AreDue, AreShort, Coded, EndAt, IsDue, TableAt, TextAt, block_of, context_of}
-use Rattle.b67_emit_text.specs.Codes.{EndingAt, Stands, result_couple, result_index, zeros_for}
-use Rattle.b67_emit_text.specs.Texts.{StandOnce, Text, text_spots, times}
-use Rattle.b67_emit_text.specs.Entries.{place_in}
+use Rattle.b67_emit_text.specs.Programs.{AreDue, AreShort, Coded, EndAt, IsDue, LabelTableAt, TextAt, block_of_text, context_of}
+use Rattle.b67_emit_text.specs.Codes.{EndingAt, CodeStands, result_couple, result_index, zeros_for}
+use Rattle.b67_emit_text.specs.Texts.{StandOnce, Text, text_spots, spot_times}
+use Rattle.b67_emit_text.specs.Entries.{label_place_in}
 use Rattle.b67_emit_stmt.proofs.Notes.{all_back, all_front, front_self, front_trans}
 use Rattle.b67_emit_text.proofs.Spots.{placed_once}
 
 -- where a text stands
 abbrev pub place_of : Scopes → Text → Place
-place_of sc t = record { scopes = sc; segment = segment_of sc.blocks (block_of sc t); block = block_of sc t; yields = yields_of t.result }
+place_of sc t = record { scopes = sc; segment = segment_of sc.blocks (block_of_text sc t); block = block_of_text sc t; yields = yields_of t.result }
 
 -- the code of a text stands in a segment, which is short
 abbrev pub TextStands : Scopes → Later → Segment → Text → Type 0
 TextStands sc all segment t =
-    (ps : List Placed) × Spells ps segment × TextAt sc all.formats all.labels ps t × TableAt all.labels ps t × (6 * length segment.words ≤ 24 * t.tokens + 48)
+    (ps : List Placed) × Spells ps segment × TextAt sc all.formats all.labels ps t × LabelTableAt all.labels ps t × (6 * length segment.words ≤ 24 * t.tokens + 48)
 
 abbrev pub AllStand : Scopes → Later → List Segment → List Text → Type 0
 AllStand sc all [] [] = Unit {0}
@@ -49,9 +49,9 @@ stand_more sc all (y ∷ ys) (u ∷ us) x t h k = (h.0, stand_more sc all ys us 
 -- ---- one text
 
 pub zeros_are : (result : Option Kind) (parameters : ℕ) (name : List ℕ) (ds : PDecls) →
-    zeros_for (result_index result parameters) ds ≡ length (result_of result name ++ variables ds)
+    zeros_for (result_index result parameters) ds ≡ length (result_cells_of result name ++ variables ds)
 zeros_are None parameters name ds = omega arith
-zeros_are (Some kind) parameters name ds = omega (arith, length-append (result_of (Some kind) name) (variables ds))
+zeros_are (Some kind) parameters name ds = omega (arith, length-append (result_cells_of (Some kind) name) (variables ds))
 
 -- a text with a result or without one
 ending : (sc : Scopes) (all : Later) (known : Names) (number : ℕ) (t : Text) (ps : List Placed) (e : ℕ) (result : Option Kind) → IsDue sc known number t → t.result ≡ result →
@@ -71,10 +71,10 @@ ending sc all known number t ps e (Some kind) due is h = record {
 }
 
 pub text_at : (sc : Scopes) (all : Later) (known : Names) (number : ℕ) (t : Text) (segment : Segment) → IsDue sc known number t →
-    Stands (place_of sc t) all segment t.level (result_index t.result t.parameters) t.decls t.stmts → 6 * length segment.words ≤ 24 * t.tokens + 48 → TextStands sc all segment t
+    CodeStands (place_of sc t) all segment t.level (result_index t.result t.parameters) t.decls t.stmts → 6 * length segment.words ≤ 24 * t.tokens + 48 → TextStands sc all segment t
 text_at sc all known number t segment due h short =
     let w = h.whole in
-    let pcws = control_pcws sc (segment_of sc.blocks (block_of sc t)) t.level t.decls (actuals_in_block sc t.decls t.stmts) w.text.0 in
+    let pcws = control_pcws sc (segment_of sc.blocks (block_of_text sc t)) t.level t.decls (actuals_in_block sc t.decls t.stmts) w.text.0 in
     let end = w.text.2.0 in
     let within = w.text.2.1 in
     let C : ℕ → Type 0 = λ many. CellsAt sc (context_of sc all.formats all.labels t) h.operators t.level many pcws w.begin within.0 in (
@@ -103,11 +103,11 @@ text_at sc all known number t segment due h short =
 pub record AreMade (names : Names) (all done : List Text) (formats : List Format) (segments : List Segment) : Type 0 where
   pub labels : List Label
   pub spots : spots_of labels ≡ text_spots done
-  pub stand : (sc : Scopes) → AreDue sc names all → (later : Later) → Agrees (record { formats = formats; labels = labels }) later → AllStand sc later segments done
+  pub stand : (sc : Scopes) → AreDue sc names all → (later : Later) → DraftAgrees (record { formats = formats; labels = labels }) later → AllStand sc later segments done
 
 -- what agrees with all formats and labels agrees with those before a text, and with the text's own
-pub agrees_parts : (before formats : List Format) (xs ys : List Label) (later : Later) → IsFront before formats → Agrees (record { formats = formats; labels = xs ++ ys }) later →
-    Agrees (record { formats = before; labels = xs }) later × Agrees (record { formats = formats; labels = ys }) later
+pub agrees_parts : (before formats : List Format) (xs ys : List Label) (later : Later) → IsFront before formats → DraftAgrees (record { formats = formats; labels = xs ++ ys }) later →
+    DraftAgrees (record { formats = before; labels = xs }) later × DraftAgrees (record { formats = formats; labels = ys }) later
 agrees_parts before formats xs ys later front known =
     let P : Label → Type 0 = λ l. later.labels l.spot ≡ Some l.place in (
       record { formats = front_trans before formats later.formats front known.formats; labels = all_front P xs ys known.labels },
@@ -116,9 +116,9 @@ agrees_parts before formats xs ys later front known =
 
 -- where no two labels stand at one place, they can be found by their places
 pub all_agree : (formats : List Format) (labels : List Label) (ts : List Text) → spots_of labels ≡ text_spots ts → StandOnce ts →
-    Agrees (record { formats = formats; labels = labels }) (record { formats = formats; labels = place_in labels })
+    DraftAgrees (record { formats = formats; labels = labels }) (record { formats = formats; labels = label_place_in labels })
 all_agree formats labels ts are once =
-    let T : Spot → List Spot → Type 0 = λ spot l. times spot l ≤ 1 in
+    let T : Spot → List Spot → Type 0 = λ spot l. spot_times spot l ≤ 1 in
     record { formats = front_self formats; labels = placed_once labels (λ spot. subst (T spot) (sym are) (once spot)) }
 
 -- ---- by number
@@ -156,12 +156,12 @@ code_at sc all (y ∷ ys) (u ∷ us) h zero t e = let T : Text → Type 0 = λ z
 code_at sc all (y ∷ ys) (u ∷ us) h (suc k) t e = code_at sc all ys us h.1 k t e
 
 tables_at : (sc : Scopes) (all : Later) (xs : List Segment) (ts : List Text) (h : AllStand sc all xs ts) (k : ℕ) (t : Text) → slice_get ts k ≡ Some t →
-    TableAt all.labels (operators_of sc all xs ts h k) t
+    LabelTableAt all.labels (operators_of sc all xs ts h k) t
 tables_at sc all [] [] h zero t e = absurd (let clash : None ≡ Some t = e in cc)
 tables_at sc all [] [] h (suc k) t e = absurd (let clash : None ≡ Some t = e in cc)
 tables_at sc all [] (u ∷ us) h k t e = absurd h
 tables_at sc all (y ∷ ys) [] h k t e = absurd h
-tables_at sc all (y ∷ ys) (u ∷ us) h zero t e = let T : Text → Type 0 = λ z. TableAt all.labels h.0.0 z in subst T (some_same u t e) h.0.3
+tables_at sc all (y ∷ ys) (u ∷ us) h zero t e = let T : Text → Type 0 = λ z. LabelTableAt all.labels h.0.0 z in subst T (some_same u t e) h.0.3
 tables_at sc all (y ∷ ys) (u ∷ us) h (suc k) t e = tables_at sc all ys us h.1 k t e
 
 pub all_coded : (sc : Scopes) (all : Later) (xs : List Segment) (ts : List Text) → AllStand sc all xs ts → Coded sc all.formats xs ts

@@ -21,7 +21,7 @@ use Rattle.algol_tree.specs.Plain.{PBody, PDecl, PStmt, PStmts}
 use Rattle.algol_scope.proofs.Bodies.{is_block, not_block_of}
 use Rattle.b67_ops.specs.declared.TheConstants.{MOST_LEVEL}
 use Rattle.b67_emit_text.specs.declared.texts.Procedure.{Procedure}
-use Rattle.b67_emit_text.specs.Texts.{Text, begin_level, procedure_text, text_of, texts_in_body, texts_in_decl, texts_in_decls, texts_in_stmts, texts_of, HaveLevels, HaveLevelsBody, HaveLevelsDecl, HaveLevelsDecls, HaveLevelsStmts}
+use Rattle.b67_emit_text.specs.Texts.{Text, begin_level, procedure_text, text_of_procedure, texts_in_body, texts_in_decl, texts_in_decls, texts_in_stmts, texts_of, HaveLevels, HaveLevelsBody, HaveLevelsDecl, HaveLevelsDecls, HaveLevelsStmts}
 use Rattle.b67_emit_stmt.proofs.Gathered.{if_then_as}
 use Rattle.b67_emit_stmt.proofs.Shapes.{block_as, body_is, if_else_as}
 
@@ -162,8 +162,8 @@ module _ (d : Decl) (h : Heading) (b : Box Stmt Global) (x : Stmt) (is : d ≡ d
       ∙ append_assoc old (procedure_text (level + 1) h (stmt x) ∷ []) rest ∙ ap (λ (z : PDecl). old ++ texts_in_decl z level) (sym (procedure_as d h b x is same))
 
 -- .. that is the last of those that are gathered
-pub pushed_there : (old mid : List Procedure) (p : Procedure) → mid ≡ old ++ (p ∷ []) → map text_of mid ≡ map text_of old ++ (text_of p ∷ [])
-pushed_there old mid p h = ap (map text_of) h ∙ map-append text_of old (p ∷ [])
+pub pushed_there : (old mid : List Procedure) (p : Procedure) → mid ≡ old ++ (p ∷ []) → map text_of_procedure mid ≡ map text_of_procedure old ++ (text_of_procedure p ∷ [])
+pushed_there old mid p h = ap (map text_of_procedure) h ∙ map-append text_of_procedure old (p ∷ [])
 
 -- .. whose body is a block
 module _ (x : Stmt) (b : Body) (is : x ≡ shapes.Block b) (level : ℕ) where

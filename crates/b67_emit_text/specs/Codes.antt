@@ -12,18 +12,18 @@ use Rattle.b67_segment.specs.Syllables.{Spells}
 use Rattle.b67_segment.specs.declared.code.Format.{Format}
 use Rattle.b67_segment.specs.declared.code.Segment.{Segment}
 use Rattle.b67_templates.specs.Cells.{Actual, actuals_in_block}
-use Rattle.b67_templates.specs.Fragments.{Has, Goes}
+use Rattle.b67_templates.specs.Fragments.{Has, FragmentGoes}
 use Rattle.b67_emit_stmt.specs.declared.draft.Draft.{Draft}
 use Rattle.b67_emit_stmt.specs.declared.draft.Known.{Known}
 use Rattle.b67_emit_stmt.specs.declared.draft.Label.{Label}
 use Rattle.b67_emit_stmt.specs.Actuals.{exprs_of}
-use Rattle.b67_emit_stmt.specs.Bodies.{HaveInside, InsideAt, IsSmall, inside_syllables, variables_in}
-use Rattle.b67_emit_stmt.specs.Drafts.{AddsStmts, Agrees, Emits, IsAt, IsReady, spots_of}
+use Rattle.b67_emit_stmt.specs.Bodies.{HaveInside, InsideAt, IsSmallBlock, inside_syllables, variables_in}
+use Rattle.b67_emit_stmt.specs.Drafts.{AddsStmts, DraftAgrees, Emits, DraftIsAt, IsReady, spots_of}
 use Rattle.b67_emit_stmt.specs.Fits.{InsideFits}
 use Rattle.b67_emit_stmt.specs.Labels.{label_spots_in}
 use Rattle.b67_emit_stmt.specs.Lengths.{celled_in, routines_syllables}
 use Rattle.b67_emit_stmt.specs.Places.{Later, Place, RoutinesAt}
-use Rattle.b67_emit_text.specs.Entries.{Entry, EntryAt, entries_of}
+use Rattle.b67_emit_text.specs.Entries.{DeclaredLabel, EntryAt, entries_of}
 
 -- ---- the end of a text
 
@@ -86,9 +86,9 @@ pub record EmitsText (s : Known) (level : ℕ) (before after : Draft) (returned 
 -- a branch over all that stands before the block, where there is anything; and in the table a branch for each label
 pub record WholeAt (sc : Place) (later : Later) (ps : List Placed) (level : ℕ) (returned : Option ℕ) (ds : PDecls) (ss : PStmts) : Type 0 where
   pub begin : ℕ
-  pub over : Goes ps level 0 begin
+  pub over : FragmentGoes ps level 0 begin
   pub text : TextAt sc later ps level returned ds ss begin
-  pub tables : (number : ℕ) (e : Entry) → slice_get (entries_of level ds ss) number ≡ Some e → EntryAt later.labels ps number e
+  pub tables : (number : ℕ) (e : DeclaredLabel) → slice_get (entries_of level ds ss) number ≡ Some e → EntryAt later.labels ps number e
 
 abbrev pub segment_syllables : Known → ℕ → Option ℕ → PDecls → PStmts → ℕ
 segment_syllables s level returned ds ss = 3 + 3 * length (entries_of level ds ss) + text_syllables s returned ds ss
@@ -101,13 +101,13 @@ EmitsWhole s level before after returned ds ss =
 -- The code of the text can begin in the draft, which has no code yet: its level is set, it fits, and there is room.
 pub record CanBegin (s : Known) (level : ℕ) (to : Draft) (returned : Option ℕ) (ds : PDecls) (ss : PStmts) : Type 0 where
   pub cell : IsNear returned
-  pub set : IsAt level to
+  pub set : DraftIsAt level to
   pub most : level ≤ MOST_LEVEL
   pub start : size to.out.operators ≡ 0
   pub bare : to.exits.items ≡ []
   pub unlabelled : to.labels.items ≡ []
   pub ready : IsReady s to (segment_syllables s level returned ds ss)
-  pub few : IsSmall (zeros_for returned ds) ds (celled_in s ds ss)
+  pub few : IsSmallBlock (zeros_for returned ds) ds (celled_in s ds ss)
   pub fits : HaveInside s level ds ss
 
 -- it was added, no exit with it, and the formats and the labels of its statements were noted
@@ -117,14 +117,14 @@ pub record AddsWhole (s : Known) (level : ℕ) (before after : Draft) (returned 
   pub lines : AddsStmts before after ss
 
 -- the code of a text in a segment of its own
-pub record Stands (sc : Place) (later : Later) (segment : Segment) (level : ℕ) (returned : Option ℕ) (ds : PDecls) (ss : PStmts) : Type 0 where
+pub record CodeStands (sc : Place) (later : Later) (segment : Segment) (level : ℕ) (returned : Option ℕ) (ds : PDecls) (ss : PStmts) : Type 0 where
   pub operators : List Placed
   pub spells : Spells operators segment
   pub whole : WholeAt sc later operators level returned ds ss
 
 -- .. wherever what is known later agrees with these formats and with the labels of the text, which stand at the places of its own
-pub record IsMade (s : Known) (level : ℕ) (returned : Option ℕ) (ds : PDecls) (ss : PStmts) (segment : Segment) (formats : List Format) : Type 0 where
+pub record CodeIsMade (s : Known) (level : ℕ) (returned : Option ℕ) (ds : PDecls) (ss : PStmts) (segment : Segment) (formats : List Format) : Type 0 where
   pub labels : List Label
   pub spots : spots_of labels ≡ label_spots_in ss
-  pub code : (sc : Place) → sc.segment ≡ s.segment → InsideFits sc s level ds ss → (later : Later) → Agrees (record { formats = formats; labels = labels }) later →
-      Stands sc later segment level returned ds ss
+  pub code : (sc : Place) → sc.segment ≡ s.segment → InsideFits sc s level ds ss → (later : Later) → DraftAgrees (record { formats = formats; labels = labels }) later →
+      CodeStands sc later segment level returned ds ss

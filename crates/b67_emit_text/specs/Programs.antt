@@ -16,34 +16,34 @@ use Rattle.b67_segment.specs.Syllables.{Spells}
 use Rattle.b67_segment.specs.declared.code.Format.{Format}
 use Rattle.b67_segment.specs.declared.code.Segment.{Segment}
 use Rattle.b67_templates.specs.Contexts.{yields_of, Context}
-use Rattle.b67_templates.specs.Fragments.{Has, Goes}
-use Rattle.b67_templates.specs.Cells.{Simple, parameter_cells, variables, result_of, procedures, actuals_in_block, made_of}
+use Rattle.b67_templates.specs.Fragments.{Has, FragmentGoes}
+use Rattle.b67_templates.specs.Cells.{Simple, parameter_cells, variables, result_cells_of, procedures, actuals_in_block, made_of}
 use Rattle.b67_templates.specs.Code.{CellsAt, DeclsAt, StmtsAt, ResultAt, RoutinesAt, control_pcws}
 use Rattle.b67_templates.specs.Fitting.{DeclsFit, StmtsFit}
 use Rattle.b67_emitter.specs.Values.{meanings}
-use Rattle.b67_emit_text.specs.Entries.{Entry, EntryAt, entries_of}
+use Rattle.b67_emit_text.specs.Entries.{DeclaredLabel, EntryAt, entries_of}
 use Rattle.b67_emit_text.specs.Texts.{Text}
 
 -- the cells of 0 that a text begins with: its result and its simple variables
 abbrev pub zeros_of : Text → List Simple
-zeros_of t = result_of t.result t.name ++ variables t.decls
+zeros_of t = result_cells_of t.result t.name ++ variables t.decls
 
 -- the number of the text's block
-abbrev pub block_of : Scopes → Text → ℕ
-block_of sc t = number_at sc.blocks t.spot
+abbrev pub block_of_text : Scopes → Text → ℕ
+block_of_text sc t = number_at sc.blocks t.spot
 
 -- What is wanted of the text with this number: it is that of its block and has its segment's number, its block's first cells are those of
 -- its parameters, its parts fit, its block has a level that the machine has and no more cells than a block may have, and its code has room
 -- in a segment.
 pub record IsDue (sc : Scopes) (known : Names) (number : ℕ) (t : Text) : Type 0 where
-  pub segment : segment_of sc.blocks (block_of sc t) ≡ number
-  pub named : (block_numbered sc.blocks (block_of sc t)).name ≡ t.name
-  pub result : (block_numbered sc.blocks (block_of sc t)).result ≡ t.result
-  pub parameters : length (parameter_cells sc (block_numbered sc.blocks (block_of sc t))) ≡ t.parameters
+  pub segment : segment_of sc.blocks (block_of_text sc t) ≡ number
+  pub named : (block_numbered sc.blocks (block_of_text sc t)).name ≡ t.name
+  pub result : (block_numbered sc.blocks (block_of_text sc t)).result ≡ t.result
+  pub parameters : length (parameter_cells sc (block_numbered sc.blocks (block_of_text sc t))) ≡ t.parameters
   pub level : t.level ≤ MOST_LEVEL
   pub few : t.parameters + length (zeros_of t) + length (procedures t.decls) + length (actuals_in_block sc t.decls t.stmts) + length (made_of t.decls) ≤ MOST_BLOCK_CELLS
-  pub decls : DeclsFit sc (meanings known) t.level (block_of sc t) t.decls
-  pub fits : StmtsFit sc (meanings known) t.level (block_of sc t) t.stmts
+  pub decls : DeclsFit sc (meanings known) t.level (block_of_text sc t) t.decls
+  pub fits : StmtsFit sc (meanings known) t.level (block_of_text sc t) t.stmts
   pub room : 24 * t.tokens + 48 ≤ MOST_SEGMENT_SYLLABLES
 
 -- .. of each text, numbered from 0
@@ -60,8 +60,8 @@ abbrev pub context_of : Scopes → List Format → (Spot → Option ℕ) → Tex
 context_of sc formats labels t =
     record {
       formats = formats;
-      segment = segment_of sc.blocks (block_of sc t);
-      block = block_of sc t;
+      segment = segment_of sc.blocks (block_of_text sc t);
+      block = block_of_text sc t;
       level = t.level;
       yields = yields_of t.result;
       labels = labels;
@@ -71,17 +71,17 @@ context_of sc formats labels t =
 -- the end.
 abbrev pub TextAt : Scopes → List Format → (Spot → Option ℕ) → List Placed → Text → Type 0
 TextAt sc formats labels ps t =
-    (begin : ℕ) × (ats : List ℕ) × (b : ℕ) × (d : ℕ) × (e : ℕ) × Goes ps t.level 0 begin
+    (begin : ℕ) × (ats : List ℕ) × (b : ℕ) × (d : ℕ) × (e : ℕ) × FragmentGoes ps t.level 0 begin
     × RoutinesAt sc (context_of sc formats labels t) ps (t.level + 1) (actuals_in_block sc t.decls t.stmts) ats
     × CellsAt sc (context_of sc formats labels t) ps t.level (length (zeros_of t))
-    (control_pcws sc (segment_of sc.blocks (block_of sc t)) t.level t.decls (actuals_in_block sc t.decls t.stmts) ats) begin b
+    (control_pcws sc (segment_of sc.blocks (block_of_text sc t)) t.level t.decls (actuals_in_block sc t.decls t.stmts) ats) begin b
     × DeclsAt sc (context_of sc formats labels t) ps t.level t.decls b d
     × StmtsAt sc (context_of sc formats labels t) ps t.level t.stmts d e e
     × EndAt sc (context_of sc formats labels t) ps t.level t.result t.name e
 
 -- in the table a branch for each label that a block of the text declares
-abbrev pub TableAt : (Spot → Option ℕ) → List Placed → Text → Type 0
-TableAt labels ps t = (number : ℕ) (e : Entry) → slice_get (entries_of t.level t.decls t.stmts) number ≡ Some e → EntryAt labels ps number e
+abbrev pub LabelTableAt : (Spot → Option ℕ) → List Placed → Text → Type 0
+LabelTableAt labels ps t = (number : ℕ) (e : DeclaredLabel) → slice_get (entries_of t.level t.decls t.stmts) number ≡ Some e → EntryAt labels ps number e
 
 -- The segments are those of the texts. In each stands the text's code.
 pub record Coded (sc : Scopes) (formats : List Format) (segments : List Segment) (ts : List Text) : Type 0 where
@@ -92,7 +92,7 @@ pub record Coded (sc : Scopes) (formats : List Format) (segments : List Segment)
   pub placed : ℕ → List Placed
   pub spells : (number : ℕ) (segment : Segment) → slice_get segments number ≡ Some segment → Spells (placed number) segment
   pub code : (number : ℕ) (t : Text) → slice_get ts number ≡ Some t → TextAt sc formats labels (placed number) t
-  pub tables : (number : ℕ) (t : Text) → slice_get ts number ≡ Some t → TableAt labels (placed number) t
+  pub tables : (number : ℕ) (t : Text) → slice_get ts number ≡ Some t → LabelTableAt labels (placed number) t
 
 -- each segment has at most 24 syllables for each token of its text, and 48 more
 abbrev pub AreShort : List Segment → List Text → Type 0

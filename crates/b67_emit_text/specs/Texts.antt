@@ -40,8 +40,8 @@ procedure_text level h s =
       tokens = heading_tokens h + stmt_tokens s;
     }
 
-abbrev pub text_of : Procedure → Text
-text_of p = procedure_text p.level p.heading.now (stmt p.body.now)
+abbrev pub text_of_procedure : Procedure → Text
+text_of_procedure p = procedure_text p.level p.heading.now (stmt p.body.now)
 
 -- where they stand
 abbrev pub places_of : List Text → List Spot
@@ -102,13 +102,13 @@ text_spots [] = []
 text_spots (t ∷ ts) = label_spots_in t.stmts ++ text_spots ts
 
 -- how often a place is among these
-abbrev pub times : Spot → List Spot → ℕ
-times spot [] = 0
-times spot (s ∷ ss) = (if same_spot s spot then 1 else 0) + times spot ss
+abbrev pub spot_times : Spot → List Spot → ℕ
+spot_times spot [] = 0
+spot_times spot (s ∷ ss) = (if same_spot s spot then 1 else 0) + spot_times spot ss
 
 -- no two labels stand at one place
 abbrev pub StandOnce : List Text → Type 0
-StandOnce ts = (spot : Spot) → times spot (text_spots ts) ≤ 1
+StandOnce ts = (spot : Spot) → spot_times spot (text_spots ts) ≤ 1
 
 -- ---- levels
 

@@ -3,7 +3,7 @@
 ghost use Rattle.std.specs.Prelude.{◌≡◌, ◌++◌, map, Some, IfOk, OnOk, option_copied};
 ghost use Rattle.algol_tree.specs.Image as plain;
 ghost use Rattle.b67_templates.specs.Labels.{label_before, label_in, labels_in};
-ghost use Rattle.b67_emit_text.specs.Entries.{AreLow, AllLow, entries_in_stmt, entries_in_stmts, entries_of, entry_of, leads, own_entries, place_in};
+ghost use Rattle.b67_emit_text.specs.Entries.{AreLow, AllLow, entries_in_stmt, entries_in_stmts, entries_of, entry_of, leads, own_entries, label_place_in};
 
 use algol_meaning::same_name;
 use algol_tree::{Decl, Named, Spot, Stmt};
@@ -164,7 +164,7 @@ fn label_in<'a>(ss: &'a [Stmt], name: &Named) -> Option<&'a Named>
 
 /// Where the statement begins before which the label at this place stands.
 fn place_in(labels: &[Label], spot: Spot) -> Option<u16>
-    ensures { result ≡ place_in labels.now spot }
+    ensures { result ≡ label_place_in labels.now spot }
 {
     'labels: for label in labels {
         if label.spot == spot {

@@ -10,11 +10,11 @@ ghost use Rattle.b67_segment.specs.declared.TheConstants.{MOST_SEGMENT_SYLLABLES
 ghost use Rattle.b67_emitter.specs.Values.{AreNear, meanings};
 ghost use Rattle.b67_faithful.specs.Lines.{formats_for, lines_in, stmts_lines};
 ghost use Rattle.b67_emit_stmt.specs.Actuals.{AreInner};
-ghost use Rattle.b67_emit_stmt.specs.Drafts.{AreListed};
+ghost use Rattle.b67_emit_stmt.specs.Drafts.{FormatsCanBeListed};
 ghost use Rattle.b67_emit_text.specs.Codes.{result_index};
 ghost use Rattle.b67_emit_text.specs.Programs.{AreDue, AreShort, Coded};
-ghost use Rattle.b67_emit_text.specs.Segments.{CanStand, IsMadeOf, code_syllables};
-ghost use Rattle.b67_emit_text.specs.Texts.{StandOnce, outer_text, places_of, text_of, texts, texts_in_body, texts_lines};
+ghost use Rattle.b67_emit_text.specs.Segments.{TextCanStand, IsMadeOf, code_syllables};
+ghost use Rattle.b67_emit_text.specs.Texts.{StandOnce, outer_text, places_of, text_of_procedure, texts, texts_in_body, texts_lines};
 
 use crate::segments::emit_text;
 use crate::texts::{Procedure, places_of_names, within_body};
@@ -60,9 +60,9 @@ fn emit_outer<E: ExprEmitter>(
     requires inner { AreInner (meanings known.now.names.now) }
     requires many { length known.now.procedures.now ≤ MOST_PROCEDURES }
     requires segment { known.now.segment ≡ 0 }
-    requires text { CanStand known.now (outer_text (plain.body body.now)) }
+    requires text { TextCanStand known.now (outer_text (plain.body body.now)) }
     ensures code { IfOk result (λ made. IsMadeOf known.now (outer_text (plain.body body.now)) made.0 made.1.items) }
-    ensures listed { IfOk result (λ made. AreListed made.1.items) }
+    ensures listed { IfOk result (λ made. FormatsCanBeListed made.1.items) }
     ensures few { IfOk result (λ made. length made.1.items ≤ MOST_SEGMENT_SYLLABLES) }
     ensures lines { IfOk result (λ made. made.1.items ≡ formats_for (stmts_lines (outer_text (plain.body body.now)).stmts)) }
     ensures short { IfOk result (λ made. 6 * length made.0.words ≤ code_syllables known.now (outer_text (plain.body body.now)) + 5) }
@@ -96,12 +96,12 @@ fn emit_procedure<E: ExprEmitter>(
     requires many { length known.now.procedures.now ≤ MOST_PROCEDURES }
     requires segment { known.now.segment ≤ MOST_PROCEDURES }
     requires formats { length formats.items ≤ MOST_SEGMENT_SYLLABLES * known.now.segment }
-    requires text { CanStand known.now (text_of procedure.now) }
-    ensures code { IfOk result (λ made. IsMadeOf known.now (text_of procedure.now) made.0 made.1.items) }
-    ensures listed { IfOk result (λ made. AreListed formats.items → AreListed made.1.items) }
+    requires text { TextCanStand known.now (text_of_procedure procedure.now) }
+    ensures code { IfOk result (λ made. IsMadeOf known.now (text_of_procedure procedure.now) made.0 made.1.items) }
+    ensures listed { IfOk result (λ made. FormatsCanBeListed formats.items → FormatsCanBeListed made.1.items) }
     ensures few { IfOk result (λ made. length made.1.items ≤ length formats.items + MOST_SEGMENT_SYLLABLES) }
-    ensures lines { IfOk result (λ made. made.1.items ≡ formats.items ++ formats_for (stmts_lines (text_of procedure.now).stmts)) }
-    ensures short { IfOk result (λ made. 6 * length made.0.words ≤ code_syllables known.now (text_of procedure.now) + 5) }
+    ensures lines { IfOk result (λ made. made.1.items ≡ formats.items ++ formats_for (stmts_lines (text_of_procedure procedure.now).stmts)) }
+    ensures short { IfOk result (λ made. 6 * length made.0.words ≤ code_syllables known.now (text_of_procedure procedure.now) + 5) }
 {
     let emitter = StmtEmitter {
         exprs,
@@ -127,10 +127,10 @@ fn emit_texts<E: ExprEmitter>(
     requires few { length (texts (plain.body body.now)) ≤ 1 + MOST_PROCEDURES }
     requires due { (sc : scoped.Scopes) × AreDue sc names.now (texts (plain.body body.now)) }
     requires once { StandOnce (texts (plain.body body.now)) }
-    requires found { map text_of procedures.now ≡ texts_in_body (plain.body body.now) machine.OUTER_LEVEL }
+    requires found { map text_of_procedure procedures.now ≡ texts_in_body (plain.body body.now) machine.OUTER_LEVEL }
     requires places { places.now ≡ places_of (texts_in_body (plain.body body.now) machine.OUTER_LEVEL) }
     ensures code { IfOk result (λ made. (sc : scoped.Scopes) → AreDue sc names.now (texts (plain.body body.now)) → Coded sc made.1.items made.0.items (texts (plain.body body.now))) }
-    ensures formats { IfOk result (λ made. AreListed made.1.items) }
+    ensures formats { IfOk result (λ made. FormatsCanBeListed made.1.items) }
     ensures lines { IfOk result (λ made. made.1.items ≡ formats_for (texts_lines (texts (plain.body body.now)))) }
     ensures short { IfOk result (λ made. AreShort made.0.items (texts (plain.body body.now))) }
 {
@@ -169,7 +169,7 @@ pub fn emit_program<E: ExprEmitter>(
     requires due { (sc : scoped.Scopes) × AreDue sc names.now (texts (plain.body body.now)) }
     requires once { StandOnce (texts (plain.body body.now)) }
     ensures code { IfOk result (λ made. (sc : scoped.Scopes) → AreDue sc names.now (texts (plain.body body.now)) → Coded sc made.1.items made.0.items (texts (plain.body body.now))) }
-    ensures formats { IfOk result (λ made. AreListed made.1.items) }
+    ensures formats { IfOk result (λ made. FormatsCanBeListed made.1.items) }
     ensures lines { IfOk result (λ made. made.1.items ≡ formats_for (lines_in (plain.body body.now))) }
     ensures short { IfOk result (λ made. AreShort made.0.items (texts (plain.body body.now))) }
 {

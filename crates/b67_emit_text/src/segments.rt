@@ -12,11 +12,11 @@ ghost use Rattle.b67_templates.specs.Emitting.{Emitted};
 ghost use Rattle.b67_emitter.specs.Values.{AreNear, meanings};
 ghost use Rattle.b67_faithful.specs.Lines.{formats_for, stmts_lines};
 ghost use Rattle.b67_emit_stmt.specs.Actuals.{AreInner, images};
-ghost use Rattle.b67_emit_stmt.specs.Bodies.{HaveInside, IsSmall};
-ghost use Rattle.b67_emit_stmt.specs.Drafts.{AddsStmts, AreListed, IsAt, IsReady};
+ghost use Rattle.b67_emit_stmt.specs.Bodies.{HaveInside, IsSmallBlock};
+ghost use Rattle.b67_emit_stmt.specs.Drafts.{AddsStmts, FormatsCanBeListed, DraftIsAt, IsReady};
 ghost use Rattle.b67_emit_stmt.specs.Lengths.{celled_in};
 ghost use Rattle.b67_emit_text.specs.Entries.{entries_of, entry_of};
-ghost use Rattle.b67_emit_text.specs.Codes.{AddsWhole, CanBegin, EmitsText, EmitsTextEnd, EndingAt, IsMade, IsNear, segment_syllables, text_end_syllables, text_syllables, zeros_for};
+ghost use Rattle.b67_emit_text.specs.Codes.{AddsWhole, CanBegin, EmitsText, EmitsTextEnd, EndingAt, CodeIsMade, IsNear, segment_syllables, text_end_syllables, text_syllables, zeros_for};
 
 use crate::entries::{Declared, entries_of};
 use crate::heads::{aim_head, append_head};
@@ -67,9 +67,9 @@ fn text_end<E: ExprEmitter>(
     to: &mut Draft,
 ) -> Result<(), AllocError>
     requires cell { IsNear returned }
-    requires level { IsAt emitter.now.level to.old }
+    requires level { DraftIsAt emitter.now.level to.old }
     requires ready { IsReady emitter.now.known.now to.old (text_end_syllables emitter.now.known.now returned (plain.decls ds.now) (plain.stmts ss.now) (images actuals.now)) }
-    requires few { IsSmall (zeros_for returned (plain.decls ds.now)) (plain.decls ds.now) (images actuals.now) }
+    requires few { IsSmallBlock (zeros_for returned (plain.decls ds.now)) (plain.decls ds.now) (images actuals.now) }
     requires inner { 1 ≤ length actuals.now → emitter.now.level + 1 ≤ machine.MOST_LEVEL }
     requires placed { length places.now ≡ length actuals.now }
     requires places { All (λ (at : ℕ). at < MOST_SEGMENT_SYLLABLES) places.now }
@@ -92,10 +92,10 @@ fn text_code<E: ExprEmitter>(
     to: &mut Draft,
 ) -> Result<u16, AllocError>
     requires cell { IsNear returned }
-    requires level { IsAt emitter.now.level to.old }
+    requires level { DraftIsAt emitter.now.level to.old }
     requires ready { IsReady emitter.now.known.now to.old (text_syllables emitter.now.known.now returned (plain.decls ds.now) (plain.stmts ss.now)) }
     requires own { images actuals.now ≡ celled_in emitter.now.known.now (plain.decls ds.now) (plain.stmts ss.now) }
-    requires few { IsSmall (zeros_for returned (plain.decls ds.now)) (plain.decls ds.now) (celled_in emitter.now.known.now (plain.decls ds.now) (plain.stmts ss.now)) }
+    requires few { IsSmallBlock (zeros_for returned (plain.decls ds.now)) (plain.decls ds.now) (celled_in emitter.now.known.now (plain.decls ds.now) (plain.stmts ss.now)) }
     requires fits { HaveInside emitter.now.known.now emitter.now.level (plain.decls ds.now) (plain.stmts ss.now) }
     ensures code { IfOk result (EmitsText emitter.now.known.now emitter.now.level to.old to.new returned (plain.decls ds.now) (plain.stmts ss.now)) }
     ensures exits { IfOk result (λ begin. to.new.exits.items ≡ to.old.exits.items) }
@@ -209,11 +209,11 @@ pub(crate) fn emit_text<E: ExprEmitter>(
     requires formats { length formats.items ≤ MOST_SEGMENT_SYLLABLES * emitter.now.known.now.segment }
     requires outer { machine.OUTER_LEVEL ≤ emitter.now.level }
     requires most { emitter.now.level ≤ machine.MOST_LEVEL }
-    requires small { IsSmall (zeros_for returned (plain.decls ds.now)) (plain.decls ds.now) (celled_in emitter.now.known.now (plain.decls ds.now) (plain.stmts ss.now)) }
+    requires small { IsSmallBlock (zeros_for returned (plain.decls ds.now)) (plain.decls ds.now) (celled_in emitter.now.known.now (plain.decls ds.now) (plain.stmts ss.now)) }
     requires fits { HaveInside emitter.now.known.now emitter.now.level (plain.decls ds.now) (plain.stmts ss.now) }
     requires room { segment_syllables emitter.now.known.now emitter.now.level returned (plain.decls ds.now) (plain.stmts ss.now) + 5 ≤ MOST_SEGMENT_SYLLABLES }
-    ensures code { IfOk result (λ made. IsMade emitter.now.known.now emitter.now.level returned (plain.decls ds.now) (plain.stmts ss.now) made.0 made.1.items) }
-    ensures listed { IfOk result (λ made. AreListed formats.items → AreListed made.1.items) }
+    ensures code { IfOk result (λ made. CodeIsMade emitter.now.known.now emitter.now.level returned (plain.decls ds.now) (plain.stmts ss.now) made.0 made.1.items) }
+    ensures listed { IfOk result (λ made. FormatsCanBeListed formats.items → FormatsCanBeListed made.1.items) }
     ensures few { IfOk result (λ made. length made.1.items ≤ length formats.items + MOST_SEGMENT_SYLLABLES) }
     ensures lines { IfOk result (λ made. made.1.items ≡ formats.items ++ formats_for (stmts_lines (plain.stmts ss.now))) }
     ensures short { IfOk result (λ made. 6 * length made.0.words ≤ segment_syllables emitter.now.known.now emitter.now.level returned (plain.decls ds.now) (plain.stmts ss.now) + 5) }

@@ -5,7 +5,7 @@ ghost use Rattle.algol_tree.specs.declared.TheConstants.{MOST_PROCEDURES, MOST_S
 ghost use Rattle.algol_tree.specs.Image as plain;
 ghost use Rattle.b67_ops.specs.declared.TheConstants as machine;
 ghost use Rattle.b67_emit_text.specs.Entries.{AllLow, entries_of, entry_of};
-ghost use Rattle.b67_emit_text.specs.Targets.{Adds, AreSmall, AreTargets, target_there, targets_from};
+ghost use Rattle.b67_emit_text.specs.Targets.{TargetAdds, AreSmall, AreTargets, target_there, targets_from};
 ghost use Rattle.b67_emit_text.specs.Texts.{HaveLevelsBody, texts};
 
 use crate::entries::{Declared, entries_of};
@@ -19,7 +19,7 @@ use std::collections::BTreeMap;
 
 /// A label that is declared at this place leads there, unless one stands there already.
 fn add(table: &mut TargetsByPlace, spot: Spot, target: Target) -> Result<(), AllocError>
-    ensures { OnOk result (Adds table.old table.new (target_there spot target)) }
+    ensures { OnOk result (TargetAdds table.old table.new (target_there spot target)) }
 {
     table.entry(spot)?.or_insert(target);
     Ok(())
@@ -32,7 +32,7 @@ fn add_entries(
     text: u16,
 ) -> Result<(), AllocError>
     requires few { length entries.now ≤ MOST_SEGMENT_TOKENS }
-    ensures { OnOk result (Adds table.old table.new (targets_from text 0 (map entry_of entries.now))) }
+    ensures { OnOk result (TargetAdds table.old table.new (targets_from text 0 (map entry_of entries.now))) }
 {
     'entries: for number in 0..entries.len() {
         let entry = &entries[number];
@@ -60,7 +60,7 @@ fn add_text(
 ) -> Result<(), AllocError>
     requires low { AllLow level (plain.stmts ss.now) }
     requires few { length (entries_of level (plain.decls ds.now) (plain.stmts ss.now)) ≤ MOST_SEGMENT_TOKENS }
-    ensures { OnOk result (Adds table.old table.new (targets_from text 0 (entries_of level (plain.decls ds.now) (plain.stmts ss.now)))) }
+    ensures { OnOk result (TargetAdds table.old table.new (targets_from text 0 (entries_of level (plain.decls ds.now) (plain.stmts ss.now)))) }
 {
     let entries = entries_of(alloc, ds, ss, level)?;
     add_entries(table, &entries, text)

@@ -3,7 +3,7 @@
 ghost use Rattle.std.specs.Prelude.{◌≡◌, ◌++◌, map, IfOk, OnOk};
 ghost use Rattle.algol_tree.specs.Blocks.{of_statement};
 ghost use Rattle.algol_tree.specs.Image.{body, decl, decls, stmt, stmts};
-ghost use Rattle.b67_emit_text.specs.Texts.{places_of, text_of, texts_of, texts_in_body, texts_in_decl, texts_in_decls, texts_in_stmts, HaveLevels, HaveLevelsBody, HaveLevelsDecl, HaveLevelsDecls, HaveLevelsStmts};
+ghost use Rattle.b67_emit_text.specs.Texts.{places_of, text_of_procedure, texts_of, texts_in_body, texts_in_decl, texts_in_decls, texts_in_stmts, HaveLevels, HaveLevelsBody, HaveLevelsDecl, HaveLevelsDecls, HaveLevelsStmts};
 
 use algol_places::Places;
 use algol_tree::{Body, Decl, Heading, Stmt};
@@ -19,7 +19,7 @@ pub struct Procedure<'a> {
 
 /// Where the names of these procedures stand.
 pub(crate) fn places_of_names(alloc: Global, procedures: &[Procedure]) -> Result<Places, AllocError>
-    ensures { IfOk result (λ places. places ≡ places_of (map text_of procedures.now)) }
+    ensures { IfOk result (λ places. places ≡ places_of (map text_of_procedure procedures.now)) }
 {
     let mut spots = Vec::new(alloc);
     'procedures: for procedure in procedures {
@@ -32,7 +32,7 @@ pub(crate) fn places_of_names(alloc: Global, procedures: &[Procedure]) -> Result
 #[cycle(texts)]
 fn within<'a>(s: &'a Stmt, level: u8, to: &mut Vec<Procedure<'a>>) -> Result<(), AllocError>
     requires { HaveLevels (stmt s.now) of_statement level }
-    ensures { OnOk result (map text_of to.new.items ≡ map text_of to.old.items ++ texts_of (stmt s.now) of_statement level) }
+    ensures { OnOk result (map text_of_procedure to.new.items ≡ map text_of_procedure to.old.items ++ texts_of (stmt s.now) of_statement level) }
 {
     match s {
         Stmt::Label(_, s) => within(s, level, to),
@@ -69,7 +69,7 @@ fn within<'a>(s: &'a Stmt, level: u8, to: &mut Vec<Procedure<'a>>) -> Result<(),
 #[cycle(texts)]
 fn within_all<'a>(ss: &'a [Stmt], level: u8, to: &mut Vec<Procedure<'a>>) -> Result<(), AllocError>
     requires { HaveLevelsStmts (stmts ss.now) level }
-    ensures { OnOk result (map text_of to.new.items ≡ map text_of to.old.items ++ texts_in_stmts (stmts ss.now) level) }
+    ensures { OnOk result (map text_of_procedure to.new.items ≡ map text_of_procedure to.old.items ++ texts_in_stmts (stmts ss.now) level) }
 {
     'statements: for s in ss {
         within(s, level, to)?;
@@ -81,7 +81,7 @@ fn within_all<'a>(ss: &'a [Stmt], level: u8, to: &mut Vec<Procedure<'a>>) -> Res
 #[cycle(texts)]
 fn declared<'a>(d: &'a Decl, level: u8, to: &mut Vec<Procedure<'a>>) -> Result<(), AllocError>
     requires { HaveLevelsDecl (decl d.now) level }
-    ensures { OnOk result (map text_of to.new.items ≡ map text_of to.old.items ++ texts_in_decl (decl d.now) level) }
+    ensures { OnOk result (map text_of_procedure to.new.items ≡ map text_of_procedure to.old.items ++ texts_in_decl (decl d.now) level) }
 {
     if let Decl::Procedure(heading, body) = d {
         to.push(Procedure {
@@ -106,7 +106,7 @@ fn declared_all<'a>(
     to: &mut Vec<Procedure<'a>>,
 ) -> Result<(), AllocError>
     requires { HaveLevelsDecls (decls ds.now) level }
-    ensures { OnOk result (map text_of to.new.items ≡ map text_of to.old.items ++ texts_in_decls (decls ds.now) level) }
+    ensures { OnOk result (map text_of_procedure to.new.items ≡ map text_of_procedure to.old.items ++ texts_in_decls (decls ds.now) level) }
 {
     'decls: for d in ds {
         declared(d, level, to)?;
@@ -122,7 +122,7 @@ pub(crate) fn within_body<'a>(
     to: &mut Vec<Procedure<'a>>,
 ) -> Result<(), AllocError>
     requires { HaveLevelsBody (body b.now) level }
-    ensures { OnOk result (map text_of to.new.items ≡ map text_of to.old.items ++ texts_in_body (body b.now) level) }
+    ensures { OnOk result (map text_of_procedure to.new.items ≡ map text_of_procedure to.old.items ++ texts_in_body (body b.now) level) }
 {
     declared_all(b.decls.items(), level, to)?;
     within_all(b.stmts.items(), level, to)

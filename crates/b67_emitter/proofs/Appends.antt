@@ -14,8 +14,8 @@ use Rattle.b67_segment.specs.Operators.{Placed, size}
 use Rattle.b67_segment.specs.Building.{Built, level_set, appended}
 use Rattle.b67_segment.proofs.Among.{StandsAmong-appended, StandsAmong-kept, size-append}
 use Rattle.b67_templates.specs.Fragments as literals
-use Rattle.b67_templates.specs.Fragments.{Has, AllAt, NumberAt, BranchAt, TurnAt, IsLiteral, IsWhole}
-use Rattle.b67_templates.specs.Emitting.{Emitted, is_among, EmittedWithExits}
+use Rattle.b67_templates.specs.Fragments.{Has, AllAt, NumberAt, BranchAt, TurnAt, IsLiteral, IsWholeNumber}
+use Rattle.b67_templates.specs.Emitting.{Emitted, number_is_among, EmittedWithExits}
 use Rattle.b67_emitter.proofs.Composing.{weaker, then}
 
 module _ (b : Built) (op : Operator) where
@@ -93,14 +93,14 @@ zero_literal n e = subst (λ m. IsLiteral (ops.Plain kinds.Zero) (operand (pos m
 pub one_literal : (n : ℕ) → n ≡ 1 → IsLiteral (ops.Plain kinds.One) (operand (pos n))
 one_literal n e = subst (λ m. IsLiteral (ops.Plain kinds.One) (operand (pos m))) (sym e) literals.one_pushed
 
-pub number_code : (b n : Built) (level : ℕ) (op : Operator) (z : ℤ) → IsLiteral op (operand z) → IsWhole z →
+pub number_code : (b n : Built) (level : ℕ) (op : Operator) (z : ℤ) → IsLiteral op (operand z) → IsWholeNumber z →
     Emitted b n (λ qs. Has qs level (size b.operators) op (size n.operators)) → Emitted b n (λ qs. NumberAt qs level z (size b.operators) (size n.operators))
 number_code b n level op z l w e = weaker (λ qs. NumberAt qs level z (size b.operators) (size n.operators)) e
     (λ qs h. record { op = op; stands = h; literal = l; whole = w })
 
 -- ---- branches
 
-among_itself : (n : ℕ) → is_among (n ∷ []) n ≡ true
+among_itself : (n : ℕ) → number_is_among (n ∷ []) n ≡ true
 among_itself n = ap (λ t. t || false) (eq-eqb n n refl)
 
 -- a branch is an exit, wherever it goes until it is aimed

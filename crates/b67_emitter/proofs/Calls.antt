@@ -12,7 +12,7 @@ use Rattle.b67_ops.specs.Intrinsics.{couple_of_intrinsic}
 use Rattle.b67_segment.specs.Operators.{size}
 use Rattle.b67_segment.specs.Building.{Built, level_set}
 use Rattle.b67_templates.specs.Contexts.{Context}
-use Rattle.b67_templates.specs.Cells.{Agrees, IsArray, declared, formal, IsEvent, declared_event, formal_event, IsProcedure}
+use Rattle.b67_templates.specs.Cells.{ShapeAgrees, IsArray, declared, formal, IsEvent, declared_event, formal_event, IsProcedure}
 use Rattle.b67_templates.specs.Code.{ArrayActualAt, refers, passes, BegunAt}
 use Rattle.b67_templates.specs.Events as events
 use Rattle.b67_templates.specs.Events.{EventActualAt}
@@ -63,14 +63,14 @@ module _ (couple : Couple) (a b c : Built) (same : b.level ≡ a.level)
     IsActual = Emitted a c (λ qs. ArrayActualAt sc context qs (level_set a) shape n (size a.operators) (size c.operators))
 
     pub stuffed_array : Emitted b c (λ qs. Has qs (level_set b) (size b.operators) (ops.Plain kinds.Stff) (size c.operators)) → IsArray sc context.level n x couple →
-        false ≡ is_formal ((names.use_of sc n).sort) → Agrees shape x → IsActual
+        false ≡ is_formal ((names.use_of sc n).sort) → ShapeAgrees shape x → IsActual
     stuffed_array h (declared d is r) f agrees =
         weaker (λ qs. ArrayActualAt sc context qs (level_set a) shape n (size a.operators) (size c.operators)) (stuffed_after h)
-        (λ qs p. refers d couple (size b.operators) r (subst (λ y. Agrees shape y) is agrees) p.0 p.1)
+        (λ qs p. refers d couple (size b.operators) r (subst (λ y. ShapeAgrees shape y) is agrees) p.0 p.1)
     stuffed_array h (formal r) f agrees = absurd (let clash : false ≡ true = f ∙ ap is_formal r.sort_is in cc)
 
     pub loaded_array : Emitted b c (λ qs. Has qs (level_set b) (size b.operators) (ops.Plain kinds.Lodt) (size c.operators)) → IsArray sc context.level n x couple →
-        true ≡ is_formal ((names.use_of sc n).sort) → Agrees shape x → IsActual
+        true ≡ is_formal ((names.use_of sc n).sort) → ShapeAgrees shape x → IsActual
     loaded_array h (declared d is r) f agrees = absurd (let clash : true ≡ false = f ∙ ap is_formal r.sort_is in cc)
     loaded_array h (formal r) f agrees =
         weaker (λ qs. ArrayActualAt sc context qs (level_set a) shape n (size a.operators) (size c.operators)) (loaded_after h)

@@ -4,7 +4,7 @@ use Rattle.std.proofs.lemmas.List.{append-nil, drop_at}
 use Rattle.b67_ops.specs.declared.Operator.TheVariants.{Branch}
 use Rattle.b67_segment.specs.Operators.{Placed, size}
 use Rattle.b67_segment.specs.Building.{Built}
-use Rattle.b67_templates.specs.Emitting.{Emitted, is_among, Leaves, AreExits, EmittedWithExits}
+use Rattle.b67_templates.specs.Emitting.{Emitted, number_is_among, Leaves, AreExits, EmittedWithExits}
 use Rattle.b67_emitter.specs.Aiming.{Aimed}
 use Rattle.b67_emitter.proofs.Exits.{next-behind, is_among-append, or-left, or-right, none_before, none_behind, exits_kept, exits-append}
 
@@ -57,12 +57,12 @@ module _ (a b c : Built) (P Q : List Placed → ℕ → Type 0) (xs ys zs : List
     others = λ at level next op out lo hi s.
         let behind = next-behind b.operators at level next op s in
         l.others at level next op
-        (is_among-append e.exits f.exits at ∙ or-left (is_among e.exits at) (is_among f.exits at) (none_before c.operators f.exits (size b.operators) (size c.operators) at f.are (omega arith)) ∙ out)
+        (is_among-append e.exits f.exits at ∙ or-left (number_is_among e.exits at) (number_is_among f.exits at) (none_before c.operators f.exits (size b.operators) (size c.operators) at f.are (omega arith)) ∙ out)
         lo (omega (arith, f.grown)) (f.kept at level next op (omega arith) hi s);
     aimed = λ at level next old kind among lo hi s.
         let behind = next-behind b.operators at level next (Branch kind old) s in
         l.aimed at level next old kind
-        (is_among-append e.exits f.exits at ∙ or-left (is_among e.exits at) (is_among f.exits at) (none_before c.operators f.exits (size b.operators) (size c.operators) at f.are (omega arith)) ∙ among)
+        (is_among-append e.exits f.exits at ∙ or-left (number_is_among e.exits at) (number_is_among f.exits at) (none_before c.operators f.exits (size b.operators) (size c.operators) at f.are (omega arith)) ∙ among)
         lo (omega (arith, f.grown)) (f.kept at level next (Branch kind old) (omega arith) hi s);
   }
 
@@ -71,11 +71,11 @@ module _ (a b c : Built) (P Q : List Placed → ℕ → Type 0) (xs ys zs : List
   second_leaves qs target l = record {
     others = λ at level next op out lo hi s.
         l.others at level next op
-        (is_among-append e.exits f.exits at ∙ or-right (is_among e.exits at) (is_among f.exits at) (none_behind b.operators e.exits (size a.operators) (size b.operators) at e.are lo) ∙ out)
+        (is_among-append e.exits f.exits at ∙ or-right (number_is_among e.exits at) (number_is_among f.exits at) (none_behind b.operators e.exits (size a.operators) (size b.operators) at e.are lo) ∙ out)
         (omega (arith, e.grown)) hi s;
     aimed = λ at level next old kind among lo hi s.
         l.aimed at level next old kind
-        (is_among-append e.exits f.exits at ∙ or-right (is_among e.exits at) (is_among f.exits at) (none_behind b.operators e.exits (size a.operators) (size b.operators) at e.are lo) ∙ among)
+        (is_among-append e.exits f.exits at ∙ or-right (number_is_among e.exits at) (number_is_among f.exits at) (none_behind b.operators e.exits (size a.operators) (size b.operators) at e.are lo) ∙ among)
         (omega (arith, e.grown)) hi s;
   }
 
@@ -132,12 +132,12 @@ module _ (a b c d : Built) (P Q : List Placed → ℕ → Type 0) (holes xs ys :
     others = λ at level next op out lo hi s.
         let behind = next-behind b.operators at level next op s in
         l.others at level next op (none_before c.operators f.exits (size b.operators) (size c.operators) at f.are (omega arith)) lo (omega (arith, f.grown, g.place))
-        (g.leaves.others at level next op (ap (λ es. is_among es at) e.added ∙ out) (omega arith) (omega (arith, f.grown)) (f.kept at level next op (omega arith) hi s));
+        (g.leaves.others at level next op (ap (λ es. number_is_among es at) e.added ∙ out) (omega arith) (omega (arith, f.grown)) (f.kept at level next op (omega arith) hi s));
     aimed = λ at level next old kind among lo hi s.
         let behind = next-behind b.operators at level next (Branch kind old) s in
         l.others at level next (Branch kind (size c.operators)) (none_before c.operators f.exits (size b.operators) (size c.operators) at f.are (omega arith)) lo
         (omega (arith, f.grown, g.place))
-        (g.leaves.aimed at level next old kind (ap (λ es. is_among es at) e.added ∙ among) (omega arith) (omega (arith, f.grown)) (f.kept at level next (Branch kind old) (omega arith) hi s));
+        (g.leaves.aimed at level next old kind (ap (λ es. number_is_among es at) e.added ∙ among) (omega arith) (omega (arith, f.grown)) (f.kept at level next (Branch kind old) (omega arith) hi s));
   }
 
   later_leaves : (qs : List Placed) (target : ℕ) → Leaves f.exits target (size a.operators) (size d.operators) d.operators qs →

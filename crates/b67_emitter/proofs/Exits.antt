@@ -7,7 +7,7 @@ use Rattle.b67_ops.specs.declared.Operator.TheVariants.{Branch}
 use Rattle.b67_ops.specs.declared.BranchKind.{BranchKind}
 use Rattle.b67_ops.proofs.Laws.{length-spelling}
 use Rattle.b67_segment.specs.Operators.{Placed, StandsAmong}
-use Rattle.b67_templates.specs.Emitting.{is_among, AreExits}
+use Rattle.b67_templates.specs.Emitting.{number_is_among, AreExits}
 
 -- the place after an operator lies after it
 pub next-behind : (ps : List Placed) (at level next : ℕ) (op : Operator) → StandsAmong ps at level op next → at < next
@@ -28,20 +28,20 @@ pub or-left : (a b : Bool) → b ≡ false → (a || b) ≡ a
 or-left true b p = refl
 or-left false b p = p
 
-pub is_among-append : (xs ys : List ℕ) (at : ℕ) → is_among (xs ++ ys) at ≡ (is_among xs at || is_among ys at)
+pub is_among-append : (xs ys : List ℕ) (at : ℕ) → number_is_among (xs ++ ys) at ≡ (number_is_among xs at || number_is_among ys at)
 is_among-append [] ys at = refl
-is_among-append (x ∷ xs) ys at = ap (λ b. nat_eq x at || b) (is_among-append xs ys at) ∙ or-assoc (nat_eq x at) (is_among xs at) (is_among ys at)
+is_among-append (x ∷ xs) ys at = ap (λ b. nat_eq x at || b) (is_among-append xs ys at) ∙ or-assoc (nat_eq x at) (number_is_among xs at) (number_is_among ys at)
 
 -- branches from one place to another are none before and none after
-pub none_before : (ps : List Placed) (es : List ℕ) (from to at : ℕ) → AreExits ps es from to → at < from → is_among es at ≡ false
+pub none_before : (ps : List Placed) (es : List ℕ) (from to at : ℕ) → AreExits ps es from to → at < from → number_is_among es at ≡ false
 none_before ps [] from to at h lo = refl
 none_before ps (e ∷ es) from to at ((level, kind, old, next, low, high, s), h) lo =
-    or-false (nat_eq e at) (is_among es at) (ne_eqb e at (λ q. omega arith)) (none_before ps es from to at h lo)
+    or-false (nat_eq e at) (number_is_among es at) (ne_eqb e at (λ q. omega arith)) (none_before ps es from to at h lo)
 
-pub none_behind : (ps : List Placed) (es : List ℕ) (from to at : ℕ) → AreExits ps es from to → to ≤ at → is_among es at ≡ false
+pub none_behind : (ps : List Placed) (es : List ℕ) (from to at : ℕ) → AreExits ps es from to → to ≤ at → number_is_among es at ≡ false
 none_behind ps [] from to at h hi = refl
 none_behind ps (e ∷ es) from to at ((level, kind, old, next, low, high, s), h) hi =
-    or-false (nat_eq e at) (is_among es at) (ne_eqb e at (λ q. omega (arith, next-behind ps e level next (Branch kind old) s))) (none_behind ps es from to at h hi)
+    or-false (nat_eq e at) (number_is_among es at) (ne_eqb e at (λ q. omega (arith, next-behind ps e level next (Branch kind old) s))) (none_behind ps es from to at h hi)
 
 -- branches stay where they are kept, also between places further apart
 pub exits_kept : (ps qs : List Placed) (es : List ℕ) (from to from' to' : ℕ) → from' ≤ from → to ≤ to' →

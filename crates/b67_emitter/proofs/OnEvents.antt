@@ -10,7 +10,7 @@ use Rattle.b67_ops.specs.declared.Couple.{Couple}
 use Rattle.b67_ops.specs.declared.Operator.TheVariants as ops
 use Rattle.b67_ops.specs.declared.PlainKind.TheVariants as kinds
 use Rattle.b67_ops.specs.declared.intrinsic.Intrinsic.{Intrinsic}
-use Rattle.b67_ops.specs.Spelling.{IsSeen}
+use Rattle.b67_ops.specs.Spelling.{CoupleIsSeen}
 use Rattle.b67_segment.specs.Operators.{Placed, size}
 use Rattle.b67_segment.specs.Building.{Built, level_set}
 use Rattle.b67_templates.specs.Cells.{IsEvent, AreEvents, IsDeclaredEvent, declared_event, formal_event}
@@ -43,7 +43,7 @@ module _ (s : Names) (scopes : Scopes) (level : ℕ) (n : Named) where
   level_up c (declared_event is) = is.made.level_is
   level_up c (formal_event is) = is.level_is
 
-  pub event_seen : (c : Couple) → AreNear s → couples s n.spot ≡ Some c → EventFits scopes (meanings s) level n → IsSeen level c
+  pub event_seen : (c : Couple) → AreNear s → couples s n.spot ≡ Some c → EventFits scopes (meanings s) level n → CoupleIsSeen level c
   event_seen c near known fits = seen_up level c (use_of scopes n).up (near.own n.spot c known) (level_up c (event_found c known fits))
 
 -- the event has code at that level: the name fits there or further out
@@ -59,7 +59,7 @@ module _ (s : Names) (level : ℕ) (n : Named) where
       let own = event_there s h.scopes h.own n h.fits in
       some (couples s n.spot) own.0 own.1
 
-  pub seen_event : (c : Couple) → AreNear s → couples s n.spot ≡ Some c → HasEvent s level n → IsSeen level c
+  pub seen_event : (c : Couple) → AreNear s → couples s n.spot ≡ Some c → HasEvent s level n → CoupleIsSeen level c
   seen_event c near known h = seen_further level h.own c h.outer (near.own n.spot c known) (event_seen s h.scopes h.own n c near known h.fits)
 
 -- ---- each event of a list

@@ -10,7 +10,7 @@ use Rattle.b67_ops.specs.Spelling.{spelling}
 use Rattle.b67_segment.specs.Operators.{Placed, StandsAmong, width, text, size, aimed, aimed_from}
 use Rattle.b67_segment.specs.Building.{Built}
 use Rattle.b67_segment.proofs.Among.{StandsAmong-aimed, StandsAmong-branch}
-use Rattle.b67_templates.specs.Emitting.{is_among, Leaves, AreExits}
+use Rattle.b67_templates.specs.Emitting.{number_is_among, Leaves, AreExits}
 use Rattle.b67_emitter.proofs.Exits.{is_among-append, exits_kept}
 
 -- ---- one branch
@@ -78,12 +78,12 @@ module _ (ps qs : List Placed) (done : List ℕ) (x target from to : ℕ) (l : L
   branch_there : (at level next old : ℕ) (kind : BranchKind) → from ≤ at → next ≤ to → StandsAmong ps at level (Branch kind old) next →
       (place : ℕ) × StandsAmong qs at level (Branch kind place) next
   branch_there at level next old kind lo hi s =
-      elim (cases_Bool (is_among done at)) [
+      elim (cases_Bool (number_is_among done at)) [
         | inl among ↦ (target, l.aimed at level next old kind among lo hi s)
         | inr out ↦ (old, l.others at level next (Branch kind old) out lo hi s)
       ]
 
-  aimed_there : (at level next old : ℕ) (kind : BranchKind) → is_among (done ++ x ∷ []) at ≡ true → from ≤ at → next ≤ to →
+  aimed_there : (at level next old : ℕ) (kind : BranchKind) → number_is_among (done ++ x ∷ []) at ≡ true → from ≤ at → next ≤ to →
       StandsAmong ps at level (Branch kind old) next → StandsAmong (aimed_from 0 x target qs) at level (Branch kind target) next
   aimed_there at level next old kind among lo hi s =
       elim (cases_Bool (eqb x at)) [
@@ -92,13 +92,13 @@ module _ (ps qs : List Placed) (done : List ℕ) (x target from to : ℕ) (l : L
             (StandsAmong-branch target (branch_there at level next old kind lo hi s).1)
         | inr other ↦
             StandsAmong-aimed x target (λ q. eqb-false x at other (sym q))
-            (l.aimed at level next old kind (or-last (is_among done at) (eqb x at) (sym (is_among-append done (x ∷ []) at) ∙ among) other) lo hi s)
+            (l.aimed at level next old kind (or-last (number_is_among done at) (eqb x at) (sym (is_among-append done (x ∷ []) at) ∙ among) other) lo hi s)
       ]
 
   leaves-more : Leaves (done ++ x ∷ []) target from to ps (aimed_from 0 x target qs)
   leaves-more = record {
     others = λ at level next op out lo hi s.
-        let none = or-none (is_among done at) (eqb x at) (sym (is_among-append done (x ∷ []) at) ∙ out) in
+        let none = or-none (number_is_among done at) (eqb x at) (sym (is_among-append done (x ∷ []) at) ∙ out) in
         StandsAmong-aimed x target (λ q. eqb-false x at none.1 (sym q)) (l.others at level next op none.0 lo hi s);
     aimed = aimed_there;
   }

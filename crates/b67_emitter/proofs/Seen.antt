@@ -7,7 +7,7 @@ use Rattle.b67_ops.specs.declared.Couple.{Couple}
 use Rattle.b67_ops.specs.declared.intrinsic.Intrinsic.{Intrinsic}
 use Rattle.b67_ops.specs.declared.intrinsic.Intrinsic.TheVariants.{GoTo, Select, Arrays, Event, Start, Write, Wait, Cause, Reset, Happened, Procure, Liberate, WaitAny, CauseAndReset, Available, Fix}
 use Rattle.b67_ops.specs.Intrinsics.{couple_of_intrinsic}
-use Rattle.b67_ops.specs.Spelling.{index_bits, IsSeen}
+use Rattle.b67_ops.specs.Spelling.{index_bits, CoupleIsSeen}
 use Rattle.b67_ops.proofs.Couples.{level_bits-within}
 
 pub some : {A : Type 0} (o : Option A) (x : A) → o ≡ Some x → IsSome o
@@ -40,16 +40,16 @@ module _ (level : ℕ) where
       omega arith
 
   -- a couple of a level up from here can stand there
-  pub seen_up : (c : Couple) (up : ℕ) → c.index < 2 + MOST_BLOCK_CELLS → c.level + up ≡ level → IsSeen level c
+  pub seen_up : (c : Couple) (up : ℕ) → c.index < 2 + MOST_BLOCK_CELLS → c.level + up ≡ level → CoupleIsSeen level c
   seen_up c up close is =
       let wide = wide_index in
       record { level_seen = omega (arith, is); index_fits = omega arith }
 
   -- .. and so can one that can stand further out
-  pub seen_further : (own : ℕ) (c : Couple) → own ≤ level → c.index < 2 + MOST_BLOCK_CELLS → IsSeen own c → IsSeen level c
+  pub seen_further : (own : ℕ) (c : Couple) → own ≤ level → c.index < 2 + MOST_BLOCK_CELLS → CoupleIsSeen own c → CoupleIsSeen level c
   seen_further own c outer close seen =
       let wide = wide_index in
       record { level_seen = omega (arith, seen.level_seen, outer); index_fits = omega arith }
 
-  pub intrinsic_seen : (name : Intrinsic) → IsSeen level (couple_of_intrinsic name)
+  pub intrinsic_seen : (name : Intrinsic) → CoupleIsSeen level (couple_of_intrinsic name)
   intrinsic_seen name = seen_up (couple_of_intrinsic name) level (intrinsic_near name) (omega arith)

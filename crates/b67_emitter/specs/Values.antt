@@ -15,15 +15,15 @@ use Rattle.algol_tree.specs.Cells.{first_spot}
 use Rattle.algol_tree.specs.Scopes.{Scopes}
 use Rattle.algol_frames.specs.declared.scopes.Couple as found
 use Rattle.algol_frames.specs.declared.scopes.Declared.{Declared}
-use Rattle.algol_frames.specs.Answers.{declaration_of, actual_of, result_of, parameters_of}
+use Rattle.algol_frames.specs.Answers.{declaration_of, actual_of, result_couple_of, parameters_of}
 use Rattle.algol_frames.specs.declared.scopes.Scopes as table
 use Rattle.algol_meaning.specs.Settle.{sorts_of}
 use Rattle.algol_sorts.specs.declared.sort.Sort.{Sort}
 use Rattle.algol_sorts.specs.declared.sort.Sort.TheVariants as sorts
-use Rattle.algol_sorts.specs.Sorts.{is_by_name}
+use Rattle.algol_sorts.specs.Sorts.{sort_is_by_name}
 use Rattle.algol_paths.specs.Arrays as arrays
 use Rattle.algol_paths.specs.Arrays.{Shape}
-pub use Rattle.algol_lows.specs.Lows.{told, lows_told}
+pub use Rattle.algol_lows.specs.Lows.{told_lows, lows_told}
 use Rattle.b67_ops.specs.declared.Couple.{Couple}
 use Rattle.b67_ops.specs.declared.Operator.TheVariants as ops
 use Rattle.b67_ops.specs.declared.PlainKind.TheVariants as kinds
@@ -36,7 +36,7 @@ use Rattle.b67_templates.specs.Cells.{parameter_wants, IsArray}
 use Rattle.b67_templates.specs.Code.{ExprAt, SubscriptsAt, PlaceAt, CallAt, ActualsAt, RoutineAt}
 use Rattle.b67_templates.specs.Events.{names_of, OnEventsAt, TaskAt}
 use Rattle.b67_templates.specs.Emitting.{Emitted, EmittedWithExits}
-use Rattle.b67_templates.specs.Fitting.{Meant, a_variable, a_name, a_procedure, an_event, another, is_event, Target, Told, on_left, PlaceFits, ExprFits, ProcedureFits, ActualsFit, ArrayFits, EventFits, TaskFits, SubscriptsFit}
+use Rattle.b67_templates.specs.Fitting.{Meant, a_variable, a_name, a_procedure, an_event, another, meant_is_event, Target, Told, on_left, PlaceFits, ExprFits, ProcedureFits, ActualsFit, ArrayFits, EventFits, TaskFits, SubscriptsFit}
 use Rattle.b67_templates.specs.Paying.{modes_of, inline, inline_given}
 use Rattle.b67_emitter.specs.declared.meanings.Given.{Given}
 use Rattle.b67_emitter.specs.declared.names.Names.{Names}
@@ -58,7 +58,7 @@ couples s spot = couple_declared (declaration_of s.scopes.now spot)
 
 abbrev pub result_declared : table.Scopes → Option Declared → Option Couple
 result_declared s None = None
-result_declared s (Some d) = couple_found (result_of s d.spot)
+result_declared s (Some d) = couple_found (result_couple_of s d.spot)
 
 -- the couple of the result of the typed procedure that the name there means, none where it means none
 abbrev pub results : Names → Spot → Option Couple
@@ -91,7 +91,7 @@ labels s spot = labels_found s (declaration_of s.scopes.now spot)
 abbrev pub meant_sorted : Option (List Sort) → Sort → Meant
 meant_sorted ps (sorts.Variable kind) = a_variable
 meant_sorted ps (sorts.ByName kind) = a_name
-meant_sorted (Some ps) (sorts.Procedure kind) = a_procedure (map is_by_name ps)
+meant_sorted (Some ps) (sorts.Procedure kind) = a_procedure (map sort_is_by_name ps)
 meant_sorted ps sorts.Event = an_event false
 meant_sorted ps sorts.Task = an_event false
 meant_sorted ps sorts.FormalEvent = an_event true
@@ -106,9 +106,9 @@ abbrev pub meant : Names → Spot → Meant
 meant s spot = meant_declared s.scopes.now (declaration_of s.scopes.now spot)
 
 -- whether an event is a parameter; none of what is no event
-abbrev pub event_in : Meant → Option Bool
-event_in (an_event formal) = Some formal
-event_in _ = None
+abbrev pub meant_event_in : Meant → Option Bool
+meant_event_in (an_event formal) = Some formal
+meant_event_in _ = None
 
 -- the couple of the actual that begins there, none where it has no cell
 abbrev pub actuals : Names → Spot → Option Couple
@@ -127,7 +127,7 @@ pub record AreNear (s : Names) : Type 0 where
   pub own : (spot : Spot) (c : Couple) → couples s spot ≡ Some c → c.index < 2 + MOST_BLOCK_CELLS
   pub result : (spot : Spot) (c : Couple) → results s spot ≡ Some c → c.index < 2 + MOST_BLOCK_CELLS
   pub actual : (spot : Spot) (c : Couple) → actuals s spot ≡ Some c → c.index < 2 + MOST_BLOCK_CELLS
-  pub apart : (spot : Spot) (l : arrays.Lows) → lows s spot ≡ Some l → is_event (meant s spot) ≡ false
+  pub apart : (spot : Spot) (l : arrays.Lows) → lows s spot ≡ Some l → meant_is_event (meant s spot) ≡ false
 
 -- ---- what is given for a parameter by name
 

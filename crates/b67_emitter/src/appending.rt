@@ -1,7 +1,7 @@
 //! Calls that append operators at the level that was set last.
 
 ghost use Rattle.std.specs.Prelude.{◌≡◌, ◌+◌, ◌*◌, ◌≤◌, ◌∷◌, [], length, IsSome, IfOk, OnOk};
-ghost use Rattle.b67_ops.specs.Spelling.{spelling, Fits, IsSeen};
+ghost use Rattle.b67_ops.specs.Spelling.{spelling, Fits, CoupleIsSeen};
 ghost use Rattle.b67_ops.specs.declared.Operator.TheVariants as ops;
 ghost use Rattle.b67_segment.specs.declared.TheConstants.{MOST_SEGMENT_SYLLABLES};
 ghost use Rattle.b67_segment.specs.Operators.{size};
@@ -75,7 +75,7 @@ pub fn append_number(out: &mut Builder, value: Whole) -> Result<(), AllocError>
 /// Appends the operator that pushes the value of the cell at a couple.
 pub fn append_reading(out: &mut Builder, couple: Couple) -> Result<(), AllocError>
     requires set { IsSome out.old.level }
-    requires seen { IsSeen (level_set out.old) couple }
+    requires seen { CoupleIsSeen (level_set out.old) couple }
     requires room { size out.old.operators + 2 ≤ MOST_SEGMENT_SYLLABLES }
     ensures code { OnOk result (Emitted out.old out.new
         (λ qs. Has qs (level_set out.old) (size out.old.operators) (ops.Valc couple) (size out.new.operators))) }
@@ -88,7 +88,7 @@ pub fn append_reading(out: &mut Builder, couple: Couple) -> Result<(), AllocErro
 /// Appends the operator that pushes a reference to the cell at a couple.
 pub fn append_reference(out: &mut Builder, couple: Couple) -> Result<(), AllocError>
     requires set { IsSome out.old.level }
-    requires seen { IsSeen (level_set out.old) couple }
+    requires seen { CoupleIsSeen (level_set out.old) couple }
     requires room { size out.old.operators + 2 ≤ MOST_SEGMENT_SYLLABLES }
     ensures code { OnOk result (Emitted out.old out.new
         (λ qs. Has qs (level_set out.old) (size out.old.operators) (ops.Namc couple) (size out.new.operators))) }

@@ -7,12 +7,12 @@ ghost use Rattle.algol_tree.specs.declared.tree.Named.{Named};
 ghost use Rattle.algol_tree.specs.Scopes as names;
 ghost use Rattle.algol_tree.specs.Sorts.{is_formal};
 ghost use Rattle.algol_paths.specs.Arrays.{Shape};
-ghost use Rattle.b67_ops.specs.Spelling.{IsSeen};
+ghost use Rattle.b67_ops.specs.Spelling.{CoupleIsSeen};
 ghost use Rattle.b67_segment.specs.declared.TheConstants.{MOST_SEGMENT_SYLLABLES};
 ghost use Rattle.b67_segment.specs.Operators.{size};
 ghost use Rattle.b67_segment.specs.Building.{level_set};
 ghost use Rattle.b67_templates.specs.Contexts.{Context};
-ghost use Rattle.b67_templates.specs.Cells.{Agrees, IsArray, IsEvent, IsProcedure};
+ghost use Rattle.b67_templates.specs.Cells.{ShapeAgrees, IsArray, IsEvent, IsProcedure};
 ghost use Rattle.b67_templates.specs.Code.{ArrayActualAt, BegunAt, DroppedAt};
 ghost use Rattle.b67_templates.specs.Events.{EventActualAt};
 ghost use Rattle.b67_templates.specs.Fragments.{IntrinsicAt};
@@ -26,7 +26,7 @@ use std::alloc::AllocError;
 /// Appends the beginning of the call of the procedure whose control word lies at a couple: a mark, the reference of the control word.
 pub fn append_begun(out: &mut Builder, couple: Couple) -> Result<(), AllocError>
     requires set { IsSome out.old.level }
-    requires seen { IsSeen (level_set out.old) couple }
+    requires seen { CoupleIsSeen (level_set out.old) couple }
     requires room { size out.old.operators + 3 ≤ MOST_SEGMENT_SYLLABLES }
     ensures code { OnOk result ((sc : names.Scopes) (context : Context) (n : Named) (callee : ℕ) → IsProcedure sc context.level n callee couple →
         Emitted out.old out.new (λ qs. BegunAt sc context qs (level_set out.old) n callee (size out.old.operators) (size out.new.operators))) }
@@ -53,10 +53,10 @@ pub fn append_intrinsic(out: &mut Builder, intrinsic: Intrinsic) -> Result<(), A
 /// alike everywhere; the cell of a parameter has one.
 pub fn append_passed(out: &mut Builder, couple: Couple, formal: bool) -> Result<(), AllocError>
     requires set { IsSome out.old.level }
-    requires seen { IsSeen (level_set out.old) couple }
+    requires seen { CoupleIsSeen (level_set out.old) couple }
     requires room { size out.old.operators + 3 ≤ MOST_SEGMENT_SYLLABLES }
     ensures array { OnOk result ((sc : names.Scopes) (context : Context) (shape a : Shape) (n : Named) → IsArray sc context.level n a couple →
-        formal ≡ is_formal ((names.use_of sc n).sort) → Agrees shape a →
+        formal ≡ is_formal ((names.use_of sc n).sort) → ShapeAgrees shape a →
         Emitted out.old out.new (λ qs. ArrayActualAt sc context qs (level_set out.old) shape n (size out.old.operators) (size out.new.operators))) }
     ensures event { OnOk result ((sc : names.Scopes) (context : Context) (n : Named) → IsEvent sc context.level n couple →
         formal ≡ is_formal ((names.use_of sc n).sort) →

@@ -8,7 +8,7 @@ ghost use Rattle.b67_segment.specs.Operators.{size};
 ghost use Rattle.b67_segment.specs.Building.{level_set};
 ghost use Rattle.b67_templates.specs.Cells.{has_place};
 ghost use Rattle.b67_templates.specs.Paying.{inline, routine_code};
-ghost use Rattle.b67_emitter.specs.Values.{couples, results, lefts, lows, told, lows_told, meanings, AreNear, HasCode, ValueEmitted, HasCall, CallEmitted, FilledEmitted, filled_syllables, RoutineEmitted, HasReference, ReferenceEmitted, place_syllables};
+ghost use Rattle.b67_emitter.specs.Values.{couples, results, lefts, lows, told_lows, lows_told, meanings, AreNear, HasCode, ValueEmitted, HasCall, CallEmitted, FilledEmitted, filled_syllables, RoutineEmitted, HasReference, ReferenceEmitted, place_syllables};
 
 use crate::names::Names;
 use algol_lows::Lows;
@@ -77,7 +77,7 @@ pub fn array_of<'f>(names: &'f Names, name: &Named) -> Option<&'f Lows>
 /// The same, where the name means an array.
 pub fn lows_of<'f>(names: &'f Names, name: &Named) -> &'f Lows
     requires { IsSome (lows names.now name.now.spot) }
-    ensures { lows names.now name.now.spot ≡ Some (told result.now) }
+    ensures { lows names.now name.now.spot ≡ Some (told_lows result.now) }
 {
     match array_of(names, name) {
         Some(lows) => lows,

@@ -5,9 +5,9 @@ ghost use Rattle.std.specs.Prelude.{◌≡◌, false, Some, IsSome, option_copie
 ghost use Rattle.algol_tree.specs.Image.{expr};
 ghost use Rattle.algol_tree.specs.Cells.{first_spot};
 ghost use Rattle.algol_tree.specs.Plain.{name_alone};
-ghost use Rattle.b67_templates.specs.Fitting.{is_name};
-ghost use Rattle.b67_templates.specs.Paying.{mode_at, stands, has_cell};
-ghost use Rattle.b67_emitter.specs.Values.{couples, meant, actuals, meanings, labels, target_told, event_in, given_as, given_alone, given};
+ghost use Rattle.b67_templates.specs.Fitting.{meant_is_name};
+ghost use Rattle.b67_templates.specs.Paying.{mode_at, stands, actual_has_cell};
+ghost use Rattle.b67_emitter.specs.Values.{couples, meant, actuals, meanings, labels, target_told, meant_event_in, given_as, given_alone, given};
 
 use crate::expressions::couple_of;
 use crate::names::{Names, Target};
@@ -25,7 +25,7 @@ pub struct Given {
 
 /// Tests that a name is that of a parameter by name.
 pub fn is_name(names: &Names, name: &Named) -> bool
-    ensures { result ≡ is_name (meant names.now name.now.spot) }
+    ensures { result ≡ meant_is_name (meant names.now name.now.spot) }
 {
     match names.scopes.declaration(name.spot) {
         Some(declared) => declared.sort.is_by_name(),
@@ -57,7 +57,7 @@ pub fn takes_name(names: &Names, callee: &Named, number: usize) -> bool
 
 /// Whether the event that a name means is a parameter; none where it means no event.
 pub fn event_of(names: &Names, name: &Named) -> Option<bool>
-    ensures { result ≡ event_in (meant names.now name.now.spot) }
+    ensures { result ≡ meant_event_in (meant names.now name.now.spot) }
 {
     match names.scopes.declaration(name.spot) {
         Some(declared) => match declared.sort {
@@ -99,7 +99,7 @@ pub fn name_alone(e: &Expr) -> Option<&Named>
 
 /// Tests that an actual that is given for a parameter by name has a cell: it is no variable or parameter by itself.
 pub fn has_cell(names: &Names, e: &Expr) -> bool
-    ensures { result ≡ has_cell (meanings names.now) (expr e.now) }
+    ensures { result ≡ actual_has_cell (meanings names.now) (expr e.now) }
 {
     match name_alone(e) {
         Some(name) => !is_simple(names, name),

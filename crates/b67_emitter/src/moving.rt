@@ -8,7 +8,7 @@ ghost use Rattle.b67_segment.specs.declared.TheConstants.{MOST_SEGMENT_SYLLABLES
 ghost use Rattle.b67_segment.specs.Operators.{size};
 ghost use Rattle.b67_segment.specs.Building.{level_set};
 ghost use Rattle.b67_templates.specs.Fragments as fragments;
-ghost use Rattle.b67_templates.specs.Fragments.{IsWhole, TimesAt, MovedBy, MovedAt};
+ghost use Rattle.b67_templates.specs.Fragments.{IsWholeNumber, TimesAt, MovedBy, MovedAt};
 ghost use Rattle.b67_templates.specs.Emitting.{Emitted};
 
 use crate::appending::{append_all, append_number, append_operator, append_plain};
@@ -40,7 +40,7 @@ fn append_times(out: &mut Builder, factor: Whole) -> Result<(), AllocError>
 /// By a bound above 0: what is below 0 stays.
 fn append_above(out: &mut Builder, low: i64) -> Result<(), AllocError>
     requires set { IsSome out.old.level }
-    requires whole { IsWhole low }
+    requires whole { IsWholeNumber low }
     requires room { size out.old.operators + 17 ≤ MOST_SEGMENT_SYLLABLES }
     ensures code { OnOk result (Emitted out.old out.new
         (λ qs. MovedBy qs (level_set out.old) fragments.above low (size out.old.operators) (size out.new.operators))) }
@@ -55,7 +55,7 @@ fn append_above(out: &mut Builder, low: i64) -> Result<(), AllocError>
 /// By a bound that lies as near below 0 as a row is long: what is greater than the square of 65,535 stays.
 fn append_near(out: &mut Builder, low: i64) -> Result<(), AllocError>
     requires set { IsSome out.old.level }
-    requires whole { IsWhole low }
+    requires whole { IsWholeNumber low }
     requires room { size out.old.operators + 21 ≤ MOST_SEGMENT_SYLLABLES }
     ensures code { OnOk result (Emitted out.old out.new
         (λ qs. MovedBy qs (level_set out.old) fragments.near low (size out.old.operators) (size out.new.operators))) }
@@ -72,7 +72,7 @@ fn append_near(out: &mut Builder, low: i64) -> Result<(), AllocError>
 /// By a bound further below: what is not below 0 becomes 0 before.
 fn append_far(out: &mut Builder, low: i64) -> Result<(), AllocError>
     requires set { IsSome out.old.level }
-    requires whole { IsWhole low }
+    requires whole { IsWholeNumber low }
     requires room { size out.old.operators + 17 ≤ MOST_SEGMENT_SYLLABLES }
     ensures code { OnOk result (Emitted out.old out.new
         (λ qs. MovedBy qs (level_set out.old) fragments.far low (size out.old.operators) (size out.new.operators))) }
@@ -95,7 +95,7 @@ fn append_far(out: &mut Builder, low: i64) -> Result<(), AllocError>
 /// Moves the subscript on top by this lower bound to an index from 0.
 pub fn append_moved(out: &mut Builder, low: i64) -> Result<(), AllocError>
     requires set { IsSome out.old.level }
-    requires whole { IsWhole low }
+    requires whole { IsWholeNumber low }
     requires room { size out.old.operators + 21 ≤ MOST_SEGMENT_SYLLABLES }
     ensures code { OnOk result (Emitted out.old out.new
         (λ qs. MovedAt qs (level_set out.old) low (size out.old.operators) (size out.new.operators))) }

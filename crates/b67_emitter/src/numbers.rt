@@ -3,7 +3,7 @@
 ghost use Rattle.std.specs.Prelude.{◌≡◌, ℕ, pos};
 ghost use Rattle.b67_ops.specs.Spelling.{Fits};
 ghost use Rattle.b67_word.specs.Word as machine;
-ghost use Rattle.b67_templates.specs.Fragments.{IsLiteral, IsWhole};
+ghost use Rattle.b67_templates.specs.Fragments.{IsLiteral, IsWholeNumber};
 ghost use Rattle.b67_emitter.specs.Literals.{short_literal, literal};
 
 use algol_tree::Whole;
@@ -30,7 +30,7 @@ fn short_literal(value: u16) -> Operator
 pub fn literal(value: Whole) -> Operator
     ensures value { result ≡ literal value }
     ensures pushes { IsLiteral result (machine.operand value) }
-    ensures whole { IsWhole value }
+    ensures whole { IsWholeNumber value }
     ensures fits { (level : ℕ) → Fits level result }
 {
     match u16::try_from(value.number()) {

@@ -4,8 +4,8 @@ use Rattle.std.specs.Prelude.{filter, Some, None, is_some}
 use Rattle.std.specs.Option.{option_map}
 use Rattle.std.proofs.lemmas.Bool.{cases_Bool, cond-true, cond-false, both_ways, false_from_ne_true, not_from_true, not_from_false, or_from, or_parts}
 use Rattle.b67_word.specs.declared.Place.{Place}
-use Rattle.b67_events.specs.Events.{Event, same_place, event_at, is_open, is_from, changed, fresh, is_before, placed, opened, closed_from}
-use Rattle.b67_events.specs.Laws.{StaysInPlace, AreApart, OneEventChanges, EventsStayApart}
+use Rattle.b67_events.specs.Events.{Event, same_place, event_at, is_open, is_from, event_changed, fresh, is_before, placed, event_opened, closed_from}
+use Rattle.b67_events.specs.Laws.{StaysInPlace, EventsAreApart, OneEventChanges, EventsStayApart}
 use Rattle.b67_events.proofs.Listed.{same_place-true, same_place-self}
 use Rattle.b67_events.proofs.Queued.{any-filter}
 
@@ -28,12 +28,12 @@ module _ (at : Place) (change : Event → Event) (stays : StaysInPlace change) w
     | inr h ↦ ap (λ (g : Event). g.place) (cond-false (same_place e.place at) (change e) e h)
   ]
 
-  changed-here : (es : List Event) → event_at at (changed at change es) ≡ option_map change (event_at at es)
+  changed-here : (es : List Event) → event_at at (event_changed at change es) ≡ option_map change (event_at at es)
   unfolding one
   changed-here [] = refl
   changed-here (e ∷ es) =
       let b = same_place e.place at in
-      let rest = event_at at (changed at change es) in
+      let rest = event_at at (event_changed at change es) in
       let test : same_place (one e).place at ≡ b = ap (λ p. same_place p at) (place_stays e) in
       elim (cases_Bool b) [
         | inl h ↦
@@ -46,13 +46,13 @@ module _ (at : Place) (change : Event → Event) (stays : StaysInPlace change) w
             ∙ sym (ap (option_map change) (cond-false b (Some e) (event_at at es) h))
       ]
 
-  changed-elsewhere : (to : Place) → to ≢ at → (es : List Event) → event_at to (changed at change es) ≡ event_at to es
+  changed-elsewhere : (to : Place) → to ≢ at → (es : List Event) → event_at to (event_changed at change es) ≡ event_at to es
   unfolding one
   changed-elsewhere to other [] = refl
   changed-elsewhere to other (e ∷ es) =
       let b = same_place e.place at in
       let t = same_place e.place to in
-      let rest = event_at to (changed at change es) in
+      let rest = event_at to (event_changed at change es) in
       let test : same_place (one e).place to ≡ t = ap (λ p. same_place p to) (place_stays e) in
       elim (cases_Bool t) [
         | inl h ↦
@@ -66,16 +66,16 @@ module _ (at : Place) (change : Event → Event) (stays : StaysInPlace change) w
             ∙ sym (cond-false t (Some e) (event_at to es) h)
       ]
 
-  open-changed : (to : Place) (es : List Event) → is_open to (changed at change es) ≡ is_open to es
+  open-changed : (to : Place) (es : List Event) → is_open to (event_changed at change es) ≡ is_open to es
   unfolding one
   open-changed to [] = refl
   open-changed to (e ∷ es) =
-      ap (λ p. same_place p to || is_open to (changed at change es)) (place_stays e) ∙ ap (λ b. same_place e.place to || b) (open-changed to es)
+      ap (λ p. same_place p to || is_open to (event_changed at change es)) (place_stays e) ∙ ap (λ b. same_place e.place to || b) (open-changed to es)
 
-  apart-changed : (es : List Event) → AreApart es → AreApart (changed at change es)
+  apart-changed : (es : List Event) → EventsAreApart es → EventsAreApart (event_changed at change es)
   unfolding one
   apart-changed [] h = tt
-  apart-changed (e ∷ es) h = (ap (λ p. is_open p (changed at change es)) (place_stays e) ∙ open-changed e.place es ∙ h.0, apart-changed es h.1)
+  apart-changed (e ∷ es) h = (ap (λ p. is_open p (event_changed at change es)) (place_stays e) ∙ open-changed e.place es ∙ h.0, apart-changed es h.1)
 
 module _ (at : Place) where
   others : List Event → List Event
@@ -147,7 +147,7 @@ module _ (f : Event) where
         | inr h ↦ ap (is_open to) (behind e es h) ∙ or_from (same_place e.place to) (is_open to (placed f es)) parts.0 (placed-none to other es parts.1)
       ]
 
-  apart-placed : (es : List Event) → is_open f.place es ≡ false → AreApart es → AreApart (placed f es)
+  apart-placed : (es : List Event) → is_open f.place es ≡ false → EventsAreApart es → EventsAreApart (placed f es)
   apart-placed [] none h = (refl, tt)
   apart-placed (e ∷ es) none h =
       let parts = or_parts (same_place e.place f.place) (is_open f.place es) none in
@@ -156,22 +156,22 @@ module _ (f : Event) where
         | inr k ↦ rw (behind e es k) (placed-none e.place (turned e.place f.place parts.0) es h.0, apart-placed es parts.1 h.1)
       ]
 
-opened-here : (at : Place) (es : List Event) → event_at at (opened at es) ≡ Some (fresh at)
+opened-here : (at : Place) (es : List Event) → event_at at (event_opened at es) ≡ Some (fresh at)
 unfolding others
 opened-here at es = placed-here (fresh at) (others at es) (none_left at es)
 
-opened-elsewhere : (at to : Place) → to ≢ at → (es : List Event) → event_at to (opened at es) ≡ event_at to es
+opened-elsewhere : (at to : Place) → to ≢ at → (es : List Event) → event_at to (event_opened at es) ≡ event_at to es
 unfolding others
 opened-elsewhere at to other es = placed-elsewhere (fresh at) to (apart at to (λ e. other (sym e))) (others at es) ∙ others-elsewhere at to other es
 
-apart-filter : (r : Event → Bool) (es : List Event) → AreApart es → AreApart (filter r es)
+apart-filter : (r : Event → Bool) (es : List Event) → EventsAreApart es → EventsAreApart (filter r es)
 apart-filter r [] h = tt
 apart-filter r (e ∷ es) h = elim (cases_Bool (r e)) [
   | inl k ↦ rw (cond-true (r e) (e ∷ filter r es) (filter r es) k) (any-filter (λ f. same_place f.place e.place) r es h.0, apart-filter r es h.1)
   | inr k ↦ rw (cond-false (r e) (e ∷ filter r es) (filter r es) k) (apart-filter r es h.1)
 ]
 
-apart-opened : (at : Place) (es : List Event) → AreApart es → AreApart (opened at es)
+apart-opened : (at : Place) (es : List Event) → EventsAreApart es → EventsAreApart (event_opened at es)
 unfolding others
 apart-opened at es h =
     apart-placed (fresh at) (others at es) (none_left at es) (apart-filter (λ e. not (same_place e.place at)) es h)

@@ -4,8 +4,8 @@ use Rattle.std.specs.Prelude.{filter}
 use Rattle.std.proofs.lemmas.Bool.{cases_Bool, cond-true, cond-false, and_parts, and_from, and_left, both_ways, false_from_ne_true, not_from_true, not_from_false, eqb-true, eq-eqb, or_left, or_right}
 use Rattle.b67_word.specs.declared.Place.{Place}
 use Rattle.b67_deeds.specs.Events.{left_by}
-use Rattle.b67_events.specs.Events.{same_place, is_one_of, is_among, list_of, with_state, changed, withdrawn}
-use Rattle.b67_events.specs.Kept.{same_queue, stands_in, listed, Entry, shown, events_of, set_flags, with_happened, without_waiters, without_first, is_same, is_left, is_named, StandOnce}
+use Rattle.b67_events.specs.Events.{same_place, waiter_is_one_of, event_is_among, list_of, with_state, event_changed, withdrawn}
+use Rattle.b67_events.specs.Kept.{same_queue, stands_in, waiters_listed, EventEntry, event_shown, events_of, set_flags, with_happened, without_waiters, without_first, is_same, is_left, is_named, StandOnce}
 use Rattle.b67_events.specs.declared.Queue.{Queue}
 use Rattle.b67_events.specs.declared.Queue.TheVariants.{Waiters, Procurers}
 use Rattle.b67_events.specs.declared.Waiting.{Waiting}
@@ -44,7 +44,7 @@ eqb-turn a b = elim (cases_Bool (eqb a b)) [
 
 -- one who waits for an event to happen, and is one of these
 abbrev pub leaves : List ℕ → Waiting → Bool
-leaves ps w = same_queue Waiters w.queue && is_one_of ps w.process
+leaves ps w = same_queue Waiters w.queue && waiter_is_one_of ps w.process
 
 abbrev pub stays : List ℕ → Waiting → Bool
 stays ps w = not (leaves ps w)
@@ -56,7 +56,7 @@ abbrev stays_as : ℕ → Waiting → Bool
 stays_as p w = not (leaves_as p w)
 
 -- of the waiters of an event that process goes
-listed-left : (p : ℕ) (at : Place) (ws : List Waiting) → listed Waiters at (filter (stays_as p) ws) ≡ filter (λ q. not (eqb p q)) (listed Waiters at ws)
+listed-left : (p : ℕ) (at : Place) (ws : List Waiting) → waiters_listed Waiters at (filter (stays_as p) ws) ≡ filter (λ q. not (eqb p q)) (waiters_listed Waiters at ws)
 listed-left p at [] = refl
 listed-left p at (w ∷ ws) =
     let rest = listed-left p at ws in
@@ -71,28 +71,28 @@ listed-left p at (w ∷ ws) =
           let test : leaves_as p w ≡ eqb p w.process = ap (λ b. b && eqb w.process p) waits ∙ eqb-turn w.process p in
           elim (cases_Bool (eqb p w.process)) [
             | inl k ↦
-                ap (listed Waiters at) (cond-false (stays_as p w) (w ∷ mine) mine (not_from_true (leaves_as p w) (test ∙ k))) ∙ rest
+                ap (waiters_listed Waiters at) (cond-false (stays_as p w) (w ∷ mine) mine (not_from_true (leaves_as p w) (test ∙ k))) ∙ rest
                 ∙ sym (ap (λ vs. left (numbers vs)) (cond-true t (w ∷ there) there e)
                 ∙ cond-false (not (eqb p w.process)) (w.process ∷ left (numbers there)) (left (numbers there)) (not_from_true (eqb p w.process) k))
             | inr k ↦
-                ap (listed Waiters at) (cond-true (stays_as p w) (w ∷ mine) mine (not_from_false (leaves_as p w) (test ∙ k)))
+                ap (waiters_listed Waiters at) (cond-true (stays_as p w) (w ∷ mine) mine (not_from_false (leaves_as p w) (test ∙ k)))
                 ∙ ap numbers (cond-true t (w ∷ filter (stands_in Waiters at) mine) (filter (stands_in Waiters at) mine) e)
                 ∙ ap (λ qs. w.process ∷ qs) rest
                 ∙ sym (ap (λ vs. left (numbers vs)) (cond-true t (w ∷ there) there e)
                 ∙ cond-true (not (eqb p w.process)) (w.process ∷ left (numbers there)) (left (numbers there)) (not_from_false (eqb p w.process) k))
           ]
       | inr e ↦
-          let here : listed Waiters at (filter (stays_as p) (w ∷ ws)) ≡ listed Waiters at mine = elim (cases_Bool (stays_as p w)) [
+          let here : waiters_listed Waiters at (filter (stays_as p) (w ∷ ws)) ≡ waiters_listed Waiters at mine = elim (cases_Bool (stays_as p w)) [
             | inl k ↦
-                ap (listed Waiters at) (cond-true (stays_as p w) (w ∷ mine) mine k)
+                ap (waiters_listed Waiters at) (cond-true (stays_as p w) (w ∷ mine) mine k)
                 ∙ ap numbers (cond-false t (w ∷ filter (stands_in Waiters at) mine) (filter (stands_in Waiters at) mine) e)
-            | inr k ↦ ap (listed Waiters at) (cond-false (stays_as p w) (w ∷ mine) mine k)
+            | inr k ↦ ap (waiters_listed Waiters at) (cond-false (stays_as p w) (w ∷ mine) mine k)
           ] in
           here ∙ rest ∙ sym (ap (λ vs. left (numbers vs)) (cond-false t (w ∷ there) there e))
     ]
 
 -- its procurers stay
-procurers-stay : (p : ℕ) (at : Place) (ws : List Waiting) → listed Procurers at (filter (stays_as p) ws) ≡ listed Procurers at ws
+procurers-stay : (p : ℕ) (at : Place) (ws : List Waiting) → waiters_listed Procurers at (filter (stays_as p) ws) ≡ waiters_listed Procurers at ws
 procurers-stay p at ws =
     ap (map (λ w. w.process)) (filter-kept (stands_in Procurers at) (stays_as p) (λ w s. not_from_false (leaves_as p w)
     (and_left (same_queue Waiters w.queue) (eqb w.process p) (no_waiter w.queue (and_parts (same_place at w.place) (same_queue Procurers w.queue) s).1))) ws)
@@ -102,13 +102,13 @@ procurers-stay p at ws =
     no_waiter Procurers h = refl
 
 -- a process leaves all events
-events-left : (p : ℕ) (ws : List Waiting) (fs : List Entry) → map (with_state (left_by p)) (events_of fs ws) ≡ events_of fs (filter (stays_as p) ws)
+events-left : (p : ℕ) (ws : List Waiting) (fs : List EventEntry) → map (with_state (left_by p)) (events_of fs ws) ≡ events_of fs (filter (stays_as p) ws)
 events-left p ws [] = refl
 events-left p ws (x ∷ fs) =
     ap (λ e. e ∷ map (with_state (left_by p)) (events_of fs ws))
-    (sym (made-same x (listed Waiters x.0 (filter (stays_as p) ws)) (listed Procurers x.0 (filter (stays_as p) ws))
-    (filter (λ q. not (eqb p q)) (listed Waiters x.0 ws)) (listed Procurers x.0 ws) (listed-left p x.0 ws) (procurers-stay p x.0 ws)))
-    ∙ ap (λ es. shown (filter (stays_as p) ws) x ∷ es) (events-left p ws fs)
+    (sym (made-same x (waiters_listed Waiters x.0 (filter (stays_as p) ws)) (waiters_listed Procurers x.0 (filter (stays_as p) ws))
+    (filter (λ q. not (eqb p q)) (waiters_listed Waiters x.0 ws)) (waiters_listed Procurers x.0 ws) (listed-left p x.0 ws) (procurers-stay p x.0 ws)))
+    ∙ ap (λ es. event_shown (filter (stays_as p) ws) x ∷ es) (events-left p ws fs)
 
 both_stay : (s a b : Bool) → not (s && (a || b)) ≡ (not (s && a) && not (s && b))
 both_stay true true b = refl
@@ -120,19 +120,19 @@ none_stay true = refl
 none_stay false = refl
 
 -- these processes leave all events
-pub events-withdrawn : (ps : List ℕ) (ws : List Waiting) (fs : List Entry) → withdrawn ps (events_of fs ws) ≡ events_of fs (filter (stays ps) ws)
+pub events-withdrawn : (ps : List ℕ) (ws : List Waiting) (fs : List EventEntry) → withdrawn ps (events_of fs ws) ≡ events_of fs (filter (stays ps) ws)
 events-withdrawn [] ws fs = ap (events_of fs) (sym (filter-every (stays []) (λ w. none_stay (same_queue Waiters w.queue)) ws))
 events-withdrawn (p ∷ ps) ws fs =
     ap (withdrawn ps) (events-left p ws fs)
     ∙ events-withdrawn ps (filter (stays_as p) ws) fs
-    ∙ ap (events_of fs) (filter-twice (stays ps) (stays_as p) (stays (p ∷ ps)) (λ w. both_stay (same_queue Waiters w.queue) (eqb w.process p) (is_one_of ps w.process)) ws)
+    ∙ ap (events_of fs) (filter-twice (stays ps) (stays_as p) (stays (p ∷ ps)) (λ w. both_stay (same_queue Waiters w.queue) (eqb w.process p) (waiter_is_one_of ps w.process)) ws)
 
 -- An event has happened, or has not; and those who waited for it leave all events.
-pub events-released : (at : Place) (b : Bool) (fs : List Entry) (ws : List Waiting)
-    → events_of (set_flags at (with_happened b) fs) (filter (stays (listed Waiters at ws)) (filter (λ w. not (stands_in Waiters at w)) ws))
-    ≡ withdrawn (listed Waiters at ws) (changed at (with_state (without_waiters b)) (events_of fs ws))
+pub events-released : (at : Place) (b : Bool) (fs : List EventEntry) (ws : List Waiting)
+    → events_of (set_flags at (with_happened b) fs) (filter (stays (waiters_listed Waiters at ws)) (filter (λ w. not (stands_in Waiters at w)) ws))
+    ≡ withdrawn (waiters_listed Waiters at ws) (event_changed at (with_state (without_waiters b)) (events_of fs ws))
 events-released at b fs ws =
-    let ps = listed Waiters at ws in
+    let ps = waiters_listed Waiters at ws in
     sym (events-withdrawn ps (filter (λ w. not (stands_in Waiters at w)) ws) (set_flags at (with_happened b) fs))
     ∙ ap (withdrawn ps) (events-caused at b fs ws)
 
@@ -154,7 +154,7 @@ leave-step p at rest ws once =
     let one : Waiting = record { process = p; place = at; queue = Waiters } in
     ap (filter (λ w. not (is_left p rest w))) (first-is_filter one ws once)
     ∙ filter-twice (λ w. not (is_left p rest w)) (λ w. not (is_same one w)) (λ w. not (is_left p (at ∷ rest) w))
-    (λ w. left_both (same_queue Waiters w.queue) (eqb w.process p) (same_place at w.place) (is_among rest w.place)
+    (λ w. left_both (same_queue Waiters w.queue) (eqb w.process p) (same_place at w.place) (event_is_among rest w.place)
     ∙ ap (λ e. not (e && (same_place at w.place && same_queue Waiters w.queue)) && not (is_left p rest w)) (eqb-turn w.process p)) ws
 
 pub once-left : (p : ℕ) (at : Place) (ws : List Waiting) → StandOnce ws → StandOnce (without_first (is_same (record { process = p; place = at; queue = Waiters })) ws)
@@ -191,7 +191,7 @@ pub named-step : (p : ℕ) (rest : List ℕ) (lists : List (List Place)) (ws : L
     → filter (λ w. not (is_named rest lists w)) (filter (λ w. not (is_left p (list_of p lists) w)) ws) ≡ filter (λ w. not (is_named (p ∷ rest) lists w)) ws
 named-step p rest lists ws =
     filter-twice (λ w. not (is_named rest lists w)) (λ w. not (is_left p (list_of p lists) w)) (λ w. not (is_named (p ∷ rest) lists w))
-    (λ w. named_both (same_queue Waiters w.queue) (eqb w.process p) (is_one_of rest w.process) (is_among (list_of w.process lists) w.place)
+    (λ w. named_both (same_queue Waiters w.queue) (eqb w.process p) (waiter_is_one_of rest w.process) (event_is_among (list_of w.process lists) w.place)
     ∙ ap (λ k. not (same_queue Waiters w.queue && k) && not (is_named rest lists w))
-    (list_where (eqb w.process p) (is_among (list_of w.process lists) w.place) (is_among (list_of p lists) w.place)
-    (λ e. ap (λ n. is_among (list_of n lists) w.place) (eqb-true w.process p e)))) ws
+    (list_where (eqb w.process p) (event_is_among (list_of w.process lists) w.place) (event_is_among (list_of p lists) w.place)
+    (λ e. ap (λ n. event_is_among (list_of n lists) w.place) (eqb-true w.process p e)))) ws

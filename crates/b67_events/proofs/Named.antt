@@ -5,8 +5,8 @@ use Rattle.std.specs.List.{list_any}
 use Rattle.std.proofs.lemmas.Bool.{cases_Bool, cond-true, cond-false, and_parts, and_from, and_left, and_right, both_ways, false_from_ne_true, not_from_true, not_from_false, eqb-true, eq-eqb, or_cases, or_parts, or_from, or_left, or_right}
 use Rattle.std.proofs.lemmas.List.Elements.{All-head, All-tail}
 use Rattle.b67_word.specs.declared.Place.{Place}
-use Rattle.b67_events.specs.Events.{same_place, is_open, is_one_of, is_among, list_of, with_list, unlisted}
-use Rattle.b67_events.specs.Kept.{same_queue, stands_in, listed, Entry, events_of, has_flags, AreWithin, among, without_first, joiners, stand, stand_all, is_named, waits_at, AreNamed, AreListed}
+use Rattle.b67_events.specs.Events.{same_place, is_open, waiter_is_one_of, event_is_among, list_of, with_list, unlisted}
+use Rattle.b67_events.specs.Kept.{same_queue, stands_in, waiters_listed, EventEntry, events_of, has_flags, AreWithin, among, without_first, joiners, stand, stand_all, is_named, waits_at, AreNamed, PlacesAreListed}
 use Rattle.b67_events.specs.declared.Queue.TheVariants.{Waiters, Procurers}
 use Rattle.b67_events.specs.declared.Waiting.{Waiting}
 use Rattle.b67_events.proofs.Listed.{same_place-self, place_of}
@@ -21,7 +21,7 @@ use Rattle.b67_events.proofs.Stood.{AreLow, any-stand}
 abbrev pub waits_so : Place → ℕ → Waiting → Bool
 waits_so at p w = stands_in Waiters at w && eqb p w.process
 
-pub waits-any : (p : ℕ) (at : Place) (ws : List Waiting) → is_one_of (listed Waiters at ws) p ≡ list_any (waits_so at p) ws
+pub waits-any : (p : ℕ) (at : Place) (ws : List Waiting) → waiter_is_one_of (waiters_listed Waiters at ws) p ≡ list_any (waits_so at p) ws
 waits-any p at [] = refl
 waits-any p at (w ∷ ws) =
     let t = stands_in Waiters at w in
@@ -29,10 +29,10 @@ waits-any p at (w ∷ ws) =
     let numbers : List Waiting → List ℕ = map (λ v. v.process) in
     elim (cases_Bool t) [
       | inl e ↦
-          ap (λ vs. is_one_of (numbers vs) p) (cond-true t (w ∷ rest) rest e)
+          ap (λ vs. waiter_is_one_of (numbers vs) p) (cond-true t (w ∷ rest) rest e)
           ∙ ap (λ b. eqb p w.process || b) (waits-any p at ws) ∙ ap (λ b. b && eqb p w.process || list_any (waits_so at p) ws) (sym e)
       | inr e ↦
-          ap (λ vs. is_one_of (numbers vs) p) (cond-false t (w ∷ rest) rest e)
+          ap (λ vs. waiter_is_one_of (numbers vs) p) (cond-false t (w ∷ rest) rest e)
           ∙ waits-any p at ws ∙ ap (λ b. b && eqb p w.process || list_any (waits_so at p) ws) (sym e)
     ]
 
@@ -124,23 +124,23 @@ named-procure lists p at ws h =
     ]) h
 
 -- who joins waits for these places, and is this process
-joins_these : (p q : ℕ) (at : Place) (seen ats : List Place) → list_any (waits_so at q) (joiners p seen ats) ≡ true → (is_among ats at ≡ true) × (eqb q p ≡ true)
+joins_these : (p q : ℕ) (at : Place) (seen ats : List Place) → list_any (waits_so at q) (joiners p seen ats) ≡ true → (event_is_among ats at ≡ true) × (eqb q p ≡ true)
 joins_these p q at seen [] h = cc
 joins_these p q at seen (a ∷ ats) h =
-    let b = is_among seen a in
+    let b = event_is_among seen a in
     let rest = joiners p (seen ++ a ∷ []) ats in
     elim (cases_Bool b) [
       | inl e ↦
           let more = joins_these p q at (seen ++ a ∷ []) ats (sym (ap (list_any (waits_so at q)) (cond-true b rest (one p a ∷ rest) e)) ∙ h) in
-          (or_right (same_place a at) (is_among ats at) more.0, more.1)
+          (or_right (same_place a at) (event_is_among ats at) more.0, more.1)
       | inr e ↦
           elim (or_cases (waits_so at q (one p a)) (list_any (waits_so at q) rest) (sym (ap (list_any (waits_so at q)) (cond-false b rest (one p a ∷ rest) e)) ∙ h)) [
             | inl k ↦
                 let parts = and_parts (stands_in Waiters at (one p a)) (eqb q p) k in
-                (or_left (same_place a at) (is_among ats at) (same_place-self a at (sym (place_of Waiters at (one p a) parts.0))), parts.1)
+                (or_left (same_place a at) (event_is_among ats at) (same_place-self a at (sym (place_of Waiters at (one p a) parts.0))), parts.1)
             | inr k ↦
                 let more = joins_these p q at (seen ++ a ∷ []) ats k in
-                (or_right (same_place a at) (is_among ats at) more.0, more.1)
+                (or_right (same_place a at) (event_is_among ats at) more.0, more.1)
           ]
     ]
 
@@ -155,11 +155,11 @@ named-any lists (suc k) places ws low idle h = λ q a b s t.
     elim (cases_Bool (eqb q p)) [
       | inl e ↦
           let same : q ≡ p = eqb-true q p e in
-          let here : is_among places b ≡ true = elim (or_cases (list_any (waits_so b q) js) (list_any (waits_so b q) ws) (split b t)) [
+          let here : event_is_among places b ≡ true = elim (or_cases (list_any (waits_so b q) js) (list_any (waits_so b q) ws) (split b t)) [
             | inl j ↦ (joins_these p q b [] places j).0
             | inr w ↦ absurd (both_ways (list_any (waits_so b p) ws) (nobody p b ws idle) (ap (λ m. list_any (waits_so b m) ws) (sym same) ∙ w))
           ] in
-          inr (ap (λ m. is_among (list_of m (with_list lists p places)) b) same ∙ ap (λ l. is_among l b) (list-own lists k places) ∙ here)
+          inr (ap (λ m. event_is_among (list_of m (with_list lists p places)) b) same ∙ ap (λ l. event_is_among l b) (list-own lists k places) ∙ here)
       | inr e ↦
           let other : p ≡ q → ⊥ = λ m. both_ways (eqb q p) e (eq-eqb q p (sym m)) in
           let before : (at : Place) → waits_at (stand_all js ws) q at → waits_at ws q at = λ at w.
@@ -169,16 +169,16 @@ named-any lists (suc k) places ws low idle h = λ q a b s t.
           ] in
           elim (h q a b (before a s) (before b t)) [
             | inl m ↦ inl m
-            | inr m ↦ inr (ap (λ l. is_among l b) (list-other lists p q places other) ∙ m)
+            | inr m ↦ inr (ap (λ l. event_is_among l b) (list-other lists p q places other) ∙ m)
           ]
     ]
 
 -- who joins events that are open is at displacements that a stack has
-pub low-joiners : (fs : List Entry) (ws : List Waiting) (p : ℕ) (seen ats : List Place) → AreWithin fs
+pub low-joiners : (fs : List EventEntry) (ws : List Waiting) (p : ℕ) (seen ats : List Place) → AreWithin fs
     → All (λ (a : Place). is_open a (events_of fs ws) ≡ true) ats → AreLow (joiners p seen ats)
 low-joiners fs ws p seen [] within h = tt
 low-joiners fs ws p seen (a ∷ ats) within h =
-    let b = is_among seen a in
+    let b = event_is_among seen a in
     let rest = joiners p (seen ++ a ∷ []) ats in
     let more = low-joiners fs ws p (seen ++ a ∷ []) ats within (All-tail (λ (q : Place). is_open q (events_of fs ws) ≡ true) a ats h) in
     let here : has_flags a fs ≡ true = sym (open-shown a fs ws) ∙ All-head (λ (q : Place). is_open q (events_of fs ws) ≡ true) a ats h in
@@ -189,7 +189,7 @@ low-joiners fs ws p seen (a ∷ ats) within h =
 
 -- ---- who is released
 
-none-left : (p : ℕ) (at : Place) (ps : List ℕ) (ws : List Waiting) → is_one_of ps p ≡ true → list_any (waits_so at p) (filter (stays ps) ws) ≡ false
+none-left : (p : ℕ) (at : Place) (ps : List ℕ) (ws : List Waiting) → waiter_is_one_of ps p ≡ true → list_any (waits_so at p) (filter (stays ps) ws) ≡ false
 none-left p at ps [] h = refl
 none-left p at ps (w ∷ ws) h =
     let rest = filter (stays ps) ws in
@@ -198,20 +198,20 @@ none-left p at ps (w ∷ ws) h =
           let no : waits_so at p w ≡ false = false_from_ne_true (waits_so at p w) (λ k.
           let parts = and_parts (stands_in Waiters at w) (eqb p w.process) k in
           let waiter = (and_parts (same_place at w.place) (same_queue Waiters w.queue) parts.0).1 in
-          let one : is_one_of ps w.process ≡ true = ap (is_one_of ps) (sym (eqb-true p w.process parts.1)) ∙ h in
-          both_ways (stays ps w) (not_from_true (leaves ps w) (and_from (same_queue Waiters w.queue) (is_one_of ps w.process) waiter one)) e) in
+          let one : waiter_is_one_of ps w.process ≡ true = ap (waiter_is_one_of ps) (sym (eqb-true p w.process parts.1)) ∙ h in
+          both_ways (stays ps w) (not_from_true (leaves ps w) (and_from (same_queue Waiters w.queue) (waiter_is_one_of ps w.process) waiter one)) e) in
           ap (list_any (waits_so at p)) (cond-true (stays ps w) (w ∷ rest) rest e) ∙ or_from (waits_so at p w) (list_any (waits_so at p) rest) no (none-left p at ps ws h)
       | inr e ↦ ap (list_any (waits_so at p)) (cond-false (stays ps w) (w ∷ rest) rest e) ∙ none-left p at ps ws h
     ]
 
 pub named-released : (lists : List (List Place)) (ps : List ℕ) (ws : List Waiting) → AreNamed lists ws → AreNamed (unlisted ps lists) (filter (stays ps) ws)
-named-released lists ps ws h p a b s t = elim (cases_Bool (is_one_of ps p)) [
+named-released lists ps ws h p a b s t = elim (cases_Bool (waiter_is_one_of ps p)) [
   | inl e ↦ absurd (both_ways (list_any (waits_so a p) (filter (stays ps) ws)) (none-left p a ps ws e) (sym (waits-any p a (filter (stays ps) ws)) ∙ s))
   | inr e ↦
-      let list : list_of p (unlisted ps lists) ≡ list_of p lists = list-unlisted ps lists p ∙ cond-false (is_one_of ps p) [] (list_of p lists) e in
+      let list : list_of p (unlisted ps lists) ≡ list_of p lists = list-unlisted ps lists p ∙ cond-false (waiter_is_one_of ps p) [] (list_of p lists) e in
       elim (h p a b (waits-filter (stays ps) ws p a s) (waits-filter (stays ps) ws p b t)) [
         | inl m ↦ inl m
-        | inr m ↦ inr (ap (λ l. is_among l b) list ∙ m)
+        | inr m ↦ inr (ap (λ l. event_is_among l b) list ∙ m)
       ]
 ]
 
@@ -229,22 +229,22 @@ waits_tail v ws p at h =
 -- of those who are left when an event has let all go, the same leave by their lists as leave all events
 module _ (at : Place) (lists : List (List Place)) (ws : List Waiting) (h : AreNamed lists ws) where
   abbrev gone : List ℕ
-  gone = listed Waiters at ws
+  gone = waiters_listed Waiters at ws
 
   named_is : (w : Waiting) → stands_in Waiters at w ≡ false → (same_queue Waiters w.queue ≡ true → waits_at ws w.process w.place)
       → is_named gone lists w ≡ leaves gone w
   named_is w out there = elim (cases_Bool (same_queue Waiters w.queue)) [
-    | inr e ↦ and_left (same_queue Waiters w.queue) (is_one_of gone w.process && is_among (list_of w.process lists) w.place) e ∙ sym (and_left (same_queue Waiters w.queue) (is_one_of gone w.process) e)
-    | inl e ↦ elim (cases_Bool (is_one_of gone w.process)) [
+    | inr e ↦ and_left (same_queue Waiters w.queue) (waiter_is_one_of gone w.process && event_is_among (list_of w.process lists) w.place) e ∙ sym (and_left (same_queue Waiters w.queue) (waiter_is_one_of gone w.process) e)
+    | inl e ↦ elim (cases_Bool (waiter_is_one_of gone w.process)) [
       | inr k ↦
-          and_right (same_queue Waiters w.queue) (is_one_of gone w.process && is_among (list_of w.process lists) w.place) (and_left (is_one_of gone w.process) (is_among (list_of w.process lists) w.place) k)
-          ∙ sym (and_right (same_queue Waiters w.queue) (is_one_of gone w.process) k)
+          and_right (same_queue Waiters w.queue) (waiter_is_one_of gone w.process && event_is_among (list_of w.process lists) w.place) (and_left (waiter_is_one_of gone w.process) (event_is_among (list_of w.process lists) w.place) k)
+          ∙ sym (and_right (same_queue Waiters w.queue) (waiter_is_one_of gone w.process) k)
       | inl k ↦ elim (h w.process at w.place k (there e)) [
         | inl m ↦ absurd (both_ways (stands_in Waiters at w) out (and_from (same_place at w.place) (same_queue Waiters w.queue) m e))
         | inr m ↦
-            and_from (same_queue Waiters w.queue) (is_one_of gone w.process && is_among (list_of w.process lists) w.place) e
-            (and_from (is_one_of gone w.process) (is_among (list_of w.process lists) w.place) k m)
-            ∙ sym (and_from (same_queue Waiters w.queue) (is_one_of gone w.process) e k)
+            and_from (same_queue Waiters w.queue) (waiter_is_one_of gone w.process && event_is_among (list_of w.process lists) w.place) e
+            (and_from (waiter_is_one_of gone w.process) (event_is_among (list_of w.process lists) w.place) k m)
+            ∙ sym (and_from (same_queue Waiters w.queue) (waiter_is_one_of gone w.process) e k)
       ]
     ]
   ]
@@ -275,27 +275,27 @@ module _ (at : Place) (lists : List (List Place)) (ws : List Waiting) (h : AreNa
 
 -- ---- the lists of those who wait for several
 
-pub lists-wider : (ls : List (List Place)) (ws : List Waiting) (n capacity more : ℕ) → AreListed ls ws n capacity → capacity ≤ more → AreListed ls ws n more
+pub lists-wider : (ls : List (List Place)) (ws : List Waiting) (n capacity more : ℕ) → PlacesAreListed ls ws n capacity → capacity ≤ more → PlacesAreListed ls ws n more
 lists-wider ls ws n capacity more k wide =
     record { room = (let room : n ≤ capacity = k.room in omega (arith, room, wide)); known = k.known; named = k.named }
 
-pub lists-waiting : (ls : List (List Place)) (ws vs : List Waiting) (n capacity : ℕ) → AreListed ls ws n capacity → AreNamed ls vs → AreListed ls vs n capacity
+pub lists-waiting : (ls : List (List Place)) (ws vs : List Waiting) (n capacity : ℕ) → PlacesAreListed ls ws n capacity → AreNamed ls vs → PlacesAreListed ls vs n capacity
 lists-waiting ls ws vs n capacity k named = record { room = k.room; known = k.known; named = named }
 
-pub lists-less : (ls : List (List Place)) (ws vs : List Waiting) (n capacity : ℕ) → AreListed ls ws n capacity
-    → ((p : ℕ) (at : Place) → waits_at vs p at → waits_at ws p at) → AreListed ls vs n capacity
+pub lists-less : (ls : List (List Place)) (ws vs : List Waiting) (n capacity : ℕ) → PlacesAreListed ls ws n capacity
+    → ((p : ℕ) (at : Place) → waits_at vs p at → waits_at ws p at) → PlacesAreListed ls vs n capacity
 lists-less ls ws vs n capacity k less = lists-waiting ls ws vs n capacity k (named-less ls ws vs less k.named)
 
-pub lists-with : (ls : List (List Place)) (ws : List Waiting) (n capacity p : ℕ) (places : List Place) → AreListed ls ws n capacity → 1 ≤ p → p ≤ n
-    → among p ws ≡ false → AreListed (with_list ls p places) (stand_all (joiners p [] places) ws) n capacity
+pub lists-with : (ls : List (List Place)) (ws : List Waiting) (n capacity p : ℕ) (places : List Place) → PlacesAreListed ls ws n capacity → 1 ≤ p → p ≤ n
+    → among p ws ≡ false → PlacesAreListed (with_list ls p places) (stand_all (joiners p [] places) ws) n capacity
 lists-with ls ws n capacity p places k low high idle = record {
   room = k.room;
   known = list-length n ls p places high k.known;
   named = named-any ls p places ws low idle k.named;
 }
 
-pub lists-without : (ls : List (List Place)) (ws : List Waiting) (n capacity : ℕ) (ps : List ℕ) → AreListed ls ws n capacity
-    → AreListed (unlisted ps ls) (filter (stays ps) ws) n capacity
+pub lists-without : (ls : List (List Place)) (ws : List Waiting) (n capacity : ℕ) (ps : List ℕ) → PlacesAreListed ls ws n capacity
+    → PlacesAreListed (unlisted ps ls) (filter (stays ps) ws) n capacity
 lists-without ls ws n capacity ps k = record {
   room = k.room;
   known = (let long = unlisted-length ps ls in let short : length ls ≤ n = k.known in omega (arith, long, short));

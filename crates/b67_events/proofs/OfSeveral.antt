@@ -6,8 +6,8 @@ use Rattle.std.proofs.Math.Dec.{eqb-suc-zero, eqb-zero-suc, eqb-suc-suc}
 use Rattle.std.proofs.lemmas.List.{length-set, take_more, take_more_set}
 use Rattle.b67_list.specs.Numbered.{set_numbered}
 use Rattle.b67_word.specs.declared.Place.{Place}
-use Rattle.b67_events.specs.Events.{same_place, happened_at, is_one_of, list_of, with_list, unlisted, first_that, first_happened, position_of}
-use Rattle.b67_events.specs.Kept.{Entry, events_of, flags_at, flag_of}
+use Rattle.b67_events.specs.Events.{same_place, happened_at, waiter_is_one_of, list_of, with_list, unlisted, first_that, first_event_happened, position_of}
+use Rattle.b67_events.specs.Kept.{EventEntry, events_of, flags_at, flag_of}
 use Rattle.b67_events.specs.declared.Waiting.{Waiting}
 use Rattle.b67_events.proofs.Shown.{happened-shown}
 
@@ -18,8 +18,8 @@ first-same t u same n [] = refl
 first-same t u same n (at ∷ places) =
     ap (λ b. cond b (Some n) (first_that t (n + 1) places)) (same at) ∙ ap (λ o. cond (u at) (Some n) o) (first-same t u same (n + 1) places)
 
-pub first-shown : (fs : List Entry) (ws : List Waiting) (places : List Place)
-    → first_that (λ p. flag_of (λ f. f.happened) (flags_at p fs)) 1 places ≡ first_happened places (events_of fs ws)
+pub first-shown : (fs : List EventEntry) (ws : List Waiting) (places : List Place)
+    → first_that (λ p. flag_of (λ f. f.happened) (flags_at p fs)) 1 places ≡ first_event_happened places (events_of fs ws)
 first-shown fs ws places =
     first-same (λ p. flag_of (λ f. f.happened) (flags_at p fs)) (λ p. happened_at p (events_of fs ws)) (λ p. sym (happened-shown p fs ws)) 1 places
 
@@ -151,11 +151,11 @@ cond-both false true places = refl
 cond-both false false places = refl
 
 -- who is released has no list, and every other one keeps its own
-pub list-unlisted : (ps : List ℕ) (lists : List (List Place)) (q : ℕ) → list_of q (unlisted ps lists) ≡ cond (is_one_of ps q) [] (list_of q lists)
+pub list-unlisted : (ps : List ℕ) (lists : List (List Place)) (q : ℕ) → list_of q (unlisted ps lists) ≡ cond (waiter_is_one_of ps q) [] (list_of q lists)
 list-unlisted [] lists q = refl
 list-unlisted (p ∷ ps) lists q =
-    list-unlisted ps (set_numbered lists p []) q ∙ ap (λ places. cond (is_one_of ps q) [] places) (list-gone lists p q)
-    ∙ cond-both (eqb q p) (is_one_of ps q) (list_of q lists)
+    list-unlisted ps (set_numbered lists p []) q ∙ ap (λ places. cond (waiter_is_one_of ps q) [] places) (list-gone lists p q)
+    ∙ cond-both (eqb q p) (waiter_is_one_of ps q) (list_of q lists)
 
 length-numbered : (lists : List (List Place)) (p : ℕ) → length (set_numbered lists p []) ≡ length lists
 length-numbered lists zero = refl

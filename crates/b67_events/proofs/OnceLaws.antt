@@ -9,9 +9,9 @@ use Rattle.b67_deeds.specs.declared.EventAct.TheVariants as act
 use Rattle.b67_deeds.specs.declared.EventTest.TheVariants as test
 use Rattle.b67_deeds.specs.Events.{EventState, caused, let_go, left_by, joined, queued, taken, served, passed_on}
 use Rattle.b67_deeds.specs.Deeds.{EventDeed, acts, tests, goes, waits, procures}
-use Rattle.b67_events.specs.Events.{Event, same_place, event_at, is_open, is_from, state_of, waiters_at, procurers_at, happened_at, available_at, is_waiting, changed, with_state, changed_by, deed_at, done_at, fresh, is_before, placed, is_one_of, is_among, withdrawn, joined_all}
-use Rattle.b67_events.specs.Laws.{AreApart}
-use Rattle.b67_events.specs.Once.{times_in, times, waiters_of, procurers_of, is_waiter, WaitsOneWay, EachOnce, MayWait, EachWaitsOnce, ReleasedWaitNowhere}
+use Rattle.b67_events.specs.Events.{Event, same_place, event_at, is_open, is_from, state_of, waiters_at, procurers_at, happened_at, available_at, is_waiting, event_changed, with_state, changed_by, deed_at, done_at, fresh, is_before, placed, waiter_is_one_of, event_is_among, withdrawn, joined_all}
+use Rattle.b67_events.specs.Laws.{EventsAreApart}
+use Rattle.b67_events.specs.Once.{times_in, waiting_times, waiters_of, procurers_of, is_waiter, WaitsOneWay, EachOnce, MayWait, EachWaitsOnce, ReleasedWaitNowhere}
 use Rattle.b67_events.proofs.Listed.{same_place-true}
 use Rattle.b67_events.proofs.Queued.{any-filter}
 
@@ -45,7 +45,7 @@ times_in-join : (p : ℕ) (xs ys : List ℕ) → times_in p (xs ++ ys) ≡ times
 times_in-join p [] ys = omega arith
 times_in-join p (x ∷ xs) ys = let rest = times_in-join p xs ys in omega arith
 
-times-none : (p : ℕ) (es : List Event) → is_waiting p es ≡ false → times all_of p es ≡ 0
+times-none : (p : ℕ) (es : List Event) → is_waiting p es ≡ false → waiting_times all_of p es ≡ 0
 times-none p [] h = refl
 times-none p (e ∷ es) h =
     let parts = or_parts (list_any (eqb p) (e.state.waiters ++ e.state.procurers)) (is_waiting p es) h in
@@ -53,7 +53,7 @@ times-none p (e ∷ es) h =
     let rest = times-none p es parts.1 in
     omega arith
 
-waiting-none : (p : ℕ) (es : List Event) → times all_of p es ≡ 0 → is_waiting p es ≡ false
+waiting-none : (p : ℕ) (es : List Event) → waiting_times all_of p es ≡ 0 → is_waiting p es ≡ false
 waiting-none p [] h = refl
 waiting-none p (e ∷ es) h = false_from_ne_true (is_waiting p (e ∷ es)) (λ k.
     elim (or_cases (list_any (eqb p) (e.state.waiters ++ e.state.procurers)) (is_waiting p es) k) [
@@ -63,7 +63,7 @@ waiting-none p (e ∷ es) h = false_from_ne_true (is_waiting p (e ∷ es)) (λ k
     ])
 
 -- who procures waits
-procures-less : (p : ℕ) (es : List Event) → times procurers_of p es ≤ times all_of p es
+procures-less : (p : ℕ) (es : List Event) → waiting_times procurers_of p es ≤ waiting_times all_of p es
 procures-less p [] = omega arith
 procures-less p (e ∷ es) =
     let both = times_in-join p e.state.waiters e.state.procurers in
@@ -78,7 +78,7 @@ module _ (lists : EventState → List ℕ) (p : ℕ) where
   count e = times_in p (lists e.state)
 
   times-fewer : (at : Place) (change : EventState → EventState) → ((s : EventState) → times_in p (lists (change s)) ≤ times_in p (lists s))
-      → (es : List Event) → times lists p (changed at (with_state change) es) ≤ times lists p es
+      → (es : List Event) → waiting_times lists p (event_changed at (with_state change) es) ≤ waiting_times lists p es
   unfolding one_of count
   times-fewer at change less [] = omega arith
   times-fewer at change less (e ∷ es) =
@@ -91,52 +91,52 @@ module _ (lists : EventState → List ℕ) (p : ℕ) where
       omega arith
 
   times-mapped : (change : Event → Event) → ((e : Event) → times_in p (lists (change e).state) ≤ times_in p (lists e.state))
-      → (es : List Event) → times lists p (map change es) ≤ times lists p es
+      → (es : List Event) → waiting_times lists p (map change es) ≤ waiting_times lists p es
   times-mapped change less [] = omega arith
   times-mapped change less (e ∷ es) = let rest = times-mapped change less es in let head = less e in omega arith
 
-  times-filter : (r : Event → Bool) (es : List Event) → times lists p (filter r es) ≤ times lists p es
+  times-filter : (r : Event → Bool) (es : List Event) → waiting_times lists p (filter r es) ≤ waiting_times lists p es
   times-filter r [] = omega arith
   times-filter r (e ∷ es) =
       let rest = times-filter r es in
       elim (cases_Bool (r e)) [
-        | inl h ↦ let is : times lists p (filter r (e ∷ es)) ≡ times lists p (e ∷ filter r es) = ap (times lists p) (cond-true (r e) (e ∷ filter r es) (filter r es) h) in omega arith
-        | inr h ↦ let is : times lists p (filter r (e ∷ es)) ≡ times lists p (filter r es) = ap (times lists p) (cond-false (r e) (e ∷ filter r es) (filter r es) h) in omega arith
+        | inl h ↦ let is : waiting_times lists p (filter r (e ∷ es)) ≡ waiting_times lists p (e ∷ filter r es) = ap (waiting_times lists p) (cond-true (r e) (e ∷ filter r es) (filter r es) h) in omega arith
+        | inr h ↦ let is : waiting_times lists p (filter r (e ∷ es)) ≡ waiting_times lists p (filter r es) = ap (waiting_times lists p) (cond-false (r e) (e ∷ filter r es) (filter r es) h) in omega arith
       ]
 
-  times-placed : (f : Event) (es : List Event) → times lists p (placed f es) ≡ times lists p es + times_in p (lists f.state)
+  times-placed : (f : Event) (es : List Event) → waiting_times lists p (placed f es) ≡ waiting_times lists p es + times_in p (lists f.state)
   times-placed f [] = omega arith
   times-placed f (e ∷ es) =
       let rest = times-placed f es in
       elim (cases_Bool (is_before f.place e.place)) [
-        | inl h ↦ ap (times lists p) (cond-true (is_before f.place e.place) (f ∷ e ∷ es) (e ∷ placed f es) h) ∙ omega arith
-        | inr h ↦ ap (times lists p) (cond-false (is_before f.place e.place) (f ∷ e ∷ es) (e ∷ placed f es) h) ∙ omega arith
+        | inl h ↦ ap (waiting_times lists p) (cond-true (is_before f.place e.place) (f ∷ e ∷ es) (e ∷ placed f es) h) ∙ omega arith
+        | inr h ↦ ap (waiting_times lists p) (cond-false (is_before f.place e.place) (f ∷ e ∷ es) (e ∷ placed f es) h) ∙ omega arith
       ]
 
-unchanged : (at : Place) (change : Event → Event) (es : List Event) → is_open at es ≡ false → changed at change es ≡ es
+unchanged : (at : Place) (change : Event → Event) (es : List Event) → is_open at es ≡ false → event_changed at change es ≡ es
 unchanged at change [] h = refl
 unchanged at change (e ∷ es) h =
     let b = same_place e.place at in
     let parts = or_parts b (is_open at es) h in
-    ap (λ x. x ∷ changed at change es) (cond-false b (change e) e parts.0) ∙ ap (λ xs. e ∷ xs) (unchanged at change es parts.1)
+    ap (λ x. x ∷ event_changed at change es) (cond-false b (change e) e parts.0) ∙ ap (λ xs. e ∷ xs) (unchanged at change es parts.1)
 
 -- one more waits to procure the event at a place
-queued-more : (p q : ℕ) (at : Place) (es : List Event) → AreApart es
-    → times procurers_of q (changed at (with_state (queued p)) es) ≤ times procurers_of q es + one_if (eqb q p)
+queued-more : (p q : ℕ) (at : Place) (es : List Event) → EventsAreApart es
+    → waiting_times procurers_of q (event_changed at (with_state (queued p)) es) ≤ waiting_times procurers_of q es + one_if (eqb q p)
 queued-more p q at [] apart = omega arith
 queued-more p q at (e ∷ es) apart =
     let b = same_place e.place at in
     let more = with_state (queued p) in
-    let rest = changed at more es in
+    let rest = event_changed at more es in
     elim (cases_Bool b) [
       | inl h ↦
           let none : is_open at es ≡ false = ap (λ x. is_open x es) (sym (same_place-true e.place at h)) ∙ apart.0 in
-          let is : times procurers_of q (changed at more (e ∷ es)) ≡ times procurers_of q (more e ∷ es) =
-          ap (λ x. times procurers_of q (x ∷ rest)) (cond-true b (more e) e h) ∙ ap (λ xs. times procurers_of q (more e ∷ xs)) (unchanged at more es none) in
+          let is : waiting_times procurers_of q (event_changed at more (e ∷ es)) ≡ waiting_times procurers_of q (more e ∷ es) =
+          ap (λ x. waiting_times procurers_of q (x ∷ rest)) (cond-true b (more e) e h) ∙ ap (λ xs. waiting_times procurers_of q (more e ∷ xs)) (unchanged at more es none) in
           let one = times_in-push q p e.state.procurers in omega arith
       | inr h ↦
-          let is : times procurers_of q (changed at more (e ∷ es)) ≡ times procurers_of q (e ∷ rest) =
-          ap (λ x. times procurers_of q (x ∷ rest)) (cond-false b (more e) e h) in
+          let is : waiting_times procurers_of q (event_changed at more (e ∷ es)) ≡ waiting_times procurers_of q (e ∷ rest) =
+          ap (λ x. waiting_times procurers_of q (x ∷ rest)) (cond-false b (more e) e h) in
           let tail = queued-more p q at es apart.1 in
           omega arith
     ]
@@ -177,11 +177,11 @@ abbrev StaysOnce : ℕ → (EventState → EventState) → Event → Type 0
 StaysOnce p change e = StandsOnce p e → StandsOnce p (with_state change e)
 
 all-changed : (p : ℕ) (at : Place) (change : EventState → EventState) (es : List Event) → All (StaysOnce p change) es → All (StandsOnce p) es
-    → All (StandsOnce p) (changed at (with_state change) es)
+    → All (StandsOnce p) (event_changed at (with_state change) es)
 all-changed p at change [] k h = h
 all-changed p at change (e ∷ es) k h =
     let one = by_test (same_place e.place at) in
-    All-cons (StandsOnce p) _ (changed at (with_state change) es) one
+    All-cons (StandsOnce p) _ (event_changed at (with_state change) es) one
     (all-changed p at change es (All-tail (StaysOnce p change) e es k) (All-tail (StandsOnce p) e es h))
   where
     by_test : (b : Bool) → StandsOnce p (cond b (with_state change e) e)
@@ -212,26 +212,26 @@ all-joined p q (e ∷ es) idle =
 -- a change by which nobody stands in a list more often
 once-fewer : (at : Place) (change : EventState → EventState) → ((q : ℕ) (s : EventState) → times_in q (change s).waiters ≤ times_in q s.waiters)
     → ((q : ℕ) (s : EventState) → times_in q (change s).procurers ≤ times_in q s.procurers)
-    → (es : List Event) → EachOnce es → EachOnce (changed at (with_state change) es)
+    → (es : List Event) → EachOnce es → EachOnce (event_changed at (with_state change) es)
 once-fewer at change fewer less es h = record {
   waiting = λ q. all-changed q at change es (all-stay q change (λ s k. let f = fewer q s in omega arith) es) (h.waiting q);
   procuring = λ q. let f = times-fewer procurers_of q at change (less q) es in let k = h.procuring q in omega arith;
 }
 
-once-joined : (at : Place) (p : ℕ) (es : List Event) → is_waiting p es ≡ false → EachOnce es → EachOnce (changed at (with_state (joined p)) es)
+once-joined : (at : Place) (p : ℕ) (es : List Event) → is_waiting p es ≡ false → EachOnce es → EachOnce (event_changed at (with_state (joined p)) es)
 once-joined at p es idle h = record {
   waiting = λ q. all-changed q at (joined p) es (all-joined p q es idle) (h.waiting q);
   procuring = λ q. let f = times-fewer procurers_of q at (joined p) (λ s. omega arith) es in let k = h.procuring q in omega arith;
 }
 
-once-queued : (at : Place) (p : ℕ) (es : List Event) → AreApart es → is_waiting p es ≡ false → EachOnce es → EachOnce (changed at (with_state (queued p)) es)
+once-queued : (at : Place) (p : ℕ) (es : List Event) → EventsAreApart es → is_waiting p es ≡ false → EachOnce es → EachOnce (event_changed at (with_state (queued p)) es)
 once-queued at p es apart idle h = record {
   waiting = λ q. all-changed q at (queued p) es (all-stay q (queued p) (λ s k. k) es) (h.waiting q);
   procuring = λ q.
       let grown = queued-more p q at es apart in
       elim (cases_Bool (eqb q p)) [
         | inl e ↦
-            let none : times all_of q es ≡ 0 = ap (λ k. times all_of k es) (eqb-true q p e) ∙ times-none p es idle in
+            let none : waiting_times all_of q es ≡ 0 = ap (λ k. waiting_times all_of k es) (eqb-true q p e) ∙ times-none p es idle in
             let less = procures-less q es in
             let is : one_if (eqb q p) ≡ 1 = cond-true (eqb q p) 1 0 e in omega arith
         | inr e ↦
@@ -240,7 +240,7 @@ once-queued at p es apart idle h = record {
       ];
 }
 
-once-passed : (at : Place) (xs : List ℕ) (es : List Event) → EachOnce es → EachOnce (changed at (with_state (passed_on xs)) es)
+once-passed : (at : Place) (xs : List ℕ) (es : List Event) → EachOnce es → EachOnce (event_changed at (with_state (passed_on xs)) es)
 once-passed at [] es h = once-fewer at (passed_on []) (λ q s. omega arith) (λ q s. omega arith) es h
 once-passed at (x ∷ xs) es h = once-fewer at (passed_on (x ∷ xs)) (λ q s. omega arith) (λ q s. times_in-drop q s.procurers) es h
 
@@ -268,17 +268,17 @@ several-once p q places (e ∷ es) idle h =
     let parts = or_parts (list_any (eqb p) (e.state.waiters ++ e.state.procurers)) (is_waiting p es) idle in
     let stays = all-joined p q (e ∷ es) idle in
     All-cons (StandsOnce q) _ (joined_all places p es)
-    (by_test (All-head (StaysOnce q (joined p)) e es stays) (All-head (StandsOnce q) e es h) (is_among places e.place))
+    (by_test (All-head (StaysOnce q (joined p)) e es stays) (All-head (StandsOnce q) e es h) (event_is_among places e.place))
     (several-once p q places es parts.1 (All-tail (StandsOnce q) e es h))
   where
     by_test : StaysOnce q (joined p) e → StandsOnce q e → (b : Bool) → StandsOnce q (cond b (with_state (joined p) e) e)
     by_test stays one true = stays one
     by_test stays one false = one
 
-several-procures : (p q : ℕ) (places : List Place) (es : List Event) → times procurers_of q (joined_all places p es) ≤ times procurers_of q es
+several-procures : (p q : ℕ) (places : List Place) (es : List Event) → waiting_times procurers_of q (joined_all places p es) ≤ waiting_times procurers_of q es
 several-procures p q places es =
-    times-mapped procurers_of q (λ e. cond (is_among places e.place) (with_state (joined p) e) e)
-    (λ e. by_test e (is_among places e.place)) es
+    times-mapped procurers_of q (λ e. cond (event_is_among places e.place) (with_state (joined p) e) e)
+    (λ e. by_test e (event_is_among places e.place)) es
   where
     by_test : (e : Event) (b : Bool) → times_in q (cond b (with_state (joined p) e) e).state.procurers ≤ times_in q e.state.procurers
     by_test e true = omega arith
@@ -292,9 +292,9 @@ once-several places p es idle h = record {
 
 once-deed : (x : EventDeed) (p : ℕ) (at : Place) (es : List Event) → MayWait (deed_at x p at es).next p es → EachOnce es → EachOnce (done_at x p at es)
 once-deed (acts act.Cause) p at es may h =
-    once-withdrawn (waiters_at at es) (changed at (with_state caused) es) (once-fewer at caused (λ q s. omega arith) (λ q s. omega arith) es h)
+    once-withdrawn (waiters_at at es) (event_changed at (with_state caused) es) (once-fewer at caused (λ q s. omega arith) (λ q s. omega arith) es h)
 once-deed (acts act.CauseAndReset) p at es may h =
-    once-withdrawn (waiters_at at es) (changed at (with_state let_go) es) (once-fewer at let_go (λ q s. omega arith) (λ q s. omega arith) es h)
+    once-withdrawn (waiters_at at es) (event_changed at (with_state let_go) es) (once-fewer at let_go (λ q s. omega arith) (λ q s. omega arith) es h)
 once-deed (acts act.Reset) p at es may h = once-fewer at _ (λ q s. omega arith) (λ q s. omega arith) es h
 once-deed (acts act.Wait) p at es may h = by_flag (happened_at at es) may
   where
@@ -303,7 +303,7 @@ once-deed (acts act.Wait) p at es may h = by_flag (happened_at at es) may
     by_flag false m = once-joined at p es m.1 h
 once-deed (acts act.Procure) p at es may h = by_flag (available_at at es) may
   where
-    by_flag : (b : Bool) → MayWait (cond b goes procures) p es → EachOnce (changed at (with_state (cond b taken (queued p))) es)
+    by_flag : (b : Bool) → MayWait (cond b goes procures) p es → EachOnce (event_changed at (with_state (cond b taken (queued p))) es)
     by_flag true m = once-fewer at taken (λ q s. omega arith) (λ q s. omega arith) es h
     by_flag false m = once-queued at p es m.0 m.1 h
 once-deed (acts act.Liberate) p at es may h = once-passed at (procurers_at at es) es h
@@ -338,7 +338,7 @@ waits_once = record {
 -- ---- who is released waits nowhere
 
 -- who is not among those who wait for an event to happen, nor to procure one, waits nowhere
-waiters-none : (p : ℕ) (es : List Event) → is_waiter p es ≡ false → times waiters_of p es ≡ 0
+waiters-none : (p : ℕ) (es : List Event) → is_waiter p es ≡ false → waiting_times waiters_of p es ≡ 0
 waiters-none p [] h = refl
 waiters-none p (e ∷ es) h =
     let parts = or_parts (list_any (eqb p) e.state.waiters) (is_waiter p es) h in
@@ -346,10 +346,10 @@ waiters-none p (e ∷ es) h =
     let rest = waiters-none p es parts.1 in
     omega arith
 
-both-none : (p : ℕ) (es : List Event) → times waiters_of p es ≡ 0 → times procurers_of p es ≡ 0 → is_waiting p es ≡ false
+both-none : (p : ℕ) (es : List Event) → waiting_times waiters_of p es ≡ 0 → waiting_times procurers_of p es ≡ 0 → is_waiting p es ≡ false
 both-none p es unwaited unprocured = waiting-none p es (sum es unwaited unprocured)
   where
-    sum : (xs : List Event) → times waiters_of p xs ≡ 0 → times procurers_of p xs ≡ 0 → times all_of p xs ≡ 0
+    sum : (xs : List Event) → waiting_times waiters_of p xs ≡ 0 → waiting_times procurers_of p xs ≡ 0 → waiting_times all_of p xs ≡ 0
     sum [] h k = refl
     sum (e ∷ xs) h k =
         let both = times_in-join p e.state.waiters e.state.procurers in
@@ -389,15 +389,15 @@ withdrawn-stays : (ps : List ℕ) (q : ℕ) (es : List Event) → is_waiter q es
 withdrawn-stays [] q es h = h
 withdrawn-stays (p ∷ ps) q es h = withdrawn-stays ps q (map (with_state (left_by p)) es) (left-stays p q es h)
 
-withdrawn-none : (ps : List ℕ) (q : ℕ) (es : List Event) → is_one_of ps q ≡ true → is_waiter q (withdrawn ps es) ≡ false
+withdrawn-none : (ps : List ℕ) (q : ℕ) (es : List Event) → waiter_is_one_of ps q ≡ true → is_waiter q (withdrawn ps es) ≡ false
 withdrawn-none [] q es h = cc
-withdrawn-none (p ∷ ps) q es h = elim (or_cases (eqb q p) (is_one_of ps q) h) [
+withdrawn-none (p ∷ ps) q es h = elim (or_cases (eqb q p) (waiter_is_one_of ps q) h) [
   | inl e ↦ withdrawn-stays ps q (map (with_state (left_by p)) es) (left-none p q es e)
   | inr e ↦ withdrawn-none ps q (map (with_state (left_by p)) es) e
 ]
 
 -- nobody waits to procure more by that
-withdrawn-procures : (ps : List ℕ) (q : ℕ) (es : List Event) → times procurers_of q (withdrawn ps es) ≤ times procurers_of q es
+withdrawn-procures : (ps : List ℕ) (q : ℕ) (es : List Event) → waiting_times procurers_of q (withdrawn ps es) ≤ waiting_times procurers_of q es
 withdrawn-procures [] q es = omega arith
 withdrawn-procures (p ∷ ps) q es =
     let rest = withdrawn-procures ps q (map (with_state (left_by p)) es) in
@@ -406,7 +406,7 @@ withdrawn-procures (p ∷ ps) q es =
 
 -- who stands in a list of the event at a place stands in such lists
 there-counted : (lists : EventState → List ℕ) (q : ℕ) (at : Place) → lists (state_of None) ≡ [] → (es : List Event)
-    → times_in q (lists (state_of (event_at at es))) ≤ times lists q es
+    → times_in q (lists (state_of (event_at at es))) ≤ waiting_times lists q es
 there-counted lists q at none [] = let nobody : times_in q (lists (state_of None)) ≡ 0 = ap (times_in q) none in omega arith
 there-counted lists q at none (e ∷ es) =
     let b = same_place e.place at in
@@ -422,13 +422,13 @@ there-counted lists q at none (e ∷ es) =
 
 -- all who wait for an event are released
 released-nowhere : (q : ℕ) (at : Place) (change : EventState → EventState) → ((s : EventState) → (change s).procurers ≡ s.procurers) → (es : List Event)
-    → WaitsOneWay q es → is_one_of (waiters_at at es) q ≡ true → is_waiting q (withdrawn (waiters_at at es) (changed at (with_state change) es)) ≡ false
+    → WaitsOneWay q es → waiter_is_one_of (waiters_at at es) q ≡ true → is_waiting q (withdrawn (waiters_at at es) (event_changed at (with_state change) es)) ≡ false
 released-nowhere q at change same es one is =
     let ps = waiters_at at es in
-    let after = changed at (with_state change) es in
+    let after = event_changed at (with_state change) es in
     let some = times_in-some q ps is in
     let counted = there-counted waiters_of q at refl es in
-    let before : times procurers_of q es ≡ 0 = elim one [
+    let before : waiting_times procurers_of q es ≡ 0 = elim one [
       | inl none ↦ none
       | inr both ↦ let none = both.0 in absurd (omega (arith, some, counted, none))
     ] in
@@ -442,35 +442,35 @@ times_in-first p (x ∷ xs) = omega arith
 
 -- the first procurer is served
 served-less : (q : ℕ) (at : Place) (es : List Event)
-    → times procurers_of q (changed at (with_state served) es) + times_in q (take 1 (procurers_at at es)) ≤ times procurers_of q es
+    → waiting_times procurers_of q (event_changed at (with_state served) es) + times_in q (take 1 (procurers_at at es)) ≤ waiting_times procurers_of q es
 served-less q at [] = omega arith
 served-less q at (e ∷ es) =
     let b = same_place e.place at in
-    let rest = changed at (with_state served) es in
+    let rest = event_changed at (with_state served) es in
     elim (cases_Bool b) [
       | inl h ↦
-          let is : times procurers_of q (changed at (with_state served) (e ∷ es)) ≡ times procurers_of q (with_state served e ∷ rest) =
-          ap (λ x. times procurers_of q (x ∷ rest)) (cond-true b (with_state served e) e h) in
+          let is : waiting_times procurers_of q (event_changed at (with_state served) (e ∷ es)) ≡ waiting_times procurers_of q (with_state served e ∷ rest) =
+          ap (λ x. waiting_times procurers_of q (x ∷ rest)) (cond-true b (with_state served e) e h) in
           let here : times_in q (take 1 (procurers_at at (e ∷ es))) ≡ times_in q (take 1 e.state.procurers) =
           ap (λ o. times_in q (take 1 (state_of o).procurers)) (cond-true b (Some e) (event_at at es) h) in
           let head = times_in-first q e.state.procurers in
           let fewer = times-fewer procurers_of q at served (λ s. times_in-drop q s.procurers) es in
           omega arith
       | inr h ↦
-          let is : times procurers_of q (changed at (with_state served) (e ∷ es)) ≡ times procurers_of q (e ∷ rest) =
-          ap (λ x. times procurers_of q (x ∷ rest)) (cond-false b (with_state served e) e h) in
+          let is : waiting_times procurers_of q (event_changed at (with_state served) (e ∷ es)) ≡ waiting_times procurers_of q (e ∷ rest) =
+          ap (λ x. waiting_times procurers_of q (x ∷ rest)) (cond-false b (with_state served e) e h) in
           let here : times_in q (take 1 (procurers_at at (e ∷ es))) ≡ times_in q (take 1 (procurers_at at es)) =
           ap (λ o. times_in q (take 1 (state_of o).procurers)) (cond-false b (Some e) (event_at at es) h) in
           let tail = served-less q at es in
           omega arith
     ]
 
-served-nowhere : (q : ℕ) (at : Place) (es : List Event) → WaitsOneWay q es → is_one_of (take 1 (procurers_at at es)) q ≡ true
-    → is_waiting q (changed at (with_state (passed_on (procurers_at at es))) es) ≡ false
+served-nowhere : (q : ℕ) (at : Place) (es : List Event) → WaitsOneWay q es → waiter_is_one_of (take 1 (procurers_at at es)) q ≡ true
+    → is_waiting q (event_changed at (with_state (passed_on (procurers_at at es))) es) ≡ false
 served-nowhere q at es one is = by_list (procurers_at at es) refl
   where
-    by_list : (xs : List ℕ) → procurers_at at es ≡ xs → is_waiting q (changed at (with_state (passed_on xs)) es) ≡ false
-    by_list [] e = let no : is_one_of (take 1 (procurers_at at es)) q ≡ false = ap (λ ys. is_one_of (take 1 ys) q) e in absurd (both_ways (is_one_of (take 1 (procurers_at at es)) q) no is)
+    by_list : (xs : List ℕ) → procurers_at at es ≡ xs → is_waiting q (event_changed at (with_state (passed_on xs)) es) ≡ false
+    by_list [] e = let no : waiter_is_one_of (take 1 (procurers_at at es)) q ≡ false = ap (λ ys. waiter_is_one_of (take 1 ys) q) e in absurd (both_ways (waiter_is_one_of (take 1 (procurers_at at es)) q) no is)
     by_list (x ∷ xs) e =
         let some = times_in-some q (take 1 (procurers_at at es)) is in
         let less = served-less q at es in
@@ -480,12 +480,12 @@ served-nowhere q at es one is = by_list (procurers_at at es) refl
           | inr both ↦
               let no = both.0 in
               let once = both.1 in
-              both-none q (changed at (with_state served) es) (omega (arith, fewer, no)) (omega (arith, less, some, once))
+              both-none q (event_changed at (with_state served) es) (omega (arith, fewer, no)) (omega (arith, less, some, once))
         ]
 
-nobody_withdrawn : (x : EventDeed) (p q : ℕ) (at : Place) (es : List Event) → is_one_of (deed_at x p at es).withdraws q ≡ true → is_waiter q (done_at x p at es) ≡ false
-nobody_withdrawn (acts act.Cause) p q at es is = withdrawn-none (waiters_at at es) q (changed at (with_state caused) es) is
-nobody_withdrawn (acts act.CauseAndReset) p q at es is = withdrawn-none (waiters_at at es) q (changed at (with_state let_go) es) is
+nobody_withdrawn : (x : EventDeed) (p q : ℕ) (at : Place) (es : List Event) → waiter_is_one_of (deed_at x p at es).withdraws q ≡ true → is_waiter q (done_at x p at es) ≡ false
+nobody_withdrawn (acts act.Cause) p q at es is = withdrawn-none (waiters_at at es) q (event_changed at (with_state caused) es) is
+nobody_withdrawn (acts act.CauseAndReset) p q at es is = withdrawn-none (waiters_at at es) q (event_changed at (with_state let_go) es) is
 nobody_withdrawn (acts act.Reset) p q at es is = cc
 nobody_withdrawn (acts act.Wait) p q at es is = cc
 nobody_withdrawn (acts act.Procure) p q at es is = cc
@@ -495,7 +495,7 @@ nobody_withdrawn (tests test.Available) p q at es is = cc
 nobody_withdrawn (tests test.Fix) p q at es is = cc
 nobody_withdrawn (tests test.WaitAny) p q at es is = cc
 
-freed_nowhere : (x : EventDeed) (p q : ℕ) (at : Place) (es : List Event) → WaitsOneWay q es → is_one_of (deed_at x p at es).frees q ≡ true
+freed_nowhere : (x : EventDeed) (p q : ℕ) (at : Place) (es : List Event) → WaitsOneWay q es → waiter_is_one_of (deed_at x p at es).frees q ≡ true
     → is_waiting q (done_at x p at es) ≡ false
 freed_nowhere (acts act.Cause) p q at es one is = released-nowhere q at caused (λ s. refl) es one is
 freed_nowhere (acts act.CauseAndReset) p q at es one is = released-nowhere q at let_go (λ s. refl) es one is

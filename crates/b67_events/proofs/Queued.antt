@@ -6,7 +6,7 @@ use Rattle.std.proofs.lemmas.Bool.{cases_Bool, cond-true, cond-false, and_parts,
 use Rattle.std.proofs.lemmas.List.Folds.{list_any-append}
 use Rattle.b67_word.specs.declared.Place.{Place}
 use Rattle.b67_events.specs.Events.{same_place, is_before, is_waiting}
-use Rattle.b67_events.specs.Kept.{same_queue, stands_in, listed, Entry, events_of, has_flags, set_flags, put, without_first, among, is_same, stands_again, AreQueued, numbers_of}
+use Rattle.b67_events.specs.Kept.{same_queue, stands_in, waiters_listed, EventEntry, events_of, has_flags, set_flags, event_put, without_first, among, is_same, stands_again, AreQueued, waiter_numbers_of}
 use Rattle.b67_events.specs.Once.{times_in}
 use Rattle.b67_events.specs.declared.Flags.{Flags}
 use Rattle.b67_events.specs.declared.Queue.{Queue}
@@ -37,7 +37,7 @@ module _ {X : Type 0} where
       ]
 
 -- some who wait go, and the events that the others wait for stay open
-pub queued-filter : (fs gs : List Entry) (n : ℕ) (r : Waiting → Bool)
+pub queued-filter : (fs gs : List EventEntry) (n : ℕ) (r : Waiting → Bool)
     → ((w : Waiting) → r w ≡ true → has_flags w.place fs ≡ true → has_flags w.place gs ≡ true)
     → (ws : List Waiting) → AreQueued fs n ws → AreQueued gs n (filter r ws)
 queued-filter fs gs n r stays [] h = tt
@@ -50,12 +50,12 @@ queued-filter fs gs n r stays (w ∷ ws) h =
       | inr e ↦ subst (AreQueued gs n) (sym (cond-false (r w) (w ∷ filter r ws) (filter r ws) e)) rest
     ]
 
-pub queued-flags : (fs gs : List Entry) (n : ℕ) → ((at : Place) → has_flags at fs ≡ true → has_flags at gs ≡ true)
+pub queued-flags : (fs gs : List EventEntry) (n : ℕ) → ((at : Place) → has_flags at fs ≡ true → has_flags at gs ≡ true)
     → (ws : List Waiting) → AreQueued fs n ws → AreQueued gs n ws
 queued-flags fs gs n stays [] h = tt
 queued-flags fs gs n stays (w ∷ ws) h = (h.0, h.1, stays w.place h.2, h.3, queued-flags fs gs n stays ws h.4)
 
-pub queued-first : (fs gs : List Entry) (n : ℕ) (u : Waiting → Bool)
+pub queued-first : (fs gs : List EventEntry) (n : ℕ) (u : Waiting → Bool)
     → ((at : Place) → has_flags at fs ≡ true → has_flags at gs ≡ true)
     → (ws : List Waiting) → AreQueued fs n ws → AreQueued gs n (without_first u ws)
 queued-first fs gs n u stays [] h = tt
@@ -67,7 +67,7 @@ queued-first fs gs n u stays (w ∷ ws) h = elim (cases_Bool (u w)) [
 ]
 
 -- one more waits, who does not stand there yet
-pub queued-push : (fs : List Entry) (n : ℕ) (w : Waiting) → 1 ≤ w.process → w.process ≤ n → has_flags w.place fs ≡ true
+pub queued-push : (fs : List EventEntry) (n : ℕ) (w : Waiting) → 1 ≤ w.process → w.process ≤ n → has_flags w.place fs ≡ true
     → (ws : List Waiting) → list_any (λ v. is_same v w) ws ≡ false → AreQueued fs n ws → AreQueued fs n (ws ++ w ∷ [])
 queued-push fs n w low high stays [] idle h = (low, high, stays, refl, tt)
 queued-push fs n w low high stays (v ∷ ws) idle h =
@@ -85,24 +85,24 @@ apart-none w (v ∷ ws) h =
     let other : eqb v.process w.process ≡ false = false_from_ne_true (eqb v.process w.process) (λ k. both_ways (eqb w.process v.process) parts.0 (eq-eqb w.process v.process (sym (eqb-true v.process w.process k)))) in
     or_from (is_same v w) (list_any (λ u. is_same u w) ws) (and_left (eqb v.process w.process) (stands_in v.queue v.place w) other) (apart-none w ws parts.1)
 
-pub among-none : (p : ℕ) (ws : List Waiting) → among p ws ≡ false → times_in p (numbers_of ws) ≡ 0
+pub among-none : (p : ℕ) (ws : List Waiting) → among p ws ≡ false → times_in p (waiter_numbers_of ws) ≡ 0
 among-none p ws h = times-none (λ w. w.process) p ws h
 
 -- flags that are set, and events that are closed elsewhere, leave events open
-pub open-set : (at : Place) (change : Flags → Flags) (fs : List Entry) (p : Place) → has_flags p (set_flags at change fs) ≡ has_flags p fs
+pub open-set : (at : Place) (change : Flags → Flags) (fs : List EventEntry) (p : Place) → has_flags p (set_flags at change fs) ≡ has_flags p fs
 open-set at change [] p = refl
 open-set at change (f ∷ fs) p =
     let b = same_place f.0 at in
     let place : (cond b (f.0, change f.1) f).0 ≡ f.0 = elim (cases_Bool b) [
-      | inl e ↦ ap (λ (g : Entry). g.0) (cond-true b (f.0, change f.1) f e)
-      | inr e ↦ ap (λ (g : Entry). g.0) (cond-false b (f.0, change f.1) f e)
+      | inl e ↦ ap (λ (g : EventEntry). g.0) (cond-true b (f.0, change f.1) f e)
+      | inr e ↦ ap (λ (g : EventEntry). g.0) (cond-false b (f.0, change f.1) f e)
     ] in
     ap (λ q. same_place q p || has_flags p (set_flags at change fs)) place ∙ ap (λ t. same_place f.0 p || t) (open-set at change fs p)
 
-pub open-filter : (r : Place → Bool) (fs : List Entry) (p : Place) → r p ≡ true → has_flags p fs ≡ true → has_flags p (filter (λ f. r f.0) fs) ≡ true
+pub open-filter : (r : Place → Bool) (fs : List EventEntry) (p : Place) → r p ≡ true → has_flags p fs ≡ true → has_flags p (filter (λ f. r f.0) fs) ≡ true
 open-filter r [] p k h = h
 open-filter r (f ∷ fs) p k h =
-    let rest = filter (λ (g : Entry). r g.0) fs in
+    let rest = filter (λ (g : EventEntry). r g.0) fs in
     let b = r f.0 in
     elim (or_cases (same_place f.0 p) (has_flags p fs) h) [
       | inl e ↦
@@ -116,7 +116,7 @@ open-filter r (f ∷ fs) p k h =
           ]
     ]
 
-open-both : (f : Entry) (b : Bool) (xs ys : List Entry) (p : Place) → has_flags p xs ≡ has_flags p ys → has_flags p (cond b xs ys) ≡ has_flags p ys
+open-both : (f : EventEntry) (b : Bool) (xs ys : List EventEntry) (p : Place) → has_flags p xs ≡ has_flags p ys → has_flags p (cond b xs ys) ≡ has_flags p ys
 open-both f true xs ys p h = h
 open-both f false xs ys p h = refl
 
@@ -127,17 +127,17 @@ swapped false true c = refl
 swapped false false c = refl
 
 -- an event that is put at its place is open, and what was open stays open
-pub open-put : (f : Entry) (fs : List Entry) (p : Place) → has_flags p (put f fs) ≡ (same_place f.0 p || has_flags p fs)
+pub open-put : (f : EventEntry) (fs : List EventEntry) (p : Place) → has_flags p (event_put f fs) ≡ (same_place f.0 p || has_flags p fs)
 open-put f [] p = refl
 open-put f (g ∷ gs) p =
-    let last : has_flags p (g ∷ put f gs) ≡ has_flags p (f ∷ g ∷ gs) =
+    let last : has_flags p (g ∷ event_put f gs) ≡ has_flags p (f ∷ g ∷ gs) =
     ap (λ t. same_place g.0 p || t) (open-put f gs p) ∙ swapped (same_place g.0 p) (same_place f.0 p) (has_flags p gs) in
-    open-both f (is_before f.0 g.0) (f ∷ g ∷ gs) (g ∷ put f gs) p (sym last) ∙ last
+    open-both f (is_before f.0 g.0) (f ∷ g ∷ gs) (g ∷ event_put f gs) p (sym last) ∙ last
 
-pub open-less : (r : Place → Bool) (fs : List Entry) (p : Place) → has_flags p (filter (λ f. r f.0) fs) ≡ true → has_flags p fs ≡ true
+pub open-less : (r : Place → Bool) (fs : List EventEntry) (p : Place) → has_flags p (filter (λ f. r f.0) fs) ≡ true → has_flags p fs ≡ true
 open-less r [] p h = h
 open-less r (f ∷ fs) p h =
-    let rest = filter (λ (g : Entry). r g.0) fs in
+    let rest = filter (λ (g : EventEntry). r g.0) fs in
     elim (cases_Bool (r f.0)) [
       | inl e ↦ elim (or_cases (same_place f.0 p) (has_flags p rest) (sym (ap (has_flags p) (cond-true (r f.0) (f ∷ rest) rest e)) ∙ h)) [
         | inl k ↦ or_left (same_place f.0 p) (has_flags p fs) k
@@ -147,26 +147,26 @@ open-less r (f ∷ fs) p h =
     ]
 
 -- the numbers of those who wait are from 1 to n
-pub queued-known : (fs : List Entry) (n : ℕ) (ws : List Waiting) → AreQueued fs n ws → AreFrom n (numbers_of ws)
+pub queued-known : (fs : List EventEntry) (n : ℕ) (ws : List Waiting) → AreQueued fs n ws → AreFrom n (waiter_numbers_of ws)
 queued-known fs n [] h = tt
 queued-known fs n (w ∷ ws) h = (h.0, h.1, queued-known fs n ws h.4)
 
-pub listed-known : (fs : List Entry) (n : ℕ) (queue : Queue) (at : Place) (ws : List Waiting) → AreQueued fs n ws → AreFrom n (listed queue at ws)
+pub listed-known : (fs : List EventEntry) (n : ℕ) (queue : Queue) (at : Place) (ws : List Waiting) → AreQueued fs n ws → AreFrom n (waiters_listed queue at ws)
 listed-known fs n queue at [] h = tt
 listed-known fs n queue at (w ∷ ws) h =
     let rest = listed-known fs n queue at ws h.4 in
     let t = stands_in queue at w in
     let more = filter (stands_in queue at) ws in
     elim (cases_Bool t) [
-      | inl e ↦ subst (λ vs. AreFrom n (numbers_of vs)) (sym (cond-true t (w ∷ more) more e)) (h.0, h.1, rest)
-      | inr e ↦ subst (λ vs. AreFrom n (numbers_of vs)) (sym (cond-false t (w ∷ more) more e)) rest
+      | inl e ↦ subst (λ vs. AreFrom n (waiter_numbers_of vs)) (sym (cond-true t (w ∷ more) more e)) (h.0, h.1, rest)
+      | inr e ↦ subst (λ vs. AreFrom n (waiter_numbers_of vs)) (sym (cond-false t (w ∷ more) more e)) rest
     ]
 
 -- who does not stand in a list of an event is not listed there
 abbrev waits_there : Queue → Place → ℕ → Waiting → Bool
 waits_there queue at p v = eqb p v.process && stands_in queue at v
 
-times-unlisted : (queue : Queue) (at : Place) (p : ℕ) (ws : List Waiting) → list_any (waits_there queue at p) ws ≡ false → times_in p (listed queue at ws) ≡ 0
+times-unlisted : (queue : Queue) (at : Place) (p : ℕ) (ws : List Waiting) → list_any (waits_there queue at p) ws ≡ false → times_in p (waiters_listed queue at ws) ≡ 0
 times-unlisted queue at p [] h = refl
 times-unlisted queue at p (w ∷ ws) h =
     let parts = or_parts (waits_there queue at p w) (list_any (waits_there queue at p) ws) h in
@@ -177,9 +177,9 @@ times-unlisted queue at p (w ∷ ws) h =
       | inl e ↦
           let other : eqb p w.process ≡ false = false_from_ne_true (eqb p w.process) (λ k. both_ways (waits_there queue at p w) parts.0 (and_from (eqb p w.process) t k e)) in
           let head : one_if (eqb p w.process) ≡ 0 = cond-false (eqb p w.process) 1 0 other in
-          let is : times_in p (numbers_of (w ∷ more)) ≡ 0 = omega arith in
-          ap (λ vs. times_in p (numbers_of vs)) (cond-true t (w ∷ more) more e) ∙ is
-      | inr e ↦ ap (λ vs. times_in p (numbers_of vs)) (cond-false t (w ∷ more) more e) ∙ rest
+          let is : times_in p (waiter_numbers_of (w ∷ more)) ≡ 0 = omega arith in
+          ap (λ vs. times_in p (waiter_numbers_of vs)) (cond-true t (w ∷ more) more e) ∙ is
+      | inr e ↦ ap (λ vs. times_in p (waiter_numbers_of vs)) (cond-false t (w ∷ more) more e) ∙ rest
     ]
 
 same_queue-true : (a b : Queue) → same_queue a b ≡ true → a ≡ b
@@ -189,7 +189,7 @@ same_queue-true Procurers Waiters h = cc
 same_queue-true Procurers Procurers h = refl
 
 -- each stands in a list of an event once
-listed-once : (fs : List Entry) (n : ℕ) (queue : Queue) (at : Place) (p : ℕ) (ws : List Waiting) → AreQueued fs n ws → times_in p (listed queue at ws) ≤ 1
+listed-once : (fs : List EventEntry) (n : ℕ) (queue : Queue) (at : Place) (p : ℕ) (ws : List Waiting) → AreQueued fs n ws → times_in p (waiters_listed queue at ws) ≤ 1
 listed-once fs n queue at p [] h = omega arith
 listed-once fs n queue at p (w ∷ ws) h =
     let rest = listed-once fs n queue at p ws h.4 in
@@ -200,7 +200,7 @@ listed-once fs n queue at p (w ∷ ws) h =
           let parts = and_parts (same_place at w.place) (same_queue queue w.queue) e in
           let place : at ≡ w.place = same_place-true at w.place parts.0 in
           let kind : queue ≡ w.queue = same_queue-true queue w.queue parts.1 in
-          let is : times_in p (listed queue at (w ∷ ws)) ≡ one_if (eqb p w.process) + times_in p (listed queue at ws) = ap (λ vs. times_in p (numbers_of vs)) (cond-true t (w ∷ more) more e) in
+          let is : times_in p (waiters_listed queue at (w ∷ ws)) ≡ one_if (eqb p w.process) + times_in p (waiters_listed queue at ws) = ap (λ vs. times_in p (waiter_numbers_of vs)) (cond-true t (w ∷ more) more e) in
           elim (cases_Bool (eqb p w.process)) [
             | inl k ↦
                 let none : list_any (waits_there queue at p) ws ≡ false =
@@ -210,20 +210,20 @@ listed-once fs n queue at p (w ∷ ws) h =
                 let head : one_if (eqb p w.process) ≡ 1 = cond-true (eqb p w.process) 1 0 k in omega arith
             | inr k ↦ let head : one_if (eqb p w.process) ≡ 0 = cond-false (eqb p w.process) 1 0 k in omega arith
           ]
-      | inr e ↦ let is : times_in p (listed queue at (w ∷ ws)) ≡ times_in p (listed queue at ws) = ap (λ vs. times_in p (numbers_of vs)) (cond-false t (w ∷ more) more e) in omega arith
+      | inr e ↦ let is : times_in p (waiters_listed queue at (w ∷ ws)) ≡ times_in p (waiters_listed queue at ws) = ap (λ vs. times_in p (waiter_numbers_of vs)) (cond-false t (w ∷ more) more e) in omega arith
     ]
 
 -- no more wait for an event than there are processes
-pub room-one : (fs : List Entry) (n : ℕ) (queue : Queue) (at : Place) (ws : List Waiting) → AreQueued fs n ws → length (listed queue at ws) ≤ n
+pub room-one : (fs : List EventEntry) (n : ℕ) (queue : Queue) (at : Place) (ws : List Waiting) → AreQueued fs n ws → length (waiters_listed queue at ws) ≤ n
 room-one fs n queue at ws h =
-    let few = times-bound n 1 (listed queue at ws) (listed-known fs n queue at ws h) (λ p. listed-once fs n queue at p ws h) in
+    let few = times-bound n 1 (waiters_listed queue at ws) (listed-known fs n queue at ws h) (λ p. listed-once fs n queue at p ws h) in
     omega arith
 
 -- a process that no event shows does not wait
 abbrev waits_so : Queue → Place → ℕ → Waiting → Bool
 waits_so queue at p w = stands_in queue at w && eqb p w.process
 
-listed-has : (queue : Queue) (at : Place) (p : ℕ) (ws : List Waiting) → list_any (waits_so queue at p) ws ≡ true → list_any (eqb p) (listed queue at ws) ≡ true
+listed-has : (queue : Queue) (at : Place) (p : ℕ) (ws : List Waiting) → list_any (waits_so queue at p) ws ≡ true → list_any (eqb p) (waiters_listed queue at ws) ≡ true
 listed-has queue at p [] h = h
 listed-has queue at p (w ∷ ws) h =
     let t = stands_in queue at w in
@@ -232,34 +232,34 @@ listed-has queue at p (w ∷ ws) h =
     elim (or_cases (waits_so queue at p w) (list_any (waits_so queue at p) ws) h) [
       | inl e ↦
           let parts = and_parts t (eqb p w.process) e in
-          ap (λ ks. list_any (eqb p) (numbers ks)) (cond-true t (w ∷ rest) rest parts.0) ∙ or_left (eqb p w.process) (list_any (eqb p) (listed queue at ws)) parts.1
+          ap (λ ks. list_any (eqb p) (numbers ks)) (cond-true t (w ∷ rest) rest parts.0) ∙ or_left (eqb p w.process) (list_any (eqb p) (waiters_listed queue at ws)) parts.1
       | inr e ↦
           let more = listed-has queue at p ws e in
           elim (cases_Bool t) [
             | inl k ↦
-                ap (λ ks. list_any (eqb p) (numbers ks)) (cond-true t (w ∷ rest) rest k) ∙ or_right (eqb p w.process) (list_any (eqb p) (listed queue at ws)) more
+                ap (λ ks. list_any (eqb p) (numbers ks)) (cond-true t (w ∷ rest) rest k) ∙ or_right (eqb p w.process) (list_any (eqb p) (waiters_listed queue at ws)) more
             | inr k ↦ ap (λ ks. list_any (eqb p) (numbers ks)) (cond-false t (w ∷ rest) rest k) ∙ more
           ]
     ]
 
-both-have : (queue : Queue) (at : Place) (p : ℕ) (ws : List Waiting) → list_any (eqb p) (listed queue at ws) ≡ true
-    → list_any (eqb p) (listed Waiters at ws ++ listed Procurers at ws) ≡ true
+both-have : (queue : Queue) (at : Place) (p : ℕ) (ws : List Waiting) → list_any (eqb p) (waiters_listed queue at ws) ≡ true
+    → list_any (eqb p) (waiters_listed Waiters at ws ++ waiters_listed Procurers at ws) ≡ true
 both-have Waiters at p ws h =
-    list_any-append (eqb p) (listed Waiters at ws) (listed Procurers at ws)
-    ∙ or_left (list_any (eqb p) (listed Waiters at ws)) (list_any (eqb p) (listed Procurers at ws)) h
+    list_any-append (eqb p) (waiters_listed Waiters at ws) (waiters_listed Procurers at ws)
+    ∙ or_left (list_any (eqb p) (waiters_listed Waiters at ws)) (list_any (eqb p) (waiters_listed Procurers at ws)) h
 both-have Procurers at p ws h =
-    list_any-append (eqb p) (listed Waiters at ws) (listed Procurers at ws)
-    ∙ or_right (list_any (eqb p) (listed Waiters at ws)) (list_any (eqb p) (listed Procurers at ws)) h
+    list_any-append (eqb p) (waiters_listed Waiters at ws) (waiters_listed Procurers at ws)
+    ∙ or_right (list_any (eqb p) (waiters_listed Waiters at ws)) (list_any (eqb p) (waiters_listed Procurers at ws)) h
 
-waiting-shown : (queue : Queue) (at : Place) (p : ℕ) (ws : List Waiting) → list_any (eqb p) (listed queue at ws) ≡ true
-    → (fs : List Entry) → has_flags at fs ≡ true → is_waiting p (events_of fs ws) ≡ true
+waiting-shown : (queue : Queue) (at : Place) (p : ℕ) (ws : List Waiting) → list_any (eqb p) (waiters_listed queue at ws) ≡ true
+    → (fs : List EventEntry) → has_flags at fs ≡ true → is_waiting p (events_of fs ws) ≡ true
 waiting-shown queue at p ws h [] k = k
 waiting-shown queue at p ws h (f ∷ fs) k =
-    let here = list_any (eqb p) (listed Waiters f.0 ws ++ listed Procurers f.0 ws) in
+    let here = list_any (eqb p) (waiters_listed Waiters f.0 ws ++ waiters_listed Procurers f.0 ws) in
     elim (or_cases (same_place f.0 at) (has_flags at fs) k) [
       | inl e ↦
           let same : at ≡ f.0 = sym (same_place-true f.0 at e) in
-          or_left here (is_waiting p (events_of fs ws)) (both-have queue f.0 p ws (ap (λ q. list_any (eqb p) (listed queue q ws)) (sym same) ∙ h))
+          or_left here (is_waiting p (events_of fs ws)) (both-have queue f.0 p ws (ap (λ q. list_any (eqb p) (waiters_listed queue q ws)) (sym same) ∙ h))
       | inr e ↦ or_right here (is_waiting p (events_of fs ws)) (waiting-shown queue at p ws h fs e)
     ]
 
@@ -267,7 +267,7 @@ same_queue-self : (queue : Queue) → same_queue queue queue ≡ true
 same_queue-self Waiters = refl
 same_queue-self Procurers = refl
 
-idle-among : (fs : List Entry) (n : ℕ) (all : List Waiting) (p : ℕ) → is_waiting p (events_of fs all) ≡ false
+idle-among : (fs : List EventEntry) (n : ℕ) (all : List Waiting) (p : ℕ) → is_waiting p (events_of fs all) ≡ false
     → (ws : List Waiting) → ((queue : Queue) (at : Place) → list_any (waits_so queue at p) ws ≡ true → list_any (waits_so queue at p) all ≡ true)
     → AreQueued fs n ws → among p ws ≡ false
 idle-among fs n all p idle [] within h = refl
@@ -282,5 +282,5 @@ idle-among fs n all p idle (w ∷ ws) within h =
     (waiting-shown w.queue w.place p all (listed-has w.queue w.place p all (within w.queue w.place here)) fs h.2)) in
     or_from (eqb p w.process) (among p ws) apart rest
 
-pub idle-is_not_among : (fs : List Entry) (n : ℕ) (ws : List Waiting) (p : ℕ) → AreQueued fs n ws → is_waiting p (events_of fs ws) ≡ false → among p ws ≡ false
+pub idle-is_not_among : (fs : List EventEntry) (n : ℕ) (ws : List Waiting) (p : ℕ) → AreQueued fs n ws → is_waiting p (events_of fs ws) ≡ false → among p ws ≡ false
 idle-is_not_among fs n ws p h idle = idle-among fs n ws p idle ws (λ queue at k. k) h

@@ -6,7 +6,7 @@ use Rattle.std.specs.Cmp.{booleans_Decides}
 use Rattle.std.proofs.Math.Bool.{beq}
 use Rattle.b67_word.specs.declared.Place.{Place}
 use Rattle.b67_events.specs.Events.{same_place}
-use Rattle.b67_events.specs.Kept.{same_queue, stands_in, listed, Entry, shown, events_of}
+use Rattle.b67_events.specs.Kept.{same_queue, stands_in, waiters_listed, EventEntry, event_shown, events_of}
 use Rattle.b67_events.specs.declared.Flags.{Flags}
 use Rattle.b67_events.specs.declared.Queue.{Queue}
 use Rattle.b67_events.specs.declared.Queue.TheVariants.{Waiters, Procurers}
@@ -46,9 +46,9 @@ waiting_same w v process h =
     first ∙ second ∙ third
 
 -- events are the same by the lists of all
-pub events_same : (ws vs : List Waiting) → ((queue : Queue) (at : Place) → listed queue at ws ≡ listed queue at vs) → (fs : List Entry)
+pub events_same : (ws vs : List Waiting) → ((queue : Queue) (at : Place) → waiters_listed queue at ws ≡ waiters_listed queue at vs) → (fs : List EventEntry)
     → events_of fs ws ≡ events_of fs vs
 events_same ws vs same [] = refl
 events_same ws vs same (f ∷ fs) =
-    ap (λ e. e ∷ events_of fs ws) (made-same f (listed Waiters f.0 ws) (listed Procurers f.0 ws) (listed Waiters f.0 vs) (listed Procurers f.0 vs) (same Waiters f.0) (same Procurers f.0))
-    ∙ ap (λ es. shown vs f ∷ es) (events_same ws vs same fs)
+    ap (λ e. e ∷ events_of fs ws) (made-same f (waiters_listed Waiters f.0 ws) (waiters_listed Procurers f.0 ws) (waiters_listed Waiters f.0 vs) (waiters_listed Procurers f.0 vs) (same Waiters f.0) (same Procurers f.0))
+    ∙ ap (λ es. event_shown vs f ∷ es) (events_same ws vs same fs)

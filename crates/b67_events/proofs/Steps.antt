@@ -10,8 +10,8 @@ use Rattle.b67_deeds.specs.declared.EventAct.TheVariants as act
 use Rattle.b67_deeds.specs.Events.{EventState, joined, taken, queued, served, freed, passed_on}
 use Rattle.b67_deeds.specs.declared.EventTest.TheVariants as test
 use Rattle.b67_deeds.specs.Deeds.{acts, tests, Next, goes}
-use Rattle.b67_events.specs.Events.{Event, Events, same_place, event_at, is_open, state_of, happened_at, available_at, waiters_at, procurers_at, is_waiting, changed, with_state, changed_by, done_at, took, withdrawn}
-use Rattle.b67_events.specs.Kept.{stands_in, listed, Entry, events_of, has_flags, set_flags, put, with_happened, with_available, without_first, without_waiters, among, numbers_of, joiners, is_named, AreNamed, IsKept}
+use Rattle.b67_events.specs.Events.{Event, Events, same_place, event_at, is_open, state_of, happened_at, available_at, waiters_at, procurers_at, is_waiting, event_changed, with_state, changed_by, done_at, took, withdrawn}
+use Rattle.b67_events.specs.Kept.{stands_in, waiters_listed, EventEntry, events_of, has_flags, set_flags, event_put, with_happened, with_available, without_first, without_waiters, among, waiter_numbers_of, joiners, is_named, AreNamed, IsKept}
 use Rattle.b67_events.specs.Once.{times_in}
 use Rattle.b67_events.specs.declared.Took.TheVariants.{Went, Waits}
 use Rattle.b67_events.specs.declared.Flags.{Flags}
@@ -40,31 +40,31 @@ changed-false b x y at es h = ap (λ c. changed_by c at es) (sym (cond-false b x
 pub wait-goes : (at : Place) (p : ℕ) (es : List Event) → happened_at at es ≡ true → es ≡ done_at (acts act.Wait) p at es
 wait-goes at p es h = changed-true (happened_at at es) None (Some (joined p)) at es h
 
-pub wait-waits : (at : Place) (p : ℕ) (fs : List Entry) (ws : List Waiting) → happened_at at (events_of fs ws) ≡ false
+pub wait-waits : (at : Place) (p : ℕ) (fs : List EventEntry) (ws : List Waiting) → happened_at at (events_of fs ws) ≡ false
     → events_of fs (ws ++ record { process = p; place = at; queue = Waiters } ∷ []) ≡ done_at (acts act.Wait) p at (events_of fs ws)
 wait-waits at p fs ws h =
     let es = events_of fs ws in events-joined at p fs ws ∙ changed-false (happened_at at es) None (Some (joined p)) at es h
 
 one-true : (b : Bool) (x y : EventState → EventState) (at : Place) (es : List Event) → b ≡ true
-    → changed at (with_state x) es ≡ changed at (with_state (cond b x y)) es
-one-true b x y at es h = ap (λ c. changed at (with_state c) es) (sym (cond-true b x y h))
+    → event_changed at (with_state x) es ≡ event_changed at (with_state (cond b x y)) es
+one-true b x y at es h = ap (λ c. event_changed at (with_state c) es) (sym (cond-true b x y h))
 
 one-false : (b : Bool) (x y : EventState → EventState) (at : Place) (es : List Event) → b ≡ false
-    → changed at (with_state y) es ≡ changed at (with_state (cond b x y)) es
-one-false b x y at es h = ap (λ c. changed at (with_state c) es) (sym (cond-false b x y h))
+    → event_changed at (with_state y) es ≡ event_changed at (with_state (cond b x y)) es
+one-false b x y at es h = ap (λ c. event_changed at (with_state c) es) (sym (cond-false b x y h))
 
-pub procure-goes : (at : Place) (p : ℕ) (fs : List Entry) (ws : List Waiting) → available_at at (events_of fs ws) ≡ true
+pub procure-goes : (at : Place) (p : ℕ) (fs : List EventEntry) (ws : List Waiting) → available_at at (events_of fs ws) ≡ true
     → events_of (set_flags at (with_available false) fs) ws ≡ done_at (acts act.Procure) p at (events_of fs ws)
 procure-goes at p fs ws h =
     let es = events_of fs ws in
     events-flags at (with_available false) (with_state taken) ws (λ x. refl) fs ∙ one-true (available_at at es) taken (queued p) at es h
 
-pub procure-waits : (at : Place) (p : ℕ) (fs : List Entry) (ws : List Waiting) → available_at at (events_of fs ws) ≡ false
+pub procure-waits : (at : Place) (p : ℕ) (fs : List EventEntry) (ws : List Waiting) → available_at at (events_of fs ws) ≡ false
     → events_of fs (ws ++ record { process = p; place = at; queue = Procurers } ∷ []) ≡ done_at (acts act.Procure) p at (events_of fs ws)
 procure-waits at p fs ws h =
     let es = events_of fs ws in events-queued at p fs ws ∙ one-false (available_at at es) taken (queued p) at es h
 
-pub fix-takes : (at : Place) (fs : List Entry) (ws : List Waiting) → available_at at (events_of fs ws) ≡ true
+pub fix-takes : (at : Place) (fs : List EventEntry) (ws : List Waiting) → available_at at (events_of fs ws) ≡ true
     → events_of (set_flags at (with_available false) fs) ws ≡ done_at (tests test.Fix) 0 at (events_of fs ws)
 fix-takes at fs ws h =
     let es = events_of fs ws in
@@ -74,15 +74,15 @@ pub fix-leaves : (at : Place) (es : List Event) → available_at at es ≡ false
 fix-leaves at es h = changed-false (available_at at es) (Some taken) None at es h
 
 -- there is room for one more who waits, for as many events as one can
-pub kept-room : (fs : List Entry) (ws : List Waiting) (n capacity p : ℕ) → IsKept fs ws n capacity → 1 ≤ p → p ≤ n
+pub kept-room : (fs : List EventEntry) (ws : List Waiting) (n capacity p : ℕ) → IsKept fs ws n capacity → 1 ≤ p → p ≤ n
     → is_waiting p (events_of fs ws) ≡ false → length ws + MOST_EVENTS ≤ capacity
 kept-room fs ws n capacity p k low high idle =
     let none = among-none p ws (idle-is_not_among fs n ws p k.queued idle) in
-    let less = times-room n MOST_EVENTS p (numbers_of ws) low high (queued-known fs n ws k.queued) k.few none in
-    let long : length (numbers_of ws) ≡ length ws = length-map ws (λ w. w.process) in
+    let less = times-room n MOST_EVENTS p (waiter_numbers_of ws) low high (queued-known fs n ws k.queued) k.few none in
+    let long : length (waiter_numbers_of ws) ≡ length ws = length-map ws (λ w. w.process) in
     let room : n * MOST_EVENTS ≤ capacity = k.room in omega (arith, less, long, room)
 
-pub kept-push : (fs : List Entry) (ws : List Waiting) (n capacity : ℕ) (w : Waiting) → IsKept fs ws n capacity → 1 ≤ w.process → w.process ≤ n
+pub kept-push : (fs : List EventEntry) (ws : List Waiting) (n capacity : ℕ) (w : Waiting) → IsKept fs ws n capacity → 1 ≤ w.process → w.process ≤ n
     → is_open w.place (events_of fs ws) ≡ true → is_waiting w.process (events_of fs ws) ≡ false → IsKept fs (ws ++ w ∷ []) n capacity
 kept-push fs ws n capacity w k low high here idle =
     let free = idle-is_not_among fs n ws w.process k.queued idle in
@@ -90,12 +90,12 @@ kept-push fs ws n capacity w k low high here idle =
       room = k.room;
       queued = queued-push fs n w low high (sym (open-shown w.place fs ws) ∙ here) ws (apart-none w ws free) k.queued;
       few = λ q.
-          let is : times_in q (numbers_of (ws ++ w ∷ [])) ≡ times_in q (numbers_of ws) + times_in q (w.process ∷ []) =
-          ap (times_in q) (map-append (λ v. v.process) ws (w ∷ [])) ∙ times-join q (numbers_of ws) (w.process ∷ []) in
+          let is : times_in q (waiter_numbers_of (ws ++ w ∷ [])) ≡ times_in q (waiter_numbers_of ws) + times_in q (w.process ∷ []) =
+          ap (times_in q) (map-append (λ v. v.process) ws (w ∷ [])) ∙ times-join q (waiter_numbers_of ws) (w.process ∷ []) in
           elim (cases_Bool (eqb q w.process)) [
             | inl e ↦
                 let head : one_if (eqb q w.process) ≡ 1 = cond-true (eqb q w.process) 1 0 e in
-                let none : times_in q (numbers_of ws) ≡ 0 = ap (λ m. times_in m (numbers_of ws)) (eqb-true q w.process e) ∙ among-none w.process ws free in
+                let none : times_in q (waiter_numbers_of ws) ≡ 0 = ap (λ m. times_in m (waiter_numbers_of ws)) (eqb-true q w.process e) ∙ among-none w.process ws free in
                 omega arith
             | inr e ↦
                 let head : one_if (eqb q w.process) ≡ 0 = cond-false (eqb q w.process) 1 0 e in
@@ -106,7 +106,7 @@ kept-push fs ws n capacity w k low high here idle =
     }
 
 -- a process joins those who wait for several events
-pub kept-any : (fs : List Entry) (ws : List Waiting) (n capacity p : ℕ) (places : List Place) → IsKept fs ws n capacity → 1 ≤ p → p ≤ n
+pub kept-any : (fs : List EventEntry) (ws : List Waiting) (n capacity p : ℕ) (places : List Place) → IsKept fs ws n capacity → 1 ≤ p → p ≤ n
     → length places ≤ MOST_EVENTS → All (λ (a : Place). is_open a (events_of fs ws) ≡ true) places → is_waiting p (events_of fs ws) ≡ false
     → IsKept fs (ws ++ joiners p [] places) n capacity
 kept-any fs ws n capacity p places k low high few_places open_all idle =
@@ -116,12 +116,12 @@ kept-any fs ws n capacity p places k low high few_places open_all idle =
       room = k.room;
       queued = queued-any fs n p low high places there ws free k.queued;
       few = λ q.
-          let is : times_in q (numbers_of (ws ++ joiners p [] places)) ≡ times_in q (numbers_of ws) + times_in q (numbers_of (joiners p [] places)) =
-          ap (times_in q) (map-append (λ v. v.process) ws (joiners p [] places)) ∙ times-join q (numbers_of ws) (numbers_of (joiners p [] places)) in
+          let is : times_in q (waiter_numbers_of (ws ++ joiners p [] places)) ≡ times_in q (waiter_numbers_of ws) + times_in q (waiter_numbers_of (joiners p [] places)) =
+          ap (times_in q) (map-append (λ v. v.process) ws (joiners p [] places)) ∙ times-join q (waiter_numbers_of ws) (waiter_numbers_of (joiners p [] places)) in
           let joined = joiners-few p q [] places in
           elim (cases_Bool (eqb q p)) [
             | inl e ↦
-                let none : times_in q (numbers_of ws) ≡ 0 = ap (λ m. times_in m (numbers_of ws)) (eqb-true q p e) ∙ among-none p ws free in
+                let none : times_in q (waiter_numbers_of ws) ≡ 0 = ap (λ m. times_in m (waiter_numbers_of ws)) (eqb-true q p e) ∙ among-none p ws free in
                 let most = joined.0 in
                 omega (arith, is, none, most, few_places)
             | inr e ↦
@@ -132,17 +132,17 @@ kept-any fs ws n capacity p places k low high few_places open_all idle =
       within = k.within;
     }
 
-pub kept-wider : (fs : List Entry) (ws : List Waiting) (n capacity more : ℕ) → IsKept fs ws n capacity → capacity ≤ more → IsKept fs ws n more
+pub kept-wider : (fs : List EventEntry) (ws : List Waiting) (n capacity more : ℕ) → IsKept fs ws n capacity → capacity ≤ more → IsKept fs ws n more
 kept-wider fs ws n capacity more k wide =
     record { room = (let room : n * MOST_EVENTS ≤ capacity = k.room in omega (arith, room, wide)); queued = k.queued; few = k.few; within = k.within }
 
 -- no more wait for one event to happen than there are processes, and each is one of them
-pub kept-one : (fs : List Entry) (ws : List Waiting) (n capacity : ℕ) (at : Place) → IsKept fs ws n capacity → length (listed Waiters at ws) ≤ n
+pub kept-one : (fs : List EventEntry) (ws : List Waiting) (n capacity : ℕ) (at : Place) → IsKept fs ws n capacity → length (waiters_listed Waiters at ws) ≤ n
 kept-one fs ws n capacity at k = room-one fs n Waiters at ws k.queued
 
 -- ---- what changes the flags, and who goes
 
-pub kept-set : (at : Place) (change : Flags → Flags) (fs : List Entry) (ws : List Waiting) (n capacity : ℕ) → IsKept fs ws n capacity
+pub kept-set : (at : Place) (change : Flags → Flags) (fs : List EventEntry) (ws : List Waiting) (n capacity : ℕ) → IsKept fs ws n capacity
     → IsKept (set_flags at change fs) ws n capacity
 kept-set at change fs ws n capacity k = record {
   room = k.room;
@@ -151,7 +151,7 @@ kept-set at change fs ws n capacity k = record {
   within = λ p h. k.within p (sym (open-set at change fs p) ∙ h);
 }
 
-pub kept-filter : (r : Waiting → Bool) (fs : List Entry) (ws : List Waiting) (n capacity : ℕ) → IsKept fs ws n capacity → IsKept fs (filter r ws) n capacity
+pub kept-filter : (r : Waiting → Bool) (fs : List EventEntry) (ws : List Waiting) (n capacity : ℕ) → IsKept fs ws n capacity → IsKept fs (filter r ws) n capacity
 kept-filter r fs ws n capacity k = record {
   room = k.room;
   queued = queued-filter fs fs n r (λ w s h. h) ws k.queued;
@@ -159,7 +159,7 @@ kept-filter r fs ws n capacity k = record {
   within = k.within;
 }
 
-pub kept-first : (r : Waiting → Bool) (fs : List Entry) (ws : List Waiting) (n capacity : ℕ) → IsKept fs ws n capacity → IsKept fs (without_first r ws) n capacity
+pub kept-first : (r : Waiting → Bool) (fs : List EventEntry) (ws : List Waiting) (n capacity : ℕ) → IsKept fs ws n capacity → IsKept fs (without_first r ws) n capacity
 kept-first r fs ws n capacity k = record {
   room = k.room;
   queued = queued-first fs fs n r (λ p h. h) ws k.queued;
@@ -167,7 +167,7 @@ kept-first r fs ws n capacity k = record {
   within = k.within;
 }
 
-pub kept-closed : (r : Place → Bool) (fs : List Entry) (ws : List Waiting) (n capacity : ℕ) → IsKept fs ws n capacity
+pub kept-closed : (r : Place → Bool) (fs : List EventEntry) (ws : List Waiting) (n capacity : ℕ) → IsKept fs ws n capacity
     → IsKept (filter (λ f. r f.0) fs) (filter (λ w. r w.place) ws) n capacity
 kept-closed r fs ws n capacity k = record {
   room = k.room;
@@ -176,15 +176,15 @@ kept-closed r fs ws n capacity k = record {
   within = λ p h. k.within p (open-less r fs p h);
 }
 
-pub kept-opened : (at : Place) (flags : Flags) (fs : List Entry) (ws : List Waiting) (n capacity : ℕ) → at.at < 65536 → IsKept fs ws n capacity
-    → IsKept (put (at, flags) (filter (λ g. not (same_place g.0 at)) fs)) (filter (λ w. not (same_place w.place at)) ws) n capacity
+pub kept-opened : (at : Place) (flags : Flags) (fs : List EventEntry) (ws : List Waiting) (n capacity : ℕ) → at.at < 65536 → IsKept fs ws n capacity
+    → IsKept (event_put (at, flags) (filter (λ g. not (same_place g.0 at)) fs)) (filter (λ w. not (same_place w.place at)) ws) n capacity
 kept-opened at flags fs ws n capacity low k =
-    let gs = filter (λ (g : Entry). not (same_place g.0 at)) fs in
+    let gs = filter (λ (g : EventEntry). not (same_place g.0 at)) fs in
     let vs = filter (λ (w : Waiting). not (same_place w.place at)) ws in
     let less = kept-closed (λ p. not (same_place p at)) fs ws n capacity k in
     record {
       room = k.room;
-      queued = queued-flags gs (put (at, flags) gs) n (λ p h. open-put (at, flags) gs p ∙ or_right (same_place at p) (has_flags p gs) h) vs less.queued;
+      queued = queued-flags gs (event_put (at, flags) gs) n (λ p h. open-put (at, flags) gs p ∙ or_right (same_place at p) (has_flags p gs) h) vs less.queued;
       few = less.few;
       within = λ p h. elim (or_cases (same_place at p) (has_flags p gs) (sym (open-put (at, flags) gs p) ∙ h)) [
         | inl e ↦ subst (λ (q : Place). q.at < 65536) (same_place-true at p e) low
@@ -200,28 +200,28 @@ procurers_is : (o : Option Event) → list_of Procurers o ≡ (state_of o).procu
 procurers_is None = refl
 procurers_is (Some e) = refl
 
-pub woken-shown : (at : Place) (fs : List Entry) (ws : List Waiting) → is_open at (events_of fs ws) ≡ true
-    → listed Waiters at ws ≡ waiters_at at (events_of fs ws)
+pub woken-shown : (at : Place) (fs : List EventEntry) (ws : List Waiting) → is_open at (events_of fs ws) ≡ true
+    → waiters_listed Waiters at ws ≡ waiters_at at (events_of fs ws)
 woken-shown at fs ws h =
     sym (list-shown Waiters at fs ws h) ∙ waiters_is (event_at at (events_of fs ws))
 
-pub procurers-shown : (at : Place) (fs : List Entry) (ws : List Waiting) → is_open at (events_of fs ws) ≡ true
-    → listed Procurers at ws ≡ procurers_at at (events_of fs ws)
+pub procurers-shown : (at : Place) (fs : List EventEntry) (ws : List Waiting) → is_open at (events_of fs ws) ≡ true
+    → waiters_listed Procurers at ws ≡ procurers_at at (events_of fs ws)
 procurers-shown at fs ws h =
     sym (list-shown Procurers at fs ws h) ∙ procurers_is (event_at at (events_of fs ws))
 
 -- who waits nowhere is not among those who wait
-pub kept-idle : (fs : List Entry) (ws : List Waiting) (n capacity p : ℕ) → IsKept fs ws n capacity → is_waiting p (events_of fs ws) ≡ false → among p ws ≡ false
+pub kept-idle : (fs : List EventEntry) (ws : List Waiting) (n capacity p : ℕ) → IsKept fs ws n capacity → is_waiting p (events_of fs ws) ≡ false → among p ws ≡ false
 kept-idle fs ws n capacity p k idle = idle-is_not_among fs n ws p k.queued idle
 
 -- all who wait for an event are released, and leave all events
-pub event-released : (at : Place) (b : Bool) (fs : List Entry) (ws : List Waiting) (lists : List (List Place)) → AreNamed lists ws → is_open at (events_of fs ws) ≡ true
-    → events_of (set_flags at (with_happened b) fs) (filter (λ w. not (is_named (listed Waiters at ws) lists w)) (filter (λ w. not (stands_in Waiters at w)) ws))
-    ≡ withdrawn (waiters_at at (events_of fs ws)) (changed at (with_state (without_waiters b)) (events_of fs ws))
+pub event-released : (at : Place) (b : Bool) (fs : List EventEntry) (ws : List Waiting) (lists : List (List Place)) → AreNamed lists ws → is_open at (events_of fs ws) ≡ true
+    → events_of (set_flags at (with_happened b) fs) (filter (λ w. not (is_named (waiters_listed Waiters at ws) lists w)) (filter (λ w. not (stands_in Waiters at w)) ws))
+    ≡ withdrawn (waiters_at at (events_of fs ws)) (event_changed at (with_state (without_waiters b)) (events_of fs ws))
 event-released at b fs ws lists named here =
     ap (events_of (set_flags at (with_happened b) fs)) (released-is at lists ws named)
     ∙ events-released at b fs ws
-    ∙ ap (λ ps. withdrawn ps (changed at (with_state (without_waiters b)) (events_of fs ws))) (woken-shown at fs ws here)
+    ∙ ap (λ ps. withdrawn ps (event_changed at (with_state (without_waiters b)) (events_of fs ws))) (woken-shown at fs ws here)
 
 passed-served : (xs : List ℕ) (p : ℕ) → slice_get xs 0 ≡ Some p → passed_on xs ≡ served
 passed-served [] p h = cc
@@ -235,23 +235,23 @@ pub first-taken : (xs : List ℕ) → slice_get xs 0 ≡ slice_get (take 1 xs) 0
 first-taken [] = refl
 first-taken (x ∷ xs) = refl
 
-pub liberated-served : (at : Place) (p : ℕ) (fs : List Entry) (ws : List Waiting) → is_open at (events_of fs ws) ≡ true
-    → slice_get (listed Procurers at ws) 0 ≡ Some p
+pub liberated-served : (at : Place) (p : ℕ) (fs : List EventEntry) (ws : List Waiting) → is_open at (events_of fs ws) ≡ true
+    → slice_get (waiters_listed Procurers at ws) 0 ≡ Some p
     → events_of fs (without_first (stands_in Procurers at) ws) ≡ done_at (acts act.Liberate) 0 at (events_of fs ws)
 liberated-served at p fs ws h first =
     let es = events_of fs ws in
     let same : passed_on (procurers_at at es) ≡ served =
-    ap passed_on (sym (procurers-shown at fs ws h)) ∙ passed-served (listed Procurers at ws) p first in
-    events-served at ws fs ∙ ap (λ f. changed at (with_state f) es) (sym same)
+    ap passed_on (sym (procurers-shown at fs ws h)) ∙ passed-served (waiters_listed Procurers at ws) p first in
+    events-served at ws fs ∙ ap (λ f. event_changed at (with_state f) es) (sym same)
 
-pub liberated-freed : (at : Place) (fs : List Entry) (ws : List Waiting) → is_open at (events_of fs ws) ≡ true
-    → slice_get (listed Procurers at ws) 0 ≡ None
+pub liberated-freed : (at : Place) (fs : List EventEntry) (ws : List Waiting) → is_open at (events_of fs ws) ≡ true
+    → slice_get (waiters_listed Procurers at ws) 0 ≡ None
     → events_of (set_flags at (with_available true) fs) (without_first (stands_in Procurers at) ws) ≡ done_at (acts act.Liberate) 0 at (events_of fs ws)
 liberated-freed at fs ws h first =
     let es = events_of fs ws in
-    let none : listed Procurers at ws ≡ [] = none-nil (listed Procurers at ws) first in
+    let none : waiters_listed Procurers at ws ≡ [] = none-nil (waiters_listed Procurers at ws) first in
     let same : passed_on (procurers_at at es) ≡ freed = ap passed_on (sym (procurers-shown at fs ws h) ∙ none) in
-    events-freed at ws none fs ∙ ap (λ f. changed at (with_state f) es) (sym same)
+    events-freed at ws none fs ∙ ap (λ f. event_changed at (with_state f) es) (sym same)
 
 pub took-goes : (b : Bool) (n : Next) → b ≡ true → Went ≡ took (cond b goes n)
 took-goes b n h = sym (ap took (cond-true b goes n h))

@@ -5,7 +5,7 @@ use Rattle.std.specs.List.{list_any}
 use Rattle.std.proofs.lemmas.Bool.{cases_Bool, cond-true, cond-false, and_parts, and_from, both_ways, false_from_ne_true, not_from_true, not_from_false, eqb-true, or_parts, or_from}
 use Rattle.std.proofs.lemmas.List.Elements.{filter-append}
 use Rattle.b67_word.specs.declared.Place.{Place}
-use Rattle.b67_events.specs.Kept.{stands_in, listed, Entry, events_of, without_first, is_same, stands_again, AreQueued, numbers_of, IsKept, AreInOrder, stand, stand_all, StandOnce, rank_of}
+use Rattle.b67_events.specs.Kept.{stands_in, waiters_listed, EventEntry, events_of, without_first, is_same, stands_again, AreQueued, waiter_numbers_of, IsKept, AreInOrder, stand, stand_all, StandOnce, rank_of}
 use Rattle.b67_events.specs.Once.{times_in}
 use Rattle.b67_events.specs.declared.Queue.{Queue}
 use Rattle.b67_events.specs.declared.Waiting.{Waiting}
@@ -37,21 +37,21 @@ any-stand t one (w ∷ ws) ys =
 
 -- how often a process stands among them
 times-front : (p : ℕ) (one : Waiting) (xs ys : List Waiting)
-    → times_in p (numbers_of (xs ++ one ∷ ys)) ≡ times_in p (one.process ∷ []) + times_in p (numbers_of (xs ++ ys))
+    → times_in p (waiter_numbers_of (xs ++ one ∷ ys)) ≡ times_in p (one.process ∷ []) + times_in p (waiter_numbers_of (xs ++ ys))
 times-front p one [] ys = omega arith
 times-front p one (x ∷ xs) ys = let rest = times-front p one xs ys in omega (arith, rest)
 
 times-stand : (p : ℕ) (one : Waiting) (ws ys : List Waiting)
-    → times_in p (numbers_of (stand one ws ++ ys)) ≡ times_in p (one.process ∷ []) + times_in p (numbers_of (ws ++ ys))
+    → times_in p (waiter_numbers_of (stand one ws ++ ys)) ≡ times_in p (one.process ∷ []) + times_in p (waiter_numbers_of (ws ++ ys))
 times-stand p one [] ys = omega arith
 times-stand p one (w ∷ ws) ys =
     let b = ltb (rank_of one) (rank_of w) in
     elim (cases_Bool b) [
       | inl e ↦
-          let is : times_in p (numbers_of (stand one (w ∷ ws) ++ ys)) ≡ times_in p (numbers_of (one ∷ w ∷ ws ++ ys)) = ap (λ vs. times_in p (numbers_of (vs ++ ys))) (cond-true b (one ∷ w ∷ ws) (w ∷ stand one ws) e) in
+          let is : times_in p (waiter_numbers_of (stand one (w ∷ ws) ++ ys)) ≡ times_in p (waiter_numbers_of (one ∷ w ∷ ws ++ ys)) = ap (λ vs. times_in p (waiter_numbers_of (vs ++ ys))) (cond-true b (one ∷ w ∷ ws) (w ∷ stand one ws) e) in
           omega (arith, is)
       | inr e ↦
-          let is : times_in p (numbers_of (stand one (w ∷ ws) ++ ys)) ≡ times_in p (numbers_of (w ∷ stand one ws ++ ys)) = ap (λ vs. times_in p (numbers_of (vs ++ ys))) (cond-false b (one ∷ w ∷ ws) (w ∷ stand one ws) e) in
+          let is : times_in p (waiter_numbers_of (stand one (w ∷ ws) ++ ys)) ≡ times_in p (waiter_numbers_of (w ∷ stand one ws ++ ys)) = ap (λ vs. times_in p (waiter_numbers_of (vs ++ ys))) (cond-false b (one ∷ w ∷ ws) (w ∷ stand one ws) e) in
           let rest = times-stand p one ws ys in
           omega (arith, is, rest)
     ]
@@ -74,7 +74,7 @@ same_other w v h = false_from_ne_true (is_same v w) (λ k.
     both_ways (is_same w v) h (ap (λ u. is_same u v) (sym equal) ∙ ap (λ u. is_same v u) equal ∙ k))
 
 -- who stands in the middle can stand in front
-queued-front : (fs : List Entry) (n : ℕ) (one : Waiting) (xs ys : List Waiting) → AreQueued fs n (xs ++ one ∷ ys) → AreQueued fs n (one ∷ xs ++ ys)
+queued-front : (fs : List EventEntry) (n : ℕ) (one : Waiting) (xs ys : List Waiting) → AreQueued fs n (xs ++ one ∷ ys) → AreQueued fs n (one ∷ xs ++ ys)
 queued-front fs n one [] ys h = h
 queued-front fs n one (x ∷ xs) ys h =
     let rest = queued-front fs n one xs ys h.4 in
@@ -82,7 +82,7 @@ queued-front fs n one (x ∷ xs) ys h =
     let again : stands_again one (x ∷ xs ++ ys) ≡ false = or_from (is_same one x) (stands_again one (xs ++ ys)) (same_other x one parts.0) rest.3 in
     (rest.0, rest.1, rest.2, again, (h.0, h.1, h.2, parts.1, rest.4))
 
-queued-stand : (fs : List Entry) (n : ℕ) (one : Waiting) (ws ys : List Waiting) → AreQueued fs n (ws ++ one ∷ ys) → AreQueued fs n (stand one ws ++ ys)
+queued-stand : (fs : List EventEntry) (n : ℕ) (one : Waiting) (ws ys : List Waiting) → AreQueued fs n (ws ++ one ∷ ys) → AreQueued fs n (stand one ws ++ ys)
 queued-stand fs n one [] ys h = h
 queued-stand fs n one (w ∷ ws) ys h =
     let b = ltb (rank_of one) (rank_of w) in
@@ -94,7 +94,7 @@ queued-stand fs n one (w ∷ ws) ys h =
           (h.0, h.1, h.2, again, queued-stand fs n one ws ys h.4)
     ]
 
-kept-stand_before : (fs : List Entry) (one : Waiting) (ws ys : List Waiting) (n capacity : ℕ) → IsKept fs (ws ++ one ∷ ys) n capacity
+kept-stand_before : (fs : List EventEntry) (one : Waiting) (ws ys : List Waiting) (n capacity : ℕ) → IsKept fs (ws ++ one ∷ ys) n capacity
     → IsKept fs (stand one ws ++ ys) n capacity
 kept-stand_before fs one ws ys n capacity k = record {
   room = k.room;
@@ -108,19 +108,19 @@ no-more [] = refl
 no-more (w ∷ ws) = ap (λ vs. w ∷ vs) (no-more ws)
 
 -- who is put at its place is kept as one who comes after all
-pub kept-stand : (fs : List Entry) (one : Waiting) (ws : List Waiting) (n capacity : ℕ) → IsKept fs (ws ++ one ∷ []) n capacity → IsKept fs (stand one ws) n capacity
+pub kept-stand : (fs : List EventEntry) (one : Waiting) (ws : List Waiting) (n capacity : ℕ) → IsKept fs (ws ++ one ∷ []) n capacity → IsKept fs (stand one ws) n capacity
 kept-stand fs one ws n capacity k = subst (λ vs. IsKept fs vs n capacity) (no-more (stand one ws)) (kept-stand_before fs one ws [] n capacity k)
 
-pub kept-stand_all : (fs : List Entry) (js ws : List Waiting) (n capacity : ℕ) → IsKept fs (ws ++ js) n capacity → IsKept fs (stand_all js ws) n capacity
+pub kept-stand_all : (fs : List EventEntry) (js ws : List Waiting) (n capacity : ℕ) → IsKept fs (ws ++ js) n capacity → IsKept fs (stand_all js ws) n capacity
 kept-stand_all fs [] ws n capacity k = subst (λ vs. IsKept fs vs n capacity) (no-more ws) k
 kept-stand_all fs (one ∷ js) ws n capacity k = kept-stand_all fs js (stand one ws) n capacity (kept-stand_before fs one ws js n capacity k)
 
 -- ---- the lists of all events
 
-pub listed-stand : (queue : Queue) (at : Place) (one : Waiting) (ws : List Waiting) → AreInOrder ws → listed queue at (stand one ws) ≡ listed queue at (ws ++ one ∷ [])
+pub listed-stand : (queue : Queue) (at : Place) (one : Waiting) (ws : List Waiting) → AreInOrder ws → waiters_listed queue at (stand one ws) ≡ waiters_listed queue at (ws ++ one ∷ [])
 listed-stand queue at one ws h = ap (map (λ w. w.process)) (stand-listed queue at one ws h)
 
-pub events-stand : (fs : List Entry) (one : Waiting) (ws : List Waiting) → AreInOrder ws → events_of fs (stand one ws) ≡ events_of fs (ws ++ one ∷ [])
+pub events-stand : (fs : List EventEntry) (one : Waiting) (ws : List Waiting) → AreInOrder ws → events_of fs (stand one ws) ≡ events_of fs (ws ++ one ∷ [])
 events-stand fs one ws h = events_same (stand one ws) (ws ++ one ∷ []) (λ queue at. listed-stand queue at one ws h) fs
 
 -- each is at a displacement that a stack has
@@ -143,7 +143,7 @@ filter-stand_all queue at (one ∷ js) ws low h =
     ∙ sym (filter-append t (ws ++ one ∷ []) js)
     ∙ ap (filter t) (append_assoc ws (one ∷ []) js)
 
-pub events-stand_all : (fs : List Entry) (js ws : List Waiting) → AreLow js → AreInOrder ws → events_of fs (stand_all js ws) ≡ events_of fs (ws ++ js)
+pub events-stand_all : (fs : List EventEntry) (js ws : List Waiting) → AreLow js → AreInOrder ws → events_of fs (stand_all js ws) ≡ events_of fs (ws ++ js)
 events-stand_all fs js ws low h =
     events_same (stand_all js ws) (ws ++ js) (λ queue at. ap (map (λ w. w.process)) (filter-stand_all queue at js ws low h)) fs
 
@@ -153,7 +153,7 @@ length-stand_all (one ∷ js) ws = let rest = length-stand_all js (stand one ws)
 
 -- ---- who stands once is found once
 
-pub once-queued : (fs : List Entry) (n : ℕ) (ws : List Waiting) → AreQueued fs n ws → StandOnce ws
+pub once-queued : (fs : List EventEntry) (n : ℕ) (ws : List Waiting) → AreQueued fs n ws → StandOnce ws
 once-queued fs n [] h = tt
 once-queued fs n (w ∷ ws) h = (h.3, once-queued fs n ws h.4)
 

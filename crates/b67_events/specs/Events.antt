@@ -58,8 +58,8 @@ abbrev pub is_waiting : ℕ → List Event → Bool
 is_waiting process events = list_any (λ e. list_any (λ p. process == p) (e.state.waiters ++ e.state.procurers)) events
 
 -- the event at a place is changed, and every other one stays
-abbrev pub changed : Place → (Event → Event) → List Event → List Event
-changed at change events = map (λ e. if same_place e.place at then change e else e) events
+abbrev pub event_changed : Place → (Event → Event) → List Event → List Event
+event_changed at change events = map (λ e. if same_place e.place at then change e else e) events
 
 abbrev pub fresh : Place → Event
 fresh at = record { place = at; state = fresh_state }
@@ -74,8 +74,8 @@ placed e [] = e ∷ []
 placed e (x ∷ xs) = if is_before e.place x.place then e ∷ x ∷ xs else x ∷ placed e xs
 
 -- a fresh event is opened, in place of one that is open there
-abbrev pub opened : Place → List Event → List Event
-opened at events = placed (fresh at) (filter (λ e. not (same_place e.place at)) events)
+abbrev pub event_opened : Place → List Event → List Event
+event_opened at events = placed (fresh at) (filter (λ e. not (same_place e.place at)) events)
 
 -- whether a place lies in this stack at this displacement or above
 abbrev pub is_from : ℕ → ℕ → Place → Bool
@@ -92,15 +92,15 @@ with_state change e = record e { state = change e.state }
 -- the event at a place is changed so, if it is
 abbrev pub changed_by : Option (EventState → EventState) → Place → List Event → List Event
 changed_by None at events = events
-changed_by (Some change) at events = changed at (with_state change) events
+changed_by (Some change) at events = event_changed at (with_state change) events
 
 -- what a process does with the event at a place
 abbrev pub deed_at : EventDeed → ℕ → Place → List Event → Deed
 deed_at x process at events = deed x process (state_at at events)
 
 -- whether a process is one of these
-abbrev pub is_one_of : List ℕ → ℕ → Bool
-is_one_of ps p = list_any (λ q. p == q) ps
+abbrev pub waiter_is_one_of : List ℕ → ℕ → Bool
+waiter_is_one_of ps p = list_any (λ q. p == q) ps
 
 -- these processes wait for no event to happen any more
 abbrev pub withdrawn : List ℕ → List Event → List Event
@@ -147,24 +147,24 @@ first_that test n [] = None
 first_that test n (at ∷ places) = if test at then Some n else first_that test (n + 1) places
 
 -- the first, from 1, of which the event lets a process go on
-abbrev pub first_happened : List Place → List Event → Option ℕ
-first_happened places events = first_that (λ at. answers test.WaitAny (state_at at events)) 1 places
+abbrev pub first_event_happened : List Place → List Event → Option ℕ
+first_event_happened places events = first_that (λ at. answers test.WaitAny (state_at at events)) 1 places
 
 -- a position as a number, 0 where there is none
-abbrev pub number_of : Option ℕ → ℕ
-number_of None = 0
-number_of (Some position) = position
+abbrev pub position_number_of : Option ℕ → ℕ
+position_number_of None = 0
+position_number_of (Some position) = position
 
 -- the first place, from 1, of an event among those for which a process waits
 abbrev pub position_of : Place → List (List Place) → ℕ → Option ℕ
 position_of at lists p = first_that (λ place. same_place place at) 1 (list_of p lists)
 
-abbrev pub is_among : List Place → Place → Bool
-is_among places at = list_any (λ place. same_place place at) places
+abbrev pub event_is_among : List Place → Place → Bool
+event_is_among places at = list_any (λ place. same_place place at) places
 
 -- a process joins those who wait for each of these
 abbrev pub joined_all : List Place → ℕ → List Event → List Event
-joined_all places process events = map (λ e. if is_among places e.place then with_state (joined process) e else e) events
+joined_all places process events = map (λ e. if event_is_among places e.place then with_state (joined process) e else e) events
 
 -- it goes on where one of them has happened, else it waits for all of them
 abbrev pub waited_any : Option ℕ → List Place → ℕ → Events → Events

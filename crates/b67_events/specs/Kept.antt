@@ -6,7 +6,7 @@ use Rattle.std.specs.Map.{lookup}
 use Rattle.b67_word.specs.declared.Place.{Place}
 use Rattle.b67_limits.specs.declared.TheConstants.{MOST_EVENTS}
 use Rattle.b67_deeds.specs.Events.{EventState}
-use Rattle.b67_events.specs.Events.{Event, same_place, is_before, is_one_of, is_among, list_of}
+use Rattle.b67_events.specs.Events.{Event, same_place, is_before, waiter_is_one_of, event_is_among, list_of}
 use Rattle.b67_events.specs.Once.{times_in}
 use Rattle.b67_events.specs.declared.Flags.{Flags}
 use Rattle.b67_events.specs.declared.Queue.{Queue}
@@ -24,36 +24,36 @@ abbrev pub stands_in : Queue → Place → Waiting → Bool
 stands_in queue at w = same_place at w.place && same_queue queue w.queue
 
 -- a list of an event: those of all who wait that stand in it
-abbrev pub listed : Queue → Place → List Waiting → List ℕ
-listed queue at ws = map (λ w. w.process) (filter (stands_in queue at) ws)
+abbrev pub waiters_listed : Queue → Place → List Waiting → List ℕ
+waiters_listed queue at ws = map (λ w. w.process) (filter (stands_in queue at) ws)
 
 -- the place of an event that is open, with its flags
-abbrev pub Entry : Type 0
-Entry = Place × Flags
+abbrev pub EventEntry : Type 0
+EventEntry = Place × Flags
 
 -- the event with these flags
-abbrev pub shown : List Waiting → Entry → Event
-shown ws f = record {
+abbrev pub event_shown : List Waiting → EventEntry → Event
+event_shown ws f = record {
   place = f.0;
-  state = record { happened = f.1.happened; available = f.1.available; waiters = listed Waiters f.0 ws; procurers = listed Procurers f.0 ws };
+  state = record { happened = f.1.happened; available = f.1.available; waiters = waiters_listed Waiters f.0 ws; procurers = waiters_listed Procurers f.0 ws };
 }
 
-abbrev pub events_of : List Entry → List Waiting → List Event
-events_of fs ws = map (shown ws) fs
+abbrev pub events_of : List EventEntry → List Waiting → List Event
+events_of fs ws = map (event_shown ws) fs
 
 -- the flags of the event at a place
-abbrev pub flags_at : Place → List Entry → Option Flags
+abbrev pub flags_at : Place → List EventEntry → Option Flags
 flags_at at fs = lookup (λ p. same_place p at) fs
 
 abbrev pub flag_of : (Flags → Bool) → Option Flags → Bool
 flag_of test None = false
 flag_of test (Some f) = test f
 
-abbrev pub has_flags : Place → List Entry → Bool
+abbrev pub has_flags : Place → List EventEntry → Bool
 has_flags at fs = list_any (λ f. same_place f.0 at) fs
 
 -- the flags of the event at a place are changed
-abbrev pub set_flags : Place → (Flags → Flags) → List Entry → List Entry
+abbrev pub set_flags : Place → (Flags → Flags) → List EventEntry → List EventEntry
 set_flags at change fs = map (λ f. if same_place f.0 at then (f.0, change f.1) else f) fs
 
 abbrev pub with_happened : Bool → Flags → Flags
@@ -63,12 +63,12 @@ abbrev pub with_available : Bool → Flags → Flags
 with_available b f = record f { available = b }
 
 -- an event with its flags stands before the first one whose place is after its own
-abbrev pub put : Entry → List Entry → List Entry
-put f [] = f ∷ []
-put f (g ∷ gs) = if is_before f.0 g.0 then f ∷ g ∷ gs else g ∷ put f gs
+abbrev pub event_put : EventEntry → List EventEntry → List EventEntry
+event_put f [] = f ∷ []
+event_put f (g ∷ gs) = if is_before f.0 g.0 then f ∷ g ∷ gs else g ∷ event_put f gs
 
 -- the displacement of each event is one of a stack
-abbrev pub AreWithin : List Entry → Type 0
+abbrev pub AreWithin : List EventEntry → Type 0
 AreWithin fs = (p : Place) → has_flags p fs ≡ true → p.at < 65536
 
 -- a list without its first element that passes a test
@@ -88,20 +88,20 @@ abbrev pub stands_again : Waiting → List Waiting → Bool
 stands_again w ws = list_any (is_same w) ws
 
 -- Each who waits is a process from 1 to n, waits for an event that is open, and stands in each of its lists once.
-abbrev pub AreQueued : List Entry → ℕ → List Waiting → Type 0
+abbrev pub AreQueued : List EventEntry → ℕ → List Waiting → Type 0
 AreQueued fs n [] = Unit {0}
 AreQueued fs n (w ∷ ws) =
     (1 ≤ w.process) × (w.process ≤ n) × (has_flags w.place fs ≡ true)
     × (stands_again w ws ≡ false) × AreQueued fs n ws
 
-abbrev pub numbers_of : List Waiting → List ℕ
-numbers_of ws = map (λ w. w.process) ws
+abbrev pub waiter_numbers_of : List Waiting → List ℕ
+waiter_numbers_of ws = map (λ w. w.process) ws
 
 -- There is room for all n processes to wait, each for as many events as one can, and events are open at places of stacks.
-pub record IsKept (fs : List Entry) (ws : List Waiting) (n capacity : ℕ) : Type 0 where
+pub record IsKept (fs : List EventEntry) (ws : List Waiting) (n capacity : ℕ) : Type 0 where
   pub room : n * MOST_EVENTS ≤ capacity
   pub queued : AreQueued fs n ws
-  pub few : (p : ℕ) → times_in p (numbers_of ws) ≤ MOST_EVENTS
+  pub few : (p : ℕ) → times_in p (waiter_numbers_of ws) ≤ MOST_EVENTS
   pub within : AreWithin fs
 
 -- ---- the order of those who wait
@@ -155,27 +155,27 @@ without_waiters b e = record e { happened = b; waiters = [] }
 abbrev pub joiners : ℕ → List Place → List Place → List Waiting
 joiners p seen [] = []
 joiners p seen (at ∷ places) =
-    if is_among seen at then joiners p (seen ++ at ∷ []) places
+    if event_is_among seen at then joiners p (seen ++ at ∷ []) places
     else record { process = p; place = at; queue = Waiters } ∷ joiners p (seen ++ at ∷ []) places
 
 -- whether one is this process and waits for one of these events to happen
 abbrev pub is_left : ℕ → List Place → Waiting → Bool
-is_left p places w = same_queue Waiters w.queue && (w.process == p && is_among places w.place)
+is_left p places w = same_queue Waiters w.queue && (w.process == p && event_is_among places w.place)
 
 -- whether one is one of these processes and waits for one of the several events that it has listed to happen
 abbrev pub is_named : List ℕ → List (List Place) → Waiting → Bool
-is_named ps lists w = same_queue Waiters w.queue && (is_one_of ps w.process && is_among (list_of w.process lists) w.place)
+is_named ps lists w = same_queue Waiters w.queue && (waiter_is_one_of ps w.process && event_is_among (list_of w.process lists) w.place)
 
 abbrev pub waits_at : List Waiting → ℕ → Place → Type 0
-waits_at ws p at = is_one_of (listed Waiters at ws) p ≡ true
+waits_at ws p at = waiter_is_one_of (waiters_listed Waiters at ws) p ≡ true
 
 -- A process that waits for two events to happen has listed them.
 abbrev pub AreNamed : List (List Place) → List Waiting → Type 0
 AreNamed lists ws =
-    (p : ℕ) (a b : Place) → waits_at ws p a → waits_at ws p b → (same_place a b ≡ true) ⊎ (is_among (list_of p lists) b ≡ true)
+    (p : ℕ) (a b : Place) → waits_at ws p a → waits_at ws p b → (same_place a b ≡ true) ⊎ (event_is_among (list_of p lists) b ≡ true)
 
 -- There is room for the places of all n processes, and they are those for which each waits, where it waits for several.
-pub record AreListed (lists : List (List Place)) (ws : List Waiting) (n capacity : ℕ) : Type 0 where
+pub record PlacesAreListed (lists : List (List Place)) (ws : List Waiting) (n capacity : ℕ) : Type 0 where
   pub room : n ≤ capacity
   pub known : length lists ≤ n
   pub named : AreNamed lists ws

@@ -10,8 +10,8 @@ ghost use Rattle.std.specs.BTreeMap.{insert_entry};
 ghost use Rattle.b67_deeds.specs.declared.EventAct.TheVariants as act;
 ghost use Rattle.b67_deeds.specs.declared.EventTest.TheVariants as test;
 ghost use Rattle.b67_deeds.specs.Deeds.{acts, tests, answers};
-ghost use Rattle.b67_events.specs.Events.{same_place, is_open, is_from, state_at, waiters_at, is_waiting, is_listed, changed, with_state, withdrawn, opened, closed_from, deed_at, done_at, took, unlisted, number_of, position_of, first_that, first_happened, waited_any, took_any};
-ghost use Rattle.b67_events.specs.Kept.{stands_in, listed, flags_at, flag_of, has_flags, set_flags, with_happened, with_available, AreWithin, AreInOrder, StandOnce, rank_of, is_named, without_waiters};
+ghost use Rattle.b67_events.specs.Events.{same_place, is_open, is_from, state_at, waiters_at, is_waiting, is_listed, event_changed, with_state, withdrawn, event_opened, closed_from, deed_at, done_at, took, unlisted, position_number_of, position_of, first_that, first_event_happened, waited_any, took_any};
+ghost use Rattle.b67_events.specs.Kept.{stands_in, waiters_listed, flags_at, flag_of, has_flags, set_flags, with_happened, with_available, AreWithin, AreInOrder, StandOnce, rank_of, is_named, without_waiters};
 ghost use Rattle.b67_events.specs.Laws.{OneEventChanges, EventsStayApart};
 ghost use Rattle.b67_events.specs.Once.{EachWaitsOnce, ReleasedWaitNowhere};
 ghost use Rattle.b67_events.specs.Worked.{TwoEventsAtWork};
@@ -96,13 +96,13 @@ pub struct Kernel {
 impl Model for Kernel {
     ghost use Rattle.std.specs.Prelude.{vec_capacity};
     ghost use Rattle.b67_events.specs.Events.{Events};
-    ghost use Rattle.b67_events.specs.Kept.{events_of, IsKept, AreListed, AreInOrder};
+    ghost use Rattle.b67_events.specs.Kept.{events_of, IsKept, PlacesAreListed, AreInOrder};
 
     ghost Value = { Events };
 
     ghost view = { λ k. record { events = events_of k.events.entries k.waiting.items; lists = k.lists.items; room = k.processes } };
 
-    ghost invariant = { λ k. IsKept k.events.entries k.waiting.items k.processes (vec_capacity k.waiting) × AreListed k.lists.items k.waiting.items k.processes (vec_capacity k.lists) × AreInOrder k.waiting.items };
+    ghost invariant = { λ k. IsKept k.events.entries k.waiting.items k.processes (vec_capacity k.waiting) × PlacesAreListed k.lists.items k.waiting.items k.processes (vec_capacity k.lists) × AreInOrder k.waiting.items };
 }
 
 // Tests that two places are one.
@@ -249,12 +249,12 @@ fn wake(woken: &mut Vec<u32>, number: u32)
 fn release(waiting: &mut Vec<Waiting>, lists: &mut Vec<Several>, at: Place, woken: &mut Woken)
     requires order { AreInOrder waiting.old.items }
     requires once { StandOnce waiting.old.items }
-    requires processes { length (listed Waiters at waiting.old.items) ≤ vec_capacity woken.old.processes }
-    requires positions { length (listed Waiters at waiting.old.items) ≤ vec_capacity woken.old.positions }
-    ensures kept { waiting.new.items ≡ filter (λ w. not (is_named (listed Waiters at waiting.old.items) lists.old.items w)) (filter (λ w. not (stands_in Waiters at w)) waiting.old.items) }
-    ensures lists { lists.new.items ≡ unlisted (listed Waiters at waiting.old.items) lists.old.items }
-    ensures woken { woken.new.processes.items ≡ listed Waiters at waiting.old.items }
-    ensures positions { woken.new.positions.items ≡ map (λ p. number_of (position_of at lists.old.items p)) (listed Waiters at waiting.old.items) }
+    requires processes { length (waiters_listed Waiters at waiting.old.items) ≤ vec_capacity woken.old.processes }
+    requires positions { length (waiters_listed Waiters at waiting.old.items) ≤ vec_capacity woken.old.positions }
+    ensures kept { waiting.new.items ≡ filter (λ w. not (is_named (waiters_listed Waiters at waiting.old.items) lists.old.items w)) (filter (λ w. not (stands_in Waiters at w)) waiting.old.items) }
+    ensures lists { lists.new.items ≡ unlisted (waiters_listed Waiters at waiting.old.items) lists.old.items }
+    ensures woken { woken.new.processes.items ≡ waiters_listed Waiters at waiting.old.items }
+    ensures positions { woken.new.positions.items ≡ map (λ p. position_number_of (position_of at lists.old.items p)) (waiters_listed Waiters at waiting.old.items) }
     ensures capacity { (vec_capacity waiting.old ≤ vec_capacity waiting.new) × (vec_capacity lists.old ≤ vec_capacity lists.new) }
     ensures room { (vec_capacity woken.old.processes ≤ vec_capacity woken.new.processes) × (vec_capacity woken.old.positions ≤ vec_capacity woken.new.positions) }
 {
@@ -284,7 +284,7 @@ impl Kernel {
     /// Opens a fresh event at a place: it has not happened, is available, and nobody waits for it. An event
     /// that is open there is replaced. On `Err` nothing changes.
     pub fn open_event(&mut self, at: Place) -> Result<(), AllocError>
-        ensures ok { OnOk result (self.new ≡ record self.old { events = opened at self.old.events }) }
+        ensures ok { OnOk result (self.new ≡ record self.old { events = event_opened at self.old.events }) }
         ensures err { OnErr result (self.new ≡ self.old) }
     {
         let fresh = Flags {
@@ -342,8 +342,8 @@ impl Kernel {
         requires process { (1 ≤ process) × (process ≤ self.old.room) }
         requires idle { IsFalse (is_waiting process self.old.events) }
         requires unlisted { IsFalse (is_listed process self.old.lists) }
-        ensures answer { result ≡ took_any (first_happened at.now self.old.events) }
-        ensures after { self.new ≡ waited_any (first_happened at.now self.old.events) at.now process self.old }
+        ensures answer { result ≡ took_any (first_event_happened at.now self.old.events) }
+        ensures after { self.new ≡ waited_any (first_event_happened at.now self.old.events) at.now process self.old }
     {
         if let Some(position) = first_happened(&self.events, at) {
             return TookAny::Went { position };
@@ -357,9 +357,9 @@ impl Kernel {
     fn let_all_go(&mut self, at: Place, happened: bool, woken: &mut Woken)
         requires open { IsTrue (is_open at self.old.events) }
         requires room { (self.old.room ≤ vec_capacity woken.old.processes) × (self.old.room ≤ vec_capacity woken.old.positions) }
-        ensures after { self.new ≡ record self.old { events = withdrawn (waiters_at at self.old.events) (changed at (with_state (without_waiters happened)) self.old.events); lists = unlisted (waiters_at at self.old.events) self.old.lists } }
+        ensures after { self.new ≡ record self.old { events = withdrawn (waiters_at at self.old.events) (event_changed at (with_state (without_waiters happened)) self.old.events); lists = unlisted (waiters_at at self.old.events) self.old.lists } }
         ensures woken { woken.new.processes.items ≡ waiters_at at self.old.events }
-        ensures positions { woken.new.positions.items ≡ map (λ p. number_of (position_of at self.old.lists p)) (waiters_at at self.old.events) }
+        ensures positions { woken.new.positions.items ≡ map (λ p. position_number_of (position_of at self.old.lists p)) (waiters_at at self.old.events) }
         ensures room { (vec_capacity woken.old.processes ≤ vec_capacity woken.new.processes) × (vec_capacity woken.old.positions ≤ vec_capacity woken.new.positions) }
     {
         set_happened(&mut self.events, at, happened);
@@ -374,7 +374,7 @@ impl Kernel {
         requires room { (self.old.room ≤ vec_capacity woken.old.processes) × (self.old.room ≤ vec_capacity woken.old.positions) }
         ensures after { self.new ≡ record self.old { events = done_at (acts act.Cause) 0 at self.old.events; lists = unlisted (deed_at (acts act.Cause) 0 at self.old.events).withdraws self.old.lists } }
         ensures woken { woken.new.processes.items ≡ (deed_at (acts act.Cause) 0 at self.old.events).frees }
-        ensures positions { woken.new.positions.items ≡ map (λ p. number_of (position_of at self.old.lists p)) (deed_at (acts act.Cause) 0 at self.old.events).frees }
+        ensures positions { woken.new.positions.items ≡ map (λ p. position_number_of (position_of at self.old.lists p)) (deed_at (acts act.Cause) 0 at self.old.events).frees }
         ensures room { (vec_capacity woken.old.processes ≤ vec_capacity woken.new.processes) × (vec_capacity woken.old.positions ≤ vec_capacity woken.new.positions) }
     {
         self.let_all_go(at, true, woken);
@@ -386,7 +386,7 @@ impl Kernel {
         requires room { (self.old.room ≤ vec_capacity woken.old.processes) × (self.old.room ≤ vec_capacity woken.old.positions) }
         ensures after { self.new ≡ record self.old { events = done_at (acts act.CauseAndReset) 0 at self.old.events; lists = unlisted (deed_at (acts act.CauseAndReset) 0 at self.old.events).withdraws self.old.lists } }
         ensures woken { woken.new.processes.items ≡ (deed_at (acts act.CauseAndReset) 0 at self.old.events).frees }
-        ensures positions { woken.new.positions.items ≡ map (λ p. number_of (position_of at self.old.lists p)) (deed_at (acts act.CauseAndReset) 0 at self.old.events).frees }
+        ensures positions { woken.new.positions.items ≡ map (λ p. position_number_of (position_of at self.old.lists p)) (deed_at (acts act.CauseAndReset) 0 at self.old.events).frees }
         ensures room { (vec_capacity woken.old.processes ≤ vec_capacity woken.new.processes) × (vec_capacity woken.old.positions ≤ vec_capacity woken.new.positions) }
     {
         self.let_all_go(at, false, woken);

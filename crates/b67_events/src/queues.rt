@@ -1,7 +1,7 @@
 // Those who wait, list by list: how they are found, and how they come and go.
 ghost use Rattle.std.specs.Prelude.{◌≡◌, ◌+◌, ◌<◌, ◌≤◌, not, [], ◌++◌, All, filter, length, drop, slice_get, vec_capacity};
 ghost use Rattle.b67_events.specs.Events.{same_place, is_from, list_of};
-ghost use Rattle.b67_events.specs.Kept.{stands_in, listed, without_first, is_same, rank_at, below, is_ranked, AreInOrder, stand, stand_all, StandOnce, joiners, is_left, is_named};
+ghost use Rattle.b67_events.specs.Kept.{stands_in, waiters_listed, without_first, is_same, rank_at, below, is_ranked, AreInOrder, stand, stand_all, StandOnce, joiners, is_left, is_named};
 ghost use Rattle.b67_events.specs.declared.Queue.TheVariants.{Waiters, Procurers};
 
 use crate::several::{Several, is_among};
@@ -106,9 +106,9 @@ pub fn dismiss(waiting: &mut Vec<Waiting>, first: usize, at: Place)
 /// Puts those who wait for the event at a place to happen into `woken`, and gives the position at which the first of them stands.
 pub fn gather(waiting: &Vec<Waiting>, at: Place, woken: &mut Vec<u32>) -> usize
     requires order { AreInOrder waiting.now.items }
-    requires room { length woken.old.items + length (listed Waiters at waiting.now.items) ≤ vec_capacity woken.old }
+    requires room { length woken.old.items + length (waiters_listed Waiters at waiting.now.items) ≤ vec_capacity woken.old }
     ensures first { result ≡ below (rank_at Waiters at) waiting.now.items }
-    ensures woken { woken.new.items ≡ woken.old.items ++ listed Waiters at waiting.now.items }
+    ensures woken { woken.new.items ≡ woken.old.items ++ waiters_listed Waiters at waiting.now.items }
     ensures room { vec_capacity woken.old ≤ vec_capacity woken.new }
 {
     let from = below(waiting, rank_at(Queue::Waiters, at));
@@ -208,7 +208,7 @@ pub fn join_all(waiting: &mut Vec<Waiting>, at: &[Place], process: u32)
 /// Takes the first who waits to procure the event at a place out, and gives it.
 pub fn serve(waiting: &mut Vec<Waiting>, at: Place) -> Option<u32>
     requires { AreInOrder waiting.old.items }
-    ensures first { result ≡ slice_get (listed Procurers at waiting.old.items) 0 }
+    ensures first { result ≡ slice_get (waiters_listed Procurers at waiting.old.items) 0 }
     ensures rest { waiting.new.items ≡ without_first (stands_in Procurers at) waiting.old.items }
     ensures capacity { vec_capacity waiting.old ≤ vec_capacity waiting.new }
 {

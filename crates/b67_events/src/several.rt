@@ -1,7 +1,7 @@
 // The places of the events for which processes wait, where they wait for several.
 ghost use Rattle.std.specs.Prelude.{◌≡◌, ℕ, ◌+◌, ◌<◌, ◌≤◌, [], ◌∷◌, ◌++◌, map, length, slice_set, vec_capacity};
 ghost use Rattle.b67_list.specs.Numbered.{set_numbered};
-ghost use Rattle.b67_events.specs.Events.{same_place, is_among, with_list, unlisted, first_that, number_of, position_of};
+ghost use Rattle.b67_events.specs.Events.{same_place, event_is_among, with_list, unlisted, first_that, position_number_of, position_of};
 
 use crate::{is_at, wake};
 use b67_limits::MOST_EVENTS;
@@ -69,7 +69,7 @@ impl Several {
 
 /// Tests that a place is one of these.
 pub fn is_among(places: &[Place], at: Place) -> bool
-    ensures { result ≡ is_among places.now at }
+    ensures { result ≡ event_is_among places.now at }
 {
     'looking: for index in 0..places.len() {
         if is_at(places[index], at) {
@@ -82,7 +82,7 @@ pub fn is_among(places: &[Place], at: Place) -> bool
 // The first position, from 1, of a place among these; 0 where it is not among them.
 fn position_in(places: &[Place], at: Place) -> u32
     requires { length places.now ≤ MOST_EVENTS }
-    ensures { result ≡ number_of (first_that (λ place. same_place place at) 1 places.now) }
+    ensures { result ≡ position_number_of (first_that (λ place. same_place place at) 1 places.now) }
 {
     let mut position = 1;
     'looking: for index in 0..places.len() {
@@ -96,7 +96,7 @@ fn position_in(places: &[Place], at: Place) -> u32
 
 // The position of an event among those for which a process waits; 0 where it does not wait for several.
 fn position_of(lists: &Vec<Several>, at: Place, process: u32) -> u32
-    ensures { result ≡ number_of (position_of at lists.now.items process) }
+    ensures { result ≡ position_number_of (position_of at lists.now.items process) }
 {
     if process == 0 {
         return 0;
@@ -110,7 +110,7 @@ fn position_of(lists: &Vec<Several>, at: Place, process: u32) -> u32
 /// Puts the event's position among those for which each of these processes waits into `positions`.
 pub fn locate(lists: &Vec<Several>, at: Place, processes: &Vec<u32>, positions: &mut Vec<u32>)
     requires { length positions.old.items + length processes.now.items ≤ vec_capacity positions.old }
-    ensures positions { positions.new.items ≡ positions.old.items ++ map (λ p. number_of (position_of at lists.now.items p)) processes.now.items }
+    ensures positions { positions.new.items ≡ positions.old.items ++ map (λ p. position_number_of (position_of at lists.now.items p)) processes.now.items }
     ensures room { vec_capacity positions.old ≤ vec_capacity positions.new }
 {
     'locating: for index in 0..processes.len() {

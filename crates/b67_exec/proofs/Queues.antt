@@ -11,7 +11,7 @@ use Rattle.b67_table.specs.Image.{Image, is_able, is_live}
 use Rattle.b67_table.specs.Limits.{most_processes}
 use Rattle.b67_table.specs.Valid.{IsValid}
 use Rattle.b67_table.proofs.EventKept.{within_of}
-use Rattle.b67_action.specs.Able.{times, one_if, able_in, AbleAfter}
+use Rattle.b67_action.specs.Able.{number_times, one_if, able_in, AbleAfter}
 use Rattle.b67_joining.proofs.Able.{not_above, one_able}
 use Rattle.b67_joining.specs.Joining.{IsQueue, joining}
 use Rattle.b67_joining.proofs.Times.{here, elsewhere, one_at_most, is_none, is_one, times_both, few_of}
@@ -32,7 +32,7 @@ pub valid_listed : (code : Code) (img : Image) → IsValid code img → IsListed
 valid_listed code img v = record { states = v.states; some = v.some; most = v.most }
 
 module _ (img : Image) (queue : List ℕ) (listed : IsListed img) (is : IsQueue img queue) where
-  number : (q : ℕ) → 1 ≤ times q queue → (1 ≤ q) × (q ≤ most_processes)
+  number : (q : ℕ) → 1 ≤ number_times q queue → (1 ≤ q) × (q ≤ most_processes)
   number q h =
       let able = is_one (able_in img q) (omega (arith, h, is q)) in
       let k = within_of img.states q (able_live (numbered img.states q) able) in
@@ -45,7 +45,7 @@ module _ (img : Image) (queue : List ℕ) (listed : IsListed img) (is : IsQueue 
   -- and some, where the run has no end
   pub queue_some : image_end img ≡ None → queue ≢ []
   queue_some e none =
-      let nobody : (q : ℕ) → able_in img q ≡ false = λ q. is_none (able_in img q) (sym (is q) ∙ ap (times q) none) in
+      let nobody : (q : ℕ) → able_in img q ≡ false = λ q. is_none (able_in img q) (sym (is q) ∙ ap (number_times q) none) in
       let most = not_above img.states (length img.states + 1) (one_able img e (omega (arith, listed.states, listed.some))) (λ q less. nobody q) in
       omega (arith, most)
 
@@ -53,12 +53,12 @@ module _ (img : Image) (queue : List ℕ) (listed : IsListed img) (is : IsQueue 
 
 module _ (a b : Image) (p : ℕ) (others part : List ℕ) (is : IsQueue a (p ∷ others)) where
   module _ (after : AbleAfter a b p part) where
-    own_after : times p (others ++ joining a.started b p part) ≡ one_if (able_in b p)
+    own_after : number_times p (others ++ joining a.started b p part) ≡ one_if (able_in b p)
     own_after =
         let own = here p p refl in
         omega (arith, times_both p others (joining a.started b p part), is p, own, one_at_most (able_in a p), joining_own a b p part after)
 
-    other_after : (q : ℕ) → q ≢ p → times q (others ++ joining a.started b p part) ≡ one_if (able_in b q)
+    other_after : (q : ℕ) → q ≢ p → number_times q (others ++ joining a.started b p part) ≡ one_if (able_in b q)
     other_after q h =
         let none = elsewhere q p h in
         omega (arith, times_both q others (joining a.started b p part), is q, none, joining_other a b p part after q h)
@@ -66,8 +66,8 @@ module _ (a b : Image) (p : ℕ) (others part : List ℕ) (is : IsQueue a (p ∷
     pub queue_after : IsQueue b (others ++ joining a.started b p part)
     queue_after q = by (ℕ_discrete q p)
       where
-        by : Dec (q ≡ p) → times q (others ++ joining a.started b p part) ≡ one_if (able_in b q)
-        by (yes e) = subst (λ (n : ℕ). times n (others ++ joining a.started b p part) ≡ one_if (able_in b n)) (sym e) own_after
+        by : Dec (q ≡ p) → number_times q (others ++ joining a.started b p part) ≡ one_if (able_in b q)
+        by (yes e) = subst (λ (n : ℕ). number_times n (others ++ joining a.started b p part) ≡ one_if (able_in b n)) (sym e) own_after
         by (no h) = other_after q h
 
 -- ---- at first

@@ -11,26 +11,26 @@ use Rattle.b67_table.specs.Outcome.{Outcome}
 use Rattle.b67_table.specs.Table.{table, stack_length}
 use Rattle.b67_table.specs.Valid.{IsValid}
 use Rattle.b67_letters.specs.Releases.{registers_releases, released_by, releases}
-use Rattle.b67_intrinsics.specs.Called.{IsLeft}
+use Rattle.b67_intrinsics.specs.Called.{ImageIsLeft}
 use Rattle.b67_action.specs.declared.done.Done.{Done}
 use Rattle.b67_action.specs.declared.done.Done.TheVariants.{Went, Waits, Ended, Fault, Interrupt, StackLimit, NoMemory}
 use Rattle.b67_action.specs.Done.{Came, is_performed}
-use Rattle.b67_machine.specs.Kept.{Kept, Counts, counted}
-use Rattle.b67_machine.specs.Reads.{machine_end, end_by}
-use Rattle.b67_machine.specs.Stepping.{image_after, operators_in, limit_of, lacks, released_where, Acts, Steps, StepsBy}
+use Rattle.b67_machine.specs.Kept.{MachineModel, Counts, operators_counted}
+use Rattle.b67_machine.specs.Reads.{machine_end, machine_end_by}
+use Rattle.b67_machine.specs.Stepping.{image_after, operators_in, limit_of, lacks, released_where, MachineActs, Steps, StepsBy}
 use Rattle.b67_joining.specs.Joining.{IsQueue, joining}
 use Rattle.b67_joining.proofs.Joining.{released_few}
 use Rattle.b67_exec.specs.declared.Stopped.{Stopped}
 use Rattle.b67_exec.specs.declared.Stopped.TheVariants as stopped
-use Rattle.b67_exec.specs.Exec.{told}
-use Rattle.b67_exec.specs.Turns.{Turns, turn, goes, turned, turn_by, turn_in, turn_unless, to_rear}
+use Rattle.b67_exec.specs.Exec.{told_stopped}
+use Rattle.b67_exec.specs.Turns.{Turns, exec_turn, goes, turned, turn_by, turn_in, turn_unless, to_rear}
 use Rattle.b67_exec.specs.Turning.{IsListed, turns_at, TurnGoes, TurnStops, TurnLacks, Turned}
 use Rattle.b67_exec.proofs.Queues.{valid_listed, queue_few, queue_after}
 
 -- ---- the definition, at an operator
 
 turn_is : (code : Code) (t : Turns) (p : ℕ) (others : List ℕ) → image_end t.image ≡ None → t.queue ≡ p ∷ others
-    → turn code t ≡ turn_by code t p others (table code t.image p)
+    → exec_turn code t ≡ turn_by code t p others (table code t.image p)
 turn_is code t p others e q = ap (turn_unless code t) e ∙ ap (turn_in code t) q
 
 goes_by : (code : Code) (t : Turns) (p : ℕ) (others : List ℕ) (done : Done) (acted new : Image) → operators_in done ≡ 1 → Came code t.image p done acted
@@ -65,7 +65,7 @@ none_lacks NoMemory one = absurd (omega (arith, one))
 
 -- ---- an operator that is counted
 
-module _ (old new : Kept) (p : ℕ) (others : List ℕ) (done : Done) (acts : Acts old p done new) (one : operators_in done ≡ 1) (going : image_end old.image ≡ None)
+module _ (old new : MachineModel) (p : ℕ) (others : List ℕ) (done : Done) (acts : MachineActs old p done new) (one : operators_in done ≡ 1) (going : image_end old.image ≡ None)
     (is : IsQueue old.image (p ∷ others)) (listed : IsListed old.image) (valid : IsValid new.code new.image) where
   -- those whom the machine has released are those whom the table says
   released_is : releases old.code old.image p ≡ new.released
@@ -88,7 +88,7 @@ module _ (old new : Kept) (p : ℕ) (others : List ℕ) (done : Done) (acts : Ac
   rear_is : others ++ to_rear old.code p old.image new.image ≡ rear
   rear_is = ap (λ (zs : List ℕ). others ++ joining old.image.started new.image p zs) released_is
 
-  turns_are : (d : List ℕ) → turn old.code (turns_at old (p ∷ others) d) ≡ goes (turns_at new rear (p ∷ d))
+  turns_are : (d : List ℕ) → exec_turn old.code (turns_at old (p ∷ others) d) ≡ goes (turns_at new rear (p ∷ d))
   turns_are d =
       turn_is old.code (turns_at old (p ∷ others) d) p others going refl
       ∙ goes_by old.code (turns_at old (p ∷ others) d) p others done acts.acted new.image one acts.came acts.image
@@ -122,17 +122,17 @@ module _ (old new : Kept) (p : ℕ) (others : List ℕ) (done : Done) (acts : Ac
 
 -- ---- an operator that is not
 
-counts_same : (before after : List ℕ) (p : ℕ) → Counts before p 0 after → (q : ℕ) → counted after q ≡ counted before q
+counts_same : (before after : List ℕ) (p : ℕ) → Counts before p 0 after → (q : ℕ) → operators_counted after q ≡ operators_counted before q
 counts_same before after p c q = by (ℕ_discrete q p)
   where
-    by : Dec (q ≡ p) → counted after q ≡ counted before q
+    by : Dec (q ≡ p) → operators_counted after q ≡ operators_counted before q
     by (yes e) =
-        let own : counted after p ≡ counted before p = omega (arith, c.own) in
-        subst (λ (n : ℕ). counted after n ≡ counted before n) (sym e) own
+        let own : operators_counted after p ≡ operators_counted before p = omega (arith, c.own) in
+        subst (λ (n : ℕ). operators_counted after n ≡ operators_counted before n) (sym e) own
     by (no h) = c.others q h
 
-module _ (old new : Kept) (p : ℕ) (others : List ℕ) where
-  pub interrupted : (kind : InterruptKind) → Acts old p (Interrupt kind) new → TurnStops old (p ∷ others) (stopped.Interrupt kind p) new
+module _ (old new : MachineModel) (p : ℕ) (others : List ℕ) where
+  pub interrupted : (kind : InterruptKind) → MachineActs old p (Interrupt kind) new → TurnStops old (p ∷ others) (stopped.Interrupt kind p) new
   interrupted kind acts = record {
     stops = (refl, acts.came.0);
     image = acts.image ∙ acts.came.1;
@@ -140,7 +140,7 @@ module _ (old new : Kept) (p : ℕ) (others : List ℕ) where
     same = acts.code;
   }
 
-  pub limited : Acts old p StackLimit new → image_end old.image ≡ None → (next : List ℕ) (answer : Option Stopped) → answer ≡ told (machine_end new)
+  pub limited : MachineActs old p StackLimit new → image_end old.image ≡ None → (next : List ℕ) (answer : Option Stopped) → answer ≡ told_stopped (machine_end new)
       → Turned old (p ∷ others) (Ok answer) new next
   limited acts going next answer e =
       subst (λ (o : Option Stopped). Turned old (p ∷ others) (Ok o) new next) (sym (e ∙ at_limit)) (record {
@@ -153,21 +153,21 @@ module _ (old new : Kept) (p : ℕ) (others : List ℕ) where
       same : new.image ≡ old.image
       same = acts.image ∙ acts.came.1
 
-      at_limit : told (machine_end new) ≡ Some (stopped.StackLimit p (stack_length p old.image))
+      at_limit : told_stopped (machine_end new) ≡ Some (stopped.StackLimit p (stack_length p old.image))
       at_limit =
-          ap (λ (o : Option ImageEnd). told (end_by o new)) (ap image_end same ∙ going)
-          ∙ ap (λ (o : Option ℕ). told (end_by None (record new { limit = o }))) acts.limit
+          ap (λ (o : Option ImageEnd). told_stopped (machine_end_by o new)) (ap image_end same ∙ going)
+          ∙ ap (λ (o : Option ℕ). told_stopped (machine_end_by None (record new { limit = o }))) acts.limit
           ∙ ap (λ (i : Image). Some (stopped.StackLimit p (stack_length p i))) same
 
-  pub lacking : Acts old p NoMemory new → TurnLacks old (p ∷ others) new
+  pub lacking : MachineActs old p NoMemory new → TurnLacks old (p ∷ others) new
   lacking acts = record {
     makes = acts.came.0;
-    image = subst (IsLeft old.image) (sym acts.image) acts.came.1;
+    image = subst (ImageIsLeft old.image) (sym acts.image) acts.came.1;
     counts = counts_same old.counts new.counts p acts.counts;
     lacked = acts.lacked;
     same = acts.code;
   }
 
 -- the operator was tried, since memory did not lack before
-pub acts_of : (old new : Kept) (p : ℕ) (done : Done) → old.lacked ≡ false → Steps old p done new → Acts old p done new
+pub acts_of : (old new : MachineModel) (p : ℕ) (done : Done) → old.lacked ≡ false → Steps old p done new → MachineActs old p done new
 acts_of old new p done e steps = subst (λ (b : Bool). StepsBy b old p done new) e steps

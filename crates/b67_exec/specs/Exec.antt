@@ -5,12 +5,12 @@ use Rattle.b67_table.specs.Outcome.{interrupts, limit}
 use Rattle.b67_table.specs.Image.{Image}
 use Rattle.b67_table.specs.Table.{table, stack_length}
 use Rattle.b67_table.specs.Ending.{finished, faulted, all_waiting, image_end}
-use Rattle.b67_intrinsics.specs.Called.{IsLeft}
-use Rattle.b67_action.specs.Able.{times}
+use Rattle.b67_intrinsics.specs.Called.{ImageIsLeft}
+use Rattle.b67_action.specs.Able.{number_times}
 use Rattle.b67_action.specs.Done.{MakesNext}
 use Rattle.b67_machine.specs.declared.reads.End.{End}
 use Rattle.b67_machine.specs.declared.reads.End.TheVariants as ends
-use Rattle.b67_machine.specs.Kept.{Kept, counted}
+use Rattle.b67_machine.specs.Kept.{MachineModel, operators_counted}
 use Rattle.b67_exec.specs.declared.Stopped.{Stopped}
 use Rattle.b67_exec.specs.declared.Stopped.TheVariants.{Finished, Fault, AllWaiting, Interrupt, StackLimit, BudgetSpent}
 use Rattle.b67_exec.specs.Turns.{Turns, ran, exec_run}
@@ -42,10 +42,10 @@ IsCause code budget t (StackLimit p words) =
 
 -- how many operators are each process's
 abbrev pub CountsAre : List ℕ → List ℕ → Type 0
-CountsAre counts done = (p : ℕ) → counted counts p ≡ times p done
+CountsAre counts done = (p : ℕ) → operators_counted counts p ≡ number_times p done
 
 -- The run of this code by turns has stopped so, and the machine has its image and its counts.
-pub record ExecRun (code : Code) (budget : ℕ) (new : Kept) (why : Stopped) : Type 0 where
+pub record ExecRun (code : Code) (budget : ℕ) (new : MachineModel) (why : Stopped) : Type 0 where
   pub turns : Turns
   pub runs : exec_run code budget ≡ ran turns why
   pub cause : IsCause code budget turns why
@@ -60,19 +60,19 @@ FrontMakes code img (p ∷ others) = MakesNext code img p
 
 -- Fewer operators than the budget are performed, and there was no memory for what the next one makes; a closed row may have left an empty
 -- place.
-pub record ExecLacks (code : Code) (budget : ℕ) (new : Kept) : Type 0 where
+pub record ExecLacks (code : Code) (budget : ℕ) (new : MachineModel) : Type 0 where
   pub performed : ℕ
   pub below : performed < budget
   pub turns : Turns
   pub runs : exec_run code performed ≡ ran turns BudgetSpent
   pub makes : FrontMakes code turns.image turns.queue
-  pub image : IsLeft turns.image new.image
+  pub image : ImageIsLeft turns.image new.image
   pub counts : CountsAre new.counts turns.done
   pub lacked : new.lacked ≡ true
   pub same : new.code ≡ code
 
 -- there was no memory: for the queue, and then nothing was performed, or for what an operator makes
-abbrev pub Lacks : ℕ → Kept → Kept → Type 0
+abbrev pub Lacks : ℕ → MachineModel → MachineModel → Type 0
 Lacks budget old new = (new ≡ old) ⊎ ExecLacks old.code budget new
 
 -- how a run stopped where a machine has an end
@@ -82,6 +82,6 @@ stop_of (ends.Fault kind p) = Fault kind p
 stop_of ends.AllWaiting = AllWaiting
 stop_of (ends.StackLimit p words) = StackLimit p words
 
-abbrev pub told : Option End → Option Stopped
-told None = None
-told (Some end) = Some (stop_of end)
+abbrev pub told_stopped : Option End → Option Stopped
+told_stopped None = None
+told_stopped (Some end) = Some (stop_of end)

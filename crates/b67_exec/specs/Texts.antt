@@ -4,7 +4,7 @@ use Rattle.std.specs.Fmt.{decimal}
 use Rattle.b67_segment.specs.declared.code.Code.{Code}
 use Rattle.b67_table.specs.declared.InterruptKind.{InterruptKind}
 use Rattle.b67_table.specs.declared.InterruptKind.TheVariants.{InvalidOperand, StackUnderflow, BrokenChain, BadCode}
-use Rattle.b67_machine.specs.Kept.{Kept, counted}
+use Rattle.b67_machine.specs.Kept.{MachineModel, operators_counted}
 use Rattle.b67_report.specs.declared.EndWords.TheVariants as ends
 use Rattle.b67_report.specs.Texts.{line_text, lines_text, counts_text, end_words}
 use Rattle.b67_exec.specs.declared.Stopped.{Stopped}
@@ -43,8 +43,8 @@ exec_text code budget = ran_text (exec_run code budget)
 -- how many operators so many processes have performed, from this one on
 abbrev pub counts_in : List ℕ → ℕ → ℕ → List ℕ
 counts_in counts p zero = []
-counts_in counts p (suc n) = counted counts p ∷ counts_in counts (p + 1) n
+counts_in counts p (suc n) = operators_counted counts p ∷ counts_in counts (p + 1) n
 
 -- the text of a machine whose run has stopped so
-abbrev pub machine_text : Kept → Stopped → List ℕ
+abbrev pub machine_text : MachineModel → Stopped → List ℕ
 machine_text m why = told_text m.image.output why (counts_in m.counts 1 m.image.started)

@@ -7,7 +7,7 @@ use Rattle.b67_table.specs.Table.{table, stack_length}
 use Rattle.b67_table.specs.Ending.{ImageEnd, finished, faulted, all_waiting, image_end, failed}
 use Rattle.b67_table.specs.Beginning.{first_image}
 use Rattle.b67_letters.specs.Releases.{releases}
-use Rattle.b67_action.specs.Able.{times}
+use Rattle.b67_action.specs.Able.{number_times}
 use Rattle.b67_joining.specs.Joining.{joining}
 use Rattle.b67_exec.specs.declared.Stopped.{Stopped}
 use Rattle.b67_exec.specs.declared.Stopped.TheVariants as stopped
@@ -61,8 +61,8 @@ abbrev pub turn_unless : Code → Turns → Option ImageEnd → Turn
 turn_unless code t (Some end) = stops (stopped_by end)
 turn_unless code t None = turn_in code t t.queue
 
-abbrev pub turn : Code → Turns → Turn
-turn code t = turn_unless code t (image_end t.image)
+abbrev pub exec_turn : Code → Turns → Turn
+exec_turn code t = turn_unless code t (image_end t.image)
 
 -- ---- runs
 
@@ -86,7 +86,7 @@ go_on next t (stops why) = ran t why
 -- the run from here, where so many more operators are allowed
 abbrev pub exec_from : Code → ℕ → Turns → Ran
 exec_from code zero t = ran t (spent_unless (image_end t.image))
-exec_from code (suc n) t = go_on (λ (new : Turns). exec_from code n new) t (turn code t)
+exec_from code (suc n) t = go_on (λ (new : Turns). exec_from code n new) t (exec_turn code t)
 
 -- The run of a code by turns with a budget of so many operators. It stops at an end, at an interrupt, at the stack limit, or after so
 -- many operators.
@@ -98,7 +98,7 @@ exec_run code budget = exec_from code budget first_turns
 -- how many operators each of so many processes has performed, from this one on
 abbrev pub counts_from : ℕ → ℕ → List ℕ → List ℕ
 counts_from p zero done = []
-counts_from p (suc n) done = times p done ∷ counts_from (p + 1) n done
+counts_from p (suc n) done = number_times p done ∷ counts_from (p + 1) n done
 
 -- of all processes that there have been
 abbrev pub counts_of : Turns → List ℕ

@@ -1,9 +1,9 @@
 // One turn.
 ghost use Rattle.std.specs.Prelude.{◌≡◌, ℕ, ◌+◌, ◌<◌, ◌≤◌, ◌^◌, None, false};
 ghost use Rattle.b67_table.specs.Limits.{most_processes};
-ghost use Rattle.b67_machine.specs.Kept.{counted};
+ghost use Rattle.b67_machine.specs.Kept.{operators_counted};
 ghost use Rattle.b67_machine.specs.Reads.{machine_end};
-ghost use Rattle.b67_exec.specs.Exec.{stop_of, told};
+ghost use Rattle.b67_exec.specs.Exec.{stop_of, told_stopped};
 ghost use Rattle.b67_joining.specs.Joining.{IsQueue};
 ghost use Rattle.b67_exec.specs.Turning.{IsListed, Turned};
 
@@ -30,7 +30,7 @@ fn stop_of(end: End) -> Stopped
 
 /// How the run of a machine stopped, where it has an end.
 pub fn end_of<C: Core>(machine: &Machine<C>) -> Option<Stopped>
-    ensures { result ≡ told (machine_end machine.now) }
+    ensures { result ≡ told_stopped (machine_end machine.now) }
 {
     match machine.end() {
         Some(end) => Some(stop_of(end)),
@@ -46,7 +46,7 @@ pub fn turn<C: Core>(
 ) -> Result<Option<Stopped>, AllocError>
     requires going { machine_end machine.old ≡ None }
     requires lacked { machine.old.lacked ≡ false }
-    requires counts { (p : ℕ) → counted machine.old.counts p + 1 < 2 ^ 64 }
+    requires counts { (p : ℕ) → operators_counted machine.old.counts p + 1 < 2 ^ 64 }
     requires queue { IsQueue machine.old.image ready.old.waiting }
     requires listed { IsListed machine.old.image }
     requires rule { ready.old.rule ≡ Order.Fifo }

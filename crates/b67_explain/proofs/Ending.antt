@@ -15,11 +15,11 @@ use Rattle.b67_table.specs.Ending as machine
 use Rattle.b67_faithful.specs.Agreement.{end_as, Shows, Fits}
 use Rattle.b67_machine.specs.declared.replay.Replayed.{Replayed}
 use Rattle.b67_machine.specs.declared.replay.Replayed.TheVariants.{Ended, Ran, Illegal, BudgetSpent, NoMemory, Differs}
-use Rattle.b67_machine.specs.Kept.{Kept}
-use Rattle.b67_machine.specs.Reads.{machine_end, end_by, shown, limit_end}
-use Rattle.b67_machine.specs.Replaying.{Answers, MayGo, AtLimit, IsIllegal}
-use Rattle.b67_explain.specs.Explaining.{EndIs, IsLeft, IsTail, NextIsIllegal, NextGoes}
-use Rattle.b67_explain.specs.Telling.{words_of_end, Tells}
+use Rattle.b67_machine.specs.Kept.{MachineModel}
+use Rattle.b67_machine.specs.Reads.{machine_end, machine_end_by, end_shown, limit_end}
+use Rattle.b67_machine.specs.Replaying.{ReplayAnswers, MayGo, ReplayAtLimit, IsIllegal}
+use Rattle.b67_explain.specs.Explaining.{EndIs, ScheduleIsLeft, IsTail, NextIsIllegal, NextGoes}
+use Rattle.b67_explain.specs.Telling.{words_of_end, EndTells}
 
 goes_without : (e : Option ImageEnd) (able_now : Bool) → goes_on e able_now ≡ true → (e ≡ None) × (able_now ≡ true)
 goes_without None able_now h = (refl, h)
@@ -58,17 +58,17 @@ module _ (tree : PProgram) (code : Code) (w : World) (img : Image) (shows : Show
 
   -- the image's end
   end_there : (budget operators : ℕ) (e : ImageEnd) → operators ≤ budget → image_end img ≡ Some e →
-      EndIs tree code w img budget operators (words_of_end (shown e))
+      EndIs tree code w img budget operators (words_of_end (end_shown e))
   end_there budget operators machine.finished within is = (shows.ends ∙ ap end_as is, within)
   end_there budget operators (machine.faulted kind p) within is = (shows.ends ∙ ap end_as is, within)
   end_there budget operators machine.all_waiting within is = (shows.ends ∙ ap end_as is, within)
 
-  left_there : (performed : ℕ) (e : ImageEnd) (left : List ℕ) → left ≡ [] → IsLeft w performed (words_of_end (shown e)) left
+  left_there : (performed : ℕ) (e : ImageEnd) (left : List ℕ) → left ≡ [] → ScheduleIsLeft w performed (words_of_end (end_shown e)) left
   left_there performed machine.finished left is = is
   left_there performed (machine.faulted kind p) left is = is
   left_there performed machine.all_waiting left is = is
 
-  tail_there : (e : ImageEnd) (tail : ℕ) → tail ≡ 0 → IsTail (words_of_end (shown e)) tail
+  tail_there : (e : ImageEnd) (tail : ℕ) → tail ≡ 0 → IsTail (words_of_end (end_shown e)) tail
   tail_there machine.finished tail is = is
   tail_there (machine.faulted kind p) tail is = is
   tail_there machine.all_waiting tail is = is
@@ -85,37 +85,37 @@ module _ (tree : PProgram) (code : Code) (w : World) (img : Image) (shows : Show
   -- what is said of the end, of what is left, and of the tail
   pub record Said (budget operators performed : ℕ) (left : List ℕ) (tail : ℕ) (end : EndWords) : Type 0 where
     pub ended : EndIs tree code w img budget operators end
-    pub leaves : IsLeft w performed end left
+    pub leaves : ScheduleIsLeft w performed end left
     pub alone : IsTail end tail
 
   -- the machine is at the end of the image
-  at_end : (m : Kept) (budget operators performed : ℕ) (left : List ℕ) (tail : ℕ) (end : EndWords) (e : ImageEnd) → operators ≤ budget → m.image ≡ img → image_end img ≡ Some e →
-      tail ≡ 0 → left ≡ [] → Tells Ended (machine_end m) end → Said budget operators performed left tail end
+  at_end : (m : MachineModel) (budget operators performed : ℕ) (left : List ℕ) (tail : ℕ) (end : EndWords) (e : ImageEnd) → operators ≤ budget → m.image ≡ img → image_end img ≡ Some e →
+      tail ≡ 0 → left ≡ [] → EndTells Ended (machine_end m) end → Said budget operators performed left tail end
   at_end m budget operators performed left tail end e within same is none no_more tells =
-      let there : machine_end m ≡ Some (shown e) = ap (λ o. end_by o m) (ap image_end same ∙ is) in
-      let said : end ≡ words_of_end (shown e) = subst (λ o. Tells Ended o end) there tells in
+      let there : machine_end m ≡ Some (end_shown e) = ap (λ o. machine_end_by o m) (ap image_end same ∙ is) in
+      let said : end ≡ words_of_end (end_shown e) = subst (λ o. EndTells Ended o end) there tells in
       subst (λ (x : EndWords). Said budget operators performed left tail x) (sym said)
       (record { ended = end_there budget operators e within is; leaves = left_there performed e left no_more; alone = tail_there e tail none })
 
   -- the machine is at the stack limit
-  at_limit : (m : Kept) (budget operators performed : ℕ) (left : List ℕ) (tail : ℕ) (end : EndWords) → m.image ≡ img → operators < budget → MayGo left img →
-      AtLimit code left img m.limit → Tells Ended (machine_end m) end → Said budget operators performed left tail end
+  at_limit : (m : MachineModel) (budget operators performed : ℕ) (left : List ℕ) (tail : ℕ) (end : EndWords) → m.image ≡ img → operators < budget → MayGo left img →
+      ReplayAtLimit code left img m.limit → EndTells Ended (machine_end m) end → Said budget operators performed left tail end
   at_limit m budget operators performed [] tail end same less goes at tells = absurd goes
   at_limit m budget operators performed (p ∷ left) tail end same less goes at tells =
       let none = (acting img p goes).0 in
       let there : machine_end m ≡ limit_end (Some p) img.regs =
-      ap (λ o. end_by o m) (ap image_end same ∙ none) ∙ ap (λ o. limit_end o m.image.regs) at.1 ∙ ap (λ (i : Image). limit_end (Some p) i.regs) same in
-      let said = subst (λ o. Tells Ended o end) there tells in
+      ap (λ o. machine_end_by o m) (ap image_end same ∙ none) ∙ ap (λ o. limit_end o m.image.regs) at.1 ∙ ap (λ (i : Image). limit_end (Some p) i.regs) same in
+      let said = subst (λ o. EndTells Ended o end) there tells in
       subst (λ (x : EndWords). Said budget operators performed (p ∷ left) tail x) (sym said)
       (record { ended = (none_there none, less, record { goes = may_both code w img p shows ∙ goes; next = at.0; has = refl; heavy = fits.heavy p at.0 }); leaves = refl; alone = tt })
 
-  module _ (m : Kept) (budget operators performed : ℕ) (done left : List ℕ) (tail : ℕ) (end : EndWords) (same : m.image ≡ img) (within : operators ≤ budget) where
-    by_end : (o : Option ImageEnd) → image_end img ≡ o → image_end img ≢ None → tail ≡ 0 → left ≡ [] → Tells Ended (machine_end m) end →
+  module _ (m : MachineModel) (budget operators performed : ℕ) (done left : List ℕ) (tail : ℕ) (end : EndWords) (same : m.image ≡ img) (within : operators ≤ budget) where
+    by_end : (o : Option ImageEnd) → image_end img ≡ o → image_end img ≢ None → tail ≡ 0 → left ≡ [] → EndTells Ended (machine_end m) end →
         Said budget operators performed left tail end
     by_end None is some none no_more tells = absurd (some is)
     by_end (Some e) is some none no_more tells = at_end m budget operators performed left tail end e within same is none no_more tells
 
-    pub said_of : (answer : Replayed) → performed ≡ length done → Answers code budget operators done left tail img m answer → Tells answer (machine_end m) end →
+    pub said_of : (answer : Replayed) → performed ≡ length done → ReplayAnswers code budget operators done left tail img m answer → EndTells answer (machine_end m) end →
         Said budget operators performed left tail end
     said_of Ended count (inl a) tells = by_end (image_end img) refl a.2 a.0 a.1 tells
     said_of Ended count (inr a) tells = at_limit m budget operators performed left tail end same a.0 a.1 a.2 tells

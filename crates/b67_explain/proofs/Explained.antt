@@ -12,7 +12,7 @@ use Rattle.b67_deeds.specs.declared.Letter.{Letter}
 use Rattle.b67_schedule.specs.declared.reading.Given.{Given}
 use Rattle.b67_schedule.specs.declared.reading.Given.TheVariants.{One, Two}
 use Rattle.b67_schedule.specs.Giving.{given_entries}
-use Rattle.b67_schedule.specs.Schedules.{entries, IsSchedule, Kept as Schedule}
+use Rattle.b67_schedule.specs.Schedules.{entries, IsSchedule, ScheduleModel}
 use Rattle.b67_machine.specs.Letters.{AreLetters}
 use Rattle.b67_report.specs.Reading.{IsLine, IsReport}
 use Rattle.b67_report.specs.declared.Report.{Report}
@@ -23,18 +23,18 @@ use Rattle.b67_segment.specs.declared.code.Code.{Code}
 use Rattle.b67_table.specs.Image.{Image}
 use Rattle.b67_table.specs.Ending.{ImageEnd, image_end, may_act}
 use Rattle.b67_table.specs.Runs.{TableRun, Runs, begin, entry, count_of, none}
-use Rattle.b67_faithful.specs.Agreement.{Agrees}
+use Rattle.b67_faithful.specs.Agreement.{WorldAgrees}
 use Rattle.b67_faithful.specs.Faithful.{Faithful, longest}
 use Rattle.b67_machine.specs.declared.replay.Replayed.{Replayed}
 use Rattle.b67_machine.specs.declared.replay.Replayed.TheVariants.{Ended, Ran, Illegal, BudgetSpent, NoMemory, Differs}
 use Rattle.b67_machine.specs.declared.reads.End.{End}
 use Rattle.b67_machine.specs.declared.reads.End.TheVariants as machine_ends
-use Rattle.b67_machine.specs.Kept.{Kept, counted}
-use Rattle.b67_machine.specs.Reads.{machine_end, end_by, shown, limit_end}
-use Rattle.b67_machine.specs.Replaying.{Replays, ReplaysEntries, Answers, MayGo, AtLimit, Stands, is_lacking, tails_of, tail_of, NoneDiffers, AgreeAs, letters_of}
-use Rattle.b67_explain.specs.Explaining.{EndIs, IsLeft, IsTail, NextGoes, Explains, IsOwnEnd, ExplainsRun, ExplainsReplay, AgreeBy}
+use Rattle.b67_machine.specs.Kept.{MachineModel, operators_counted}
+use Rattle.b67_machine.specs.Reads.{machine_end, machine_end_by, end_shown, limit_end}
+use Rattle.b67_machine.specs.Replaying.{Replays, ReplaysEntries, ReplayAnswers, MayGo, ReplayAtLimit, MachineStands, is_lacking, tails_of, tail_of, NoneDiffers, AgreeAs, letters_of}
+use Rattle.b67_explain.specs.Explaining.{EndIs, ScheduleIsLeft, IsTail, NextGoes, Explains, IsOwnEnd, ExplainsRun, ExplainsReplay, AgreeBy}
 use Rattle.b67_explain.specs.Explaining.{NoneDiffers as NoneSaid, AgreeAs as SaidAs}
-use Rattle.b67_explain.specs.Telling.{CanBeTold, Tells, IsReportOf}
+use Rattle.b67_explain.specs.Telling.{CanBeTold, EndTells, IsReportOf}
 use Rattle.b67_explain.proofs.Outputs.{run_writes}
 use Rattle.b67_explain.proofs.Printed.{listing_fine, output_fine}
 use Rattle.b67_explain.proofs.Naming.{IsOneOf, able_is_one, going_is_able, entries_are_there}
@@ -55,7 +55,7 @@ count_for_each begin = refl
 count_for_each (entry runs e) = ap suc (count_for_each runs)
 
 -- a run that is told did not lack memory
-not_lacking : (answer : Replayed) (m : Kept) (end : EndWords) → Tells answer (machine_end m) end → is_lacking answer ≡ false
+not_lacking : (answer : Replayed) (m : MachineModel) (end : EndWords) → EndTells answer (machine_end m) end → is_lacking answer ≡ false
 not_lacking Ended m end tells = refl
 not_lacking Ran m end tells = refl
 not_lacking (Illegal number) m end tells = refl
@@ -69,8 +69,8 @@ able_if n w p (inl e) = inl e
 able_if n w p (inr e) = inr (going_is_able w p e)
 
 -- where there is a tail, the next entry may go
-tail_may_go : (code : Code) (budget spent : ℕ) (done left : List ℕ) (tail : ℕ) (img : Image) (m : Kept) (answer : Replayed) →
-    Answers code budget spent done left tail img m answer → (tail ≡ 0) ⊎ MayGo left img
+tail_may_go : (code : Code) (budget spent : ℕ) (done left : List ℕ) (tail : ℕ) (img : Image) (m : MachineModel) (answer : Replayed) →
+    ReplayAnswers code budget spent done left tail img m answer → (tail ≡ 0) ⊎ MayGo left img
 tail_may_go code budget spent done left tail img m Ended (inl a) = inl a.0
 tail_may_go code budget spent done left tail img m Ended (inr a) = inr a.1
 tail_may_go code budget spent done left tail img m Ran a = inl a.0
@@ -99,16 +99,16 @@ bound_of tree code n done (q ∷ left) tail img faithful r (inr there) =
     let all_tails = sum_tails q left tail in
     omega (arith, few, more, all_tails)
 
-module _ (grows : EachRunGrows) (tree : PProgram) (code : Code) (faithful : Faithful tree code) (given : List ℕ) (budget : ℕ) (m : Kept) (answer : Replayed) (schedule : Schedule)
+module _ (grows : EachRunGrows) (tree : PProgram) (code : Code) (faithful : Faithful tree code) (given : List ℕ) (budget : ℕ) (m : MachineModel) (answer : Replayed) (schedule : ScheduleModel)
     (replays : ReplaysEntries code given budget (entries schedule.runs) schedule.letters m answer) (processors : ℕ) (lines : List (List ℕ)) (report : Report)
     (is : IsReportOf m answer lines processors schedule report) where
   abbrev done : List ℕ
   done = entries schedule.runs
 
-  abbrev agrees : Agrees tree code done replays.image
+  abbrev agrees : WorldAgrees tree code done replays.image
   agrees = faithful.follows.legal done (tails_of replays.left replays.tail) replays.image replays.run
 
-  stands_there : (lacking : Bool) → lacking ≡ false → Stands lacking replays.image m.image → m.image ≡ replays.image
+  stands_there : (lacking : Bool) → lacking ≡ false → MachineStands lacking replays.image m.image → m.image ≡ replays.image
   stands_there false e stands = stands
   stands_there true e stands = cc
 
@@ -150,7 +150,7 @@ module _ (grows : EachRunGrows) (tree : PProgram) (code : Code) (faithful : Fait
   own p = count_of p replays.run.history replays.run.counts + tail_of replays.left replays.tail p
 
   -- each count is the process's
-  count_is : (p : ℕ) → 1 ≤ p → p ≤ length report.operators → counted report.operators p ≡ own p
+  count_is : (p : ℕ) → 1 ≤ p → p ≤ length report.operators → operators_counted report.operators p ≡ own p
   count_is p one most = is.operators.are p one most ∙ replays.counts p
 
   -- and together they are all operators of the run
@@ -174,7 +174,7 @@ module _ (grows : EachRunGrows) (tree : PProgram) (code : Code) (faithful : Fait
 
   module _ (valid : IsSchedule schedule.runs schedule.letters) (listed : ListingText code lines) where
     schedule_is : report.schedule.runs ≡ schedule.runs
-    schedule_is = ap (λ (x : Schedule). x.runs) is.performed
+    schedule_is = ap (λ (x : ScheduleModel). x.runs) is.performed
 
     entries_are : entries report.schedule.runs ≡ done
     entries_are = ap entries schedule_is
@@ -199,7 +199,7 @@ module _ (grows : EachRunGrows) (tree : PProgram) (code : Code) (faithful : Fait
       end = is.sizes.end;
       operators = is.sizes.operators;
       acts = is.sizes.acts;
-      schedule = subst (λ (x : Schedule). IsSchedule x.runs x.letters) (sym is.performed) valid;
+      schedule = subst (λ (x : ScheduleModel). IsSchedule x.runs x.letters) (sym is.performed) valid;
     }
 
     pub explained : Explains tree processors budget report
@@ -223,7 +223,7 @@ module _ (grows : EachRunGrows) (tree : PProgram) (code : Code) (faithful : Fait
         runs = replays.run.runs;
         after = replays.run.after;
       };
-      letters = subst (λ (x : Schedule). AreLetters replays.run.runs x.letters) (sym is.performed) replays.letters_are;
+      letters = subst (λ (x : ScheduleModel). AreLetters replays.run.runs x.letters) (sym is.performed) replays.letters_are;
       shown = sym (is.output ∙ ap (λ (i : Image). i.output) same);
       same_end = agrees.shows.ends;
       processes = number_of;
@@ -239,8 +239,8 @@ module _ (grows : EachRunGrows) (tree : PProgram) (code : Code) (faithful : Fait
     pub left_split : given ≡ entries report.schedule.runs ++ replays.left
     left_split = replays.split ∙ ap (λ (xs : List ℕ). xs ++ replays.left) (sym entries_are)
 
-    pub left_said : IsLeft agrees.world (length (entries report.schedule.runs)) report.end replays.left
-    left_said = subst (λ (xs : List ℕ). IsLeft agrees.world (length xs) report.end replays.left) (sym entries_are) said.leaves
+    pub left_said : ScheduleIsLeft agrees.world (length (entries report.schedule.runs)) report.end replays.left
+    left_said = subst (λ (xs : List ℕ). ScheduleIsLeft agrees.world (length xs) report.end replays.left) (sym entries_are) said.leaves
 
     pub tail_alone : IsTail report.end replays.tail
     tail_alone = said.alone
@@ -253,16 +253,16 @@ module _ (grows : EachRunGrows) (tree : PProgram) (code : Code) (faithful : Fait
         by (inl none_there) = inl none_there
         by (inr may) = inr (going_there tree code agrees.world replays.image agrees.shows agrees.fits replays.left may)
 
-    each_goes : (p : ℕ) → (counted (tails_of replays.left replays.tail) p ≡ 0) ⊎ (may_go agrees.world p ≡ true)
+    each_goes : (p : ℕ) → (operators_counted (tails_of replays.left replays.tail) p ≡ 0) ⊎ (may_go agrees.world p ≡ true)
     each_goes = each_may_go agrees.world replays.image.started replays.left replays.tail tailed tail_goes
 
-    each_able : (p : ℕ) → (counted (tails_of replays.left replays.tail) p ≡ 0) ⊎ (is_able ((process_at agrees.world p).state) ≡ true)
-    each_able p = able_if (counted (tails_of replays.left replays.tail) p) agrees.world p (each_goes p)
+    each_able : (p : ℕ) → (operators_counted (tails_of replays.left replays.tail) p ≡ 0) ⊎ (is_able ((process_at agrees.world p).state) ≡ true)
+    each_able p = able_if (operators_counted (tails_of replays.left replays.tail) p) agrees.world p (each_goes p)
 
     pub all_within : sum report.operators ≤ budget
     all_within = omega (arith, all_operators, replays.within)
 
-pub run_explained : (grows : EachRunGrows) (tree : PProgram) (code : Code) → Faithful tree code → (given : List ℕ) (budget : ℕ) (m : Kept) (answer : Replayed) (schedule : Schedule) →
+pub run_explained : (grows : EachRunGrows) (tree : PProgram) (code : Code) → Faithful tree code → (given : List ℕ) (budget : ℕ) (m : MachineModel) (answer : Replayed) (schedule : ScheduleModel) →
     ReplaysEntries code given budget (entries schedule.runs) schedule.letters m answer → (processors : ℕ) (lines : List (List ℕ)) (report : Report) → IsReportOf m answer lines processors schedule report →
     IsSchedule schedule.runs schedule.letters → ListingText code lines → IsOwnEnd report.end → ExplainsRun tree processors budget report
 unfolding explained
@@ -303,14 +303,14 @@ said_as end n (One old) noted h = n
 said_as end n (Two schedule) noted h = said_by end n schedule.letters noted h
 
 -- an end of the machine is not said as a letter that differs
-plain_end : (o : Option End) (end : EndWords) → Tells Ended o end → NoneSaid end
+plain_end : (o : Option End) (end : EndWords) → EndTells Ended o end → NoneSaid end
 plain_end None end tells = absurd tells
 plain_end (Some machine_ends.Finished) end tells = subst NoneSaid (sym tells) tt
 plain_end (Some (machine_ends.Fault kind process)) end tells = subst NoneSaid (sym tells) tt
 plain_end (Some machine_ends.AllWaiting) end tells = subst NoneSaid (sym tells) tt
 plain_end (Some (machine_ends.StackLimit process count)) end tells = subst NoneSaid (sym tells) tt
 
-agrees_said : (answer : Replayed) (o : Option End) (end : EndWords) (given : Given) (noted : List Letter) → Tells answer o end → AgreeAs answer (letters_of given) noted → SaidAs end given noted
+agrees_said : (answer : Replayed) (o : Option End) (end : EndWords) (given : Given) (noted : List Letter) → EndTells answer o end → AgreeAs answer (letters_of given) noted → SaidAs end given noted
 agrees_said Ended o end given noted tells h = said_as end (plain_end o end tells) given noted (front_of Ended tt (letters_of given) noted h)
 agrees_said Ran o end given noted tells h = said_as end (subst NoneSaid (sym tells) tt) given noted (front_of Ran tt (letters_of given) noted h)
 agrees_said (Illegal number) o end given noted tells h = said_as end (subst NoneSaid (sym tells) tt) given noted (front_of (Illegal number) tt (letters_of given) noted h)
@@ -319,7 +319,7 @@ agrees_said NoMemory o end given noted tells h = absurd tells
 agrees_said (Differs number) o end (One old) noted tells h = absurd h
 agrees_said (Differs number) o end (Two schedule) noted tells h = subst (λ (x : EndWords). SaidAs x (Two schedule) noted) (sym tells) h
 
-pub replay_explained : (grows : EachRunGrows) (tree : PProgram) (code : Code) → Faithful tree code → (given : Given) (budget : ℕ) (m : Kept) (answer : Replayed) (schedule : Schedule) →
+pub replay_explained : (grows : EachRunGrows) (tree : PProgram) (code : Code) → Faithful tree code → (given : Given) (budget : ℕ) (m : MachineModel) (answer : Replayed) (schedule : ScheduleModel) →
     Replays code given budget schedule m answer → (lines : List (List ℕ)) (report : Report) → IsReportOf m answer lines 1 schedule report → IsSchedule schedule.runs schedule.letters →
     ListingText code lines → ExplainsReplay tree given budget report
 unfolding explained
@@ -328,7 +328,7 @@ replay_explained grows tree code faithful given budget m answer schedule replays
   left = replays.0.left;
   split = left_split grows tree code faithful (given_entries given) budget m answer schedule replays.0 1 lines report is valid listed;
   agrees = agrees_said answer (machine_end m) report.end given report.schedule.letters is.end
-      (subst (λ (x : Schedule). AgreeAs answer (letters_of given) x.letters) (sym is.performed) replays.1);
+      (subst (λ (x : ScheduleModel). AgreeAs answer (letters_of given) x.letters) (sym is.performed) replays.1);
   leaves = left_said grows tree code faithful (given_entries given) budget m answer schedule replays.0 1 lines report is valid listed;
   tail = replays.0.tail;
   tails = refl;
@@ -339,25 +339,25 @@ replay_explained grows tree code faithful given budget m answer schedule replays
 
 -- ---- a run that can be told
 
-ended_can : (m : Kept) (img : Image) (o : Option ImageEnd) → m.image ≡ img → image_end img ≡ o → image_end img ≢ None → CanBeTold Ended (machine_end m)
+ended_can : (m : MachineModel) (img : Image) (o : Option ImageEnd) → m.image ≡ img → image_end img ≡ o → image_end img ≢ None → CanBeTold Ended (machine_end m)
 ended_can m img None there_is is some = absurd (some is)
 ended_can m img (Some e) there_is is some =
-    let there : machine_end m ≡ Some (shown e) = ap (λ o. end_by o m) (ap image_end there_is ∙ is) in
+    let there : machine_end m ≡ Some (end_shown e) = ap (λ o. machine_end_by o m) (ap image_end there_is ∙ is) in
     subst (CanBeTold Ended) (sym there) tt
 
-limit_can : (code : Code) (m : Kept) (img : Image) (left : List ℕ) → m.image ≡ img → MayGo left img → AtLimit code left img m.limit → CanBeTold Ended (machine_end m)
+limit_can : (code : Code) (m : MachineModel) (img : Image) (left : List ℕ) → m.image ≡ img → MayGo left img → ReplayAtLimit code left img m.limit → CanBeTold Ended (machine_end m)
 limit_can code m img [] there_is goes at = absurd goes
 limit_can code m img (p ∷ left) there_is goes at =
     let there : machine_end m ≡ limit_end (Some p) m.image.regs =
-    ap (λ o. end_by o m) (ap image_end there_is ∙ (acting img p goes).0) ∙ ap (λ o. limit_end o m.image.regs) at.1 in
+    ap (λ o. machine_end_by o m) (ap image_end there_is ∙ (acting img p goes).0) ∙ ap (λ o. limit_end o m.image.regs) at.1 in
     subst (CanBeTold Ended) (sym there) tt
 
-pub can_be_told : (code : Code) (given : List ℕ) (budget : ℕ) (performed : List ℕ) (noted : List Letter) (m : Kept) (answer : Replayed) →
+pub can_be_told : (code : Code) (given : List ℕ) (budget : ℕ) (performed : List ℕ) (noted : List Letter) (m : MachineModel) (answer : Replayed) →
     ReplaysEntries code given budget performed noted m answer → answer ≢ NoMemory →
     CanBeTold answer (machine_end m)
 can_be_told code given budget performed noted m Ended r some = by r.answers
   where
-    by : Answers code budget (sum r.run.counts + r.tail) performed r.left r.tail r.image m Ended → CanBeTold Ended (machine_end m)
+    by : ReplayAnswers code budget (sum r.run.counts + r.tail) performed r.left r.tail r.image m Ended → CanBeTold Ended (machine_end m)
     by (inl a) = ended_can m r.image (image_end r.image) r.stands refl a.2
     by (inr a) = limit_can code m r.image r.left r.stands a.1 a.2
 can_be_told code given budget performed noted m Ran r some = tt

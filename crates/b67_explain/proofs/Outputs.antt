@@ -22,7 +22,7 @@ use Rattle.b67_ops.specs.declared.BadCode.{BadCode}
 use Rattle.b67_ops.specs.declared.intrinsic.Intrinsic.{Intrinsic}
 use Rattle.b67_ops.specs.declared.intrinsic.Intrinsic.TheVariants as names
 use Rattle.b67_segment.specs.declared.code.Code.{Code}
-use Rattle.b67_store.specs.Store.{Row as StoreRow, row_words_or, words_of}
+use Rattle.b67_store.specs.Store.{Row, row_words_or, words_of}
 use Rattle.b67_deeds.specs.declared.EventAct.TheVariants as act
 use Rattle.b67_deeds.specs.declared.EventTest.{EventTest}
 use Rattle.b67_deeds.specs.declared.EventTest.TheVariants as test
@@ -37,30 +37,30 @@ use Rattle.b67_table.specs.Effect.{Effect, gives, faults, interrupts}
 use Rattle.b67_table.specs.Outcome as outcomes
 use Rattle.b67_table.specs.Private.{frame}
 use Rattle.b67_table.specs.Image.{Image, private_of, is_live}
-use Rattle.b67_table.specs.Look.{Look, at, ◌>->◌, seen, valid}
+use Rattle.b67_table.specs.Look.{Look, at, ◌>->◌, look_seen, valid}
 use Rattle.b67_table.specs.Questions.{told}
 use Rattle.b67_table.specs.Questions as questions
-use Rattle.b67_table.specs.Writes.{Write, written}
+use Rattle.b67_table.specs.Writes.{Write, write_made}
 use Rattle.b67_table.specs.Writes as writes
 use Rattle.b67_table.specs.Program.{Test, answer, fault, asked, ◌>>=◌, see, Change, changed, done, cut, push, registers, row_of, open_row, write_row, close_row, close_events, end_process, line, effect_of, Program}
 use Rattle.b67_table.specs.Program.{write as write_on}
 use Rattle.b67_table.specs.Moves.{dropped, replaced, pushed}
-use Rattle.b67_table.specs.Chains.{place, broken, mark_at, rebuilt}
+use Rattle.b67_table.specs.Chains.{place, chain_broken, mark_at, rebuilt}
 use Rattle.b67_table.specs.Limits.{most_cells, most_events, most_processes}
-use Rattle.b67_table.specs.Linkage.{entering, entered, leaving, left, entry, accidental, control_word, entered_mark, selected, closed_by, rows_closed, array_closed, arrays_closed, frame_left, is_critical, if_not_critical, caused_by, leave_base, leave_other, leave}
+use Rattle.b67_table.specs.Linkage.{entering, entered, leaving, registers_left, entry, accidental, control_word, entered_mark, selected, closed_by, rows_closed, array_closed, arrays_closed, frame_left, is_critical, if_not_critical, caused_by, leave_base, leave_other, leave}
 use Rattle.b67_table.specs.GoingTo.{Passed, Passing, Target, frames_left, passed_frames, passed_by, target_of, gone_to, go_to}
-use Rattle.b67_table.specs.Arrays.{Extents, one, two, array_word, rows_made, array_made, arrays_made, as_indexed, element, subscripted, index_in, index_or_fault, index, index_and_load, index_mother, subscripted_element, if_held}
+use Rattle.b67_table.specs.Arrays.{Extents, one, two, array_word, rows_made, array_made, arrays_made, as_indexed, element, subscripted, index_in, index_or_fault, index_program, index_and_load, index_mother, subscripted_element, if_held}
 use Rattle.b67_table.specs.Arguments.{if_chained, finished_at, wholes, three, event_of, events_of, no_such}
 use Rattle.b67_table.specs.Lines.{line_for}
-use Rattle.b67_table.specs.Intrinsics.{case_in, case_place, wanted, extents, gone_to_case, select, arrays, write, make_event, on_event, tell_event, gone_on, gone_or_waiting, woken_or_not, wait_for_any, row_of_intrinsic, intrinsic_row}
-use Rattle.b67_table.specs.Starting.{starting, first_display, first_words, begun, on_path, frames_with, named_frames, start_process}
+use Rattle.b67_table.specs.Intrinsics.{case_in, case_place, intrinsic_wanted, extents, gone_to_case, select, arrays, write, make_event, on_event, tell_event, gone_on, gone_or_waiting, woken_or_not, wait_for_any, row_of_intrinsic, intrinsic_row}
+use Rattle.b67_table.specs.Starting.{starting, first_display, first_words, process_begun, on_path, frames_with, named_frames, start_process}
 use Rattle.b67_table.specs.References.{invalid, cell_place, cell_word, couple_cell, cell_of, named, reached, popped, popped_two, operand_in}
-use Rattle.b67_table.specs.Rows.{Row, private_part, action, turn, value_pushed, value_or_entry, value_call, loaded, load_value, is_passed, load_through, cell_or_entry, evaluate, after_store, kept_words, store_by, store, level_below, enter_procedure, enter_by, marked, enter, is_result, return_value, acts, plain_row, row}
+use Rattle.b67_table.specs.Rows.{TableRow, private_part, action, branch_turn, value_pushed, value_or_entry, value_call, loaded, load_value, is_passed, load_through, cell_or_entry, evaluate, after_store, kept_words, store_by, store, level_below, enter_procedure, enter_by, marked, enter, is_result, return_value, acts, plain_row, row}
 use Rattle.b67_table.specs.PrivateRows.{branch, is_taken}
 use Rattle.b67_table.specs.Table.{raw, table, program_by, by_row, by_operator, by_registers, operator_at, stack_length}
 use Rattle.b67_table.specs.Ending.{failed}
 use Rattle.b67_table.specs.Beginning.{first_image}
-use Rattle.b67_table.specs.Runs.{Plains, stay, go, Acts, Runs, begin, Tails, none, next, TableRun}
+use Rattle.b67_table.specs.Runs.{Plains, stay, go, ProcessActs, Runs, begin, Tails, none, next, TableRun}
 use Rattle.b67_table.specs.Runs as runs
 use Rattle.b67_table.proofs.Keeping.{Gives, then_gives, anything}
 use Rattle.b67_table.proofs.Finding.{look_then, see_then, test_then, gives_by, there_found, anything_found}
@@ -74,11 +74,11 @@ module _ (P : List ℕ → Type 0) where
   -- ---- changes
 
   -- a write of no line
-  still : (w : Write) (rest : Change) → ((p : ℕ) (img : Image) → (written p w img).output ≡ img.output) → Adds rest → Adds (write_on w rest)
-  still w rest e k = record { on = λ p img h. k.on p (written p w img) (subst (All P) (sym (e p img)) h) }
+  still : (w : Write) (rest : Change) → ((p : ℕ) (img : Image) → (write_made p w img).output ≡ img.output) → Adds rest → Adds (write_on w rest)
+  still w rest e k = record { on = λ p img h. k.on p (write_made p w img) (subst (All P) (sym (e p img)) h) }
 
   line_adds : (bytes : List ℕ) (rest : Change) → P bytes → Adds rest → Adds (line bytes rest)
-  line_adds bytes rest is k = record { on = λ p img h. k.on p (written p (writes.line bytes) img) (All-push P img.output bytes h is) }
+  line_adds bytes rest is k = record { on = λ p img h. k.on p (write_made p (writes.line bytes) img) (All-push P img.output bytes h is) }
 
   ends : Adds done
   ends = record { on = λ p img h. h }
@@ -116,13 +116,13 @@ module _ (P : List ℕ → Type 0) where
   array_closed_adds : (d : Descriptor) (rest : Change) → Adds rest → Adds (array_closed d rest)
   array_closed_adds d rest k = by d.mother
     where
-      all_rows : Adds (row_of d.address (λ (found : Option StoreRow). rows_closed (row_words_or found) (close_row d.address rest)))
+      all_rows : Adds (row_of d.address (λ (found : Option Row). rows_closed (row_words_or found) (close_row d.address rest)))
       all_rows = record {
         on = λ p img h.
             (rows_closed_adds (row_words_or (told img (questions.row d.address))) (close_row d.address rest) (row_closed_adds d.address rest k)).on p img h;
       }
 
-      by : (b : Bool) → Adds (cond b (row_of d.address (λ (found : Option StoreRow). rows_closed (row_words_or found) (close_row d.address rest))) (close_row d.address rest))
+      by : (b : Bool) → Adds (cond b (row_of d.address (λ (found : Option Row). rows_closed (row_words_or found) (close_row d.address rest))) (close_row d.address rest))
       by true = all_rows
       by false = row_closed_adds d.address rest k
 
@@ -145,7 +145,7 @@ module _ (P : List ℕ → Type 0) where
 
   opened_adds : (count : ℕ) (counts : Bool) (more : ℕ → Change) → ((n : ℕ) → Adds (more n)) → Adds (open_row count counts more)
   opened_adds count counts more k = record {
-    on = λ p img h. (k (told img questions.free_row)).on p (written p (writes.open_row (told img questions.free_row) count counts) img) h;
+    on = λ p img h. (k (told img questions.free_row)).on p (write_made p (writes.open_row (told img questions.free_row) count counts) img) h;
   }
 
   rows_made_adds : (k mother from n : ℕ) (rest : Change) → Adds rest → Adds (rows_made k mother from n rest)
@@ -171,7 +171,7 @@ module _ (P : List ℕ → Type 0) where
     Good program = Gives Adds (asked img program)
 
     see_any : {A : Type 0} (l : Look A) (f : A → Program) → ((a : A) → Good (f a)) → Good (see l >>= f)
-    see_any l f k = see_then img (λ a. Unit {0}) Adds l f (anything_found (seen img.stacks l)) (λ a u. k a)
+    see_any l f k = see_then img (λ a. Unit {0}) Adds l f (anything_found (look_seen img.stacks l)) (λ a u. k a)
 
     test_any : {A : Type 0} (t : Test A) (f : A → Program) → ((a : A) → Good (f a)) → Good (t >>= f)
     test_any t f k = test_then img (λ a. Unit {0}) Adds t f (anything (asked img t)) (λ a u. k a)
@@ -184,7 +184,7 @@ module _ (P : List ℕ → Type 0) where
     dropped_adds : (to : ℕ) → Adds (dropped r to 1)
     dropped_adds to = cut_adds r.stack (r.s - 1) _ (set_adds (record r { s = r.s - 1; place = to }))
 
-    turn_adds : (kind : BranchKind) (target : ℕ) → Good (turn kind target r after)
+    turn_adds : (kind : BranchKind) (target : ℕ) → Good (branch_turn kind target r after)
     turn_adds Brun target = set_adds (record r { place = target })
     turn_adds Brfl target = see_any (popped r >-> operand_in) _ (λ w. dropped_adds (cond (is_taken Brfl w.bits) target after))
     turn_adds Brtr target = see_any (popped r >-> operand_in) _ (λ w. dropped_adds (cond (is_taken Brtr w.bits) target after))
@@ -236,7 +236,7 @@ module _ (P : List ℕ → Type 0) where
     store_adds : (keeps : Bool) → Good (store keeps r after)
     store_adds keeps = see_any (popped_two r) _ (λ t. see_any (operand_in t.x) _ (λ x. store_by_adds keeps x t.y (as_indexed t.y)))
 
-    index_adds : Good (index r after)
+    index_adds : Good (index_program r after)
     index_adds =
         see_any (subscripted r false) _ (λ t. test_any (index_or_fault (index_in t.subscript t.array.length)) _ (λ n.
         replaced_adds 2 (descriptor_word (record t.array { copy = true; indexed = true; length = n }))))
@@ -270,7 +270,7 @@ module _ (P : List ℕ → Type 0) where
     leave_other_adds cells f words =
         see_any (leaving (place r.stack f)) _ (λ l.
         not_critical_adds r.stack (f ∷ []) _ (frame_left_adds r.stack f cells _ (cut_adds r.stack f _ (pushed_adds r.stack words _
-        (set_adds (left r (f + length words) f l))))))
+        (set_adds (registers_left r (f + length words) f l))))))
 
     leave_adds : (words : List Word) → Good (leave r after words)
     leave_adds words = gives_by img Adds (nat_eq (frame r) 0) _ _ (λ b. leave_base_adds _) (λ b. leave_other_adds _ (frame r) words)
@@ -283,7 +283,7 @@ module _ (P : List ℕ → Type 0) where
 
     module _ (m : Mscw) where
       chained_adds : (more : Program) → Good more → Good (if_chained r m more)
-      chained_adds more k = see_any (cond (nat_le m.df r.f) (mark_at (place r.stack (r.f - m.df))) broken) (λ (lower : Mscw). more) (λ lower. k)
+      chained_adds more k = see_any (cond (nat_le m.df r.f) (mark_at (place r.stack (r.f - m.df))) chain_broken) (λ (lower : Mscw). more) (λ lower. k)
 
       finished_adds : (words : List Word) (pointer : ℕ) → Adds (finished_at r m words pointer)
       finished_adds words pointer =
@@ -317,13 +317,13 @@ module _ (P : List ℕ → Type 0) where
 
       arrays_adds : (words : List Word) → Good (arrays code r after m words)
       arrays_adds words =
-          see_any (wholes words >-> wanted) _ (λ w. chained_adds _ (test_any (extents w.bounds) _ (λ e. test_any (if_held w.count e) _ (λ held.
+          see_any (wholes words >-> intrinsic_wanted) _ (λ w. chained_adds _ (test_any (extents w.bounds) _ (λ e. test_any (if_held w.count e) _ (λ held.
           arrays_made_adds w.count held [] (λ (made : List Word). finished_at r m made after) (λ made. finished_adds made after)))))
 
       write_adds : (words : List Word) → Good (write code r after m words)
       write_adds words =
           see_then img P Adds (wholes words >-> (λ (zs : List ℤ). valid (line_for code zs))) _
-          (look_then img.stacks (λ (zs : List ℤ). Unit {0}) P (wholes words) _ (anything_found (seen img.stacks (wholes words)))
+          (look_then img.stacks (λ (zs : List ℤ). Unit {0}) P (wholes words) _ (anything_found (look_seen img.stacks (wholes words)))
           (λ zs u. there_found img.stacks P InvalidOperand (line_for code zs) (makes zs)))
           (λ bytes is. chained_adds _ (line_adds bytes _ is (finished_adds [] after)))
 
@@ -365,7 +365,7 @@ module _ (P : List ℕ → Type 0) where
           test_any (starting r words) _ (λ t. chained_adds _ (see_any (first_display (img.started + 1) t) _ (λ display.
           test_any (on_path r.stack (t.home ∷ frames_with t.task (named_frames t.parameters)) (place r.stack (frame r))) _ (λ c.
           gives_by img Adds (nat_lt img.started most_processes) _ (fault ProcessLimit)
-          (λ b. still (writes.start (begun (img.started + 1) t display c) (first_words t)) _ (λ p img. refl) (finished_adds [] after)) (λ b. tt)))))
+          (λ b. still (writes.start (process_begun (img.started + 1) t display c) (first_words t)) _ (λ p img. refl) (finished_adds [] after)) (λ b. tt)))))
 
       intrinsic_by : (name : Intrinsic) (words : List Word) → Good (row_of_intrinsic name code r after m words)
       intrinsic_by names.GoTo words = go_to_adds words
@@ -443,7 +443,7 @@ module _ (P : List ℕ → Type 0) where
     plain_adds kinds.Dupl = tt
     plain_adds kinds.Noop = tt
 
-    branch_adds : (b : Bool) (kind : BranchKind) (target : ℕ) → Good (program_by (cond b (private_part (branch kind target)) (acts (turn kind target))) code r after)
+    branch_adds : (b : Bool) (kind : BranchKind) (target : ℕ) → Good (program_by (cond b (private_part (branch kind target)) (acts (branch_turn kind target))) code r after)
     branch_adds true kind target = tt
     branch_adds false kind target = turn_adds kind target
 
@@ -469,7 +469,7 @@ module _ (P : List ℕ → Type 0) where
     gives_on p img (faults kind) k h = tt
     gives_on p img (interrupts kind) k h = tt
 
-    by_rows : (p : ℕ) (img : Image) (r : Registers) (after : ℕ) (w : Row) → Gives Adds (asked img (program_by w code r after)) → Written img →
+    by_rows : (p : ℕ) (img : Image) (r : Registers) (after : ℕ) (w : TableRow) → Gives Adds (asked img (program_by w code r after)) → Written img →
         Gives Written (by_row w code img p r after)
     by_rows p img r after (private_part change) k h =
         then_gives (λ (part : Private). Unit {0}) Written (change after (private_of img r)) _ (anything (change after (private_of img r))) (λ part u. h)
@@ -501,7 +501,7 @@ module _ (P : List ℕ → Type 0) where
     plains_write stay h = h
     plains_write (go is t more) h = plains_write more (table_writes _ _ _ t h)
 
-    acts_write : {p : ℕ} {a b : Image} → Acts code p a b → Written a → Written b
+    acts_write : {p : ℕ} {a b : Image} → ProcessActs code p a b → Written a → Written b
     unfolding failed
     acts_write (runs.acts is t) h = table_writes _ _ _ t h
     acts_write (runs.fails kind t) h = h

@@ -21,7 +21,7 @@ use Rattle.b67_segment.specs.declared.code.Format.{Format}
 use Rattle.b67_segment.specs.declared.code.Phrase.{Phrase}
 use Rattle.b67_segment.specs.declared.code.Phrase.TheVariants.{Text, Number, Blanks}
 use Rattle.b67_listing.specs.Digits.{last_digits, hexadecimal}
-use Rattle.b67_listing.specs.Operators.{Placed, couple_text, operand_text, operator_text, operator_line}
+use Rattle.b67_listing.specs.Operators.{ListedOperator, couple_text, operand_text, operator_text, operator_line}
 use Rattle.b67_listing.specs.Formats.{phrase_text, phrases_text, format_lines}
 use Rattle.b67_listing.specs.Formats as printed
 use Rattle.b67_listing.specs.Listings.{IsPhrase, IsListable, segment_line, segment_lines, SegmentsText, none, more, ListingText}
@@ -163,7 +163,7 @@ operand_fine (Mpcw w) = word_fine w
 operand_fine (Branch kind place) = number_fine place
 operand_fine (Plain kind) = All-nil Fine
 
-line_fine : (x : Placed) → AreFine (operator_line x)
+line_fine : (x : ListedOperator) → AreFine (operator_line x)
 line_fine x =
     let place = last_digits 10 5 x.place in
     let level = last_digits 10 2 x.level in
@@ -176,7 +176,7 @@ line_fine x =
     (hexadecimal_fine (spelling x.place x.level x.operator))) blank_fine)
     (joined (name_of (kind_of x.operator)) (operand_text x.operator) (name_fine (kind_of x.operator)) (operand_fine x.operator))
 
-lines_fine : (xs : List Placed) → All AreFine (map operator_line xs)
+lines_fine : (xs : List ListedOperator) → All AreFine (map operator_line xs)
 lines_fine [] = All-nil AreFine
 lines_fine (x ∷ xs) = All-cons AreFine (operator_line x) (map operator_line xs) (line_fine x) (lines_fine xs)
 

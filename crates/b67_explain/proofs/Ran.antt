@@ -10,7 +10,7 @@ use Rattle.algol_tree.specs.Scopes.{scopes_of}
 use Rattle.algol_meaning.specs.World.{is_able, process_at}
 use Rattle.algol_meaning.specs.Run.{run, start, end_of}
 use Rattle.algol_laws.specs.Kept.{EachRunGrows}
-use Rattle.b67_schedule.specs.Schedules.{entries, IsSchedule, Kept as Schedule}
+use Rattle.b67_schedule.specs.Schedules.{entries, IsSchedule, ScheduleModel}
 use Rattle.b67_report.specs.Reading.{IsLine, IsReport}
 use Rattle.b67_report.specs.declared.Report.{Report}
 use Rattle.b67_report.specs.declared.EndWords.{EndWords}
@@ -22,19 +22,19 @@ use Rattle.b67_table.specs.Ending.{ImageEnd, image_end}
 use Rattle.b67_table.specs.Runs.{TableRun, count_of}
 use Rattle.b67_table.specs.Runs as table_runs
 use Rattle.b67_action.specs.Able.{able_in}
-use Rattle.b67_faithful.specs.Agreement.{Agrees}
+use Rattle.b67_faithful.specs.Agreement.{WorldAgrees}
 use Rattle.b67_faithful.specs.Agreement.{end_as}
 use Rattle.b67_faithful.specs.Faithful.{Faithful, longest}
 use Rattle.b67_machine.specs.declared.replay.Replayed.{Replayed}
 use Rattle.b67_machine.specs.declared.replay.Replayed.TheVariants.{Ended, BudgetSpent, NoMemory}
 use Rattle.b67_machine.specs.declared.reads.End.{End}
 use Rattle.b67_machine.specs.declared.reads.End.TheVariants as ends_of
-use Rattle.b67_machine.specs.Kept.{Kept, or_none, counted}
+use Rattle.b67_machine.specs.Kept.{MachineModel, or_none, operators_counted}
 use Rattle.b67_machine.specs.Letters.{AreLetters}
-use Rattle.b67_machine.specs.Reads.{machine_end, shown, end_by, limit_end}
-use Rattle.b67_machine.specs.Replaying.{Stands as Shows}
+use Rattle.b67_machine.specs.Reads.{machine_end, end_shown, machine_end_by, limit_end}
+use Rattle.b67_machine.specs.Replaying.{MachineStands}
 use Rattle.b67_stands.specs.Tails.{at_place, tail_of}
-use Rattle.b67_stands.specs.Running.{Running, ends, answer_by, answer_of}
+use Rattle.b67_stands.specs.Running.{Running, run_ends, answer_by, answer_of}
 use Rattle.b67_stands.specs.Stands.{Stands}
 use Rattle.b67_stands.specs.Alone.{ByOne}
 use Rattle.b67_stands.specs.Picked.{Pick}
@@ -44,7 +44,7 @@ use Rattle.b67_explain.proofs.Turning.{picked_runs_are_turns}
 use Rattle.b67_explain.specs.Explaining.{EndIs, Explains, IsOwnEnd, ExplainsRun}
 use Rattle.b67_explain.specs.Alone.{ExplainsAlone}
 use Rattle.b67_explain.specs.Shared.{ExplainsShared}
-use Rattle.b67_explain.specs.Telling.{words_of_end, CanBeTold, Tells, AreOfFirst, IsReportOf}
+use Rattle.b67_explain.specs.Telling.{words_of_end, CanBeTold, EndTells, AreOfFirst, IsReportOf}
 use Rattle.b67_explain.proofs.Outputs.{run_writes}
 use Rattle.b67_explain.proofs.Printed.{listing_fine, output_fine}
 use Rattle.b67_explain.proofs.Naming.{IsOneOf, entries_are_there}
@@ -60,7 +60,7 @@ at_counted [] k = refl
 at_counted (t ∷ ts) zero = refl
 at_counted (t ∷ ts) (suc k) = at_counted ts k
 
-tail_counted : (tails : List ℕ) (p : ℕ) → tail_of tails p ≡ counted tails p
+tail_counted : (tails : List ℕ) (p : ℕ) → tail_of tails p ≡ operators_counted tails p
 tail_counted tails zero = refl
 tail_counted tails (suc k) = at_counted tails k
 
@@ -86,7 +86,7 @@ not_lacking : (x : Bool) (o : Option End) (b : Bool) (answer : Replayed) → ans
 not_lacking false o b answer e h = refl
 not_lacking true o b answer e h = let same : answer ≡ NoMemory = cc in absurd (h same)
 
-shown_is : (x : Bool) (img now : Image) → x ≡ false → Shows x img now → now ≡ img
+shown_is : (x : Bool) (img now : Image) → x ≡ false → MachineStands x img now → now ≡ img
 shown_is false img now e s = s
 shown_is true img now e s = cc
 
@@ -95,12 +95,12 @@ data EndedBy (o : Option End) (b : Bool) (answer : Replayed) : Type 0 where
   by_end : (e : End) → o ≡ Some e → answer ≡ Ended → EndedBy o b answer
   by_budget : o ≡ None → b ≡ true → answer ≡ BudgetSpent → EndedBy o b answer
 
-ended_by : (o : Option End) (b : Bool) (answer : Replayed) → ends o b ≡ Some answer → EndedBy o b answer
+ended_by : (o : Option End) (b : Bool) (answer : Replayed) → run_ends o b ≡ Some answer → EndedBy o b answer
 ended_by (Some e) b answer h = let same : answer ≡ Ended = cc in by_end e refl same
 ended_by None true answer h = let same : answer ≡ BudgetSpent = cc in by_budget refl refl same
 ended_by None false answer h = cc
 
-going : (x : Bool) (o : Option End) (b : Bool) (answer : Replayed) → x ≡ false → answer_by x o b ≡ Some answer → ends o b ≡ Some answer
+going : (x : Bool) (o : Option End) (b : Bool) (answer : Replayed) → x ≡ false → answer_by x o b ≡ Some answer → run_ends o b ≡ Some answer
 going false o b answer e h = h
 going true o b answer e h = cc
 
@@ -110,7 +110,7 @@ own_end (ends_of.Fault kind p) = tt
 own_end ends_of.AllWaiting = tt
 own_end (ends_of.StackLimit p w) = tt
 
-limit_some : (o : Option ℕ) (m : Kept) (e : End) → limit_end o m.image.regs ≡ Some e → (p : ℕ) × (o ≡ Some p)
+limit_some : (o : Option ℕ) (m : MachineModel) (e : End) → limit_end o m.image.regs ≡ Some e → (p : ℕ) × (o ≡ Some p)
 limit_some None m e h = cc
 limit_some (Some p) m e h = (p, refl)
 
@@ -123,7 +123,7 @@ module _ (grows : EachRunGrows) (tree : PProgram) (code : Code) (faithful : Fait
   abbrev done : List ℕ
   done = entries s.schedule.runs
 
-  abbrev agrees : Agrees tree code (entries s.schedule.runs) stands.image
+  abbrev agrees : WorldAgrees tree code (entries s.schedule.runs) stands.image
   agrees = faithful.follows.legal (entries s.schedule.runs) stands.tails stands.image stands.leads.run
 
   lacked_not : s.machine.lacked ≡ false
@@ -163,7 +163,7 @@ module _ (grows : EachRunGrows) (tree : PProgram) (code : Code) (faithful : Fait
   abbrev EndsSo : List ℕ → EndWords → Type 0
   EndsSo left end = Said tree code agrees.world stands.image agrees.shows agrees.fits budget s.spent (length (entries s.schedule.runs)) left 0 end
 
-  at_machine_end : (e : End) (end : EndWords) → machine_end s.machine ≡ Some e → Tells Ended (machine_end s.machine) end
+  at_machine_end : (e : End) (end : EndWords) → machine_end s.machine ≡ Some e → EndTells Ended (machine_end s.machine) end
       → EndIs tree code agrees.world stands.image budget s.spent end
   at_machine_end e end there tells = by (image_end stands.image) refl
     where
@@ -176,7 +176,7 @@ module _ (grows : EachRunGrows) (tree : PProgram) (code : Code) (faithful : Fait
           (inl (refl, refl, some_end, none)) tells).ended
       by None i =
           let limited : limit_end s.machine.limit s.machine.image.regs ≡ Some e =
-          sym (ap (λ (o : Option ImageEnd). end_by o s.machine) (ap image_end same ∙ i)) ∙ there in
+          sym (ap (λ (o : Option ImageEnd). machine_end_by o s.machine) (ap image_end same ∙ i)) ∙ there in
           let l = limit_some s.machine.limit s.machine e limited in
           let at = stands.limit l.0 l.1 in
           (said_of tree code agrees.world stands.image agrees.shows agrees.fits s.machine budget s.spent (length (entries s.schedule.runs)) (entries s.schedule.runs) (l.0 ∷ []) 0 end same
@@ -190,19 +190,19 @@ module _ (grows : EachRunGrows) (tree : PProgram) (code : Code) (faithful : Fait
     where
       by_image : (o : Option ImageEnd) → image_end s.machine.image ≡ o → image_end stands.image ≡ None
       by_image None i = ap image_end (sym same) ∙ i
-      by_image (Some x) i = let no : Some (shown x) ≡ None = sym (ap (λ (o : Option ImageEnd). end_by o s.machine) i) ∙ none in cc
+      by_image (Some x) i = let no : Some (end_shown x) ≡ None = sym (ap (λ (o : Option ImageEnd). machine_end_by o s.machine) i) ∙ none in cc
 
-  ends_by : (end : EndWords) → EndedBy (machine_end s.machine) (nat_le budget s.spent) answer → Tells answer (machine_end s.machine) end
+  ends_by : (end : EndWords) → EndedBy (machine_end s.machine) (nat_le budget s.spent) answer → EndTells answer (machine_end s.machine) end
       → EndIs tree code agrees.world stands.image budget s.spent end
-  ends_by end (by_end e there a) tells = at_machine_end e end there (subst (λ (x : Replayed). Tells x (machine_end s.machine) end) a tells)
-  ends_by end (by_budget none full a) tells = at_budget end none full (subst (λ (x : Replayed). Tells x (machine_end s.machine) end) a tells)
+  ends_by end (by_end e there a) tells = at_machine_end e end there (subst (λ (x : Replayed). EndTells x (machine_end s.machine) end) a tells)
+  ends_by end (by_budget none full a) tells = at_budget end none full (subst (λ (x : Replayed). EndTells x (machine_end s.machine) end) a tells)
 
-  own_by : (end : EndWords) → EndedBy (machine_end s.machine) (nat_le budget s.spent) answer → Tells answer (machine_end s.machine) end → IsOwnEnd end
+  own_by : (end : EndWords) → EndedBy (machine_end s.machine) (nat_le budget s.spent) answer → EndTells answer (machine_end s.machine) end → IsOwnEnd end
   own_by end (by_end e there a) tells =
-      let said : end ≡ words_of_end e = subst (λ (o : Option End). Tells Ended o end) there (subst (λ (x : Replayed). Tells x (machine_end s.machine) end) a tells) in
+      let said : end ≡ words_of_end e = subst (λ (o : Option End). EndTells Ended o end) there (subst (λ (x : Replayed). EndTells x (machine_end s.machine) end) a tells) in
       subst IsOwnEnd (sym said) (own_end e)
   own_by end (by_budget none full a) tells =
-      let said : end ≡ words.BudgetSpent = subst (λ (x : Replayed). Tells x (machine_end s.machine) end) a tells in subst IsOwnEnd (sym said) tt
+      let said : end ≡ words.BudgetSpent = subst (λ (x : Replayed). EndTells x (machine_end s.machine) end) a tells in subst IsOwnEnd (sym said) tt
 
   -- ---- the report
 
@@ -214,7 +214,7 @@ module _ (grows : EachRunGrows) (tree : PProgram) (code : Code) (faithful : Fait
     abbrev own : ℕ → ℕ
     own p = count_of p stands.leads.run.history stands.leads.run.counts + tail_of stands.tails p
 
-    count_is : (p : ℕ) → 1 ≤ p → p ≤ length report.operators → counted report.operators p ≡ count_of p stands.leads.run.history stands.leads.run.counts + tail_of stands.tails p
+    count_is : (p : ℕ) → 1 ≤ p → p ≤ length report.operators → operators_counted report.operators p ≡ count_of p stands.leads.run.history stands.leads.run.counts + tail_of stands.tails p
     count_is p one most = is.operators.are p one most ∙ stands.counts p
 
     all_operators : sum report.operators ≡ sum stands.leads.run.counts + sum stands.tails
@@ -228,7 +228,7 @@ module _ (grows : EachRunGrows) (tree : PProgram) (code : Code) (faithful : Fait
         omega (arith, by_number, by_length, both, first, second)
 
     schedule_is : report.schedule.runs ≡ s.schedule.runs
-    schedule_is = ap (λ (x : Schedule). x.runs) is.performed
+    schedule_is = ap (λ (x : ScheduleModel). x.runs) is.performed
 
     entries_are : entries report.schedule.runs ≡ entries s.schedule.runs
     entries_are = ap entries schedule_is
@@ -256,11 +256,11 @@ module _ (grows : EachRunGrows) (tree : PProgram) (code : Code) (faithful : Fait
       end = is.sizes.end;
       operators = is.sizes.operators;
       acts = is.sizes.acts;
-      schedule = subst (λ (x : Schedule). IsSchedule x.runs x.letters) (sym is.performed) valid;
+      schedule = subst (λ (x : ScheduleModel). IsSchedule x.runs x.letters) (sym is.performed) valid;
     }
 
     -- who has a tail is able in the world
-    able_there : (p : ℕ) → (tail_of stands.tails p ≡ 0) ⊎ (able_in stands.image p ≡ true) → (counted stands.tails p ≡ 0) ⊎ (is_able ((process_at agrees.world p).state) ≡ true)
+    able_there : (p : ℕ) → (tail_of stands.tails p ≡ 0) ⊎ (able_in stands.image p ≡ true) → (operators_counted stands.tails p ≡ 0) ⊎ (is_able ((process_at agrees.world p).state) ≡ true)
     able_there p (inl e) = inl (sym (tail_counted stands.tails p) ∙ e)
     able_there p (inr e) = inr (agrees.shows.able p ∙ e)
 
@@ -285,7 +285,7 @@ module _ (grows : EachRunGrows) (tree : PProgram) (code : Code) (faithful : Fait
         runs = stands.leads.run.runs;
         after = stands.leads.run.after;
       };
-      letters = subst (λ (x : Schedule). AreLetters stands.leads.run.runs x.letters) (sym is.performed) stands.letters;
+      letters = subst (λ (x : ScheduleModel). AreLetters stands.leads.run.runs x.letters) (sym is.performed) stands.letters;
       shown = sym (is.output ∙ ap (λ (i : Image). i.output) same);
       same_end = agrees.shows.ends;
       processes = number_of;
@@ -333,26 +333,26 @@ module _ (grows : EachRunGrows) (tree : PProgram) (code : Code) (faithful : Fait
 
 -- ---- what a run left
 
-module _ (grows : EachRunGrows) (tree : PProgram) (code : Code) (faithful : Faithful tree code) (budget : ℕ) (m : Kept) (schedule : Schedule) (answer : Replayed) (some : answer ≢ NoMemory) where
+module _ (grows : EachRunGrows) (tree : PProgram) (code : Code) (faithful : Faithful tree code) (budget : ℕ) (m : MachineModel) (schedule : ScheduleModel) (answer : Replayed) (some : answer ≢ NoMemory) where
   pub left_can_be_told : HasRun code budget m schedule answer → CanBeTold answer (machine_end m)
   left_can_be_told h =
-      subst (λ (k : Kept). CanBeTold answer (machine_end k)) h.machine_is (ran_can_be_told grows tree code faithful budget h.plant h.stands answer h.answered some)
+      subst (λ (k : MachineModel). CanBeTold answer (machine_end k)) h.machine_is (ran_can_be_told grows tree code faithful budget h.plant h.stands answer h.answered some)
 
   module _ (processors : ℕ) (lines : List (List ℕ)) (report : Report) (is : IsReportOf m answer lines processors schedule report) (valid : IsSchedule schedule.runs schedule.letters)
       (listed : ListingText code lines) where
     is_of : (h : HasRun code budget m schedule answer) → IsReportOf h.plant.machine answer lines processors h.plant.schedule report
     is_of h =
-        subst (λ (k : Kept). IsReportOf k answer lines processors h.plant.schedule report) (sym h.machine_is)
-        (subst (λ (x : Schedule). IsReportOf m answer lines processors x report) (sym h.schedule_is) is)
+        subst (λ (k : MachineModel). IsReportOf k answer lines processors h.plant.schedule report) (sym h.machine_is)
+        (subst (λ (x : ScheduleModel). IsReportOf m answer lines processors x report) (sym h.schedule_is) is)
 
     valid_of : (h : HasRun code budget m schedule answer) → IsSchedule h.plant.schedule.runs h.plant.schedule.letters
-    valid_of h = subst (λ (x : Schedule). IsSchedule x.runs x.letters) (sym h.schedule_is) valid
+    valid_of h = subst (λ (x : ScheduleModel). IsSchedule x.runs x.letters) (sym h.schedule_is) valid
 
     pub left_alone_explained : (pick : Pick) → HasRunAlone code budget pick m schedule answer → AreOfFirst processors (length (entries schedule.runs)) report.acts
         → ExplainsAlone tree pick processors budget report
     left_alone_explained pick h first =
         turns_explained grows tree code faithful budget h.has_run.plant h.has_run.stands answer h.has_run.answered some processors lines report (is_of h.has_run) (valid_of h.has_run) listed
-        pick h.by_one (subst (λ (x : Schedule). AreOfFirst processors (length (entries x.runs)) report.acts) (sym h.has_run.schedule_is) first)
+        pick h.by_one (subst (λ (x : ScheduleModel). AreOfFirst processors (length (entries x.runs)) report.acts) (sym h.has_run.schedule_is) first)
 
     pub left_shared_explained : (pick : Pick) (acts : List ℕ) → report.acts ≡ acts → HasRunShared code budget pick processors m schedule answer acts
         → ExplainsShared tree pick processors budget report

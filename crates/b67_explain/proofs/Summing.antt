@@ -5,7 +5,7 @@ use Rattle.std.specs.List.{AllByRecursion}
 use Rattle.std.proofs.lemmas.Bool.{eq-eqb, ne_eqb}
 use Rattle.std.proofs.lemmas.List.Sums.{sum_by-cons}
 use Rattle.b67_table.specs.Runs.{count_of}
-use Rattle.b67_machine.specs.Kept.{counted}
+use Rattle.b67_machine.specs.Kept.{operators_counted}
 use Rattle.b67_explain.proofs.Naming.{IsOneOf}
 
 -- what so many processes from p on have
@@ -75,10 +75,10 @@ entries_by_process n (q ∷ h) (c ∷ counts) l a =
     omega (arith, both, one, rest, sum_by-cons (λ x. x) c counts)
 
 -- a list of numbers adds up to what the processes have, where each number is one's
-pub sum_by_number : (f : ℕ → ℕ) (xs : List ℕ) → ((p : ℕ) → 1 ≤ p → p ≤ length xs → counted xs p ≡ f p) → sum xs ≡ from_on f 1 (length xs)
+pub sum_by_number : (f : ℕ → ℕ) (xs : List ℕ) → ((p : ℕ) → 1 ≤ p → p ≤ length xs → operators_counted xs p ≡ f p) → sum xs ≡ from_on f 1 (length xs)
 sum_by_number f xs h = go 1 xs (λ k w. h (suc k) (omega arith) (omega (arith, w)) ∙ ap f (omega arith))
   where
-    go : (p : ℕ) (ys : List ℕ) → ((k : ℕ) → k < length ys → counted ys (suc k) ≡ f (p + k)) → sum ys ≡ from_on f p (length ys)
+    go : (p : ℕ) (ys : List ℕ) → ((k : ℕ) → k < length ys → operators_counted ys (suc k) ≡ f (p + k)) → sum ys ≡ from_on f p (length ys)
     go p [] g = refl
     go p (y ∷ ys) g =
         let first : y ≡ f (p + 0) = g 0 (omega arith) in

@@ -3,7 +3,7 @@ use Rattle.std.proofs.Common.{◌≡◌, ◌⊎◌, inl, inr, ℕ, zero, suc, �
 use Rattle.std.specs.Prelude.{if◌then◌else◌, nat_eq, sum, replicate}
 use Rattle.std.proofs.Math.Decide.{ℕ_discrete}
 use Rattle.std.proofs.lemmas.List.Sums.{sum_by-cons}
-use Rattle.b67_machine.specs.Kept.{counted}
+use Rattle.b67_machine.specs.Kept.{operators_counted}
 use Rattle.b67_machine.specs.Replaying.{tails_of, tail_of}
 use Rattle.algol_meaning.specs.World.{World}
 use Rattle.algol_meaning.specs.Run.{may_go}
@@ -23,13 +23,13 @@ next_number p k n = by (ℕ_discrete p k)
     by (no h) = has_none n p k h ∙ sym (has_none n (suc p) (suc k) (λ e. h (omega (arith, e))))
 
 -- the last number after so many zeros
-at_end : (k n p : ℕ) → counted (replicate k 0 ++ n ∷ []) (suc p) ≡ (if nat_eq (suc p) (suc k) then n else 0)
+at_end : (k n p : ℕ) → operators_counted (replicate k 0 ++ n ∷ []) (suc p) ≡ (if nat_eq (suc p) (suc k) then n else 0)
 at_end zero n zero = sym (has_some n 1 1 refl)
 at_end zero n (suc p) = sym (has_none n (suc (suc p)) 1 (λ e. omega (arith, e)))
 at_end (suc k) n zero = sym (has_none n 1 (suc (suc k)) (λ e. omega (arith, e)))
 at_end (suc k) n (suc p) = at_end k n p ∙ next_number (suc p) (suc k) n
 
-zeros : (k p : ℕ) → counted (replicate k 0 ++ 0 ∷ []) p ≡ 0
+zeros : (k p : ℕ) → operators_counted (replicate k 0 ++ 0 ∷ []) p ≡ 0
 zeros k zero = refl
 zeros zero (suc zero) = refl
 zeros zero (suc (suc p)) = refl
@@ -41,30 +41,30 @@ no_tail true = refl
 no_tail false = refl
 
 -- a process's tail is its number in the list of tails
-pub tail_counted : (n p : ℕ) (left : List ℕ) (tail : ℕ) → 1 ≤ p → IsTailOf n left tail → counted (tails_of left tail) p ≡ tail_of left tail p
+pub tail_counted : (n p : ℕ) (left : List ℕ) (tail : ℕ) → 1 ≤ p → IsTailOf n left tail → operators_counted (tails_of left tail) p ≡ tail_of left tail p
 tail_counted n zero left tail one is = absurd (omega (arith, one))
 tail_counted n (suc p) [] tail one is = refl
 tail_counted n (suc p) (q ∷ left) tail one (inl none) =
-    subst (λ (t : ℕ). counted (tails_of (q ∷ left) t) (suc p) ≡ tail_of (q ∷ left) t (suc p)) (sym none)
+    subst (λ (t : ℕ). operators_counted (tails_of (q ∷ left) t) (suc p) ≡ tail_of (q ∷ left) t (suc p)) (sym none)
     (zeros (q - 1) (suc p) ∙ sym (no_tail (nat_eq (suc p) q)))
 tail_counted n (suc p) (zero ∷ left) tail one (inr there) = absurd (omega (arith, there.0))
 tail_counted n (suc p) (suc q ∷ left) tail one (inr there) =
-    subst (λ (k : ℕ). counted (replicate k 0 ++ tail ∷ []) (suc p) ≡ tail_of (suc q ∷ left) tail (suc p)) (same q) (at_end q tail p)
+    subst (λ (k : ℕ). operators_counted (replicate k 0 ++ tail ∷ []) (suc p) ≡ tail_of (suc q ∷ left) tail (suc p)) (same q) (at_end q tail p)
   where
     same : (q : ℕ) → q ≡ suc q - 1
     same q = omega arith
 
 -- a process that has a tail may go on, where the next entry's may
 pub each_may_go : (w : World) (n : ℕ) (left : List ℕ) (tail : ℕ) → IsTailOf n left tail → (tail ≡ 0) ⊎ NextGoes w left → (p : ℕ) →
-    (counted (tails_of left tail) p ≡ 0) ⊎ (may_go w p ≡ true)
+    (operators_counted (tails_of left tail) p ≡ 0) ⊎ (may_go w p ≡ true)
 each_may_go w n [] tail is goes zero = inl refl
 each_may_go w n [] tail is goes (suc p) = inl refl
 each_may_go w n (q ∷ left) tail is (inl none) p =
-    inl (subst (λ (t : ℕ). counted (tails_of (q ∷ left) t) p ≡ 0) (sym none) (zeros (q - 1) p))
+    inl (subst (λ (t : ℕ). operators_counted (tails_of (q ∷ left) t) p ≡ 0) (sym none) (zeros (q - 1) p))
 each_may_go w n (q ∷ left) tail is (inr goes) zero = inl refl
 each_may_go w n (q ∷ left) tail is (inr goes) (suc p) = by (ℕ_discrete (suc p) q)
   where
-    by : Dec (suc p ≡ q) → (counted (tails_of (q ∷ left) tail) (suc p) ≡ 0) ⊎ (may_go w (suc p) ≡ true)
+    by : Dec (suc p ≡ q) → (operators_counted (tails_of (q ∷ left) tail) (suc p) ≡ 0) ⊎ (may_go w (suc p) ≡ true)
     by (yes e) = inr (ap (may_go w) e ∙ goes)
     by (no h) = inl (tail_counted n (suc p) (q ∷ left) tail (omega arith) is ∙ has_none tail (suc p) q h)
 

@@ -10,15 +10,15 @@ use Rattle.algol_meaning.specs.World as world
 use Rattle.algol_meaning.specs.Choice.{Choice, choice}
 use Rattle.algol_meaning.specs.Run.{start, run, may_go, end_of}
 use Rattle.algol_meaning.specs.Run as meaning
-use Rattle.algol_meaning.specs.Turns.{listed, queued, entries_with, turns_from, turns}
+use Rattle.algol_meaning.specs.Turns.{turn_listed, queued, entries_with, turns_from, turns}
 use Rattle.b67_segment.specs.declared.code.Code.{Code}
-use Rattle.b67_letters.specs.Releases.{releases, starts}
+use Rattle.b67_letters.specs.Releases.{releases, operator_starts}
 use Rattle.b67_letters.specs.Entries.{all_released, all_started}
 use Rattle.b67_table.specs.Ending.{ImageEnd, image_end, may_act}
 use Rattle.b67_table.specs.Ending as ending
 use Rattle.b67_table.specs.Image.{Image, is_able}
 use Rattle.b67_table.specs.Runs.{Runs, begin, entry, TableRun, none}
-use Rattle.b67_faithful.specs.Agreement.{Agrees, Shows, end_as}
+use Rattle.b67_faithful.specs.Agreement.{WorldAgrees, Shows, end_as}
 use Rattle.b67_faithful.specs.Correspondence.{released_in, started_in, source_released, source_started}
 use Rattle.b67_faithful.specs.Faithful.{Faithful}
 use Rattle.b67_faithful.proofs.Sources.{Before, before, entered_back, reverse-cons}
@@ -52,18 +52,18 @@ queued_by true waiting released started p =
 queued_by false waiting released started p =
     append_assoc waiting released started ∙ ap (λ (xs : List ℕ). waiting ++ xs) (sym (append-nil (released ++ started)))
 
-listed_same : (o : Option ℕ) → listed o ≡ if_started o
+listed_same : (o : Option ℕ) → turn_listed o ≡ if_started o
 listed_same None = refl
 listed_same (Some p) = refl
 
 queued_is : (c : Choice) (w : World) (code : Code) (quiet b : Image) (waiting : List ℕ) (p : ℕ) → c.world ≡ w → c.released ≡ releases code quiet p
-    → c.started ≡ starts code quiet p → may_go w p ≡ may_act b p → queued waiting p c ≡ waiting ++ to_rear code quiet p b
+    → c.started ≡ operator_starts code quiet p → may_go w p ≡ may_act b p → queued waiting p c ≡ waiting ++ to_rear code quiet p b
 queued_is c w code quiet b waiting p e r s m =
-    queued_by (may_go c.world p) waiting c.released (listed c.started) p
-    ∙ ap (λ (may : Bool). waiting ++ (c.released ++ listed c.started ++ (if may then p ∷ [] else []))) (ap (λ (v : World). may_go v p) e ∙ m)
-    ∙ ap (λ (xs : List ℕ). waiting ++ (xs ++ listed c.started ++ (if may_act b p then p ∷ [] else []))) r
-    ∙ ap (λ (o : Option ℕ). waiting ++ (releases code quiet p ++ listed o ++ (if may_act b p then p ∷ [] else []))) s
-    ∙ ap (λ (xs : List ℕ). waiting ++ (releases code quiet p ++ xs ++ (if may_act b p then p ∷ [] else []))) (listed_same (starts code quiet p))
+    queued_by (may_go c.world p) waiting c.released (turn_listed c.started) p
+    ∙ ap (λ (may : Bool). waiting ++ (c.released ++ turn_listed c.started ++ (if may then p ∷ [] else []))) (ap (λ (v : World). may_go v p) e ∙ m)
+    ∙ ap (λ (xs : List ℕ). waiting ++ (xs ++ turn_listed c.started ++ (if may_act b p then p ∷ [] else []))) r
+    ∙ ap (λ (o : Option ℕ). waiting ++ (releases code quiet p ++ turn_listed o ++ (if may_act b p then p ∷ [] else []))) s
+    ∙ ap (λ (xs : List ℕ). waiting ++ (releases code quiet p ++ xs ++ (if may_act b p then p ∷ [] else []))) (listed_same (operator_starts code quiet p))
 
 -- ---- one turn
 
@@ -101,16 +101,16 @@ module _ (tree : PProgram) (code : Code) (pick : Pick) (faithful : Faithful tree
       let was : Before tree g p w = before tree g p w e in
       let back = entered_back (scopes_of tree) was.world w p was.enters in
       let r : TableRun code (reverse (p ∷ g)) [] b = table_run (entry runs entered) in
-      let agrees : Agrees tree code (reverse (p ∷ g)) b = faithful.follows.legal (reverse (p ∷ g)) [] b r in
+      let agrees : WorldAgrees tree code (reverse (p ∷ g)) b = faithful.follows.legal (reverse (p ∷ g)) [] b r in
       let same : agrees.world ≡ w = some_same agrees.world w (sym agrees.is ∙ e) in
       let shows : Shows code w b = subst (λ (v : World). Shows code v b) same agrees.shows in
       let released : (choice (scopes_of tree) was.world p).released ≡ releases code entered.quiet p =
       ap (λ (o : Option World). released_in tree o p) (sym was.is)
       ∙ sym (first_same (releases code entered.quiet p) (released_in tree (run tree (reverse g)) p) (all_released runs) (source_released tree g)
       (faithful.follows.released (reverse (p ∷ g)) [] b r)) in
-      let started : (choice (scopes_of tree) was.world p).started ≡ starts code entered.quiet p =
+      let started : (choice (scopes_of tree) was.world p).started ≡ operator_starts code entered.quiet p =
       ap (λ (o : Option World). started_in tree o p) (sym was.is)
-      ∙ sym (first_same (starts code entered.quiet p) (started_in tree (run tree (reverse g)) p) (all_started runs) (source_started tree g)
+      ∙ sym (first_same (operator_starts code entered.quiet p) (started_in tree (run tree (reverse g)) p) (all_started runs) (source_started tree g)
       (faithful.follows.started (reverse (p ∷ g)) [] b r)) in
       let at : ℕ = pick (length (waiting_after pick runs)) (length g) in
       let next : turns_from (scopes_of tree) pick (suc n) (length g) was.world (waiting_after pick runs)
@@ -134,7 +134,7 @@ module _ (tree : PProgram) (code : Code) (pick : Pick) (faithful : Faithful tree
   by_turns : (h counts : List ℕ) (img : Image) (runs : Runs code h counts img) → ArePicked pick runs → turns tree pick (length h) ≡ reverse h
   unfolding turns
   by_turns h counts img runs picked =
-      let agrees : Agrees tree code (reverse h) img = faithful.follows.legal (reverse h) [] img (table_run runs) in
+      let agrees : WorldAgrees tree code (reverse h) img = faithful.follows.legal (reverse h) [] img (table_run runs) in
       let same : length h ≡ length h + 0 = omega arith in
       ap (λ (k : ℕ). turns_from (scopes_of tree) pick k 0 (start (scopes_of tree)) (1 ∷ [])) same
       ∙ turns_on runs picked agrees.world agrees.is 0

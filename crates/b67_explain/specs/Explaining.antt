@@ -22,7 +22,7 @@ use Rattle.b67_table.specs.Outcome.{limit}
 use Rattle.b67_table.specs.Table.{table, length_in}
 use Rattle.b67_table.specs.Ending.{image_end}
 use Rattle.b67_table.specs.Runs.{TableRun, count_of}
-use Rattle.b67_machine.specs.Kept.{counted}
+use Rattle.b67_machine.specs.Kept.{operators_counted}
 use Rattle.b67_machine.specs.Letters.{AreLetters}
 use Rattle.b67_machine.specs.Replaying.{tails_of, DiffersAt}
 use Rattle.b67_faithful.specs.Weight.{weight}
@@ -33,7 +33,7 @@ use Rattle.b67_faithful.specs.Faithful.{Faithful, longest}
 
 -- The process may go on in the world, and its next operator would make its stack too long. It has so many words, and the source has more
 -- open in it than a stack has room for.
-pub record AtLimit (tree : PProgram) (code : Code) (world : World) (image : Image) (process words : ℕ) : Type 0 where
+pub record WorldAtLimit (tree : PProgram) (code : Code) (world : World) (image : Image) (process words : ℕ) : Type 0 where
   pub goes : may_go world process ≡ true
   pub next : table code image process ≡ limit
   pub has : words ≡ length_in (numbered image.regs process)
@@ -49,7 +49,7 @@ module _ (tree : PProgram) (code : Code) (world : World) (image : Image) (budget
   EndIs (ends.Fault kind process) = (end_of world ≡ Some (fault kind process)) × (operators ≤ budget)
   EndIs ends.AllWaiting = (end_of world ≡ Some all_waiting) × (operators ≤ budget)
   EndIs ends.BudgetSpent = (end_of world ≡ None) × (budget ≤ operators)
-  EndIs (ends.StackLimit process words) = (end_of world ≡ None) × (operators < budget) × AtLimit tree code world image process words
+  EndIs (ends.StackLimit process words) = (end_of world ≡ None) × (operators < budget) × WorldAtLimit tree code world image process words
   EndIs ends.ScheduleEnded = (end_of world ≡ None) × (operators < budget)
   EndIs (ends.Illegal entry) = ((end_of world ≢ None) × (operators ≤ budget)) ⊎ (operators < budget)
   EndIs (ends.Differs entry) = operators ≤ budget
@@ -81,7 +81,7 @@ pub record Explains (tree : PProgram) (processors budget : ℕ) (report : Report
   pub same_end : end_of world ≡ end_as (image_end image)
   -- there is one count of operators for each process that there has been: those of its entries, and its tail
   pub processes : length report.operators ≡ image.started
-  pub counts : (p : ℕ) → 1 ≤ p → p ≤ image.started → counted report.operators p ≡ count_of p table_run.history table_run.counts + counted tails p
+  pub counts : (p : ℕ) → 1 ≤ p → p ≤ image.started → operators_counted report.operators p ≡ count_of p table_run.history table_run.counts + operators_counted tails p
   -- they add up to less than a stretch more than the budget; and, for each entry and for each process after the last one, to at most as
   -- many operators as the longest segment has syllables
   pub few : sum report.operators < budget + MOST_STRETCH
@@ -102,7 +102,7 @@ IsOwnEnd end = Unit {0}
 pub record ExplainsRun (tree : PProgram) (processors budget : ℕ) (report : Report) : Type 0 where
   pub explains : Explains tree processors budget report
   pub own : IsOwnEnd report.end
-  pub able : (p : ℕ) → (counted explains.tails p ≡ 0) ⊎ (is_able ((process_at explains.world p).state) ≡ true)
+  pub able : (p : ℕ) → (operators_counted explains.tails p ≡ 0) ⊎ (is_able ((process_at explains.world p).state) ≡ true)
 
 -- ---- with one
 
@@ -122,15 +122,15 @@ NextGoes world [] = ⊥
 NextGoes world (p ∷ left) = may_go world p ≡ true
 
 -- what is left of the given schedule after so many entries where a run ends so
-abbrev pub IsLeft : World → ℕ → EndWords → List ℕ → Type 0
-IsLeft world performed ends.Finished left = left ≡ []
-IsLeft world performed (ends.Fault kind process) left = left ≡ []
-IsLeft world performed ends.AllWaiting left = left ≡ []
-IsLeft world performed ends.BudgetSpent left = Unit {0}
-IsLeft world performed (ends.StackLimit process words) left = NextIs process left
-IsLeft world performed ends.ScheduleEnded left = left ≡ []
-IsLeft world performed (ends.Illegal entry) left = (entry ≡ performed + 1) × NextIsIllegal world left
-IsLeft world performed (ends.Differs entry) left = entry ≡ performed
+abbrev pub ScheduleIsLeft : World → ℕ → EndWords → List ℕ → Type 0
+ScheduleIsLeft world performed ends.Finished left = left ≡ []
+ScheduleIsLeft world performed (ends.Fault kind process) left = left ≡ []
+ScheduleIsLeft world performed ends.AllWaiting left = left ≡ []
+ScheduleIsLeft world performed ends.BudgetSpent left = Unit {0}
+ScheduleIsLeft world performed (ends.StackLimit process words) left = NextIs process left
+ScheduleIsLeft world performed ends.ScheduleEnded left = left ≡ []
+ScheduleIsLeft world performed (ends.Illegal entry) left = (entry ≡ performed + 1) × NextIsIllegal world left
+ScheduleIsLeft world performed (ends.Differs entry) left = entry ≡ performed
 
 -- only the budget and the stack limit end a run within an entry
 abbrev pub IsTail : EndWords → ℕ → Type 0
@@ -161,7 +161,7 @@ pub record ExplainsReplay (tree : PProgram) (given : Given) (budget : ℕ) (repo
   pub left : List ℕ
   pub split : given_entries given ≡ entries report.schedule.runs ++ left
   pub agrees : AgreeAs report.end given report.schedule.letters
-  pub leaves : IsLeft explains.world (length (entries report.schedule.runs)) report.end left
+  pub leaves : ScheduleIsLeft explains.world (length (entries report.schedule.runs)) report.end left
   pub tail : ℕ
   pub tails : explains.tails ≡ tails_of left tail
   pub alone : IsTail report.end tail

@@ -1,8 +1,8 @@
 -- The report of a machine after a run.
 use Rattle.std.specs.Prelude.{◌≡◌, ℕ, ◌-◌, ◌<◌, ◌≤◌, ◌^◌, List, ◌∷◌, length, replicate, sum, Option, Some, None}
-use Rattle.b67_schedule.specs.Schedules.{entries, Kept as Schedule}
+use Rattle.b67_schedule.specs.Schedules.{entries, ScheduleModel}
 use Rattle.b67_report.specs.Reading.{IsEnd}
-use Rattle.b67_report.specs.Reading.{AreCounts as AreNumbers}
+use Rattle.b67_report.specs.Reading.{ReportCounts}
 use Rattle.b67_report.specs.declared.Report.{Report}
 use Rattle.b67_report.specs.declared.EndWords.{EndWords}
 use Rattle.b67_report.specs.declared.EndWords.TheVariants as words
@@ -10,7 +10,7 @@ use Rattle.b67_machine.specs.declared.reads.End.{End}
 use Rattle.b67_machine.specs.declared.reads.End.TheVariants as ends
 use Rattle.b67_machine.specs.declared.replay.Replayed.{Replayed}
 use Rattle.b67_machine.specs.declared.replay.Replayed.TheVariants.{Ended, Ran, Illegal, BudgetSpent, NoMemory, Differs}
-use Rattle.b67_machine.specs.Kept.{Kept, counted}
+use Rattle.b67_machine.specs.Kept.{MachineModel, operators_counted}
 use Rattle.b67_machine.specs.Reads.{machine_end}
 
 abbrev pub words_of_end : End → EndWords
@@ -26,19 +26,19 @@ CanBeTold NoMemory end = ⊥
 CanBeTold answer end = Unit {0}
 
 -- these words tell how a run ended
-abbrev pub Tells : Replayed → Option End → EndWords → Type 0
-Tells Ended (Some end) told = told ≡ words_of_end end
-Tells Ended None told = ⊥
-Tells Ran end told = told ≡ words.ScheduleEnded
-Tells (Illegal entry) end told = told ≡ words.Illegal entry
-Tells BudgetSpent end told = told ≡ words.BudgetSpent
-Tells NoMemory end told = ⊥
-Tells (Differs entry) end told = told ≡ words.Differs entry
+abbrev pub EndTells : Replayed → Option End → EndWords → Type 0
+EndTells Ended (Some end) told = told ≡ words_of_end end
+EndTells Ended None told = ⊥
+EndTells Ran end told = told ≡ words.ScheduleEnded
+EndTells (Illegal entry) end told = told ≡ words.Illegal entry
+EndTells BudgetSpent end told = told ≡ words.BudgetSpent
+EndTells NoMemory end told = ⊥
+EndTells (Differs entry) end told = told ≡ words.Differs entry
 
 -- one count for each process that there has been
-pub record AreCounts (machine : Kept) (operators : List ℕ) : Type 0 where
+pub record MachineCounts (machine : MachineModel) (operators : List ℕ) : Type 0 where
   pub each : length operators ≡ machine.image.started
-  pub are : (p : ℕ) → 1 ≤ p → p ≤ length operators → counted operators p ≡ counted machine.counts p
+  pub are : (p : ℕ) → 1 ≤ p → p ≤ length operators → operators_counted operators p ≡ operators_counted machine.counts p
 
 -- one number of acts for each processor, and they add up to so many
 pub record AreActs (processors count : ℕ) (acts : List ℕ) : Type 0 where
@@ -54,15 +54,15 @@ pub record HasSizes (report : Report) : Type 0 where
   pub listing : length report.listing < 2 ^ 64
   pub output : length report.output < 2 ^ 64
   pub end : IsEnd report.end
-  pub operators : AreNumbers report.operators
-  pub acts : AreNumbers report.acts
+  pub operators : ReportCounts report.operators
+  pub acts : ReportCounts report.acts
 
 -- the report of the machine after a run that ended so
-pub record IsReportOf (machine : Kept) (answer : Replayed) (lines : List (List ℕ)) (processors : ℕ) (schedule : Schedule) (report : Report) : Type 0 where
+pub record IsReportOf (machine : MachineModel) (answer : Replayed) (lines : List (List ℕ)) (processors : ℕ) (schedule : ScheduleModel) (report : Report) : Type 0 where
   pub listing : report.listing ≡ lines
   pub output : report.output ≡ machine.image.output
-  pub end : Tells answer (machine_end machine) report.end
-  pub operators : AreCounts machine report.operators
+  pub end : EndTells answer (machine_end machine) report.end
+  pub operators : MachineCounts machine report.operators
   pub acts : AreActs processors (length (entries schedule.runs)) report.acts
   pub performed : report.schedule ≡ schedule
   pub sizes : HasSizes report

@@ -2,7 +2,7 @@
 
 ghost use Rattle.std.specs.Prelude.{◌≡◌};
 ghost use Rattle.b67_report.specs.Reading.{IsEnd};
-ghost use Rattle.b67_explain.specs.Telling.{words_of_end, CanBeTold, Tells};
+ghost use Rattle.b67_explain.specs.Telling.{words_of_end, CanBeTold, EndTells};
 
 use b67_machine::{End, Replayed};
 use b67_report::EndWords;
@@ -23,7 +23,7 @@ fn words_of_end(end: End) -> EndWords
 /// How a report says that a run ended so on a machine with this end.
 pub fn words_of(answer: Replayed, end: Option<End>) -> EndWords
     requires { CanBeTold answer end }
-    ensures tells { Tells answer end result }
+    ensures tells { EndTells answer end result }
     ensures fits { IsEnd result }
 {
     match answer {

@@ -2,9 +2,9 @@
 
 ghost use Rattle.std.specs.Prelude.{◌≡◌, ◌<◌, ◌≤◌, ◌^◌, IfOk, length, sum};
 ghost use Rattle.b67_schedule.specs.Schedules.{entries};
-ghost use Rattle.b67_report.specs.Reading.{AreCounts as AreNumbers};
+ghost use Rattle.b67_report.specs.Reading.{ReportCounts};
 ghost use Rattle.b67_machine.specs.Reads.{machine_end};
-ghost use Rattle.b67_explain.specs.Telling.{CanBeTold, AreCounts, AreActs, AreOfFirst, IsReportOf};
+ghost use Rattle.b67_explain.specs.Telling.{CanBeTold, MachineCounts, AreActs, AreOfFirst, IsReportOf};
 
 use crate::ends::words_of;
 use b67_list::{Line, List, discard};
@@ -28,8 +28,8 @@ fn copied(alloc: Global, lines: &[Line]) -> Result<List<Line>, AllocError>
 
 /// How many operators each process performed, from process 1 on.
 fn operators_of<C: Core>(alloc: Global, machine: &Machine<C>) -> Result<List<u64>, AllocError>
-    ensures counts { IfOk result (AreCounts machine.now) }
-    ensures numbers { IfOk result AreNumbers }
+    ensures counts { IfOk result (MachineCounts machine.now) }
+    ensures numbers { IfOk result ReportCounts }
 {
     let mut operators = Vec::new(alloc);
     'processes: for before in 0..machine.started() {
@@ -43,7 +43,7 @@ pub fn acts_of(alloc: Global, processors: u32, count: u64) -> Result<List<u64>, 
     requires { 1 ≤ processors }
     ensures first { IfOk result (AreOfFirst processors count) }
     ensures acts { IfOk result (AreActs processors count) }
-    ensures numbers { IfOk result AreNumbers }
+    ensures numbers { IfOk result ReportCounts }
 {
     let mut acts = Vec::new(alloc);
     acts.push(count)?;
@@ -60,8 +60,8 @@ fn told_of<C: Core>(
 ) -> Result<(List<Line>, List<u64>), AllocError>
     ensures output { IfOk result (λ told. told.0 ≡ machine.now.image.output) }
     ensures few { IfOk result (λ told. length told.0 < 2 ^ 64) }
-    ensures counts { IfOk result (λ told. AreCounts machine.now told.1) }
-    ensures numbers { IfOk result (λ told. AreNumbers told.1) }
+    ensures counts { IfOk result (λ told. MachineCounts machine.now told.1) }
+    ensures numbers { IfOk result (λ told. ReportCounts told.1) }
 {
     let output = copied(alloc, machine.output())?;
     match operators_of(alloc, machine) {
@@ -84,7 +84,7 @@ pub fn report_of<C: Core>(
     schedule: Schedule,
 ) -> Result<Report, AllocError>
     requires all { sum acts ≡ length (entries schedule.runs) }
-    requires numbers { AreNumbers acts }
+    requires numbers { ReportCounts acts }
     requires told { CanBeTold answer (machine_end machine.now) }
     ensures report { IfOk result (IsReportOf machine.now answer lines (length acts) schedule) }
     ensures acts { IfOk result (λ report. report.acts ≡ acts) }

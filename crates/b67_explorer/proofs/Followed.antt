@@ -19,7 +19,7 @@ use Rattle.b67_table.specs.Runs.{Runs, Plains, stay, go, Tails, none, next}
 use Rattle.b67_schedule.specs.declared.reading.Given.{Given}
 use Rattle.b67_schedule.specs.declared.reading.Given.TheVariants.{One, Two}
 use Rattle.b67_schedule.specs.Giving.{given_entries}
-use Rattle.b67_schedule.specs.Schedules.{entries, IsSchedule, Kept as Schedule}
+use Rattle.b67_schedule.specs.Schedules.{entries, IsSchedule, ScheduleModel}
 use Rattle.b67_report.specs.declared.EndWords.{EndWords}
 use Rattle.b67_report.specs.declared.EndWords.TheVariants as words
 use Rattle.b67_report.specs.declared.Report.{Report}
@@ -27,15 +27,15 @@ use Rattle.b67_machine.specs.declared.reads.End.{End}
 use Rattle.b67_machine.specs.declared.reads.End.TheVariants as machine_ends
 use Rattle.b67_machine.specs.declared.replay.Replayed.{Replayed}
 use Rattle.b67_machine.specs.declared.replay.Replayed.TheVariants.{Ended, Ran, Illegal, BudgetSpent, NoMemory, Differs}
-use Rattle.b67_machine.specs.Kept.{Kept}
-use Rattle.b67_machine.specs.Reads.{shown, end_by, limit_end, machine_end}
-use Rattle.b67_machine.specs.Replaying.{tails_of, MayGo, AtLimit, IsIllegal, Answers, Stands, is_lacking, NoneDiffers, AgreeAs, letters_of, ReplaysEntries, Replays}
+use Rattle.b67_machine.specs.Kept.{MachineModel}
+use Rattle.b67_machine.specs.Reads.{end_shown, machine_end_by, limit_end, machine_end}
+use Rattle.b67_machine.specs.Replaying.{tails_of, MayGo, ReplayAtLimit, IsIllegal, ReplayAnswers, MachineStands, is_lacking, NoneDiffers, AgreeAs, letters_of, ReplaysEntries, Replays}
 use Rattle.b67_faithful.specs.Faithful.{Faithful}
 use Rattle.b67_listing.specs.Listings.{ListingText}
 use Rattle.algol_laws.proofs.Growing.{each_grows}
-use Rattle.b67_explain.specs.Telling.{words_of_end, Tells, IsReportOf}
+use Rattle.b67_explain.specs.Telling.{words_of_end, EndTells, IsReportOf}
 use Rattle.b67_explain.proofs.Explained.{replay_explained}
-use Rattle.b67_outcomes.specs.Entering.{LeadsTo, Stops}
+use Rattle.b67_outcomes.specs.Entering.{HistoryLeadsTo, Stops}
 use Rattle.b67_told.specs.declared.Outcome.{Outcome}
 use Rattle.b67_told.specs.Telling.{IsOfOne}
 use Rattle.b67_teller.specs.Following.{IsLong, NextGoes, NextIsIllegal, EndsBy, Followed}
@@ -81,7 +81,7 @@ one_of_able : (ss : List ProcessState) (p : ℕ) → is_able (numbered ss p) ≡
 one_of_able ss zero e = cc
 one_of_able ss (suc k) e = omega arith
 
-not_lacking : (answer : Replayed) (o : Option End) (end : EndWords) → Tells answer o end → is_lacking answer ≡ false
+not_lacking : (answer : Replayed) (o : Option End) (end : EndWords) → EndTells answer o end → is_lacking answer ≡ false
 not_lacking Ended o end tells = refl
 not_lacking Ran o end tells = refl
 not_lacking (Illegal number) o end tells = refl
@@ -89,14 +89,14 @@ not_lacking BudgetSpent o end tells = refl
 not_lacking NoMemory o end tells = absurd tells
 not_lacking (Differs number) o end tells = refl
 
-stands_there : (lacking : Bool) (img now : Image) → lacking ≡ false → Stands lacking img now → now ≡ img
+stands_there : (lacking : Bool) (img now : Image) → lacking ≡ false → MachineStands lacking img now → now ≡ img
 stands_there false img now e s = s
 stands_there true img now e s = absurd (true≢false e)
 
 -- ---- a replay
 
-module _ (tree : PProgram) (code : Code) (f : Faithful tree code) (given : List ℕ) (m : Kept) (answer : Replayed) (done : List ℕ) (noted : List Letter)
-    (r : ReplaysEntries code given MOST_BUDGET done noted m answer) (end : EndWords) (tells : Tells answer (machine_end m) end) where
+module _ (tree : PProgram) (code : Code) (f : Faithful tree code) (given : List ℕ) (m : MachineModel) (answer : Replayed) (done : List ℕ) (noted : List Letter)
+    (r : ReplaysEntries code given MOST_BUDGET done noted m answer) (end : EndWords) (tells : EndTells answer (machine_end m) end) where
   abbrev before : Image
   before = r.run.before_tails
 
@@ -106,7 +106,7 @@ module _ (tree : PProgram) (code : Code) (f : Faithful tree code) (given : List 
   run_of : Runs code (reverse done) r.run.counts before
   run_of = subst (λ (h : List ℕ). Runs code h r.run.counts before) (sym (ap reverse r.run.order ∙ reverse-reverse r.run.history)) r.run.runs
 
-  leads : LeadsTo code (reverse done) before
+  leads : HistoryLeadsTo code (reverse done) before
   leads = (r.run.counts, run_of)
 
   output_same : r.image.output ≡ before.output
@@ -122,27 +122,27 @@ module _ (tree : PProgram) (code : Code) (f : Faithful tree code) (given : List 
   none_left : r.left ≡ [] → before ≡ r.image
   none_left e = no_tails code 1 before r.image [] (subst (λ (l : List ℕ). Tails code 1 before (tails_of l r.tail) r.image) e r.run.after) refl
 
-  ended_words : (e : ImageEnd) → r.left ≡ [] → image_end before ≡ Some e → EndsBy code given r.left before (words_of_end (shown e))
+  ended_words : (e : ImageEnd) → r.left ≡ [] → image_end before ≡ Some e → EndsBy code given r.left before (words_of_end (end_shown e))
   ended_words ending.finished left there = (left, there)
   ended_words (ending.faulted kind p) left there = (left, there)
   ended_words ending.all_waiting left there = (left, there)
 
-  at_end : (o : Option ImageEnd) → image_end r.image ≡ o → o ≢ None → r.left ≡ [] → Tells Ended (machine_end m) end → EndsBy code given r.left before end
+  at_end : (o : Option ImageEnd) → image_end r.image ≡ o → o ≢ None → r.left ≡ [] → EndTells Ended (machine_end m) end → EndsBy code given r.left before end
   at_end None is some left told = absurd (some refl)
   at_end (Some e) is some left told =
-      let there : machine_end m ≡ Some (shown e) = ap (λ (o : Option ImageEnd). end_by o m) (ap image_end same ∙ is) in
-      let said : end ≡ words_of_end (shown e) = subst (λ (o : Option End). Tells Ended o end) there told in
+      let there : machine_end m ≡ Some (end_shown e) = ap (λ (o : Option ImageEnd). machine_end_by o m) (ap image_end same ∙ is) in
+      let said : end ≡ words_of_end (end_shown e) = subst (λ (o : Option End). EndTells Ended o end) there told in
       subst (λ (x : EndWords). EndsBy code given r.left before x) (sym said) (ended_words e left (ap image_end (none_left left) ∙ is))
 
-  at_limit : (left : List ℕ) → Tails code 1 before (tails_of left r.tail) r.image → MayGo left r.image → AtLimit code left r.image m.limit → Tells Ended (machine_end m) end
+  at_limit : (left : List ℕ) → Tails code 1 before (tails_of left r.tail) r.image → MayGo left r.image → ReplayAtLimit code left r.image m.limit → EndTells Ended (machine_end m) end
       → EndsBy code given left before end
   at_limit [] after goes at told = absurd goes
   at_limit (p ∷ left) after goes at told =
       let acts = acting r.image p goes in
       let one = one_of_able r.image.states p acts.1 in
       let there : machine_end m ≡ Some (machine_ends.StackLimit p (length_in (numbered m.image.regs p))) =
-      ap (λ (o : Option ImageEnd). end_by o m) (ap image_end same ∙ acts.0) ∙ ap (λ (o : Option ℕ). limit_end o m.image.regs) at.1 in
-      let said : end ≡ words.StackLimit p (length_in (numbered m.image.regs p)) = subst (λ (o : Option End). Tells Ended o end) there told in
+      ap (λ (o : Option ImageEnd). machine_end_by o m) (ap image_end same ∙ acts.0) ∙ ap (λ (o : Option ℕ). limit_end o m.image.regs) at.1 in
+      let said : end ≡ words.StackLimit p (length_in (numbered m.image.regs p)) = subst (λ (o : Option End). EndTells Ended o end) there told in
       let numbers : 1 + (p - 1) ≡ p = omega (arith, one) in
       let stops : Stops code p before r.image =
       record { count = r.tail; plains = subst (λ (q : ℕ). Plains code q before r.tail r.image) numbers (one_tail code (p - 1) 1 r.tail before r.image after); at_limit = at.0 } in
@@ -165,7 +165,7 @@ module _ (tree : PProgram) (code : Code) (f : Faithful tree code) (given : List 
       let numbers : 1 + (p - 1) ≡ p = omega (arith, one) in
       (r.image, subst (λ (q : ℕ). Plains code q before r.tail r.image) numbers (one_tail code (p - 1) 1 r.tail before r.image after))
 
-  ends_as : (a : Replayed) → Answers code MOST_BUDGET (sum r.run.counts + r.tail) done r.left r.tail r.image m a → Tells a (machine_end m) end → NoneDiffers a
+  ends_as : (a : Replayed) → ReplayAnswers code MOST_BUDGET (sum r.run.counts + r.tail) done r.left r.tail r.image m a → EndTells a (machine_end m) end → NoneDiffers a
       → EndsBy code given r.left before end
   ends_as Ended (inl x) told n = at_end (image_end r.image) refl x.2 x.1 told
   ends_as Ended (inr x) told n = at_limit r.left r.run.after x.1 x.2 told
@@ -206,14 +206,14 @@ none_differs : (answer : Replayed) (given : Given) (noted : List Letter) → IsO
 none_differs answer (One old) noted version agrees = agrees
 none_differs answer (Two schedule) noted version agrees = absurd version
 
-pub followed : (tree : PProgram) (code : Code) → Faithful tree code → (given : Given) (m : Kept) (answer : Replayed) (schedule : Schedule) → IsOfOne given
+pub followed : (tree : PProgram) (code : Code) → Faithful tree code → (given : Given) (m : MachineModel) (answer : Replayed) (schedule : ScheduleModel) → IsOfOne given
     → Replays code given MOST_BUDGET schedule m answer → (lines : List (List ℕ)) (report : Report) → IsReportOf m answer lines 1 schedule report
     → (o : Outcome) → o.output ≡ report.output → o.end ≡ report.end → Followed code (given_entries given) o
 followed tree code f given m answer schedule version replays lines report is o output ends =
     follows tree code f (given_entries given) m answer (entries schedule.runs) schedule.letters replays.0 report.end is.end
     (none_differs answer given schedule.letters version replays.1) o (output ∙ is.output) ends
 
-pub is_replayed : (tree : PProgram) (code : Code) → Faithful tree code → (given : Given) (m : Kept) (answer : Replayed) (schedule : Schedule)
+pub is_replayed : (tree : PProgram) (code : Code) → Faithful tree code → (given : Given) (m : MachineModel) (answer : Replayed) (schedule : ScheduleModel)
     → Replays code given MOST_BUDGET schedule m answer → (lines : List (List ℕ)) (report : Report) → IsReportOf m answer lines 1 schedule report
     → IsSchedule schedule.runs schedule.letters → ListingText code lines → (o : Outcome) → o.output ≡ report.output → o.end ≡ report.end → IsReplayed tree given o
 is_replayed tree code f given m answer schedule replays lines report is valid listed o output ends =

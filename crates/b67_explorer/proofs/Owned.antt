@@ -23,10 +23,10 @@ use Rattle.b67_table.specs.Runs.{Plains, stay, go}
 use Rattle.b67_table.specs.Valid.{IsValid}
 use Rattle.b67_private.specs.Parts.{PlainParts}
 use Rattle.b67_machine.specs.Parts.{part_by, private_part}
-use Rattle.b67_machine.specs.Kept.{Kept}
-use Rattle.b67_machine.specs.Stepping.{Goes}
+use Rattle.b67_machine.specs.Kept.{MachineModel}
+use Rattle.b67_machine.specs.Stepping.{MachineGoes}
 use Rattle.b67_faithful.specs.Faithful.{Faithful}
-use Rattle.b67_outcomes.specs.Settling.{LocalsPass, Passes, both, ends}
+use Rattle.b67_outcomes.specs.Settling.{LocalsPass, EntryPassesBy, both, ends}
 use Rattle.b67_settling.specs.Local.{IsLocal, StacksStayOwn, Turns, always, ReadsCell, StoresCell}
 use Rattle.b67_explorer.specs.Cells.{AccessesOwn, IsLocalThere}
 use Rattle.b67_settling.specs.Laws as laws
@@ -41,14 +41,14 @@ nothing code p n a b none stay = refl
 nothing code p n a b none (go {n = k} e t rest) = absurd (omega (arith, none))
 
 -- a machine that has performed none stands where it stood
-pub stands_still : (old new : Kept) (p n : ℕ) → n ≤ 0 → Goes old p n new → new.image ≡ old.image
+pub stands_still : (old new : MachineModel) (p n : ℕ) → n ≤ 0 → MachineGoes old p n new → new.image ≡ old.image
 stands_still old new p n none g = nothing old.code p n old.image new.image none g.performed
 
-pub same_code : (old new : Kept) (p n : ℕ) → Goes old p n new → new.code ≡ old.code
-same_code old new p n g = ap (λ (k : Kept). k.code) g.others
+pub same_code : (old new : MachineModel) (p n : ℕ) → MachineGoes old p n new → new.code ≡ old.code
+same_code old new p n g = ap (λ (k : MachineModel). k.code) g.others
 
 -- and a process that was able lives there
-pub still_lives : (old new : Kept) (p n : ℕ) → Goes old p n new → is_able (numbered old.image.states p) ≡ true → is_live (numbered new.image.states p) ≡ true
+pub still_lives : (old new : MachineModel) (p n : ℕ) → MachineGoes old p n new → is_able (numbered old.image.states p) ≡ true → is_live (numbered new.image.states p) ≡ true
 still_lives old new p n g able =
     subst (λ (states : List ProcessState). is_live (numbered states p) ≡ true) (sym g.states) (able_live (numbered old.image.states p) able)
 
@@ -86,7 +86,7 @@ local_by code img p n part after valid may is plains (inr own) = λ stacks.
 
 -- ---- local entries pass others
 
-passes : (code : Code) (p q : ℕ) (b c : Image) → laws.Passes code p q b c → Passes code (IsLocalThere code) p q b c
+passes : (code : Code) (p q : ℕ) (b c : Image) → laws.PassesLocally code p q b c → EntryPassesBy code (IsLocalThere code) p q b c
 passes code p q b c (laws.both there own local) = both there own (λ stacks. local)
 passes code p q b c (laws.ends there here also same) = ends there here also same
 

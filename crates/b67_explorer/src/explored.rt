@@ -1,7 +1,7 @@
 //! The outcomes of a code, as a text.
 ghost use Rattle.std.specs.Prelude.{◌≡◌, ◌≤◌, IfOk};
 ghost use Rattle.algol_tree.specs.Plain.{PProgram};
-ghost use Rattle.b67_schedule.specs.Schedules.{most as most_entries};
+ghost use Rattle.b67_schedule.specs.Schedules.{most_in_schedule};
 ghost use Rattle.b67_settling.specs.Local.{StacksStayOwn};
 ghost use Rattle.b67_faithful.specs.Faithful.{Faithful};
 ghost use Rattle.b67_outcomes_all.specs.Outcomes.{TellsOutcomes};
@@ -50,7 +50,7 @@ fn text_of(alloc: Global, found: &Found, book: &Book) -> Result<Explored, AllocE
 /// no faithful code has; and an entry that is asked of a machine whose run has an end.
 pub fn outcomes(alloc: Global, code: Code, most: u32) -> Result<Explored, AllocError>
     requires some { 1 ≤ most }
-    requires few { most ≤ most_entries }
+    requires few { most ≤ most_in_schedule }
     requires faithful { (tree : PProgram) × Faithful tree code }
     requires stacks { StacksStayOwn code }
     ensures { IfOk result (λ answer. (tree : PProgram) → Faithful tree code → TellsOutcomes tree most answer.text.items answer.cut) }

@@ -2,7 +2,7 @@
 ghost use Rattle.std.specs.Prelude.{◌≡◌, ◌≤◌, true, false, Some, IfOk};
 ghost use Rattle.b67_table.specs.Ending.{may_act};
 ghost use Rattle.b67_table.specs.Image.{Image};
-ghost use Rattle.b67_outcomes.specs.Entering.{Enters, IsNumber, Repeats};
+ghost use Rattle.b67_outcomes.specs.Entering.{ProcessEnters, IsProcessNumber, Repeats};
 ghost use Rattle.b67_explorer.specs.Entries.{entered_by};
 
 use crate::local::is_own;
@@ -56,8 +56,8 @@ impl<C: Again> Explorer<C> {
     pub fn go(&mut self, process: u32) -> Result<bool, AllocError>
         requires may { may_act self.old.machine.image process ≡ true }
         ensures code { self.new.machine.code ≡ self.old.machine.code }
-        ensures number { IsNumber process }
-        ensures entered { IfOk result (λ entered. Enters self.old.machine.code process self.old.machine.image entered self.new.machine.image) }
+        ensures number { IsProcessNumber process }
+        ensures entered { IfOk result (λ entered. ProcessEnters self.old.machine.code process self.old.machine.image entered self.new.machine.image) }
         ensures limit { IfOk result (λ entered. entered ≡ false → self.new.machine.limit ≡ Some process) }
     {
         let _last = self.machine.last_process();

@@ -19,10 +19,10 @@ use Rattle.algol_meaning.specs.declared.TheConstants.{MOST_STARTED}
 use Rattle.algol_meaning.specs.Value.{Value, Bounds, ArrayCell, Cell, simple, event, array, named, reference, Reference, whole_of}
 use Rattle.b67_deeds.specs.Events.{EventState, left_by}
 use Rattle.algol_meaning.specs.Rest.{Place, own, there, element_of, Answer, done}
-use Rattle.algol_meaning.specs.Settle.{block_of}
+use Rattle.algol_meaning.specs.Settle.{block_of_sort}
 use Rattle.algol_meaning.specs.World.{State, Process, Part, World, instance_at, with_instance, cell_at, followed, array_in, add_cells, set_able, set_all_able, process_at, waits_any}
 use Rattle.algol_meaning.specs.Critical.{some_depends, some_depends_on_any, is_evaluation, own_instances}
-use Rattle.algol_meaning.specs.Events.{Released, event_at, change_event, first_happened, is_among, joined_all, list_in, forgotten, withdrawn, woken_by, all_withdrawn, released, caused_by_end}
+use Rattle.algol_meaning.specs.Events.{Released, event_at, change_event, first_happened, reference_is_among, joined_all, list_in, forgotten, withdrawn, woken_by, all_withdrawn, released, caused_by_end}
 use Rattle.algol_meaning.specs.Instances.{leave, Cut, cut_at}
 use Rattle.algol_meaning.specs.Arrays.{subscript_place, new_arrays, has_wrong_size, has_no_room, bounds_of}
 use Rattle.b67_deeds.specs.declared.Letter.TheVariants as actions
@@ -74,7 +74,7 @@ joined_many : (w : World) (p : ℕ) (seen rs : List Reference) → many (joined_
 joined_many w p seen [] = refl
 joined_many w p seen (r ∷ rs) =
     let next : World = change_event w r (deed (deeds.tests test.WaitAny) p (event_at w r)).change in
-    by_bool (is_among seen r) (joined_many w p (r ∷ seen) rs) (joined_many next p (r ∷ seen) rs ∙ changed_many w r (deed (deeds.tests test.WaitAny) p (event_at w r)).change)
+    by_bool (reference_is_among seen r) (joined_many w p (r ∷ seen) rs) (joined_many next p (r ∷ seen) rs ∙ changed_many w r (deed (deeds.tests test.WaitAny) p (event_at w r)).change)
   where
     by_bool : (b : Bool) → many (joined_all w p (r ∷ seen) rs) ≡ many w →
         many (joined_all (change_event w r (deed (deeds.tests test.WaitAny) p (event_at w r)).change) p (r ∷ seen) rs) ≡ many w →
@@ -196,7 +196,7 @@ module _ (sc : Scopes) (w : World) (p : ℕ) (q : Process) (part : Part) (outer 
   over_stays a [] = record { none = refl; same = set ((caused_by_end (leave w (part.instance ∷ [])) p q.task).world) _ (task_many (leave w (part.instance ∷ [])) p q.task) }
   over_stays a (next ∷ parts) = evaluated_stays (leave w (part.instance ∷ [])) a (next ∷ parts) refl
 
-  left_stays : (a : Answer) → Stays (choices.left sc w p q part outer a)
+  left_stays : (a : Answer) → Stays (choices.left_choice sc w p q part outer a)
   left_stays a =
       by_bool (is_evaluation part.purpose) _ _ (evaluated_stays w a outer refl)
       (by_bool (some_depends w.processes part.instance) _ _ (fails_stays fault.CriticalBlockExit) (over_stays a outer))
@@ -214,7 +214,7 @@ module _ (sc : Scopes) (w : World) (p : ℕ) (q : Process) (part : Part) (outer 
   goes_to_stays n i = by_bool ((instance_at w i).process == p) _ _ (gone_to_stays n i (cut_at [] (part ∷ outer) i)) (fails_stays fault.BadGoTo)
 
   did_stays : (x : EventDeed) (r : Reference) (d : Deed) (n : Next) → Stays (choices.did sc w p q part outer x r d n)
-  did_stays x r d deeds.goes = releasing_stays (deeds.letter_of x) (released w r d) (choices.told sc w p q part outer d.answer) (released_many w r d)
+  did_stays x r d deeds.goes = releasing_stays (deeds.letter_of x) (released w r d) (choices.told_answer sc w p q part outer d.answer) (released_many w r d)
   did_stays x r d deeds.waits = stops_stays (deeds.letter_of x) (released w r d).world _ (released_many w r d)
   did_stays x r d deeds.procures = stops_stays (deeds.letter_of x) (released w r d).world _ (released_many w r d)
 
@@ -314,8 +314,8 @@ module _ (sc : Scopes) (w : World) (p : ℕ) (q : Process) (part : Part) (outer 
   told_by (enters_block b) = none_told _ (stays (enters_block b) tt)
   told_by (starts n gs task) =
       by (nat_lt MOST_STARTED (length w.processes))
-      (choices.starts sc w p q part outer (block_of ((use_of sc n).sort)) (choices.home sc w p q part outer n) (choices.given_cells sc w p q part outer gs) (choices.task_of sc w p q part outer task))
-      (starts_next (block_of ((use_of sc n).sort)) (choices.home sc w p q part outer n) (choices.given_cells sc w p q part outer gs) (choices.task_of sc w p q part outer task))
+      (choices.starts sc w p q part outer (block_of_sort ((use_of sc n).sort)) (choices.home sc w p q part outer n) (choices.given_cells sc w p q part outer gs) (choices.task_of sc w p q part outer task))
+      (starts_next (block_of_sort ((use_of sc n).sort)) (choices.home sc w p q part outer n) (choices.given_cells sc w p q part outer gs) (choices.task_of sc w p q part outer task))
     where
       by : (b : Bool) (c : Choice) → StartsNext w c → Told (if b then choices.fails sc w p q part outer fault.ProcessLimit else c)
       by true c s = none_told (choices.fails sc w p q part outer fault.ProcessLimit) (fails_stays fault.ProcessLimit)
@@ -375,7 +375,7 @@ module _ (sc : Scopes) (w : World) (p : ℕ) (q : Process) (part : Part) (outer 
   frees_over a [] idle = record { none = ap (λ (t : Option Reference). (caused_by_end (leave w (part.instance ∷ [])) p t).processes) (idle refl); calm = refl; idle = idle refl }
   frees_over a (next ∷ parts) idle = record { none = refl; calm = refl; idle = tt }
 
-  frees_left : (a : Answer) → (outer ≡ [] → q.task ≡ None) → ReleasesNone q.task (choices.left sc w p q part outer a)
+  frees_left : (a : Answer) → (outer ≡ [] → q.task ≡ None) → ReleasesNone q.task (choices.left_choice sc w p q part outer a)
   frees_left a idle =
       frees_if (is_evaluation part.purpose) _ _ (frees_evaluated w a outer)
       (frees_if (some_depends w.processes part.instance) _ _ (frees_fails fault.CriticalBlockExit) (frees_over a outer idle))

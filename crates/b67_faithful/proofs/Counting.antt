@@ -11,7 +11,7 @@ use Rattle.b67_segment.specs.declared.code.Segment.{Segment}
 use Rattle.b67_table.specs.Image.{Image}
 use Rattle.b67_table.specs.Runs.{Runs, begin, entry, Tails, none, next, TableRun}
 use Rattle.b67_listing.specs.Listings.{IsListable}
-use Rattle.b67_faithful.specs.Faithful.{HasFormats, HasSegments, IsShort, longest, Faithful}
+use Rattle.b67_faithful.specs.Faithful.{HasFormats, HasSegments, IsShortSegment, longest, Faithful}
 use Rattle.b67_faithful.specs.Simulation.{Simulates}
 use Rattle.b67_faithful.proofs.Contradictions.{some_same}
 use Rattle.b67_faithful.proofs.Following.{through, Related, related, simulations_follow}
@@ -49,6 +49,6 @@ module _ (tree : PProgram) (code : Code) (Pictures : World → Image → Type 0)
       ap (λ (n : ℕ). (n + length tails) * longest code.segments) entries ∙ apart in
       omega (arith, runs_few r.runs, tails_few last.world last.pictures r.after, all)
 
-  pub simulations_are_faithful : HasSegments tree code → HasFormats tree code → IsShort tree code → IsListable code → Faithful tree code
+  pub simulations_are_faithful : HasSegments tree code → HasFormats tree code → IsShortSegment tree code → IsListable code → Faithful tree code
   simulations_are_faithful segments formats short listable =
       record { follows = simulations_follow tree code Pictures sim; segments = segments; formats = formats; short = short; listable = listable; few = few }

@@ -14,15 +14,15 @@ use Rattle.b67_table.specs.Image.{Image}
 use Rattle.b67_table.specs.Ending.{failed}
 use Rattle.b67_table.specs.Outcome.{Outcome}
 use Rattle.b67_table.specs.Beginning.{first_image}
-use Rattle.b67_table.specs.Runs.{Plains, stay, go, Acts, Entry, Runs, begin, entry, Tails, none, next, TableRun}
+use Rattle.b67_table.specs.Runs.{Plains, stay, go, ProcessActs, RunEntry, Runs, begin, entry, Tails, none, next, TableRun}
 use Rattle.b67_table.specs.Runs as runs
 use Rattle.b67_table.specs.Sound.{Sound}
-use Rattle.b67_faithful.specs.Agreement.{Agrees}
-use Rattle.b67_letters.specs.Releases.{releases, started_between, started_by, starts}
+use Rattle.b67_faithful.specs.Agreement.{WorldAgrees}
+use Rattle.b67_letters.specs.Releases.{releases, started_between, started_by, operator_starts}
 use Rattle.b67_letters.specs.Entries.{letters, all_released, all_started}
 use Rattle.b67_faithful.specs.Correspondence.{action_in, released_in, started_in, source_actions, source_released, source_started}
-use Rattle.b67_faithful.specs.Faithful.{ComesToLimit, Follows}
-use Rattle.b67_faithful.specs.Simulation.{Simulates, Acted, Comes, acts, stops}
+use Rattle.b67_faithful.specs.Faithful.{ComesToLimit, CodeFollows}
+use Rattle.b67_faithful.specs.Simulation.{Simulates, Acted, ProcessComes, acts, stops}
 use Rattle.b67_faithful.proofs.Contradictions.{some_same}
 use Rattle.b67_faithful.proofs.Sources.{reverse-cons, entered, entered_back, run-later, before}
 use Rattle.b67_faithful.proofs.Ways.{may_follow, may_lead}
@@ -60,7 +60,7 @@ module _ (tree : PProgram) (code : Code) (Pictures : World → Image → Type 0)
         pictures = acted.pictures;
       }
 
-  agree : (schedule tails : List ℕ) (img : Image) → TableRun code schedule tails img → Agrees tree code schedule img
+  agree : (schedule tails : List ℕ) (img : Image) → TableRun code schedule tails img → WorldAgrees tree code schedule img
   agree schedule tails img r =
       let rel = related r.runs in
       let pic : Pictures rel.world img = tails_through rel.world rel.pictures r.after in
@@ -75,7 +75,7 @@ module _ (tree : PProgram) (code : Code) (Pictures : World → Image → Type 0)
     quiet_is : Pictures world quiet
     acted : Acted tree code Pictures world p quiet b
 
-  entering : {h counts : List ℕ} {a b : Image} {p n : ℕ} → Runs code h counts a → (e : Entry code p a n b) → Entering h p e.quiet b
+  entering : {h counts : List ℕ} {a b : Image} {p n : ℕ} → Runs code h counts a → (e : RunEntry code p a n b) → Entering h p e.quiet b
   entering {a = a} {b = b} {p = p} runs e =
       let so_far = related runs in
       let w = so_far.world in
@@ -103,7 +103,7 @@ module _ (tree : PProgram) (code : Code) (Pictures : World → Image → Type 0)
       ap (λ (ps : List ℕ). ps ∷ all_released runs) own ∙ ap (λ (xs : List (List ℕ)). released_in tree (run tree (reverse h)) p ∷ xs) (same_released runs)
 
   -- the process that an entry starts is the one that is added
-  starts_added : (p : ℕ) (quiet b : Image) → Acts code p quiet b → starts code quiet p ≡ started_between quiet.started b.started
+  starts_added : (p : ℕ) (quiet b : Image) → ProcessActs code p quiet b → operator_starts code quiet p ≡ started_between quiet.started b.started
   unfolding failed
   starts_added p quiet b (runs.acts np t) = ap (λ (o : Outcome Image). started_by quiet o) t
   starts_added p quiet b (runs.fails kind t) = ap (λ (o : Outcome Image). started_by quiet o) t ∙ none_added quiet.started
@@ -113,7 +113,7 @@ module _ (tree : PProgram) (code : Code) (Pictures : World → Image → Type 0)
   same_started (entry {h} {b = b} {p = p} runs e) =
       let x = entering runs e in
       let c = choice (scopes_of tree) x.world p in
-      let own : starts code e.quiet p ≡ started_in tree (run tree (reverse h)) p =
+      let own : operator_starts code e.quiet p ≡ started_in tree (run tree (reverse h)) p =
       starts_added p e.quiet b e.action
       ∙ ap (λ (n : ℕ). started_between n b.started) (sim.shows x.world e.quiet x.quiet_is).started
       ∙ ap (λ (n : ℕ). started_between (length x.world.processes) n) (sim.shows c.world b x.acted.pictures).started
@@ -151,7 +151,7 @@ module _ (tree : PProgram) (code : Code) (Pictures : World → Image → Type 0)
       let last = before tree h p w e in
       go_on (performed h last.world last.is) last.world last.is (entered_back (scopes_of tree) last.world w p last.enters).0
     where
-      by_coming : {counts : List ℕ} {img : Image} → Runs code h counts img → (v : World) → Pictures v img → may_go v p ≡ true → Comes tree code Pictures p img → Performed (p ∷ h)
+      by_coming : {counts : List ℕ} {img : Image} → Runs code h counts img → (v : World) → Pictures v img → may_go v p ≡ true → ProcessComes tree code Pictures p img → Performed (p ∷ h)
       by_coming {counts} {img} runs v pic may (acts {n} {quiet} {after} l x) =
           whole ((n + 1) ∷ counts) after (entry runs (record { may = may_follow code v img (sim.shows v img pic) p may; quiet = quiet; plains = l; action = x }))
       by_coming {counts} {img} runs v pic may (stops {n} {quiet} l x) =
@@ -184,7 +184,7 @@ module _ (tree : PProgram) (code : Code) (Pictures : World → Image → Type 0)
         let rel = related r.runs in sim.apart rel.world img (tails_through rel.world rel.pictures r.after) p q x regs touches lives private;
   }
 
-  pub simulations_follow : Follows tree code
+  pub simulations_follow : CodeFollows tree code
   simulations_follow =
       record {
         sound = sound;

@@ -40,7 +40,7 @@ pub record Fits (tree : PProgram) (code : Code) (w : World) (img : Image) : Type
   pub heavy : (p : ℕ) → table code img p ≡ limit → stack_limit < weight tree w p
 
 -- the schedule is legal for the source, and the image shows its world and fits it
-pub record Agrees (tree : PProgram) (code : Code) (schedule : List ℕ) (img : Image) : Type 0 where
+pub record WorldAgrees (tree : PProgram) (code : Code) (schedule : List ℕ) (img : Image) : Type 0 where
   pub world : World
   pub is : run tree schedule ≡ Some world
   pub shows : Shows code world img

@@ -12,7 +12,7 @@ use Rattle.b67_table.specs.Table.{table}
 use Rattle.b67_table.specs.Runs.{Plains, TableRun}
 use Rattle.b67_table.specs.Sound.{Sound}
 use Rattle.b67_listing.specs.Listings.{IsListable}
-use Rattle.b67_faithful.specs.Agreement.{Agrees}
+use Rattle.b67_faithful.specs.Agreement.{WorldAgrees}
 use Rattle.b67_letters.specs.Entries.{letters, all_released, all_started}
 use Rattle.b67_faithful.specs.Correspondence.{source_actions, source_released, source_started}
 use Rattle.b67_faithful.specs.Lines.{formats_for, lines_of}
@@ -31,8 +31,8 @@ pub record ComesToLimit (code : Code) (schedule : List ℕ) : Type 0 where
   pub stops : table code quiet next ≡ limit
 
 -- a segment has at most 24 syllables for each token of its text, and 48 more
-abbrev pub IsShort : PProgram → Code → Type 0
-IsShort tree code = (k : ℕ) (segment : Segment) → slice_get code.segments k ≡ Some segment → 6 * length segment.words ≤ 24 * segment_tokens tree k + 48
+abbrev pub IsShortSegment : PProgram → Code → Type 0
+IsShortSegment tree code = (k : ℕ) (segment : Segment) → slice_get code.segments k ≡ Some segment → 6 * length segment.words ≤ 24 * segment_tokens tree k + 48
 
 -- the syllables of the longest of these segments
 abbrev pub longest : List Segment → ℕ
@@ -40,11 +40,11 @@ longest [] = 0
 longest (segment ∷ segments) = max (6 * length segment.words) (longest segments)
 
 -- what runs of the code have to do with the source
-pub record Follows (tree : PProgram) (code : Code) : Type 0 where
+pub record CodeFollows (tree : PProgram) (code : Code) : Type 0 where
   -- no operator of a run is ill-tagged, or reads or writes what is another process's own
   pub sound : Sound code
   -- each run of the code has a legal schedule of the source, with its output, end and able processes, on stacks within their weights
-  pub legal : (schedule tails : List ℕ) (image : Image) → TableRun code schedule tails image → Agrees tree code schedule image
+  pub legal : (schedule tails : List ℕ) (image : Image) → TableRun code schedule tails image → WorldAgrees tree code schedule image
   -- the operator of each entry has the letter of that entry's action in the source, releases whom that releases, in the same order, and starts
   -- whom that starts
   pub actions : (schedule tails : List ℕ) (image : Image) → (r : TableRun code schedule tails image) → letters r.runs ≡ source_actions tree r.history
@@ -63,10 +63,10 @@ HasFormats tree code = code.formats ≡ formats_for (lines_of tree)
 
 -- A code that does what the source does, has its segments and its formats, is short and can be listed, so that its listing tells it.
 pub record Faithful (tree : PProgram) (code : Code) : Type 0 where
-  pub follows : Follows tree code
+  pub follows : CodeFollows tree code
   pub segments : HasSegments tree code
   pub formats : HasFormats tree code
-  pub short : IsShort tree code
+  pub short : IsShortSegment tree code
   pub listable : IsListable code
   -- for each entry and for each tail at most as many operators are performed as the longest segment has syllables
   pub few : (schedule tails : List ℕ) (image : Image) → (r : TableRun code schedule tails image) →

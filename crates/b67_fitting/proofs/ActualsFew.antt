@@ -19,12 +19,12 @@ use Rattle.algol_tree.specs.Sites.{Site, here, sites, first_formal, other_formal
 use Rattle.algol_tree.specs.Sorts as sort
 use Rattle.algol_tree.specs.Sorts.{Sort, Declared, Parameter, is_named_in, procedure_in, formals_of}
 use Rattle.algol_tree.specs.Surroundings.{Surroundings, class_of, class_of_declared, formals_of_class, formals_at, declared_as, knowing, inside_procedure}
-use Rattle.algol_meaning.specs.Settle.{block_of}
+use Rattle.algol_meaning.specs.Settle.{block_of_sort}
 use Rattle.b67_templates.specs.Cells.{Simple, Wanted, value, by_name, array, event, other, parameter_cells, parameter_wants, parameters_around, Actual, own_actual, wants_of, actuals_in, actuals_among, actuals_given, actuals_in_pairs, actuals_in_stmt, actuals_in_stmts}
-use Rattle.b67_templates.specs.Fitting.{is_by_name}
+use Rattle.b67_templates.specs.Fitting.{wanted_by_name}
 use Rattle.b67_fitting.proofs.Headings.{DeclsSpecified, StmtSpecified, StmtsSpecified}
 use Rattle.b67_templates.specs.Nested as told
-use Rattle.b67_templates.specs.Nested.{IsTold, AreTold, AreParameters}
+use Rattle.b67_templates.specs.Nested.{CellIsTold, AreTold, AreParameters}
 use Rattle.b67_fitting.proofs.ActualCells.{actual_cell}
 use Rattle.b67_fitting.proofs.Callees.{IsCallee}
 use Rattle.b67_fitting.proofs.CellsFew.{cells_both, FewBounds}
@@ -40,12 +40,12 @@ use Rattle.b67_fitting.proofs.Typed.{as_formal}
 -- where something is wanted by name, the parameter is by name
 abbrev pub AreNamed : List Wanted → List Formal → Type 0
 AreNamed [] fs = Unit {0}
-AreNamed (w ∷ wanted) fs = (is_by_name w ≡ true → cells.is_by_name (first_formal fs) ≡ true) × AreNamed wanted (other_formals fs)
+AreNamed (w ∷ wanted) fs = (wanted_by_name w ≡ true → cells.formal_is_by_name (first_formal fs) ≡ true) × AreNamed wanted (other_formals fs)
 
-one_named : (h : Heading) (n : Named) (c : Simple) → IsSpecified h n → IsTold (as_parameter h n) c → is_by_name c.wanted ≡ true → cells.is_by_name (Some (as_formal h n)) ≡ true
-one_named h n c s (told.by_value kind w v) e = absurd (let clash : false ≡ true = sym (ap is_by_name w) ∙ e in cc)
-one_named h n c s (told.an_array shape w v) e = absurd (let clash : false ≡ true = sym (ap is_by_name w) ∙ e in cc)
-one_named h n c s (told.an_event w v) e = absurd (let clash : false ≡ true = sym (ap is_by_name w) ∙ e in cc)
+one_named : (h : Heading) (n : Named) (c : Simple) → IsSpecified h n → CellIsTold (as_parameter h n) c → wanted_by_name c.wanted ≡ true → cells.formal_is_by_name (Some (as_formal h n)) ≡ true
+one_named h n c s (told.by_value kind w v) e = absurd (let clash : false ≡ true = sym (ap wanted_by_name w) ∙ e in cc)
+one_named h n c s (told.an_array shape w v) e = absurd (let clash : false ≡ true = sym (ap wanted_by_name w) ∙ e in cc)
+one_named h n c s (told.an_event w v) e = absurd (let clash : false ≡ true = sym (ap wanted_by_name w) ∙ e in cc)
 one_named h n c (as_event d v s) (told.by_name k w x) e = absurd (let clash : sort.formal_event ≡ sort.by_name = sym s ∙ x in cc)
 one_named h n c (as_value kind d v s) (told.by_name k w x) e = absurd (let clash : sort.variable ≡ sort.by_name = sym s ∙ x in cc)
 one_named h n c (as_array shape d v s) (told.by_name k w x) e = absurd (let clash : sort.formal_array shape.lows ≡ sort.by_name = sym s ∙ x in cc)
@@ -101,7 +101,7 @@ module _ (sc : Scopes) (each : (k : ℕ) → k < length sc.blocks → AreParamet
     no_variable s c k (a_procedure h i) e = refl
 
     -- what is wanted by name of a call's actuals is for parameters by name
-    wants_as : (s : Sort) (c : Class) (k : ℕ) → Means sc.blocks k s c → AreNamed (parameter_wants sc (block_of s)) (formals_of_class c)
+    wants_as : (s : Sort) (c : Class) (k : ℕ) → Means sc.blocks k s c → AreNamed (parameter_wants sc (block_of_sort s)) (formals_of_class c)
     wants_as s c k (a_procedure h i) = callee_named k h i
     wants_as s c k (a_variable kind) = subst (λ (ws : List Wanted). AreNamed ws []) (sym nothing_wanted) tt
     wants_as s c k (a_name kind) = subst (λ (ws : List Wanted). AreNamed ws []) (sym nothing_wanted) tt
@@ -115,14 +115,14 @@ module _ (sc : Scopes) (each : (k : ℕ) → k < length sc.blocks → AreParamet
 
     call_named : (n : Named) → IsMeant n → AreNamed (wants_of sc n) (formals_at a n)
     call_named n m =
-        subst (λ (u : Use). AreNamed (parameter_wants sc (block_of u.sort)) (formals_at a n)) (sym m.used_is)
-        (subst (λ (o : Option Declared). AreNamed (parameter_wants sc (block_of m.declared.sort)) (formals_of_class (class_of_declared o))) (sym m.is)
+        subst (λ (u : Use). AreNamed (parameter_wants sc (block_of_sort u.sort)) (formals_at a n)) (sym m.used_is)
+        (subst (λ (o : Option Declared). AreNamed (parameter_wants sc (block_of_sort m.declared.sort)) (formals_of_class (class_of_declared o))) (sym m.is)
         (wants_as m.declared.sort m.declared.class m.declared.block m.means))
 
     -- ---- one actual
 
     -- what is no name by itself has a cell
-    named : (e : PExpr) (f : Option Formal) → cells.is_by_name f ≡ true → is_simple_name (name_alone e) a ≡ false → has_cell e f a ≡ true
+    named : (e : PExpr) (f : Option Formal) → cells.formal_is_by_name f ≡ true → is_simple_name (name_alone e) a ≡ false → has_cell e f a ≡ true
     named e f h p = ap (λ (b : Bool). b && not (is_simple_name (name_alone e) a)) h ∙ ap not p
 
     is_own : (a.block == a.block) ≡ true
@@ -139,7 +139,7 @@ module _ (sc : Scopes) (each : (k : ℕ) → k < length sc.blocks → AreParamet
     abbrev Named_of : PExpr → Type 0
     Named_of e = IsGood sc (here e a)
 
-    one_few : (w : Wanted) (e : PExpr) (f : Option Formal) → (is_by_name w ≡ true → cells.is_by_name f ≡ true) → Named_of e → length (own_actual sc w e) ≤ many (given_site e f ∷ []) a.block
+    one_few : (w : Wanted) (e : PExpr) (f : Option Formal) → (wanted_by_name w ≡ true → cells.formal_is_by_name f ≡ true) → Named_of e → length (own_actual sc w e) ≤ many (given_site e f ∷ []) a.block
     one_few (value k) e f h g = omega arith
     one_few (array s) e f h g = omega arith
     one_few event e f h g = omega arith

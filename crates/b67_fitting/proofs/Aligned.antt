@@ -9,12 +9,12 @@ use Rattle.algol_tree.specs.Blocks.{same_spot}
 use Rattle.algol_tree.specs.Cells as cells
 use Rattle.algol_tree.specs.Cells.{Cell, cells_for, index_from}
 use Rattle.algol_tree.specs.Classes as class
-use Rattle.algol_tree.specs.Names.{is_one_of}
+use Rattle.algol_tree.specs.Names.{name_is_one_of}
 use Rattle.algol_tree.specs.Plain as tree
 use Rattle.algol_tree.specs.Plain.{PDecls}
 use Rattle.algol_tree.specs.Sorts as sort
 use Rattle.algol_tree.specs.Sorts.{same_name, Declared, look_up, declare}
-use Rattle.b67_templates.specs.Cells.{Simple, Wanted, value, of_kind, result_of, procedures, found_from}
+use Rattle.b67_templates.specs.Cells.{Simple, Wanted, value, of_kind, result_cells_of, procedures, found_from}
 use Rattle.b67_fitting.proofs.Apart.{IsIn, each_in, IsApart, Apart, same_place}
 use Rattle.b67_fitting.proofs.Declaring.{IsOther}
 use Rattle.b67_fitting.proofs.Frames.{control_cells, result_cell}
@@ -91,8 +91,8 @@ aligned_on xs cs ds name spot wanted l =
 
 -- the result in front, which has another name
 pub aligned_result : (o : Option Kind) (own : List ℕ) (block : ℕ) (at : Spot) (xs : List Simple) (cs : List Cell) (name : List ℕ) (spot : Spot) (wanted : Wanted) →
-    is_one_of (if is_some o then own ∷ [] else []) name ≡ false → IsApart at spot → Aligned xs cs name spot wanted →
-    Aligned (result_of o own ++ xs) (result_cell o block at ++ cs) name spot wanted
+    name_is_one_of (if is_some o then own ∷ [] else []) name ≡ false → IsApart at spot → Aligned xs cs name spot wanted →
+    Aligned (result_cells_of o own ++ xs) (result_cell o block at ++ cs) name spot wanted
 aligned_result None own block at xs cs name spot wanted h a l = l
 aligned_result (Some k) own block at xs cs name spot wanted h a l =
     aligned_over (record { name = own; wanted = value k } ∷ []) xs (record { block = block; spot = at; content = cells.result } ∷ []) cs name spot wanted (another (same_name own name) h, a, tt) l

@@ -12,13 +12,13 @@ use Rattle.algol_tree.specs.Cells as cells
 use Rattle.algol_tree.specs.Cells.{Cell, cells_for, index_from}
 use Rattle.algol_tree.specs.Classes as class
 use Rattle.algol_tree.specs.Classes.{Class}
-use Rattle.algol_tree.specs.Names.{is_one_of, specified}
+use Rattle.algol_tree.specs.Names.{name_is_one_of, specified}
 use Rattle.algol_tree.specs.Plain as tree
 use Rattle.algol_tree.specs.Plain.{PPair, PStmt, PDecl, PDecls}
 use Rattle.algol_tree.specs.Sorts as sort
 use Rattle.algol_tree.specs.Sorts.{same_name, Sort, Declared, look_up, declare}
 use Rattle.algol_meaning.proofs.Naming.{same_name-is}
-use Rattle.algol_paths.specs.Arrays.{Made, an_array, an_event, made_in, Lows, shape_in, lows_of, stands_among, lows_in, or_lows, lows_among, lows_declared}
+use Rattle.algol_paths.specs.Arrays.{Made, an_array, an_event, made_in, Lows, shape_in, lows_of, stands_among, lows_in_shape, or_lows, lows_among, lows_declared}
 use Rattle.b67_templates.specs.Cells.{made_name, made_of, made_from}
 use Rattle.b67_fitting.proofs.Apart.{IsIn, each_in, in_back, in_front, in_either, IsApart, Apart, apart_sym, apart_front, apart_from, apart_across}
 use Rattle.b67_fitting.proofs.Declaring.{one_more}
@@ -81,10 +81,10 @@ made_behind x c xs cs name spot made g h r =
 -- these are passed: their block has their names, and they stand apart from all of these places
 abbrev pub MadePassed : List (List ℕ) → List Spot → List Made → List Cell → Type 0
 MadePassed names spots [] [] = Unit {0}
-MadePassed names spots (x ∷ xs) (c ∷ cs) = (is_one_of names (made_name x) ≡ true) × AllByRecursion (IsApart c.spot) spots × MadePassed names spots xs cs
+MadePassed names spots (x ∷ xs) (c ∷ cs) = (name_is_one_of names (made_name x) ≡ true) × AllByRecursion (IsApart c.spot) spots × MadePassed names spots xs cs
 MadePassed names spots _ _ = ⊥
 
-made_over : (names : List (List ℕ)) (spots : List Spot) (xs ys : List Made) (cs ds : List Cell) (name : List ℕ) (spot : Spot) (made : Made) → is_one_of names name ≡ false →
+made_over : (names : List (List ℕ)) (spots : List Spot) (xs ys : List Made) (cs ds : List Cell) (name : List ℕ) (spot : Spot) (made : Made) → name_is_one_of names name ≡ false →
     IsIn spot spots → MadePassed names spots xs cs → IsMade ys ds name spot made → IsMade (xs ++ ys) (cs ++ ds) name spot made
 made_over names spots [] ys [] ds name spot made n i h r = r
 made_over names spots (x ∷ xs) ys (c ∷ cs) ds name spot made n i h r =
@@ -93,7 +93,7 @@ made_over names spots (x ∷ xs) ys (c ∷ cs) ds name spot made n i h r =
     by : (b : Bool) → same_name (made_name x) name ≡ b → b ≡ false
     by false e = refl
     by true e =
-        let clash : true ≡ false = sym h.0 ∙ ap (is_one_of names) (same_name-is (made_name x) name e) ∙ n in
+        let clash : true ≡ false = sym h.0 ∙ ap (name_is_one_of names) (same_name-is (made_name x) name e) ∙ n in
         clash
 made_over names spots [] ys (c ∷ cs) ds name spot made n i h r = absurd h
 made_over names spots (x ∷ xs) ys [] ds name spot made n i h r = absurd h
@@ -126,10 +126,10 @@ arrays_are kind (n ∷ ns) pairs = ap (λ z. array_of kind pairs n ∷ z) (array
 
 -- `make`: what is made of a name
 module _ (make : Named → Made) (named : (n : Named) → made_name (make n) ≡ n.name) where
-  passed_new : (names : List (List ℕ)) (spots : List Spot) (block : ℕ) (ns : List Named) → ((n : Named) → IsIn n ns → is_one_of names n.name ≡ true) →
+  passed_new : (names : List (List ℕ)) (spots : List Spot) (block : ℕ) (ns : List Named) → ((n : Named) → IsIn n ns → name_is_one_of names n.name ≡ true) →
       AllByRecursion (λ s. AllByRecursion (IsApart s) spots) (spots_of_names ns) → MadePassed names spots (map make ns) (cells_for block cells.made ns)
   passed_new names spots block [] f g = tt
-  passed_new names spots block (n ∷ ns) f g = (ap (is_one_of names) (named n) ∙ f n (inl refl), g.0, passed_new names spots block ns (λ m i. f m (inr i)) g.1)
+  passed_new names spots block (n ∷ ns) f g = (ap (name_is_one_of names) (named n) ∙ f n (inl refl), g.0, passed_new names spots block ns (λ m i. f m (inr i)) g.1)
 
   module _ (block depth : ℕ) (s : Sort) (c : Class) where
     pub record IsHit (ns : List Named) (xs : List Made) (cs : List Cell) (name : List ℕ) (d : Declared) : Type 0 where
@@ -218,7 +218,7 @@ stands_elsewhere (n ∷ ns) s h = ap (λ (b : Bool). if b then true else stands_
 -- no parameter of these stands there
 lows_elsewhere : (specs : List Spec) (ns : List Named) (s : Spot) → AllByRecursion (λ z. IsApart z s) (spots_of_names ns) → lows_among specs ns s ≡ None
 lows_elsewhere specs [] s h = refl
-lows_elsewhere specs (n ∷ ns) s h = ap (λ (b : Bool). if b then lows_in (shape_in specs n.name) else lows_among specs ns s) h.0 ∙ lows_elsewhere specs ns s h.1
+lows_elsewhere specs (n ∷ ns) s h = ap (λ (b : Bool). if b then lows_in_shape (shape_in specs n.name) else lows_among specs ns s) h.0 ∙ lows_elsewhere specs ns s h.1
 
 parameters_elsewhere : (h : Heading) (body : PStmt) (s : Spot) → AllByRecursion (λ z. IsApart z s) (spots_of_decl (tree.procedure h body)) → AllByRecursion (λ z. IsApart z s) (spots_of_names h.params)
 parameters_elsewhere h body s far =
@@ -292,7 +292,7 @@ made_begin block names all =
 step_over : (make : Named → Made) → ((n : Named) → made_name (make n) ≡ n.name) → (block : ℕ) (more names : List (List ℕ)) (all : PDecls) (d : PDecl) (ns : List Named) (ds : PDecls) →
     made_of (tree.decls d ds) ≡ map make ns ++ made_of ds → made_cells block (tree.decls d ds) ≡ cells_for block cells.made ns ++ made_cells block ds →
     ((P : Spot → Type 0) → AllByRecursion P (spots_of_decl d) → AllByRecursion P (spots_of_names ns)) → ((s : Spot) → IsIn s (made_spots ds) → IsIn s (made_spots (tree.decls d ds))) →
-    ((n : Named) → IsIn n ns → is_one_of (more ++ names) n.name ≡ true) → Apart (spots_of_decl d ++ spots_of_decls ds) → AreLastLows all ds → AreMadePassed block names all (tree.decls d ds) →
+    ((n : Named) → IsIn n ns → name_is_one_of (more ++ names) n.name ≡ true) → Apart (spots_of_decl d ++ spots_of_decls ds) → AreLastLows all ds → AreMadePassed block names all (tree.decls d ds) →
     AreMadePassed block (more ++ names) all ds
 step_over make named block more names all d ns ds e g own held f p lows s =
     record {
@@ -308,7 +308,7 @@ step_over make named block more names all d ns ds e g own held f p lows s =
       held = λ t i. s.held t (held t i);
     }
 
-pub made_step : (block : ℕ) (more names : List (List ℕ)) (all : PDecls) (d : PDecl) (ds : PDecls) → ((n : Named) → IsIn n (made_names d) → is_one_of (more ++ names) n.name ≡ true) →
+pub made_step : (block : ℕ) (more names : List (List ℕ)) (all : PDecls) (d : PDecl) (ds : PDecls) → ((n : Named) → IsIn n (made_names d) → name_is_one_of (more ++ names) n.name ≡ true) →
     Apart (spots_of_decl d ++ spots_of_decls ds) → AreMadePassed block names all (tree.decls d ds) → AreMadePassed block (more ++ names) all ds
 made_step block more names all (tree.arrays kind ns pairs) ds f p s =
     step_over (array_of kind pairs) (λ n. refl) block more names all (tree.arrays kind ns pairs) ns ds (ap (λ z. z ++ made_of ds) (arrays_are kind ns pairs)) refl
@@ -344,7 +344,7 @@ pub record IsThere (block depth : ℕ) (make : Named → Made) (s : Sort) (c : C
 there_by : (make : Named → Made) → ((n : Named) → made_name (make n) ≡ n.name) → (s : Sort) (c : Class) (block depth : ℕ) (names : List (List ℕ)) (all : PDecls) (first : PDecl) (ns : List Named) (ds : PDecls)
     (name : List ℕ) (d : Declared) → made_of (tree.decls first ds) ≡ map make ns ++ made_of ds → made_cells block (tree.decls first ds) ≡ cells_for block cells.made ns ++ made_cells block ds →
     ((t : Spot) → IsIn t (spots_of_names ns) → IsIn t (spots_of_decls (tree.decls first ds))) → ((t : Spot) → IsIn t (spots_of_names ns) → IsIn t (made_spots (tree.decls first ds))) →
-    Apart (spots_of_names ns) → is_one_of names name ≡ false → AreMadePassed block names all (tree.decls first ds) → look_up (declare block depth s c ns) name ≡ Some d →
+    Apart (spots_of_names ns) → name_is_one_of names name ≡ false → AreMadePassed block names all (tree.decls first ds) → look_up (declare block depth s c ns) name ≡ Some d →
     IsThere block depth make s c all name d
 there_by make named s c block depth names all first ns ds name d e g here among p n q h =
     let r = hit make named block depth s c ns (made_of ds) (made_cells block ds) name d p h in
@@ -365,7 +365,7 @@ there_by make named s c block depth names all first ns ds name d e g here among 
 
 -- an array of the first of these declarations
 pub array_there : (block depth : ℕ) (names : List (List ℕ)) (all : PDecls) (kind : Kind) (ns : List Named) (pairs : List PPair) (ds : PDecls) (name : List ℕ) (d : Declared) →
-    Apart ((spots_of_names ns ++ spots_of_pairs pairs) ++ spots_of_decls ds) → is_one_of names name ≡ false → AreMadePassed block names all (tree.decls (tree.arrays kind ns pairs) ds) →
+    Apart ((spots_of_names ns ++ spots_of_pairs pairs) ++ spots_of_decls ds) → name_is_one_of names name ≡ false → AreMadePassed block names all (tree.decls (tree.arrays kind ns pairs) ds) →
     look_up (declare block depth sort.array (class.array kind (length pairs)) ns) name ≡ Some d →
     IsThere block depth (array_of kind pairs) sort.array (class.array kind (length pairs)) all name d × (lows_declared all d.spot ≡ own_lows pairs)
 array_there block depth names all kind ns pairs ds name d p n s h =
@@ -380,14 +380,14 @@ array_there block depth names all kind ns pairs ds name d p n s h =
 
 -- .. an event, or a task
 pub event_there : (block depth : ℕ) (names : List (List ℕ)) (all : PDecls) (ns : List Named) (ds : PDecls) (name : List ℕ) (d : Declared) → Apart (spots_of_names ns ++ spots_of_decls ds) →
-    is_one_of names name ≡ false → AreMadePassed block names all (tree.decls (tree.events ns) ds) → look_up (declare block depth sort.event class.event ns) name ≡ Some d →
+    name_is_one_of names name ≡ false → AreMadePassed block names all (tree.decls (tree.events ns) ds) → look_up (declare block depth sort.event class.event ns) name ≡ Some d →
     IsThere block depth event_of sort.event class.event all name d
 event_there block depth names all ns ds name d p n s h =
     there_by event_of (λ n. refl) sort.event class.event block depth names all (tree.events ns) ns ds name d refl refl (λ t i. in_front t (spots_of_names ns) (spots_of_decls ds) i)
     (λ t i. in_front t (spots_of_names ns) (made_spots ds) i) (apart_front (spots_of_names ns) (spots_of_decls ds) p) n s h
 
 pub task_there : (block depth : ℕ) (names : List (List ℕ)) (all : PDecls) (ns : List Named) (ds : PDecls) (name : List ℕ) (d : Declared) → Apart (spots_of_names ns ++ spots_of_decls ds) →
-    is_one_of names name ≡ false → AreMadePassed block names all (tree.decls (tree.tasks ns) ds) → look_up (declare block depth sort.event class.task ns) name ≡ Some d →
+    name_is_one_of names name ≡ false → AreMadePassed block names all (tree.decls (tree.tasks ns) ds) → look_up (declare block depth sort.event class.task ns) name ≡ Some d →
     IsThere block depth event_of sort.event class.task all name d
 task_there block depth names all ns ds name d p n s h =
     there_by event_of (λ n. refl) sort.event class.task block depth names all (tree.tasks ns) ns ds name d refl refl (λ t i. in_front t (spots_of_names ns) (spots_of_decls ds) i)

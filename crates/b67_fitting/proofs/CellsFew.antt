@@ -21,7 +21,7 @@ use Rattle.algol_tree.specs.Sites.{Site, sites_in_pairs, here_stmt, inside_stmt,
 use Rattle.algol_tree.specs.Sorts.{Declared}
 use Rattle.algol_tree.specs.Surroundings.{Surroundings, knowing, knowing_all, inside_procedure}
 use Rattle.algol_paths.specs.Arrays.{DeclaredArray, Made, an_array, arrays_in, made_in, an_event}
-use Rattle.b67_templates.specs.Cells.{Simple, value, parameter_cells, simple_cells, of_kind, result_of, variables, procedures, made_of, events_in, actuals_in_pairs, actuals_in_decls, actuals_in_stmts}
+use Rattle.b67_templates.specs.Cells.{Simple, value, parameter_cells, simple_cells, of_kind, result_cells_of, variables, procedures, made_of, events_in, actuals_in_pairs, actuals_in_decls, actuals_in_stmts}
 use Rattle.b67_fitting.proofs.Headings.{DeclsSpecified, StmtSpecified}
 use Rattle.b67_templates.specs.Nested.{AreParameters}
 use Rattle.b67_fitting.proofs.ParametersTold.{told_many}
@@ -172,13 +172,13 @@ module _ (sc : Scopes) where
   body_many t a b f = omega (arith, f)
 
   result_many : (o : Option Kind) (k : ℕ) (n : Named) →
-      length (result_of o n.name) ≤ length (filter (λ (c : Cell). c.block == k) (if is_some o then cells_for k cells.result (n ∷ []) else []))
+      length (result_cells_of o n.name) ≤ length (filter (λ (c : Cell). c.block == k) (if is_some o then cells_for k cells.result (n ∷ []) else []))
   result_many None k n = omega arith
   result_many (Some kind) k n = omega (arith, own_cells k cells.result (n ∷ []))
 
   -- its parameters and its result, whose cells stand in the block around
   pub procedure_many : (h : Heading) (t : PStmt) (ds : PDecls) (a : Surroundings) (c : Surroundings) → c.block ≡ number_at blocks h.name.spot → StmtSpecified t → FewInBody t c →
-      length h.params + (length (result_of h.kind h.name.name) + (length (variables (decls_of t)) + length (procedures (decls_of t)) + length (made_of (decls_of t)))) + length (actuals_in_decls sc (decls_of t)) + length (actuals_in_stmts sc (stmts_of t))
+      length h.params + (length (result_cells_of h.kind h.name.name) + (length (variables (decls_of t)) + length (procedures (decls_of t)) + length (made_of (decls_of t)))) + length (actuals_in_decls sc (decls_of t)) + length (actuals_in_stmts sc (stmts_of t))
       ≤ length (cells_of blocks (declaring blocks h t ds a ∷ body_sites blocks t c) (number_at blocks h.name.spot))
   procedure_many h t ds a c e b f =
       let k = number_at blocks h.name.spot in
@@ -204,12 +204,12 @@ module _ (sc : Scopes) where
 -- ---- a block
 
 -- the cells that it has from its entry on
-pub simple_many : (sc : Scopes) (b : Block) → length (simple_cells sc b) ≡ length (parameter_cells sc b) + (length (result_of b.result b.name) + length (variables b.decls))
+pub simple_many : (sc : Scopes) (b : Block) → length (simple_cells sc b) ≡ length (parameter_cells sc b) + (length (result_cells_of b.result b.name) + length (variables b.decls))
 simple_many sc b =
     omega (
       arith,
-      length-append (parameter_cells sc b ++ result_of b.result b.name) (variables b.decls),
-      length-append (parameter_cells sc b) (result_of b.result b.name),
+      length-append (parameter_cells sc b ++ result_cells_of b.result b.name) (variables b.decls),
+      length-append (parameter_cells sc b) (result_cells_of b.result b.name),
     )
 
 -- a cell for each parameter

@@ -13,7 +13,7 @@ use Rattle.algol_tree.specs.Cells.{Cell, Content, cells_for, cells_at, cells_of,
 use Rattle.algol_tree.specs.Classes as class
 use Rattle.algol_tree.specs.Classes.{Class, Formal, is_simple}
 use Rattle.algol_tree.specs.Couples.{Known, Located, known_at, known_there, located, declaration_in, couple_of_cells, actual_cells}
-use Rattle.algol_tree.specs.Names.{is_one_of, result_names_of}
+use Rattle.algol_tree.specs.Names.{name_is_one_of, result_names_of}
 use Rattle.algol_tree.specs.Scopes.{Scopes, Use, uses_at, declared_in, use_of}
 use Rattle.algol_tree.specs.Sites.{Site}
 use Rattle.algol_tree.specs.Sorts as sort
@@ -22,9 +22,9 @@ use Rattle.algol_tree.specs.Surroundings.{Surroundings}
 use Rattle.algol_meaning.specs.Statements.{alone}
 use Rattle.algol_paths.specs.Arrays.{lows_at}
 use Rattle.b67_ops.specs.declared.Couple.{Couple}
-use Rattle.b67_templates.specs.Cells.{Simple, Wanted, value, by_name, parameters_in, parameter_cells, simple_cells, variables, result_of, procedures, found_from, IsVariable, IsFormalName, of_variable, of_formal, IsProcedure}
+use Rattle.b67_templates.specs.Cells.{Simple, Wanted, value, by_name, parameters_in, parameter_cells, simple_cells, variables, result_cells_of, procedures, found_from, IsVariable, IsFormalName, of_variable, of_formal, IsProcedure}
 use Rattle.b67_templates.specs.Fitting as fitting
-use Rattle.b67_templates.specs.Fitting.{Told, is_event, a_variable, a_name, a_procedure, is_name, is_by_name, couple_on_left, ReadFits, PlaceFits, resolved, NameActualFits, refers_to, passes_on}
+use Rattle.b67_templates.specs.Fitting.{Told, meant_is_event, a_variable, a_name, a_procedure, meant_is_name, wanted_by_name, couple_on_left, ReadFits, PlaceFits, resolved, NameActualFits, refers_to, passes_on}
 use Rattle.b67_fitting.specs.Fitted.{spelled, meant_as, target_of}
 use Rattle.b67_fitting.specs.Typing.{HeadingSpecified, is_around}
 use Rattle.b67_fitting.proofs.Aligned.{IsAt}
@@ -156,7 +156,7 @@ module _ (blocks : List Block) (all : List Site) (is : IsProgram blocks all) whe
       (subst (λ (z : List Cell). IsIn c z) (sym (plain_is b t)) i)
 
   abbrev pub simples_of : Block → List Simple
-  simples_of b = given_cells blocks b ++ (result_of b.result b.name ++ variables b.decls)
+  simples_of b = given_cells blocks b ++ (result_cells_of b.result b.name ++ variables b.decls)
 
   pub coupled : (b : Block) → IsIn b blocks → (spot : Spot) (i : Option ℕ) → index_from 2 (frame_of b) spot ≡ i → couple_in blocks all (number_of b) spot ≡ couple_at (level_of b) i
   coupled b t spot i e =
@@ -233,8 +233,8 @@ module _ (blocks : List Block) (all : List Site) (is : IsProgram blocks all) whe
 
         by : IsVariableOf blocks b n.name d k ⊎ IsParameterOf blocks b n.name d (value k) → IsAt 0 2 (simples_of b) (frame_of b) n.name d.spot (value k)
         by (inl v) =
-            let other : is_one_of (result_names_of b) n.name ≡ false =
-            subst (λ (z : Block). is_one_of (result_names_of z) n.name ≡ false) (ap (block_numbered blocks) h.block_is ∙ numbered blocks b is.blocks_apart h.there) v.other in
+            let other : name_is_one_of (result_names_of b) n.name ≡ false =
+            subst (λ (z : Block). name_is_one_of (result_names_of z) n.name ≡ false) (ap (block_numbered blocks) h.block_is ∙ numbered blocks b is.blocks_apart h.there) v.other in
             framed blocks b (is.homes b h.there) (acts_of b) n.name d.spot (value k) v.among other v.past v.aligned 0 2 refl
         by (inr v) = framed_parameter blocks b (is.homes b h.there) (acts_of b) n.name d.spot (value k) v.aligned 0 2 refl
 
@@ -341,20 +341,20 @@ module _ (blocks : List Block) (all : List Site) (is : IsProgram blocks all) whe
     pub reads : ReadFits scopes told level k n
     pub place : PlaceFits scopes told level k n
     pub given : (block : ℕ) → NameActualFits scopes told level block k (alone n)
-    pub no_event : is_event (told.meant n.spot) ≡ false
+    pub no_event : meant_is_event (told.meant n.spot) ≡ false
 
   -- which parameters are by name
-  modes_in : (g : Heading) (ns : List Named) → AreSpecified g ns → map (λ (f : Formal). cells.is_by_name (Some f)) (map (as_formal g) ns) ≡ map is_by_name (map (λ (z : Simple). z.wanted) (map (cell_of g) ns))
+  modes_in : (g : Heading) (ns : List Named) → AreSpecified g ns → map (λ (f : Formal). cells.formal_is_by_name (Some f)) (map (as_formal g) ns) ≡ map wanted_by_name (map (λ (z : Simple). z.wanted) (map (cell_of g) ns))
   modes_in g [] v = refl
-  modes_in g (n ∷ ns) v = ap (λ b. b ∷ map (λ (f : Formal). cells.is_by_name (Some f)) (map (as_formal g) ns)) (one v.0) ∙ ap (λ z. is_by_name (wanted_of g n) ∷ z) (modes_in g ns v.1)
+  modes_in g (n ∷ ns) v = ap (λ b. b ∷ map (λ (f : Formal). cells.formal_is_by_name (Some f)) (map (as_formal g) ns)) (one v.0) ∙ ap (λ z. wanted_by_name (wanted_of g n) ∷ z) (modes_in g ns v.1)
     where
-      one : IsSpecified g n → cells.is_by_name (Some (as_formal g n)) ≡ is_by_name (wanted_of g n)
-      one (as_value kind c v s) = ap (λ (z : Class). is_simple z && not (is_named_in g.values n.name)) c ∙ ap not v ∙ sym (ap is_by_name (wanted_value g n kind c v))
-      one (as_name kind c v s) = ap (λ (z : Class). is_simple z && not (is_named_in g.values n.name)) c ∙ ap not v ∙ sym (ap is_by_name (wanted_name g n kind c v))
-      one (as_array shape c e s) = ap (λ (z : Class). is_simple z && not (is_named_in g.values n.name)) c ∙ sym (ap is_by_name (wanted_array g n shape c e))
-      one (as_event c e s) = ap (λ (z : Class). is_simple z && not (is_named_in g.values n.name)) c ∙ sym (ap is_by_name (wanted_event g n c))
+      one : IsSpecified g n → cells.formal_is_by_name (Some (as_formal g n)) ≡ wanted_by_name (wanted_of g n)
+      one (as_value kind c v s) = ap (λ (z : Class). is_simple z && not (is_named_in g.values n.name)) c ∙ ap not v ∙ sym (ap wanted_by_name (wanted_value g n kind c v))
+      one (as_name kind c v s) = ap (λ (z : Class). is_simple z && not (is_named_in g.values n.name)) c ∙ ap not v ∙ sym (ap wanted_by_name (wanted_name g n kind c v))
+      one (as_array shape c e s) = ap (λ (z : Class). is_simple z && not (is_named_in g.values n.name)) c ∙ sym (ap wanted_by_name (wanted_array g n shape c e))
+      one (as_event c e s) = ap (λ (z : Class). is_simple z && not (is_named_in g.values n.name)) c ∙ sym (ap wanted_by_name (wanted_event g n c))
 
-  modes_of : (g : Heading) → HeadingSpecified g → map (λ (f : Formal). cells.is_by_name (Some f)) (formals_of g) ≡ map is_by_name (map (λ (z : Simple). z.wanted) (parameters_in g))
+  modes_of : (g : Heading) → HeadingSpecified g → map (λ (f : Formal). cells.formal_is_by_name (Some f)) (formals_of g) ≡ map wanted_by_name (map (λ (z : Simple). z.wanted) (parameters_in g))
   modes_of g b = modes_in g g.params (specified g b)
 
   module _ (told : Told) (are : AreTold blocks all told) (a : Surroundings) (level : ℕ) (at : a.depth + 2 ≡ level) (n : Named) (d : Declared) (is_known : known_there (flat_map (known_at blocks) all) n.spot ≡ Some d) where
@@ -379,9 +379,9 @@ module _ (blocks : List Block) (all : List Site) (is : IsProgram blocks all) whe
         let meant : told.meant n.spot ≡ a_variable = are.meant n.spot d is_known ∙ ap (λ (z : Class). meant_as z d.sort) h.class_is ∙ ap (meant_as (class.simple k)) h.sort_is in
         record {
           reads = ((record { level = c.level; index = c.index }, mine, of_variable v), none);
-          place = fitting.own (record { level = c.level; index = c.index }, ap (λ (o : Option Couple). couple_on_left o (told.couples n.spot)) none ∙ mine, v) (ap is_name meant);
+          place = fitting.own (record { level = c.level; index = c.index }, ap (λ (o : Option Couple). couple_on_left o (told.couples n.spot)) none ∙ mine, v) (ap meant_is_name meant);
           given = λ block. refers_to n (record { level = c.level; index = c.index }) refl meant mine v (let low : 2 ≤ length b.outer + 2 = omega arith in low);
-          no_event = ap is_event meant;
+          no_event = ap meant_is_event meant;
         }
 
     -- a parameter by name
@@ -412,9 +412,9 @@ module _ (blocks : List Block) (all : List Site) (is : IsProgram blocks all) whe
         } in
         record {
           reads = ((record { level = c.level; index = c.index }, mine, of_formal v), none);
-          place = resolved (record { level = c.level; index = c.index }) (ap (λ (o : Option Couple). couple_on_left o (told.couples n.spot)) none ∙ mine) (ap is_name meant) v;
+          place = resolved (record { level = c.level; index = c.index }) (ap (λ (o : Option Couple). couple_on_left o (told.couples n.spot)) none ∙ mine) (ap meant_is_name meant) v;
           given = λ block. passes_on n (record { level = c.level; index = c.index }) refl meant mine v;
-          no_event = ap is_event meant;
+          no_event = ap meant_is_event meant;
         }
 
     pub procedure_fits : (g : Heading) → use_of scopes n ≡ the_use a n d → IsOwned blocks a.depth n.name d g →
@@ -438,7 +438,7 @@ module _ (blocks : List Block) (all : List Site) (is : IsProgram blocks all) whe
             typed = is_typed g.kind refl ∙ sym (ap (λ (o : Option Kind). is_some o) kind_is);
             modes =
                 are.meant n.spot d is_known ∙ ap (λ (z : Class). meant_as z d.sort) h.class_is
-                ∙ ap a_procedure (modes_of g h.built ∙ sym (ap (λ (cs : List Simple). map is_by_name (map (λ (z : Simple). z.wanted) cs)) cells_are));
+                ∙ ap a_procedure (modes_of g h.built ∙ sym (ap (λ (cs : List Simple). map wanted_by_name (map (λ (z : Simple). z.wanted) cs)) cells_are));
           };
           result_is = kind_is;
           parameters_are = ap (λ (z : Block). z.parameters) block_is;
@@ -456,4 +456,4 @@ module _ (blocks : List Block) (all : List Site) (is : IsProgram blocks all) whe
         let c : cells.Couple = record { level = level_of (procedure_block g h.body (b.spot ∷ b.outer)); index = 2 + length (given_cells blocks (procedure_block g h.body (b.spot ∷ b.outer))) } in
         let found : told.results n.spot ≡ Some (record { level = c.level; index = c.index }) = result_is (Some c) (result_couple a level at n d k g h e) in
         fitting.own (record { level = c.level; index = c.index }, ap (λ (o : Option Couple). couple_on_left o (told.couples n.spot)) found, result_at a level at n d k g u h e deep)
-        (ap is_name (are.meant n.spot d is_known ∙ ap (λ (z : Class). meant_as z d.sort) h.class_is))
+        (ap meant_is_name (are.meant n.spot d is_known ∙ ap (λ (z : Class). meant_as z d.sort) h.class_is))

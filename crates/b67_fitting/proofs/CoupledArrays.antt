@@ -9,7 +9,7 @@ use Rattle.algol_tree.specs.Blocks.{Block, block_numbered, number_at}
 use Rattle.algol_tree.specs.Cells as cells
 use Rattle.algol_tree.specs.Cells.{Cell, level_of, couple_in}
 use Rattle.algol_tree.specs.Couples.{known_at, known_there, located}
-use Rattle.algol_tree.specs.Names.{is_one_of, result_names_of}
+use Rattle.algol_tree.specs.Names.{name_is_one_of, result_names_of}
 use Rattle.algol_tree.specs.Plain.{PPair}
 use Rattle.algol_tree.specs.Scopes.{Use, use_of}
 use Rattle.algol_tree.specs.Sites.{Site}
@@ -53,7 +53,7 @@ module _ (blocks : List Block) (all : List Site) (is : IsProgram blocks all) whe
       pub there : IsMadeThere (scopes blocks all is) level n made couple
 
     pub made_fits : (b : Block) → IsIn b blocks → d.block ≡ number_at blocks b.spot → d.depth ≡ length b.outer → d.depth ≤ a.depth → IsIn d.spot (made_spots b.decls) → (made : Made) →
-        IsMade (made_of b.decls) (made_cells (number_at blocks b.spot) b.decls) n.name d.spot made → is_one_of (result_names_of (block_numbered blocks d.block)) n.name ≡ false →
+        IsMade (made_of b.decls) (made_cells (number_at blocks b.spot) b.decls) n.name d.spot made → name_is_one_of (result_names_of (block_numbered blocks d.block)) n.name ≡ false →
         AllByRecursion (λ (x : Simple). same_name x.name n.name ≡ false) (given_cells blocks b) → AllByRecursion (λ (x : Simple). same_name x.name n.name ≡ false) (variables b.decls) →
         use_of (scopes blocks all is) n ≡ the_use a n d → IsCoupled made
     made_fits b t i depth_is within among made r o past simple u =
@@ -67,8 +67,8 @@ module _ (blocks : List Block) (all : List Site) (is : IsProgram blocks all) whe
         let block_is : block_numbered blocks ((use_of sc n).block) ≡ b =
         ap (λ (z : Use). block_numbered blocks z.block) u ∙ ap (block_numbered blocks) i ∙ numbered blocks b is.blocks_apart t in
         let up : length b.outer + 2 + (a.depth - d.depth) ≡ level = omega (arith, at, within, depth_is) in
-        let other : is_one_of (result_names_of b) n.name ≡ false =
-        subst (λ (z : Block). is_one_of (result_names_of z) n.name ≡ false) (ap (block_numbered blocks) i ∙ numbered blocks b is.blocks_apart t) o in
+        let other : name_is_one_of (result_names_of b) n.name ≡ false =
+        subst (λ (z : Block). name_is_one_of (result_names_of z) n.name ≡ false) (ap (block_numbered blocks) i ∙ numbered blocks b is.blocks_apart t) o in
         let cells_are : simple_cells sc (block_numbered blocks ((use_of sc n).block)) ≡ simples_of blocks all is b = ap (simple_cells sc) block_is ∙ simple_is blocks b home acts sc.uses in
         record {
           couple = record { level = c.level; index = c.index };

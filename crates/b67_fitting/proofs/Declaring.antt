@@ -6,7 +6,7 @@ use Rattle.std.proofs.lemmas.List.Elements.{filter-append}
 use Rattle.std.specs.List.{AllByRecursion}
 use Rattle.algol_tree.specs.declared.tree.Named.{Named}
 use Rattle.algol_tree.specs.Classes.{Class}
-use Rattle.algol_tree.specs.Names.{if_so, is_one_of, repeated}
+use Rattle.algol_tree.specs.Names.{if_so, name_is_one_of, repeated}
 use Rattle.algol_tree.specs.Sorts.{Sort, same_name, Declared, look_up, declare}
 use Rattle.algol_meaning.proofs.Naming.{same_name-is}
 use Rattle.b67_fitting.proofs.Lists.{nil_front, nil_back, not_so}
@@ -26,19 +26,19 @@ found_either (e ∷ new) known name d h = by (same_name e.name name) (found_eith
     by true later g = inl g
     by false later g = later g
 
-pub one_of_front : (xs ys : List (List ℕ)) (name : List ℕ) → is_one_of (xs ++ ys) name ≡ false → is_one_of xs name ≡ false
+pub one_of_front : (xs ys : List (List ℕ)) (name : List ℕ) → name_is_one_of (xs ++ ys) name ≡ false → name_is_one_of xs name ≡ false
 one_of_front [] ys name h = refl
 one_of_front (x ∷ xs) ys name h = by (same_name x name) (one_of_front xs ys name) h
   where
-    by : (b : Bool) → (is_one_of (xs ++ ys) name ≡ false → is_one_of xs name ≡ false) → (if b then true else is_one_of (xs ++ ys) name) ≡ false → (if b then true else is_one_of xs name) ≡ false
+    by : (b : Bool) → (name_is_one_of (xs ++ ys) name ≡ false → name_is_one_of xs name ≡ false) → (if b then true else name_is_one_of (xs ++ ys) name) ≡ false → (if b then true else name_is_one_of xs name) ≡ false
     by true later g = g
     by false later g = later g
 
-pub one_of_back : (xs ys : List (List ℕ)) (name : List ℕ) → is_one_of (xs ++ ys) name ≡ false → is_one_of ys name ≡ false
+pub one_of_back : (xs ys : List (List ℕ)) (name : List ℕ) → name_is_one_of (xs ++ ys) name ≡ false → name_is_one_of ys name ≡ false
 one_of_back [] ys name h = h
 one_of_back (x ∷ xs) ys name h = by (same_name x name) (one_of_back xs ys name) h
   where
-    by : (b : Bool) → (is_one_of (xs ++ ys) name ≡ false → is_one_of ys name ≡ false) → (if b then true else is_one_of (xs ++ ys) name) ≡ false → is_one_of ys name ≡ false
+    by : (b : Bool) → (name_is_one_of (xs ++ ys) name ≡ false → name_is_one_of ys name ≡ false) → (if b then true else name_is_one_of (xs ++ ys) name) ≡ false → name_is_one_of ys name ≡ false
     by true later g = absurd (let clash : true ≡ false = g in cc)
     by false later g = later g
 
@@ -47,20 +47,20 @@ abbrev pub names_of : ℕ → List Declared → List (List ℕ)
 names_of block known = map (λ (d : Declared). d.name) (filter (λ (d : Declared). d.block == block) known)
 
 -- one of these is one of more
-pub one_more : (more names : List (List ℕ)) (name : List ℕ) → is_one_of names name ≡ true → is_one_of (more ++ names) name ≡ true
+pub one_more : (more names : List (List ℕ)) (name : List ℕ) → name_is_one_of names name ≡ true → name_is_one_of (more ++ names) name ≡ true
 one_more [] names name h = h
 one_more (m ∷ more) names name h = by (same_name m name) (one_more more names name h)
   where
-    by : (b : Bool) → is_one_of (more ++ names) name ≡ true → (if b then true else is_one_of (more ++ names) name) ≡ true
+    by : (b : Bool) → name_is_one_of (more ++ names) name ≡ true → (if b then true else name_is_one_of (more ++ names) name) ≡ true
     by true later = refl
     by false later = later
 
-pub one_front : (names more : List (List ℕ)) (name : List ℕ) → is_one_of names name ≡ true → is_one_of (names ++ more) name ≡ true
+pub one_front : (names more : List (List ℕ)) (name : List ℕ) → name_is_one_of names name ≡ true → name_is_one_of (names ++ more) name ≡ true
 one_front [] more name h = absurd (let clash : false ≡ true = h in cc)
 one_front (m ∷ names) more name h = by (same_name m name) (one_front names more name) h
   where
-    by : (t : Bool) → (is_one_of names name ≡ true → is_one_of (names ++ more) name ≡ true) → (if t then true else is_one_of names name) ≡ true →
-        (if t then true else is_one_of (names ++ more) name) ≡ true
+    by : (t : Bool) → (name_is_one_of names name ≡ true → name_is_one_of (names ++ more) name ≡ true) → (if t then true else name_is_one_of names name) ≡ true →
+        (if t then true else name_is_one_of (names ++ more) name) ≡ true
     by true later g = refl
     by false later g = later g
 
@@ -95,33 +95,33 @@ module _ (block depth : ℕ) (s : Sort) (c : Class) where
       by false e g = absurd (let clash : None ≡ Some d = g in cc)
 
   -- a name that the block has not, with these declared, is none of theirs
-  pub all_other : (ns : List Named) (known : List Declared) (name : List ℕ) → is_one_of (names_of block (declare block depth s c ns ++ known)) name ≡ false →
-      AllByRecursion (IsOther name) ns × (is_one_of (names_of block known) name ≡ false)
+  pub all_other : (ns : List Named) (known : List Declared) (name : List ℕ) → name_is_one_of (names_of block (declare block depth s c ns ++ known)) name ≡ false →
+      AllByRecursion (IsOther name) ns × (name_is_one_of (names_of block known) name ≡ false)
   all_other [] known name h = (tt, h)
   all_other (n ∷ ns) known name h =
       by (same_name n.name name) refl (all_other ns known name)
-      (subst (λ (b : Bool). is_one_of (map (λ (d : Declared). d.name) (cond b (entry n ∷ rest) rest)) name ≡ false) (eq-eqb block block refl) h)
+      (subst (λ (b : Bool). name_is_one_of (map (λ (d : Declared). d.name) (cond b (entry n ∷ rest) rest)) name ≡ false) (eq-eqb block block refl) h)
     where
       rest : List Declared
       rest = filter (λ (d : Declared). d.block == block) (declare block depth s c ns ++ known)
 
       by : (b : Bool) → same_name n.name name ≡ b →
-          (is_one_of (names_of block (declare block depth s c ns ++ known)) name ≡ false → AllByRecursion (IsOther name) ns × (is_one_of (names_of block known) name ≡ false)) →
-          (if b then true else is_one_of (names_of block (declare block depth s c ns ++ known)) name) ≡ false →
-          AllByRecursion (IsOther name) (n ∷ ns) × (is_one_of (names_of block known) name ≡ false)
+          (name_is_one_of (names_of block (declare block depth s c ns ++ known)) name ≡ false → AllByRecursion (IsOther name) ns × (name_is_one_of (names_of block known) name ≡ false)) →
+          (if b then true else name_is_one_of (names_of block (declare block depth s c ns ++ known)) name) ≡ false →
+          AllByRecursion (IsOther name) (n ∷ ns) × (name_is_one_of (names_of block known) name ≡ false)
       by true e later g = absurd (let clash : true ≡ false = g in cc)
       by false e later g =
           let r = later g in
           ((e, r.0), r.1)
 
   -- a name that is declared there was not seen before
-  pub fresh : (ns : List Named) (seen : List (List ℕ)) (name : List ℕ) (d : Declared) → repeated seen ns ≡ [] → look_up (declare block depth s c ns) name ≡ Some d → is_one_of seen name ≡ false
+  pub fresh : (ns : List Named) (seen : List (List ℕ)) (name : List ℕ) (d : Declared) → repeated seen ns ≡ [] → look_up (declare block depth s c ns) name ≡ Some d → name_is_one_of seen name ≡ false
   fresh [] seen name d h g = absurd (let clash : None ≡ Some d = g in cc)
-  fresh (n ∷ ns) seen name d h g = by (same_name n.name name) refl (fresh ns (n.name ∷ seen) name d (nil_back (if_so (is_one_of seen n.name) n.spot) (repeated (n.name ∷ seen) ns) h)) g
+  fresh (n ∷ ns) seen name d h g = by (same_name n.name name) refl (fresh ns (n.name ∷ seen) name d (nil_back (if_so (name_is_one_of seen n.name) n.spot) (repeated (n.name ∷ seen) ns) h)) g
     where
-      by : (b : Bool) → same_name n.name name ≡ b → (look_up (declare block depth s c ns) name ≡ Some d → (if same_name n.name name then true else is_one_of seen name) ≡ false) →
-          (if b then Some (entry n) else look_up (declare block depth s c ns) name) ≡ Some d → is_one_of seen name ≡ false
+      by : (b : Bool) → same_name n.name name ≡ b → (look_up (declare block depth s c ns) name ≡ Some d → (if same_name n.name name then true else name_is_one_of seen name) ≡ false) →
+          (if b then Some (entry n) else look_up (declare block depth s c ns) name) ≡ Some d → name_is_one_of seen name ≡ false
       by true e later f =
-          subst (λ (z : List ℕ). is_one_of seen z ≡ false) (same_name-is n.name name e)
-          (not_so (is_one_of seen n.name) n.spot (nil_front (if_so (is_one_of seen n.name) n.spot) (repeated (n.name ∷ seen) ns) h))
-      by false e later f = subst (λ (b : Bool). (if b then true else is_one_of seen name) ≡ false) e (later f)
+          subst (λ (z : List ℕ). name_is_one_of seen z ≡ false) (same_name-is n.name name e)
+          (not_so (name_is_one_of seen n.name) n.spot (nil_front (if_so (name_is_one_of seen n.name) n.spot) (repeated (n.name ∷ seen) ns) h))
+      by false e later f = subst (λ (b : Bool). (if b then true else name_is_one_of seen name) ≡ false) e (later f)

@@ -17,7 +17,7 @@ use Rattle.algol_tree.specs.Spelling.{is_number, value_of}
 use Rattle.b67_segment.specs.declared.code.Phrase.{Phrase}
 use Rattle.b67_segment.specs.declared.code.Phrase.TheVariants as parts
 use Rattle.b67_fitting.proofs.Lists.{not_so}
-use Rattle.b67_templates.specs.Code.{AreParts, IsPart, text, word, word_part, numbers_in, exprs_count}
+use Rattle.b67_templates.specs.Code.{AreParts, IsCodePart, text, word, word_part, numbers_in, exprs_count}
 use Rattle.b67_templates.specs.Fitting.{PhraseFits, PhrasesFit}
 use Rattle.b67_fitting.specs.Texts.{PhrasePlain, PhrasesPlain}
 
@@ -47,7 +47,7 @@ of_word : (letters : List ℕ) → is_no_phrase (phrase_of (phrase.Word letters)
 of_word [] h = refl
 of_word (letter ∷ digits) h = of_letter digits (is_number digits && nat_lt 0 (value_of digits)) (letter == 73) (letter == 88) h
 
-of_part : (t : PhraseText) (p : Phrase) → IsPart t p → is_no_phrase (phrase_of t) ≡ false → one_number p ≡ one_item (phrase_of t)
+of_part : (t : PhraseText) (p : Phrase) → IsCodePart t p → is_no_phrase (phrase_of t) ≡ false → one_number p ≡ one_item (phrase_of t)
 of_part t p (text bytes) h = refl
 of_part t p (word letters) h = of_word letters h
 

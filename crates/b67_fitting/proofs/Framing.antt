@@ -10,12 +10,12 @@ use Rattle.algol_tree.specs.Ascending.{spots_of_names, spots_of_pairs, spots_of_
 use Rattle.algol_tree.specs.Blocks.{Block, number_at}
 use Rattle.algol_tree.specs.Cells as cells
 use Rattle.algol_tree.specs.Cells.{Cell, cells_for, index_from}
-use Rattle.algol_tree.specs.Names.{is_one_of, result_names_of, specified}
+use Rattle.algol_tree.specs.Names.{name_is_one_of, result_names_of, specified}
 use Rattle.algol_tree.specs.Plain as tree
 use Rattle.algol_tree.specs.Plain.{PStmt, PDecls}
 use Rattle.algol_tree.specs.Scopes.{Use}
 use Rattle.algol_tree.specs.Sorts.{same_name}
-use Rattle.b67_templates.specs.Cells.{Simple, Wanted, value, Found, found_from, of_kind, variables, result_of, simple_cells, procedures}
+use Rattle.b67_templates.specs.Cells.{Simple, Wanted, value, Found, found_from, of_kind, variables, result_cells_of, simple_cells, procedures}
 use Rattle.b67_fitting.proofs.Aligned.{AreOthers, Aligned, aligned_over, index_on, aligned_on, aligned_result, index_past, IsControl, control}
 use Rattle.b67_fitting.proofs.Apart.{IsIn, each_in, in_front, in_back, in_either, IsApart, Apart, apart_sym, apart_back, apart_from}
 use Rattle.b67_fitting.proofs.Frames.{named_of, named_long, variable_cells, control_cells, made_cells, decl_cells, result_cell}
@@ -196,10 +196,10 @@ module _ (blocks : List Block) (b : Block) (home : IsHome blocks b) (acts : List
   frame = given_places blocks b ++ behind
 
   abbrev pub simples : List Simple
-  simples = given_cells blocks b ++ (result_of b.result b.name ++ variables b.decls)
+  simples = given_cells blocks b ++ (result_cells_of b.result b.name ++ variables b.decls)
 
   pub simple_is : (uses : List Use) → simple_cells (record { blocks = blocks; uses = uses }) b ≡ simples
-  simple_is uses = append_assoc (given_cells blocks b) (result_of b.result b.name) (variables b.decls)
+  simple_is uses = append_assoc (given_cells blocks b) (result_cells_of b.result b.name) (variables b.decls)
 
   pub decls_apart : Apart (spots_of_decls b.decls)
   decls_apart = apart_back (spots_of_names (named_of blocks b)) (spots_of_decls b.decls) home.apart.1
@@ -208,16 +208,16 @@ module _ (blocks : List Block) (b : Block) (home : IsHome blocks b) (acts : List
   own_apart spot i = each_in (IsApart b.spot) spot (spots_of_names (named_of blocks b) ++ spots_of_decls b.decls) home.apart.0 (in_back spot (spots_of_names (named_of blocks b)) (spots_of_decls b.decls) i)
 
   -- a variable has one number among all, and so has a parameter
-  pub framed : (name : List ℕ) (spot : Spot) (wanted : Wanted) → IsIn spot (variable_spots b.decls) → is_one_of (result_names_of b) name ≡ false →
+  pub framed : (name : List ℕ) (spot : Spot) (wanted : Wanted) → IsIn spot (variable_spots b.decls) → name_is_one_of (result_names_of b) name ≡ false →
       AreOthers name spot (given_cells blocks b) (given_places blocks b) → Aligned (variables b.decls) (variable_cells block b.decls) name spot wanted → Aligned simples frame name spot wanted
   framed name spot wanted i o past l =
-      aligned_over (given_cells blocks b) (result_of b.result b.name ++ variables b.decls) (given_places blocks b) behind name spot wanted past
+      aligned_over (given_cells blocks b) (result_cells_of b.result b.name ++ variables b.decls) (given_places blocks b) behind name spot wanted past
       (aligned_result b.result b.name block b.spot (variables b.decls) (variable_cells block b.decls ++ others) name spot wanted o
       (own_apart spot (variable_among b.decls spot i))
       (aligned_on (variables b.decls) (variable_cells block b.decls) others name spot wanted l))
 
   pub framed_parameter : (name : List ℕ) (spot : Spot) (wanted : Wanted) → Aligned (given_cells blocks b) (given_places blocks b) name spot wanted → Aligned simples frame name spot wanted
-  framed_parameter name spot wanted l = aligned_front (given_cells blocks b) (result_of b.result b.name ++ variables b.decls) (given_places blocks b) behind name spot wanted l
+  framed_parameter name spot wanted l = aligned_front (given_cells blocks b) (result_cells_of b.result b.name ++ variables b.decls) (given_places blocks b) behind name spot wanted l
 
   pub result_apart : (o : Option Kind) (spot : Spot) → IsApart b.spot spot → AllByRecursion (λ (c : Cell). IsApart c.spot spot) (result_cell o block b.spot)
   result_apart None spot h = tt
@@ -232,7 +232,7 @@ module _ (blocks : List Block) (b : Block) (home : IsHome blocks b) (acts : List
   variables_long (tree.decls (tree.simple kind ns) ds) = of_long kind ns (variables ds) (variable_cells block ds) (variables_long ds)
   variables_long (tree.decls d ds) = variables_long ds
 
-  as_long : (o : Option Kind) (ds : PDecls) → length (result_cell o block b.spot ++ variable_cells block ds) ≡ length (result_of o b.name ++ variables ds)
+  as_long : (o : Option Kind) (ds : PDecls) → length (result_cell o block b.spot ++ variable_cells block ds) ≡ length (result_cells_of o b.name ++ variables ds)
   as_long None ds = variables_long ds
   as_long (Some kind) ds = omega (arith, variables_long ds)
 
@@ -244,7 +244,7 @@ module _ (blocks : List Block) (b : Block) (home : IsHome blocks b) (acts : List
       omega (
         arith,
         length-append (given_places blocks b) (result_cell b.result block b.spot ++ variable_cells block b.decls),
-        length-append (given_cells blocks b) (result_of b.result b.name ++ variables b.decls),
+        length-append (given_cells blocks b) (result_cells_of b.result b.name ++ variables b.decls),
         given_long,
         as_long b.result b.decls,
       )
@@ -303,7 +303,7 @@ module _ (blocks : List Block) (b : Block) (home : IsHome blocks b) (acts : List
       found_from 0 simples name ≡ Some (record { number = length (given_cells blocks b); cell = record { name = b.name; wanted = value kind } })
   result_found kind name e s o =
       let place = length (given_cells blocks b) in
-      found_past (given_cells blocks b) (result_of b.result b.name ++ variables b.decls) 0 name o
-      ∙ ap (λ (n : ℕ). found_from n (result_of b.result b.name ++ variables b.decls) name) (let same : 0 + place ≡ place = omega arith in same)
-      ∙ ap (λ (r : Option Kind). found_from place (result_of r b.name ++ variables b.decls) name) e
+      found_past (given_cells blocks b) (result_cells_of b.result b.name ++ variables b.decls) 0 name o
+      ∙ ap (λ (n : ℕ). found_from n (result_cells_of b.result b.name ++ variables b.decls) name) (let same : 0 + place ≡ place = omega arith in same)
+      ∙ ap (λ (r : Option Kind). found_from place (result_cells_of r b.name ++ variables b.decls) name) e
       ∙ ap (λ (t : Bool). if t then Some (record { number = place; cell = record { name = b.name; wanted = value kind } }) else found_from (place + 1) (variables b.decls) name) s

@@ -9,12 +9,12 @@ use Rattle.algol_tree.specs.Ascending.{spots_of_names, spots_of_pairs, spots_of_
 use Rattle.algol_tree.specs.Blocks.{Block}
 use Rattle.algol_tree.specs.Cells as cells
 use Rattle.algol_tree.specs.Cells.{Cell, cells_for, index_from}
-use Rattle.algol_tree.specs.Names.{is_one_of, result_names_of}
+use Rattle.algol_tree.specs.Names.{name_is_one_of, result_names_of}
 use Rattle.algol_tree.specs.Plain as tree
 use Rattle.algol_tree.specs.Plain.{PDecls}
 use Rattle.algol_tree.specs.Sorts.{same_name}
 use Rattle.algol_paths.specs.Arrays.{Made}
-use Rattle.b67_templates.specs.Cells.{Simple, found_from, result_of, procedures, variables, made_of}
+use Rattle.b67_templates.specs.Cells.{Simple, found_from, result_cells_of, procedures, variables, made_of}
 use Rattle.b67_fitting.proofs.Aligned.{index_past, index_on}
 use Rattle.b67_fitting.proofs.Apart.{IsIn, in_front, in_back, in_either, IsApart, Apart, apart_back, apart_from}
 use Rattle.b67_fitting.proofs.Arrayed.{made_spots, IsMade, from_first}
@@ -156,7 +156,7 @@ in_parts g r v c a m =
     ∙ sym (append_assoc ((g ++ (r ++ v)) ++ c) a m)
 
 -- the result has another name
-result_other : (o : Option Kind) (own name : List ℕ) → is_one_of (if is_some o then own ∷ [] else []) name ≡ false → AllByRecursion (λ (x : Simple). same_name x.name name ≡ false) (result_of o own)
+result_other : (o : Option Kind) (own name : List ℕ) → name_is_one_of (if is_some o then own ∷ [] else []) name ≡ false → AllByRecursion (λ (x : Simple). same_name x.name name ≡ false) (result_cells_of o own)
 result_other None own name h = tt
 result_other (Some kind) own name h = (other (same_name own name) h, tt)
   where
@@ -167,12 +167,12 @@ result_other (Some kind) own name h = (other (same_name own name) h, tt)
 -- `acts`: the cells of its actuals
 module _ (blocks : List Block) (b : Block) (home : IsHome blocks b) (acts : List Cell) where
   -- no simple cell has the name
-  pub no_simple : (name : List ℕ) → is_one_of (result_names_of b) name ≡ false → AllByRecursion (λ (x : Simple). same_name x.name name ≡ false) (given_cells blocks b) →
+  pub no_simple : (name : List ℕ) → name_is_one_of (result_names_of b) name ≡ false → AllByRecursion (λ (x : Simple). same_name x.name name ≡ false) (given_cells blocks b) →
       AllByRecursion (λ (x : Simple). same_name x.name name ≡ false) (variables b.decls) → found_from 0 (simples blocks b home acts) name ≡ None
   no_simple name o g v =
       none_found (simples blocks b home acts) 0 name
-      (each_both (λ (x : Simple). same_name x.name name ≡ false) (given_cells blocks b) (result_of b.result b.name ++ variables b.decls) g
-      (each_both (λ (x : Simple). same_name x.name name ≡ false) (result_of b.result b.name) (variables b.decls) (result_other b.result b.name name o) v))
+      (each_both (λ (x : Simple). same_name x.name name ≡ false) (given_cells blocks b) (result_cells_of b.result b.name ++ variables b.decls) g
+      (each_both (λ (x : Simple). same_name x.name name ≡ false) (result_cells_of b.result b.name) (variables b.decls) (result_other b.result b.name name o) v))
 
   pub made_index : (name : List ℕ) (s : Spot) (made : Made) → AllByRecursion (λ (c : Cell). IsApart c.spot s) acts → IsIn s (made_spots b.decls) →
       (r : IsMade (made_of b.decls) (made_cells (block blocks b home acts) b.decls) name s made) →

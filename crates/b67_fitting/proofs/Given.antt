@@ -13,7 +13,7 @@ use Rattle.algol_tree.specs.Plain as tree
 use Rattle.algol_tree.specs.Plain.{PStmt, PDecl, PDecls}
 use Rattle.algol_tree.specs.Sorts as sort
 use Rattle.algol_tree.specs.Sorts.{same_name, Declared, look_up, is_named_in, sort_in, class_in}
-use Rattle.algol_paths.specs.Arrays.{Shape, Lows, shape_in, lows_in, lows_among}
+use Rattle.algol_paths.specs.Arrays.{Shape, Lows, shape_in, lows_in_shape, lows_among}
 use Rattle.b67_templates.specs.Cells.{Simple, Wanted, value, by_name, array, event, found_from, parameters_around}
 use Rattle.b67_fitting.specs.Wholes.{HaveDimensions}
 use Rattle.b67_fitting.specs.Typing.{SpecsWhole}
@@ -66,11 +66,11 @@ module _ (block depth : ℕ) (h : Heading) where
       subst (IsParameter (entry n)) (sym (wanted_array h n shape c e)) (an_array shape c s (dimensions_in h.specs n.name shape w e))
   one_parameter n (as_event c e s) w = subst (IsParameter (entry n)) (sym (wanted_event h n c)) (an_event c s)
 
-  one_lows : (n : Named) → IsSpecified h n → lows_in (shape_in h.specs n.name) ≡ lows_wanted (wanted_of h n)
-  one_lows n (as_value kind c v s) = ap lows_in (no_shape h.specs n.name kind c) ∙ sym (ap lows_wanted (wanted_value h n kind c v))
-  one_lows n (as_name kind c v s) = ap lows_in (no_shape h.specs n.name kind c) ∙ sym (ap lows_wanted (wanted_name h n kind c v))
-  one_lows n (as_array shape c e s) = ap lows_in e ∙ sym (ap lows_wanted (wanted_array h n shape c e))
-  one_lows n (as_event c e s) = ap lows_in e ∙ sym (ap lows_wanted (wanted_event h n c))
+  one_lows : (n : Named) → IsSpecified h n → lows_in_shape (shape_in h.specs n.name) ≡ lows_wanted (wanted_of h n)
+  one_lows n (as_value kind c v s) = ap lows_in_shape (no_shape h.specs n.name kind c) ∙ sym (ap lows_wanted (wanted_value h n kind c v))
+  one_lows n (as_name kind c v s) = ap lows_in_shape (no_shape h.specs n.name kind c) ∙ sym (ap lows_wanted (wanted_name h n kind c v))
+  one_lows n (as_array shape c e s) = ap lows_in_shape e ∙ sym (ap lows_wanted (wanted_array h n shape c e))
+  one_lows n (as_event c e s) = ap lows_in_shape e ∙ sym (ap lows_wanted (wanted_event h n c))
 
   pub given : (ns : List Named) → AreSpecified h ns → SpecsWhole h → Apart (spots_of_names ns) → (name : List ℕ) (d : Declared) → look_up (map entry ns) name ≡ Some d → IsGiven ns name d
   given [] v w p name d g = absurd (let clash : None ≡ Some d = g in cc)
@@ -90,7 +90,7 @@ module _ (block depth : ℕ) (h : Heading) where
             block_is = refl;
             depth_is = refl;
             inside = inl refl;
-            lows = ap (λ (b : Bool). if b then lows_in (shape_in h.specs n.name) else lows_among h.specs ns n.spot) (same_self n.spot) ∙ one_lows n v.0;
+            lows = ap (λ (b : Bool). if b then lows_in_shape (shape_in h.specs n.name) else lows_among h.specs ns n.spot) (same_self n.spot) ∙ one_lows n v.0;
             aligned =
                 λ i j q.
                 record {
@@ -110,7 +110,7 @@ module _ (block depth : ℕ) (h : Heading) where
             block_is = r.block_is;
             depth_is = r.depth_is;
             inside = inr r.inside;
-            lows = ap (λ (b : Bool). if b then lows_in (shape_in h.specs n.name) else lows_among h.specs ns d.spot) far ∙ r.lows;
+            lows = ap (λ (b : Bool). if b then lows_in_shape (shape_in h.specs n.name) else lows_among h.specs ns d.spot) far ∙ r.lows;
             aligned =
                 aligned_over (cell_of h n ∷ []) (map (cell_of h) ns) (cell ∷ []) (cells_for block cells.parameter ns) name d.spot r.wanted (e, far, tt) r.aligned;
           }

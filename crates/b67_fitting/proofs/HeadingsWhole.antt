@@ -8,7 +8,7 @@ use Rattle.algol_tree.specs.declared.tree.Heading.{Heading}
 use Rattle.algol_tree.specs.declared.tree.Spec.{Spec}
 use Rattle.algol_tree.specs.Headings as headings
 use Rattle.algol_tree.specs.Headings.{IsLiteral, IsLows, IsSpec, IsSpecs, IsHeading}
-use Rattle.b67_templates.specs.Fragments.{IsWhole}
+use Rattle.b67_templates.specs.Fragments.{IsWholeNumber}
 use Rattle.b67_fitting.specs.Wholes.{HaveDimensions, SpecWhole}
 use Rattle.b67_fitting.proofs.Behind.{behind_names, behind_typed, behind_spec, behind_values}
 use Rattle.b67_fitting.proofs.Lexed.{KindRight, TokenRight, AreRight}
@@ -18,15 +18,15 @@ abbrev pub Read : Type 0 → List Token → Type 0
 Read what rest = what × AreRight rest
 
 -- a sign leaves the magnitude
-negated_whole : (z : ℤ) → IsWhole z → IsWhole (neg_ℤ z)
+negated_whole : (z : ℤ) → IsWholeNumber z → IsWholeNumber (neg_ℤ z)
 negated_whole (pos zero) h = h
 negated_whole (pos (suc n)) h = h
 negated_whole (negsuc n) h = h
 
-opposite_whole : (z : ℤ) → IsWhole z → IsWhole (pos 0 -ℤ z)
-opposite_whole z h = subst IsWhole (sym (+ℤ_idl (neg_ℤ z))) (negated_whole z h)
+opposite_whole : (z : ℤ) → IsWholeNumber z → IsWholeNumber (pos 0 -ℤ z)
+opposite_whole z h = subst IsWholeNumber (sym (+ℤ_idl (neg_ℤ z))) (negated_whole z h)
 
-pub literal_whole : {from : List Token} {low : ℤ} {rest : List Token} → IsLiteral from low rest → AreRight from → Read (IsWhole low) rest
+pub literal_whole : {from : List Token} {low : ℤ} {rest : List Token} → IsLiteral from low rest → AreRight from → Read (IsWholeNumber low) rest
 literal_whole (headings.positive t value rest i) w = (subst KindRight i w.0, w.1)
 literal_whole (headings.negative t u value rest i j) w = (opposite_whole value (subst KindRight j w.1.0), w.1.1)
 

@@ -12,7 +12,7 @@ use Rattle.algol_tree.specs.Cells as cells
 use Rattle.algol_tree.specs.Cells.{Cell, cells_for}
 use Rattle.algol_tree.specs.Classes as class
 use Rattle.algol_tree.specs.Classes.{Class}
-use Rattle.algol_tree.specs.Names.{is_one_of, result_names_of, twice_in_heading}
+use Rattle.algol_tree.specs.Names.{name_is_one_of, result_names_of, twice_in_heading}
 use Rattle.algol_tree.specs.Plain as tree
 use Rattle.algol_tree.specs.Plain.{PStmt, PDecls}
 use Rattle.algol_tree.specs.Sorts as sort
@@ -57,7 +57,7 @@ module _ (blocks : List Block) where
   -- name, and has no parameter of that name.
   pub record IsVariableOf (in_block : Block) (name : List ℕ) (d : Declared) (kind : Kind) : Type 0 where
     pub among : IsIn d.spot (variable_spots in_block.decls)
-    pub other : is_one_of (result_names_of (block_numbered blocks d.block)) name ≡ false
+    pub other : name_is_one_of (result_names_of (block_numbered blocks d.block)) name ≡ false
     pub past : AreOthers name d.spot (given_cells in_block) (given_places in_block)
     pub aligned : Aligned (variables in_block.decls) (variable_cells (number_at blocks in_block.spot) in_block.decls) name d.spot (value kind)
 
@@ -101,7 +101,7 @@ module _ (blocks : List Block) where
     pub among : IsIn d.spot (made_spots in_block.decls)
     pub arrayed : IsMade (made_of in_block.decls) (made_cells (number_at blocks in_block.spot) in_block.decls) name d.spot (an_array array)
     pub lows : lows_declared in_block.decls d.spot ≡ own_lows array.pairs
-    pub other : is_one_of (result_names_of (block_numbered blocks d.block)) name ≡ false
+    pub other : name_is_one_of (result_names_of (block_numbered blocks d.block)) name ≡ false
     pub past : AllByRecursion (λ (x : Simple). same_name x.name name ≡ false) (given_cells in_block)
     pub simple : AllByRecursion (λ (x : Simple). same_name x.name name ≡ false) (variables in_block.decls)
 
@@ -139,7 +139,7 @@ module _ (blocks : List Block) where
     pub within : d.depth ≤ depth
     pub among : IsIn d.spot (made_spots in_block.decls)
     pub made : IsMade (made_of in_block.decls) (made_cells (number_at blocks in_block.spot) in_block.decls) name d.spot (an_event name)
-    pub other : is_one_of (result_names_of (block_numbered blocks d.block)) name ≡ false
+    pub other : name_is_one_of (result_names_of (block_numbered blocks d.block)) name ≡ false
     pub past : AllByRecursion (λ (x : Simple). same_name x.name name ≡ false) (given_cells in_block)
     pub simple : AllByRecursion (λ (x : Simple). same_name x.name name ≡ false) (variables in_block.decls)
 

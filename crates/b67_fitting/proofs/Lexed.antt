@@ -10,17 +10,17 @@ use Rattle.algol_tree.specs.declared.token.Reserved.TheVariants as reserved
 use Rattle.algol_tree.specs.declared.token.Token.{Token}
 use Rattle.algol_tree.specs.declared.token.TokenKind.{TokenKind}
 use Rattle.algol_tree.specs.declared.token.TokenKind.TheVariants as kinds
-use Rattle.algol_tree.specs.Lexes.{Mode, Front, Piece, Wrong, word_front, front_of, remark_word, remark_front, string_or, is_printable, is_quote, Stands, blank, percent, spelled, closed, unclosed, none, closing, commented, remarked, semicolon, period, passed, token_at, end_of, Gives, stays, piece, AreRead, all, next, Lexes}
+use Rattle.algol_tree.specs.Lexes.{Mode, Front, Piece, Wrong, word_front, front_of, remark_word, remark_front, string_or, is_printable, is_quote, TokenStands, blank, percent, spelled, closed, unclosed, none, closing, commented, remarked, semicolon, period, passed, token_at, end_of_text, Gives, stays, piece, AreRead, all, next, Lexes}
 use Rattle.algol_tree.specs.Records.{Record, records_of}
 use Rattle.algol_tree.specs.Sorts.{same_name}
 use Rattle.algol_tree.specs.Spelling as spelling
 use Rattle.algol_tree.specs.Spelling.{Spells, value_of}
 use Rattle.b67_templates.specs.Fitting.{IsPlainText}
-use Rattle.b67_templates.specs.Fragments.{IsWhole}
+use Rattle.b67_templates.specs.Fragments.{IsWholeNumber}
 use Rattle.b67_fitting.proofs.Lists.{each_both}
 
 abbrev pub KindRight : TokenKind → Type 0
-KindRight (kinds.Number value) = IsWhole value
+KindRight (kinds.Number value) = IsWholeNumber value
 KindRight (kinds.Text bytes) = IsPlainText bytes
 KindRight (kinds.Name bytes) = same_name bytes [] ≡ false
 KindRight k = Unit {0}
@@ -92,7 +92,7 @@ string_right : (inside : List ℕ) (o : Option ℕ) → position (λ b. not (is_
 string_right inside None h q = λ k d lo. (printable_at inside k d h lo, AllPass-from_list_all (λ b. not (is_quote b)) inside q k d lo)
 string_right inside (Some k) h q = tt
 
-stands_right : {m : Mode} {cols : List ℕ} {f : Front} → Stands m cols f → FrontRight f
+stands_right : {m : Mode} {cols : List ℕ} {f : Front} → TokenStands m cols f → FrontRight f
 stands_right (blank b after h) = tt
 stands_right (percent after) = tt
 stands_right (spelled bytes after k s l) = kind_right (length bytes) s
@@ -118,10 +118,10 @@ read_right : {rs : List Record} {m : Mode} {ts : List Token} {n : Mode} {left : 
 read_right (all rs m) = tt
 read_right (next r rs left m n o ts more i g) = each_both TokenRight ts more (gives_right i.gives) (read_right g)
 
-end_right : (rs : List Record) → AreRight (end_of rs)
+end_right : (rs : List Record) → AreRight (end_of_text rs)
 end_right [] = tt
 end_right (r ∷ []) = (tt, tt)
 end_right (r ∷ s ∷ rs) = end_right (s ∷ rs)
 
 pub text_right : {bytes : List ℕ} {ts : List Token} → Lexes bytes ts → AreRight ts
-text_right {bytes} l = subst AreRight (sym l.ended) (each_both TokenRight l.found (end_of (records_of bytes)) (read_right l.read) (end_right (records_of bytes)))
+text_right {bytes} l = subst AreRight (sym l.ended) (each_both TokenRight l.found (end_of_text (records_of bytes)) (read_right l.read) (end_right (records_of bytes)))

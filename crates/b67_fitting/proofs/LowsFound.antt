@@ -15,7 +15,7 @@ use Rattle.algol_tree.specs.Plain as tree
 use Rattle.algol_tree.specs.Plain.{PDecls}
 use Rattle.algol_tree.specs.Sites.{Site}
 use Rattle.algol_tree.specs.Sorts.{Declared}
-use Rattle.algol_paths.specs.Arrays.{Lows, shape_in, stands_among, lows_in, or_lows, lows_among, lows_declared, lows_at}
+use Rattle.algol_paths.specs.Arrays.{Lows, shape_in, stands_among, lows_in_shape, or_lows, lows_among, lows_declared, lows_at}
 use Rattle.b67_templates.specs.Cells.{value}
 use Rattle.b67_fitting.proofs.Apart.{IsIn, each_in, in_map, in_front, in_back, IsApart, same_place}
 use Rattle.b67_fitting.proofs.Arrayed.{array_spots, made_spots, array_made, own_lows}
@@ -44,7 +44,7 @@ lows_at_name : (specs : List Spec) (ns : List Named) (s : Spot) (found : Lows) �
 lows_at_name specs [] s found h = absurd (let clash : None ≡ Some found = h in cc)
 lows_at_name specs (n ∷ ns) s found h = by (same_spot n.spot s) refl (lows_at_name specs ns s found) h
   where
-    by : (b : Bool) → same_spot n.spot s ≡ b → (lows_among specs ns s ≡ Some found → IsIn s (spots_of_names ns)) → (if b then lows_in (shape_in specs n.name) else lows_among specs ns s) ≡ Some found →
+    by : (b : Bool) → same_spot n.spot s ≡ b → (lows_among specs ns s ≡ Some found → IsIn s (spots_of_names ns)) → (if b then lows_in_shape (shape_in specs n.name) else lows_among specs ns s) ≡ Some found →
         IsIn s (n.spot ∷ spots_of_names ns)
     by true e later g = inl (sym (same_place n.spot s e))
     by false e later g = inr (later g)

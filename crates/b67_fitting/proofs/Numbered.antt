@@ -8,7 +8,7 @@ use Rattle.algol_tree.specs.declared.tree.EventName.{EventName}
 use Rattle.algol_tree.specs.declared.tree.Kind.{Kind}
 use Rattle.algol_tree.specs.declared.tree.Named.{Named}
 use Rattle.algol_tree.specs.Expressions as grammar
-use Rattle.algol_tree.specs.Expressions.{IsPart, IsMore, IsExprs, IsEvents}
+use Rattle.algol_tree.specs.Expressions.{IsExprPart, IsMore, IsExprs, IsEvents}
 use Rattle.algol_tree.specs.Headings as headings
 use Rattle.algol_tree.specs.Headings.{IsNames}
 use Rattle.algol_tree.specs.Operators.{Part}
@@ -17,7 +17,7 @@ use Rattle.algol_tree.specs.Programs as programs
 use Rattle.algol_tree.specs.Programs.{IsProgram}
 use Rattle.algol_tree.specs.Statements as statements
 use Rattle.algol_tree.specs.Statements.{decls_and, IsWholes, IsActuals, IsSubscripts, IsItems, IsPair, IsPairs, IsSegments, IsStmt, IsStmts, IsDecl, IsDecls, IsBody}
-use Rattle.b67_templates.specs.Fragments.{IsWhole}
+use Rattle.b67_templates.specs.Fragments.{IsWholeNumber}
 use Rattle.b67_fitting.specs.Numbers.{SourcesHaveWholeNumbers}
 use Rattle.b67_fitting.specs.Wholes.{AreNamed, NumbersWhole, AllWhole, BoundsWhole, StmtWhole, StmtsWhole, DeclsWhole, BodyWhole, HasWholeNumbers}
 use Rattle.b67_fitting.proofs.Behind.{behind_event, behind_events, behind_names, behind_files, behind_typed, behind_heading, behind_task, behind_to, behind_phrases}
@@ -41,7 +41,7 @@ some_named (grammar.last e from rest x) = omega arith
 some_named (grammar.comma t e es from after rest x i y) = omega arith
 
 mutual
-  part_whole : {free : ℕ} {p : Part} {d : ℕ} {from : List Token} {e : PExpr} {rest : List Token} → IsPart free p d from e rest → AreRight from → Read (NumbersWhole e) rest
+  part_whole : {free : ℕ} {p : Part} {d : ℕ} {from : List Token} {e : PExpr} {rest : List Token} → IsExprPart free p d from e rest → AreRight from → Read (NumbersWhole e) rest
   part_whole (grammar.conditional t u v d c a b from mid otherwise rest i o x j y k z) w =
       let one = part_whole x w.1 in
       let two = part_whole y one.1.1 in
@@ -95,7 +95,7 @@ mutual
       let two = exprs_whole y one.1.1 in
       ((one.0, two.0), two.1)
 
-pub expr_whole : {free d : ℕ} {from : List Token} {e : PExpr} {rest : List Token} → grammar.IsWhole free d from e rest → AreRight from → Read (NumbersWhole e) rest
+pub expr_whole : {free d : ℕ} {from : List Token} {e : PExpr} {rest : List Token} → grammar.IsWholeExpression free d from e rest → AreRight from → Read (NumbersWhole e) rest
 expr_whole x w = part_whole x.reads w
 
 -- ---- what stands in statements and declarations
@@ -125,7 +125,7 @@ pub items_whole : {free : ℕ} {from : List Token} {es : PExprs} {rest : List To
 items_whole (statements.nothing rest) w = (tt, w)
 items_whole (statements.items t es from rest i x) w = wholes_whole x w.1
 
-pair_whole : {free : ℕ} {from : List Token} {p : PPair} {rest : List Token} → IsPair free from p rest → AreRight from → Read (IsWhole p.low × NumbersWhole p.high) rest
+pair_whole : {free : ℕ} {from : List Token} {p : PPair} {rest : List Token} → IsPair free from p rest → AreRight from → Read (IsWholeNumber p.low × NumbersWhole p.high) rest
 pair_whole (statements.pair t low high from after rest x i y) w =
     let one = literal_whole x w in
     let two = expr_whole y one.1.1 in

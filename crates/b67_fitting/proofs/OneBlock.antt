@@ -14,10 +14,10 @@ use Rattle.algol_tree.specs.Scopes.{Scopes}
 use Rattle.algol_tree.specs.Sites.{Site}
 use Rattle.algol_tree.specs.Sorts.{same_name}
 use Rattle.algol_meaning.specs.Statements.{items_of}
-use Rattle.algol_paths.specs.Blocks.{IsSeen, IsSeenAround, IsInner}
+use Rattle.algol_paths.specs.Blocks.{BlockIsSeen, IsSeenAround, IsInner}
 use Rattle.algol_paths.specs.Laws.{ItemsKeepToText}
 use Rattle.algol_paths.specs.Texts.{InStmts}
-use Rattle.b67_templates.specs.Cells.{simple_cells, result_of, variables, procedures, actuals_in_decls, actuals_in_stmts, actuals_of, made_of}
+use Rattle.b67_templates.specs.Cells.{simple_cells, result_cells_of, variables, procedures, actuals_in_decls, actuals_in_stmts, actuals_of, made_of}
 use Rattle.b67_templates.specs.Names.{DeclsNamed}
 use Rattle.b67_templates.specs.Nested.{IsDeclared, AreParameters, IsText}
 use Rattle.b67_fitting.proofs.BlockItems.{in_items}
@@ -109,15 +109,15 @@ module _ (sc : Scopes) (all : List Site) where
     outer_is = ap (λ (z : Block). map (number_at sc.blocks) z.outer) it_is
 
     pub is_text : AreCallees sc.blocks k b.decls →
-        length b.parameters + (length (result_of b.result b.name) + (length (variables b.decls) + length (procedures b.decls) + length (made_of b.decls))) + length (actuals_in_decls sc b.decls)
+        length b.parameters + (length (result_cells_of b.result b.name) + (length (variables b.decls) + length (procedures b.decls) + length (made_of b.decls))) + length (actuals_in_decls sc b.decls)
         + length (actuals_in_stmts sc b.stmts)
         ≤ length (cells_of sc.blocks all k) →
-        InBounds (IsSeenAround sc k) b.decls → InStmts (IsSeen sc k) (IsInner sc k) b.stmts → IsTextOf b
+        InBounds (IsSeenAround sc k) b.decls → InStmts (BlockIsSeen sc k) (IsInner sc k) b.stmts → IsTextOf b
     is_text c n s t =
         let few : length (simple_cells sc b) + length (procedures b.decls) + length (actuals_of sc b) + length (made_of b.decls) ≤ MOST_BLOCK_CELLS =
         omega (arith, simple_many sc b, parameters_many sc b f.headed, n, f.few, length-append (actuals_in_decls sc b.decls) (actuals_in_stmts sc b.stmts)) in
         record {
-          items = subst (λ (z : Block). ItemsKeepToText sc k (items_of z)) (sym it_is) (in_items (IsSeen sc k) (IsInner sc k) (IsSeenAround sc k) b s t);
+          items = subst (λ (z : Block). ItemsKeepToText sc k (items_of z)) (sym it_is) (in_items (BlockIsSeen sc k) (IsInner sc k) (IsSeenAround sc k) b s t);
           parameters = subst (AreParameters sc) (sym it_is) f.headed;
           few = subst (λ (z : Block). length (simple_cells sc z) + length (procedures z.decls) + length (actuals_of sc z) + length (made_of z.decls) ≤ MOST_BLOCK_CELLS) (sym it_is) few;
           low = subst (λ (z : Block). level_of z ≤ MOST_LEVEL) (sym it_is) f.low;

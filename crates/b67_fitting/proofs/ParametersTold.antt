@@ -5,7 +5,7 @@ use Rattle.algol_tree.specs.declared.tree.Named.{Named}
 use Rattle.algol_tree.specs.Sorts.{Parameter, is_variable, is_named_in, sort_in, parameters_of}
 use Rattle.b67_templates.specs.Cells.{Simple, parameters_in}
 use Rattle.b67_templates.specs.Nested as told
-use Rattle.b67_templates.specs.Nested.{IsTold, AreTold}
+use Rattle.b67_templates.specs.Nested.{CellIsTold, AreTold}
 use Rattle.b67_fitting.specs.Typing.{HeadingSpecified}
 use Rattle.b67_fitting.proofs.Specified.{IsSpecified, as_value, as_name, as_array, as_event, AreSpecified, specified}
 use Rattle.b67_fitting.proofs.Wanting.{wanted_of, wanted_value, wanted_name, wanted_array, wanted_event}
@@ -21,7 +21,7 @@ module _ (h : Heading) where
   names_same [] = refl
   names_same (n ∷ ns) = ap (λ z. n.name ∷ z) (names_same ns)
 
-  told_one : (n : Named) → IsSpecified h n → IsTold (as_parameter n) (as_cell n)
+  told_one : (n : Named) → IsSpecified h n → CellIsTold (as_parameter n) (as_cell n)
   told_one n (as_value kind c v s) = told.by_value kind (wanted_value h n kind c v) (ap is_variable s)
   told_one n (as_name kind c v s) = told.by_name kind (wanted_name h n kind c v) s
   told_one n (as_array shape c a s) = told.an_array shape (wanted_array h n shape c a) s

@@ -8,7 +8,7 @@ use Rattle.algol_tree.specs.declared.tree.Named.{Named}
 use Rattle.algol_tree.specs.Ascending.{spots_of_names}
 use Rattle.algol_tree.specs.Cells as cells
 use Rattle.algol_tree.specs.Cells.{cells_for}
-use Rattle.algol_tree.specs.Names.{is_one_of}
+use Rattle.algol_tree.specs.Names.{name_is_one_of}
 use Rattle.algol_tree.specs.Sorts.{same_name, Declared, declared_parameters, is_named_in, sort_in, class_in}
 use Rattle.algol_meaning.proofs.Naming.{same_name-itself}
 use Rattle.b67_templates.specs.Cells.{parameters_in}
@@ -32,16 +32,16 @@ module _ (block depth : ℕ) (h : Heading) (known : List Declared) where
   entry n =
       record { name = n.name; spot = n.spot; block = block; depth = depth; sort = sort_in h.specs (is_named_in h.values n.name) n.name; class = class_in h.specs n.name }
 
-  named_given : (ns : List Named) (n : Named) → IsIn n ns → is_one_of (names_of block (map entry ns ++ known)) n.name ≡ true
+  named_given : (ns : List Named) (n : Named) → IsIn n ns → name_is_one_of (names_of block (map entry ns ++ known)) n.name ≡ true
   named_given [] n i = absurd i
   named_given (m ∷ ns) n i =
-      subst (λ (b : Bool). is_one_of (map (λ (d : Declared). d.name) (cond b (entry m ∷ rest) rest)) n.name ≡ true) (sym (eq-eqb block block refl)) (by (same_name m.name n.name) refl (named_given ns n) i)
+      subst (λ (b : Bool). name_is_one_of (map (λ (d : Declared). d.name) (cond b (entry m ∷ rest) rest)) n.name ≡ true) (sym (eq-eqb block block refl)) (by (same_name m.name n.name) refl (named_given ns n) i)
     where
       rest : List Declared
       rest = filter (λ (d : Declared). d.block == block) (map entry ns ++ known)
 
-      by : (b : Bool) → same_name m.name n.name ≡ b → (IsIn n ns → is_one_of (names_of block (map entry ns ++ known)) n.name ≡ true) → IsIn n (m ∷ ns) →
-          (if b then true else is_one_of (names_of block (map entry ns ++ known)) n.name) ≡ true
+      by : (b : Bool) → same_name m.name n.name ≡ b → (IsIn n ns → name_is_one_of (names_of block (map entry ns ++ known)) n.name ≡ true) → IsIn n (m ∷ ns) →
+          (if b then true else name_is_one_of (names_of block (map entry ns ++ known)) n.name) ≡ true
       by true e later j = refl
       by false e later (inl same) = absurd (let clash : true ≡ false = sym (same_name-itself n.name) ∙ ap (λ (z : Named). same_name z.name n.name) same ∙ e in cc)
       by false e later (inr j) = later j
@@ -53,7 +53,7 @@ module _ (block depth : ℕ) (h : Heading) (known : List Declared) where
       names : List (List ℕ)
       names = names_of block (declared_parameters block depth h ++ known)
 
-      each : (ns : List Named) → ((n : Named) → IsIn n ns → is_one_of names n.name ≡ true) → AllByRecursion (λ s. AllByRecursion (IsApart s) spots) (spots_of_names ns) →
+      each : (ns : List Named) → ((n : Named) → IsIn n ns → name_is_one_of names n.name ≡ true) → AllByRecursion (λ s. AllByRecursion (IsApart s) spots) (spots_of_names ns) →
           Passed names spots (map (cell_of h) ns) (cells_for block cells.parameter ns)
       each [] f g = tt
       each (n ∷ ns) f g = (f n (inl refl), g.0, each ns (λ m i. f m (inr i)) g.1)

@@ -21,15 +21,15 @@ use Rattle.algol_tree.specs.Sorts as sort
 use Rattle.algol_tree.specs.Sorts.{Sort, Declared, Parameter, is_variable, is_named_in, sort_in, class_in, parameters_of, formals_of, procedure_in}
 use Rattle.algol_tree.specs.Surroundings.{Surroundings, class_of, formals_of_class, formals_at, knowing, knowing_all}
 use Rattle.algol_tree.specs.Types.{taken_by}
-use Rattle.algol_meaning.specs.Settle.{sorts_of, block_of}
+use Rattle.algol_meaning.specs.Settle.{sorts_of, block_of_sort}
 use Rattle.algol_meaning.specs.Statements.{alone}
 use Rattle.b67_ops.specs.declared.Couple.{Couple}
 use Rattle.b67_ops.specs.declared.TheConstants.{MOST_LEVEL, OUTER_LEVEL}
 use Rattle.algol_paths.specs.Arrays.{Shape, shape_in}
 use Rattle.b67_templates.specs.Cells.{Simple, Wanted, by_name, parameters_in, parameter_cells, parameter_wants, variables, procedures, made_of, Actual, own_actual, wants_of, actuals_in, actuals_among, actuals_given, actuals_in_pairs, actuals_in_decls, actuals_in_stmt, actuals_in_stmts, actuals_in_block, actuals_of, actual_base}
-use Rattle.b67_templates.specs.Fitting.{Told, is_event, EventFits, LabelFits, TaskFits, ReadFits, PlaceFits, NameActualFits, names, ProcedureFits, CallFits, ArrayFits, ExprFits, SubscriptsFit, ActualsFit, LineFits, ElementAssignFits, BoundsFit, DeclsFit, StmtFits, StmtsFit}
+use Rattle.b67_templates.specs.Fitting.{Told, meant_is_event, EventFits, LabelFits, TaskFits, ReadFits, PlaceFits, NameActualFits, names, ProcedureFits, CallFits, ArrayFits, ExprFits, SubscriptsFit, ActualsFit, LineFits, ElementAssignFits, BoundsFit, DeclsFit, StmtFits, StmtsFit}
 use Rattle.b67_fitting.specs.Wholes.{HaveDimensions}
-use Rattle.b67_fitting.specs.Typing.{HeadingSpecified, IsArrayActual, IsEventActual, IsEventful, TypedPairs, IsResult, IsLeft, TypedStmt, TypedStmts, TypedDecls, AreEventful, IsOf, IsFunction, IsTasked, TypedExpr, TypedActual, TypedActuals, TypedLine}
+use Rattle.b67_fitting.specs.Typing.{HeadingSpecified, IsArrayActual, IsEventActual, IsEventful, TypedPairs, IsResult, IsLeftSide, TypedStmt, TypedStmts, TypedDecls, AreEventful, IsOf, IsFunction, IsTasked, TypedExpr, TypedActual, TypedActuals, TypedLine}
 use Rattle.b67_fitting.proofs.Actuals.{name_alone, event_name}
 use Rattle.b67_fitting.proofs.Apart.{IsIn, in_front, in_back}
 use Rattle.b67_fitting.proofs.Declares.{begun}
@@ -83,7 +83,7 @@ pub record IsSimpleFor (sc : Scopes) (told : Told) (level : ℕ) (k : Kind) (n :
   pub reads : ReadFits sc told level k n
   pub place : PlaceFits sc told level k n
   pub given : (j : ℕ) → NameActualFits sc told level j k (alone n)
-  pub no_event : is_event (told.meant n.spot) ≡ false
+  pub no_event : meant_is_event (told.meant n.spot) ≡ false
 
 -- An array, or a parameter that stands for one, has its couple, and the lower bounds that are known are its own.
 pub record RowFits (sc : Scopes) (told : Told) (level : ℕ) (n : Named) (kind : Kind) (rank : ℕ) : Type 0 where
@@ -121,15 +121,15 @@ module _ (blocks : List Block) (sc : Scopes) (told : Told) where
 
   module _ (a : Surroundings) (level : ℕ) (at : a.depth + 2 ≡ level) where
     fits_name : (k : Kind) (n : Named) → IsPlaced a n → IsOf a k n ⊎ IsFunction a k n →
-        (ReadFits sc told level k n ⊎ CallFits sc told level k n) × (told.lows n.spot ≡ None) × (is_event (told.meant n.spot) ≡ false)
+        (ReadFits sc told level k n ⊎ CallFits sc told level k n) × (told.lows n.spot ≡ None) × (meant_is_event (told.meant n.spot) ≡ false)
     fits_name k n g (inl o) =
         let s = g.simple k level at o in
         (inl s.reads, g.simple_alone k o, s.no_event)
     fits_name k n g (inr f) =
         let c = g.called f.0 level at f.1 in
-        (inr (c.callee, c.fits, ap (map (λ (z : Simple). z.wanted)) (c.cells_are ∙ map_none _ f.0.params f.3), c.result_is ∙ f.2), g.called_alone f.0 f.1, ap is_event c.fits.modes)
+        (inr (c.callee, c.fits, ap (map (λ (z : Simple). z.wanted)) (c.cells_are ∙ map_none _ f.0.params f.3), c.result_is ∙ f.2), g.called_alone f.0 f.1, ap meant_is_event c.fits.modes)
 
-    fits_left : (k : Kind) (n : Named) → IsLeftPlaced a n → IsLeft blocks a k n → PlaceFits sc told level k n
+    fits_left : (k : Kind) (n : Named) → IsLeftPlaced a n → IsLeftSide blocks a k n → PlaceFits sc told level k n
     fits_left k n g (inl o) = g.simple k level at o
     fits_left k n g (inr r) = g.result k level at r
 
@@ -261,7 +261,7 @@ module _ (blocks : List Block) (sc : Scopes) (told : Told) where
     -- what the procedure of that name wants
     called_wants : (n : Named) (es : PExprs) (h : Heading) (c : CalleeFits sc told level n h) → Celled (actuals_given sc (wants_of sc n) es) → Celled (actuals_given sc (wants_in h h.params) es)
     called_wants n es h c x =
-        let callee : block_of ((use_of sc n).sort) ≡ c.callee = ap block_of c.fits.procedure.sort_is in
+        let callee : block_of_sort ((use_of sc n).sort) ≡ c.callee = ap block_of_sort c.fits.procedure.sort_is in
         subst (λ (cs : List Simple). Celled (actuals_given sc (map (λ (z : Simple). z.wanted) cs) es)) c.cells_are
         (subst (λ (k : ℕ). Celled (actuals_given sc (parameter_wants sc k) es)) callee x)
 

@@ -15,7 +15,7 @@ use Rattle.algol_tree.specs.Scopes.{Scopes, Use, used, use_by, left_use, left_us
 use Rattle.algol_tree.specs.Sites.{Site, here_stmt}
 use Rattle.algol_tree.specs.Sorts.{Sort, Declared, procedure_in}
 use Rattle.algol_tree.specs.Surroundings.{Surroundings, declared_as, class_of}
-use Rattle.algol_meaning.specs.Settle.{block_of}
+use Rattle.algol_meaning.specs.Settle.{block_of_sort}
 use Rattle.algol_paths.specs.Arrays.{lows_at}
 use Rattle.b67_templates.specs.Cells.{Simple, parameters_in, parameter_cells, parameter_wants}
 use Rattle.b67_templates.specs.Fitting.{Told, EventFits}
@@ -84,7 +84,7 @@ module _ (blocks : List Block) (all : List Site) (is : IsProgram blocks all) whe
                 λ g h.
                 let o = declared_procedure x.around g n h in
                 let own = owned_of blocks x.around.depth n.name o.as_one g o.class_is (f.stands.around.each n.name o.as_one o.is) in
-                ap (λ (u : Use). parameter_wants sc (block_of u.sort)) (used_as x i f n o.as_one j o.is) ∙ ap (λ (s : Sort). parameter_wants sc (block_of s)) own.sort_is
+                ap (λ (u : Use). parameter_wants sc (block_of_sort u.sort)) (used_as x i f n o.as_one j o.is) ∙ ap (λ (s : Sort). parameter_wants sc (block_of_sort s)) own.sort_is
                 ∙ ap (map (λ (c : Simple). c.wanted)) (its_cells x.around.depth n.name o.as_one g own);
             procedure =
                 λ g h.

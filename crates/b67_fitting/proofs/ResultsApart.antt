@@ -6,7 +6,7 @@ use Rattle.algol_tree.specs.declared.tree.Heading.{Heading}
 use Rattle.algol_tree.specs.declared.tree.Kind.{Kind}
 use Rattle.algol_tree.specs.declared.tree.Named.{Named}
 use Rattle.algol_tree.specs.Blocks.{Block, Begin, of_statement, of_procedure, begin_block, begin_outer, blocks_of, blocks_in_stmts, blocks_in_decls, blocks_in_body, procedure_block}
-use Rattle.algol_tree.specs.Names.{if_so, is_one_of, repeated, result_names, specified, is_announced_by, twice_here, twice_in_heading, declared_twice}
+use Rattle.algol_tree.specs.Names.{if_so, name_is_one_of, repeated, result_names, specified, is_announced_by, twice_here, twice_in_heading, declared_twice}
 use Rattle.algol_tree.specs.Plain as tree
 use Rattle.algol_tree.specs.Plain.{PStmt, PStmts, PDecls, PBody}
 use Rattle.algol_tree.specs.Sites.{Site, sites, here_stmt, inside_stmt, inside_decl, sites_in_stmts, sites_in_decls, sites_in_body, has_decls}
@@ -19,20 +19,20 @@ use Rattle.b67_fitting.proofs.Lists.{each_front, each_back, each_both, each_map,
 -- ---- one heading
 
 -- a name that is seen already is none of a list that repeats no name
-pub none_named : (seen : List (List ℕ)) (ns : List Named) (name : List ℕ) → is_one_of seen name ≡ true → repeated seen ns ≡ [] →
+pub none_named : (seen : List (List ℕ)) (ns : List Named) (name : List ℕ) → name_is_one_of seen name ≡ true → repeated seen ns ≡ [] →
     AllByRecursion (λ (n : Named). same_name n.name name ≡ false) ns
 none_named seen [] name s e = tt
 none_named seen (n ∷ ns) name s e =
-    (by (same_name n.name name) refl, none_named (n.name ∷ seen) ns name (either (same_name n.name name)) (nil_back (if_so (is_one_of seen n.name) n.spot) (repeated (n.name ∷ seen) ns) e))
+    (by (same_name n.name name) refl, none_named (n.name ∷ seen) ns name (either (same_name n.name name)) (nil_back (if_so (name_is_one_of seen n.name) n.spot) (repeated (n.name ∷ seen) ns) e))
   where
     by : (b : Bool) → same_name n.name name ≡ b → b ≡ false
     by false f = refl
     by true f =
-        let other : is_one_of seen n.name ≡ false = not_so (is_one_of seen n.name) n.spot (nil_front (if_so (is_one_of seen n.name) n.spot) (repeated (n.name ∷ seen) ns) e) in
-        let clash : true ≡ false = sym s ∙ ap (is_one_of seen) (sym (same_name-is n.name name f)) ∙ other in
+        let other : name_is_one_of seen n.name ≡ false = not_so (name_is_one_of seen n.name) n.spot (nil_front (if_so (name_is_one_of seen n.name) n.spot) (repeated (n.name ∷ seen) ns) e) in
+        let clash : true ≡ false = sym s ∙ ap (name_is_one_of seen) (sym (same_name-is n.name name f)) ∙ other in
         clash
 
-    either : (b : Bool) → (if b then true else is_one_of seen name) ≡ true
+    either : (b : Bool) → (if b then true else name_is_one_of seen name) ≡ true
     either true = refl
     either false = s
 

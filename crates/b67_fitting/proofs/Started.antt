@@ -12,7 +12,7 @@ use Rattle.algol_tree.specs.Cells as cells
 use Rattle.algol_tree.specs.Cells.{Cell, cells_for}
 use Rattle.algol_tree.specs.Classes as class
 use Rattle.algol_tree.specs.Classes.{Class}
-use Rattle.algol_tree.specs.Names.{if_so, is_one_of, repeated, result_names_of, twice_in_heading, unknown_in_heading}
+use Rattle.algol_tree.specs.Names.{if_so, name_is_one_of, repeated, result_names_of, twice_in_heading, unknown_in_heading}
 use Rattle.algol_tree.specs.Plain as tree
 use Rattle.algol_tree.specs.Plain.{PPair, PStmt, PDecl, PDecls}
 use Rattle.algol_tree.specs.Sites as parts
@@ -40,7 +40,7 @@ use Rattle.b67_fitting.proofs.Lists.{each_back, each_both, nil_front}
 -- these cells are passed: the block has their names, and they stand apart from all of these places
 abbrev pub Passed : List (List ℕ) → List Spot → List Simple → List Cell → Type 0
 Passed names spots [] [] = Unit {0}
-Passed names spots (x ∷ xs) (c ∷ cs) = (is_one_of names x.name ≡ true) × AllByRecursion (IsApart c.spot) spots × Passed names spots xs cs
+Passed names spots (x ∷ xs) (c ∷ cs) = (name_is_one_of names x.name ≡ true) × AllByRecursion (IsApart c.spot) spots × Passed names spots xs cs
 Passed names spots _ _ = ⊥
 
 passed_both : (names : List (List ℕ)) (spots : List Spot) (xs ys : List Simple) (cs ds : List Cell) → Passed names spots xs cs → Passed names spots ys ds → Passed names spots (xs ++ ys) (cs ++ ds)
@@ -55,29 +55,29 @@ passed_more more names p q (x ∷ xs) (c ∷ cs) h = (one_more more names x.name
 passed_more more names p q [] (c ∷ cs) h = absurd h
 passed_more more names p q (x ∷ xs) [] h = absurd h
 
-passed_new : (names : List (List ℕ)) (spots : List Spot) (block : ℕ) (kind : Kind) (ns : List Named) → ((n : Named) → IsIn n ns → is_one_of names n.name ≡ true) →
+passed_new : (names : List (List ℕ)) (spots : List Spot) (block : ℕ) (kind : Kind) (ns : List Named) → ((n : Named) → IsIn n ns → name_is_one_of names n.name ≡ true) →
     AllByRecursion (λ s. AllByRecursion (IsApart s) spots) (spots_of_names ns) → Passed names spots (of_kind kind ns) (cells_for block cells.variable ns)
 passed_new names spots block kind [] f g = tt
 passed_new names spots block kind (n ∷ ns) f g = (f n (inl refl), g.0, passed_new names spots block kind ns (λ m i. f m (inr i)) g.1)
 
 -- a name that the block has not is none of theirs
-other_named : (names : List (List ℕ)) (name : List ℕ) (x : Simple) → is_one_of names name ≡ false → is_one_of names x.name ≡ true → same_name x.name name ≡ false
+other_named : (names : List (List ℕ)) (name : List ℕ) (x : Simple) → name_is_one_of names name ≡ false → name_is_one_of names x.name ≡ true → same_name x.name name ≡ false
 other_named names name x n h = by (same_name x.name name) refl
   where
     by : (b : Bool) → same_name x.name name ≡ b → b ≡ false
     by false e = refl
     by true e =
-        let clash : true ≡ false = sym h ∙ ap (is_one_of names) (same_name-is x.name name e) ∙ n in
+        let clash : true ≡ false = sym h ∙ ap (name_is_one_of names) (same_name-is x.name name e) ∙ n in
         clash
 
-passed_named : (names : List (List ℕ)) (spots : List Spot) (name : List ℕ) (xs : List Simple) (cs : List Cell) → is_one_of names name ≡ false → Passed names spots xs cs →
+passed_named : (names : List (List ℕ)) (spots : List Spot) (name : List ℕ) (xs : List Simple) (cs : List Cell) → name_is_one_of names name ≡ false → Passed names spots xs cs →
     AllByRecursion (λ (x : Simple). same_name x.name name ≡ false) xs
 passed_named names spots name [] [] n h = tt
 passed_named names spots name (x ∷ xs) (c ∷ cs) n h = (other_named names name x n h.0, passed_named names spots name xs cs n h.2)
 passed_named names spots name [] (c ∷ cs) n h = absurd h
 passed_named names spots name (x ∷ xs) [] n h = absurd h
 
-pub passed_others : (names : List (List ℕ)) (spots : List Spot) (name : List ℕ) (spot : Spot) (xs : List Simple) (cs : List Cell) → is_one_of names name ≡ false → IsIn spot spots →
+pub passed_others : (names : List (List ℕ)) (spots : List Spot) (name : List ℕ) (spot : Spot) (xs : List Simple) (cs : List Cell) → name_is_one_of names name ≡ false → IsIn spot spots →
     Passed names spots xs cs → AreOthers name spot xs cs
 passed_others names spots name spot [] [] n i h = tt
 passed_others names spots name spot (x ∷ xs) (c ∷ cs) n i h =
@@ -91,16 +91,16 @@ none_passed names spots xs block ns e f =
     subst (λ (zs : List Simple). Passed names spots zs (cells_for block cells.parameter ns)) (sym e)
     (subst (λ (zs : List Named). Passed names spots [] (cells_for block cells.parameter zs)) (sym f) tt)
 
-named_new : (block depth : ℕ) (s : Sort) (c : Class) (ns : List Named) (n : Named) → IsIn n ns → is_one_of (names_of block (declare block depth s c ns)) n.name ≡ true
+named_new : (block depth : ℕ) (s : Sort) (c : Class) (ns : List Named) (n : Named) → IsIn n ns → name_is_one_of (names_of block (declare block depth s c ns)) n.name ≡ true
 named_new block depth s c [] n i = absurd i
 named_new block depth s c (m ∷ ns) n i =
-    subst (λ (b : Bool). is_one_of (map (λ (d : Declared). d.name) (cond b (entry block depth s c m ∷ rest) rest)) n.name ≡ true) (sym (eq-eqb block block refl)) (by (same_name m.name n.name) refl (named_new block depth s c ns n) i)
+    subst (λ (b : Bool). name_is_one_of (map (λ (d : Declared). d.name) (cond b (entry block depth s c m ∷ rest) rest)) n.name ≡ true) (sym (eq-eqb block block refl)) (by (same_name m.name n.name) refl (named_new block depth s c ns n) i)
   where
     rest : List Declared
     rest = filter (λ (d : Declared). d.block == block) (declare block depth s c ns)
 
-    by : (b : Bool) → same_name m.name n.name ≡ b → (IsIn n ns → is_one_of (names_of block (declare block depth s c ns)) n.name ≡ true) → IsIn n (m ∷ ns) →
-        (if b then true else is_one_of (names_of block (declare block depth s c ns)) n.name) ≡ true
+    by : (b : Bool) → same_name m.name n.name ≡ b → (IsIn n ns → name_is_one_of (names_of block (declare block depth s c ns)) n.name ≡ true) → IsIn n (m ∷ ns) →
+        (if b then true else name_is_one_of (names_of block (declare block depth s c ns)) n.name) ≡ true
     by true e later j = refl
     by false e later (inl same) = absurd (let clash : true ≡ false = sym (same_name-itself n.name) ∙ ap (λ (z : Named). same_name z.name n.name) same ∙ e in cc)
     by false e later (inr j) = later j
@@ -263,7 +263,7 @@ module _ (blocks : List Block) where
               past =
                   passed_others (names_of a.block a.known) (spots_of_names ns ++ spots_of_decls ds) name d.spot (given_cells blocks b) (given_places blocks b)
                   (one_of_back results (names_of a.block a.known) name none) (in_front d.spot (spots_of_names ns) (spots_of_decls ds) r.inside) s.given;
-              other = subst (λ (k : ℕ). is_one_of (result_names_of (block_numbered blocks k)) name ≡ false) (sym r.var.block_is) (one_of_front results (names_of a.block a.known) name none);
+              other = subst (λ (k : ℕ). name_is_one_of (result_names_of (block_numbered blocks k)) name ≡ false) (sym r.var.block_is) (one_of_front results (names_of a.block a.known) name none);
               aligned =
                   subst (λ (k : ℕ). Aligned (variables b.decls) (variable_cells k b.decls) name d.spot (value kind)) s.stands.block_is
                   (subst (λ (xs : List Simple). Aligned xs (variable_cells a.block b.decls) name d.spot (value kind)) (sym s.variables_are)
@@ -275,7 +275,7 @@ module _ (blocks : List Block) where
   step_with : (b : Block) (a : Surroundings) (d : PDecl) (ds : PDecls) (new : List Declared) → IsStarted b a (tree.decls d ds) → variables (tree.decls d ds) ≡ variables ds →
       variable_cells a.block (tree.decls d ds) ≡ variable_cells a.block ds → ((h : Heading) → IsIn h (headings ds) → IsIn h (headings (tree.decls d ds))) →
       ((t : Spot) → IsIn t (variable_spots ds) → IsIn t (variable_spots (tree.decls d ds))) → ((name : List ℕ) (e : Declared) → look_up new name ≡ Some e → IsKnown blocks a.depth name e) →
-      ((n : Named) → IsIn n (made_names d) → is_one_of (names_of a.block new ++ names_of a.block a.known) n.name ≡ true) → Apart (spots_of_decl d ++ spots_of_decls ds) →
+      ((n : Named) → IsIn n (made_names d) → name_is_one_of (names_of a.block new ++ names_of a.block a.known) n.name ≡ true) → Apart (spots_of_decl d ++ spots_of_decls ds) →
       ((n : Named) → IsIn n (labels_in ds) → IsIn n (labels_in (tree.decls d ds))) → IsStarted b (record a { known = new ++ a.known }) ds
   step_with b a d ds new s v w o t f g p l =
       record {
@@ -329,7 +329,7 @@ module _ (blocks : List Block) where
       })
 
   -- no variable has such a name: neither those that are passed, nor those that come
-  none_simple : (b : Block) (a : Surroundings) (spots : List Spot) (ds : PDecls) (name : List ℕ) (passed : List Simple) (cells_passed : List Cell) → is_one_of (names_of a.block a.known) name ≡ false →
+  none_simple : (b : Block) (a : Surroundings) (spots : List Spot) (ds : PDecls) (name : List ℕ) (passed : List Simple) (cells_passed : List Cell) → name_is_one_of (names_of a.block a.known) name ≡ false →
       variables b.decls ≡ passed ++ variables ds → Passed (names_of a.block a.known) spots passed cells_passed → AllByRecursion (λ (x : Simple). same_name x.name name ≡ false) (variables ds) →
       AllByRecursion (λ (x : Simple). same_name x.name name ≡ false) (variables b.decls)
   none_simple b a spots ds name passed cells_passed other are those later_ones =
@@ -352,7 +352,7 @@ module _ (blocks : List Block) where
       let r = found.0 in
       let mine = one_front (names_of a.block new) names name (declared_name a.block a.depth sort.array whole ns name d h) in
       let later_ones =
-      later blocks (knowing blocks (tree.arrays kind ns pairs) ds a) first ds behind name (subst (λ (z : List (List ℕ)). is_one_of z name ≡ true) (sym (names_both a.block new a.known)) mine) in
+      later blocks (knowing blocks (tree.arrays kind ns pairs) ds a) first ds behind name (subst (λ (z : List (List ℕ)). name_is_one_of z name ≡ true) (sym (names_both a.block new a.known)) mine) in
       known_array kind (length pairs) (record {
         in_block = b;
         there = s.stands.there;
@@ -369,7 +369,7 @@ module _ (blocks : List Block) where
         among = r.among;
         arrayed = subst (λ (k : ℕ). IsMade (made_of b.decls) (made_cells k b.decls) name d.spot (an_array (record { name = r.one.name; kind = kind; pairs = pairs }))) s.stands.block_is r.made;
         lows = found.1;
-        other = subst (λ (k : ℕ). is_one_of (result_names_of (block_numbered blocks k)) name ≡ false) (sym r.block_is) (one_of_front results names name none);
+        other = subst (λ (k : ℕ). name_is_one_of (result_names_of (block_numbered blocks k)) name ≡ false) (sym r.block_is) (one_of_front results names name none);
         past = passed_named names (own ++ spots_of_decls ds) name (given_cells blocks b) (given_places blocks b) other s.given;
         simple = none_simple b a (own ++ spots_of_decls ds) ds name s.passed_variables s.passed_cells other s.variables_are s.passed later_ones;
       })
@@ -378,7 +378,7 @@ module _ (blocks : List Block) where
   evented : (b : Block) (a : Surroundings) (first : List Declared) (d : PDecl) (ns : List Named) (ds : PDecls) (class_of : Class) → IsEventful class_of → IsStarted b a (tree.decls d ds) → variables (tree.decls d ds) ≡ variables ds →
       spots_of_decl d ≡ spots_of_names ns → knowing blocks d ds a ≡ record a { known = declare a.block a.depth sort.event class_of ns ++ a.known } →
       repeated (result_names_of (block_numbered blocks a.block) ++ names_of a.block a.known) ns ≡ [] → TypedDecls blocks (knowing blocks d ds a) first ds → (name : List ℕ) (e : Declared) →
-      (is_one_of (names_of a.block a.known) name ≡ false → IsThere a.block a.depth event_of sort.event class_of b.decls name e) →
+      (name_is_one_of (names_of a.block a.known) name ≡ false → IsThere a.block a.depth event_of sort.event class_of b.decls name e) →
       look_up (declare a.block a.depth sort.event class_of ns) name ≡ Some e → IsKnown blocks a.depth name e
   evented b a first d ns ds class_of v s w places same once behind name e there h =
       let new = declare a.block a.depth sort.event class_of ns in
@@ -391,7 +391,7 @@ module _ (blocks : List Block) where
       let mine = one_front (names_of a.block new) names name (declared_name a.block a.depth sort.event class_of ns name e h) in
       let later_ones =
       later blocks (record a { known = new ++ a.known }) first ds (subst (λ (z : Surroundings). TypedDecls blocks z first ds) same behind) name
-      (subst (λ (z : List (List ℕ)). is_one_of z name ≡ true) (sym (names_both a.block new a.known)) mine) in
+      (subst (λ (z : List (List ℕ)). name_is_one_of z name ≡ true) (sym (names_both a.block new a.known)) mine) in
       known_event (record {
         in_block = b;
         there = s.stands.there;
@@ -404,7 +404,7 @@ module _ (blocks : List Block) where
         made =
             subst (λ (k : ℕ). IsMade (made_of b.decls) (made_cells k b.decls) name e.spot (an_event name)) s.stands.block_is
             (subst (λ (z : List ℕ). IsMade (made_of b.decls) (made_cells a.block b.decls) name e.spot (an_event z)) r.name_is r.made);
-        other = subst (λ (k : ℕ). is_one_of (result_names_of (block_numbered blocks k)) name ≡ false) (sym r.block_is) (one_of_front results names name none);
+        other = subst (λ (k : ℕ). name_is_one_of (result_names_of (block_numbered blocks k)) name ≡ false) (sym r.block_is) (one_of_front results names name none);
         past = passed_named names (own ++ spots_of_decls ds) name (given_cells blocks b) (given_places blocks b) other s.given;
         simple = none_simple b a (own ++ spots_of_decls ds) ds name s.passed_variables s.passed_cells other (s.variables_are ∙ ap (λ z. s.passed_variables ++ z) w) s.passed later_ones;
       })
@@ -431,7 +431,7 @@ module _ (blocks : List Block) where
 
   -- the names of what is made are among those that the block has after them
   made_named : (a : Surroundings) (s : Sort) (c : Class) (ns : List Named) (n : Named) → IsIn n ns →
-      is_one_of (names_of a.block (declare a.block a.depth s c ns) ++ names_of a.block a.known) n.name ≡ true
+      name_is_one_of (names_of a.block (declare a.block a.depth s c ns) ++ names_of a.block a.known) n.name ≡ true
   made_named a s c ns n i =
       one_front (names_of a.block (declare a.block a.depth s c ns)) (names_of a.block a.known) n.name (named_new a.block a.depth s c ns n i)
 

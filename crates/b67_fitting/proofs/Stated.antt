@@ -18,7 +18,7 @@ use Rattle.algol_tree.specs.Sorts as sort
 use Rattle.algol_tree.specs.Sorts.{same_name, Sort, Declared, look_up, declare, is_named_in, sort_in, class_in, declared_parameters}
 use Rattle.algol_tree.specs.Surroundings.{Surroundings, class_of, declared_as, formals_of_class, body_of, heading_or, announced, knowing, knowing_all, inside, inside_procedure}
 use Rattle.algol_tree.specs.Types.{element_type}
-use Rattle.b67_fitting.specs.Typing.{HeadingSpecified, IsTasked, is_around, IsLeft, TypedStmt, TypedStmts, TypedDecl, TypedDecls}
+use Rattle.b67_fitting.specs.Typing.{HeadingSpecified, IsTasked, is_around, IsLeftSide, TypedStmt, TypedStmts, TypedDecl, TypedDecls}
 use Rattle.b67_fitting.proofs.Headings.{DeclSpecified, DeclsSpecified, StmtSpecified, StmtsSpecified}
 use Rattle.b67_fitting.specs.Texts.{StmtPlain, StmtsPlain, DeclPlain, DeclsPlain}
 use Rattle.b67_fitting.specs.Wholes.{AllWhole, StmtWhole, StmtsWhole, DeclWhole, DeclsWhole}
@@ -42,7 +42,7 @@ module _ (blocks : List Block) (a : Surroundings) (plain : KnowsPlain a) where
 
   -- the left side is a simple variable, or the typed procedure around
   left : (c : Class) (n : Named) (e : PExpr) (listed : Bool) → class_of a n ≡ c → IsPlain c →
-      not_assignable blocks (here_stmt (tree.assign (tree.subscripted n tree.none) e) listed a) ≡ [] → (k : Kind) × IsLeft blocks a k n
+      not_assignable blocks (here_stmt (tree.assign (tree.subscripted n tree.none) e) listed a) ≡ [] → (k : Kind) × IsLeftSide blocks a k n
   left c n e listed h (simple kind) g = (kind, inl h)
   left c n e listed h (array kind rank) g = absurd (let clash : n.spot ∷ [] ≡ [] = rw h at g in cc)
   left c n e listed h file g = absurd (let clash : n.spot ∷ [] ≡ [] = rw h at g in cc)
@@ -54,7 +54,7 @@ module _ (blocks : List Block) (a : Surroundings) (plain : KnowsPlain a) where
       (r.0, inr (heading, h, r.1, r.2))
 
   -- the right side is of its kind
-  right : (k : Kind) (n : Named) (e : PExpr) (listed : Bool) → IsLeft blocks a k n →
+  right : (k : Kind) (n : Named) (e : PExpr) (listed : Bool) → IsLeftSide blocks a k n →
       wrong_types blocks (here_stmt (tree.assign (tree.subscripted n tree.none) e) listed a) ≡ [] → wrong k e a ≡ []
   right k n e listed (inl h) g = rw h at g
   right k n e listed (inr p) g = rw (p.1, p.3, p.2) at g

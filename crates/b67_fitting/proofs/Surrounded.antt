@@ -21,7 +21,7 @@ use Rattle.algol_tree.specs.Sites.{Site, sites, here, here_stmt, first_formal, o
 use Rattle.algol_tree.specs.Sorts as sort
 use Rattle.algol_tree.specs.Sorts.{Sort, same_name, Declared, look_up, declare, declared_parameters, is_named_in, sort_in, class_in}
 use Rattle.algol_tree.specs.Surroundings.{Surroundings, declared_as, class_of_declared, class_of, formals_at, announced, declare_procedure, knowing, knowing_all, inside_procedure}
-use Rattle.algol_paths.specs.Blocks.{IsSeen}
+use Rattle.algol_paths.specs.Blocks.{BlockIsSeen}
 use Rattle.algol_paths.specs.Texts.{InExpr, InExprs}
 use Rattle.b67_fitting.proofs.Headings.{DeclSpecified, DeclsSpecified}
 use Rattle.b67_fitting.proofs.Lists.{each_front, each_back, each_both, each_of, nil_front, nil_back, not_so, second_so}
@@ -247,15 +247,15 @@ module _ (sc : Scopes) (j : ℕ) (outer : List Spot) (a : Surroundings) (r : IsA
   pub known_as : (n : Named) (d : Declared) → declared_as a n ≡ Some d → IsKnown sc.blocks j a.depth d
   known_as n d e = found_known (IsKnown sc.blocks j a.depth) a.known n.name d r.known e
 
-  seen_use : (n : Named) (u : Use) → declared_in sc.uses n.spot ≡ Some u → slice_get (j ∷ around sc.blocks j) u.up ≡ Some u.block → IsSeen sc j n
+  seen_use : (n : Named) (u : Use) → declared_in sc.uses n.spot ≡ Some u → slice_get (j ∷ around sc.blocks j) u.up ≡ Some u.block → BlockIsSeen sc j n
   seen_use n u t f =
       let P : Use → Type 0 = λ v. slice_get (j ∷ around sc.blocks j) v.up ≡ Some v.block in
       subst P (sym (use_is sc n u t)) f
 
-  seen_as : (n : Named) (d : Declared) → declared_as a n ≡ Some d → declared_in sc.uses n.spot ≡ Some (the_use n d) → IsSeen sc j n
+  seen_as : (n : Named) (d : Declared) → declared_as a n ≡ Some d → declared_in sc.uses n.spot ≡ Some (the_use n d) → BlockIsSeen sc j n
   seen_as n d e t = seen_use n (the_use n d) t ((known_as n d e).found)
 
-  seen_by : (n : Named) (o : Option Declared) → declared_as a n ≡ o → if_so (not (is_some o)) n.spot ≡ [] → AllByRecursion (IsThere sc.uses) (use_by a n o) → IsSeen sc j n
+  seen_by : (n : Named) (o : Option Declared) → declared_as a n ≡ o → if_so (not (is_some o)) n.spot ≡ [] → AllByRecursion (IsThere sc.uses) (use_by a n o) → BlockIsSeen sc j n
   seen_by n None e k t = absurd (let clash : n.spot ∷ [] ≡ [] = k in cc)
   seen_by n (Some d) e k t = seen_as n d e t.0
 
@@ -265,7 +265,7 @@ module _ (sc : Scopes) (j : ℕ) (outer : List Spot) (a : Surroundings) (r : IsA
   StandsInside n = (h : Heading) → class_of a n ≡ class.procedure h → is_among sc.blocks (number_at sc.blocks h.name.spot) (a.block ∷ around sc.blocks a.block) ≡ true
 
   left_as : (n : Named) (d : Declared) (s : Sort) (c : Class) → IsKnown sc.blocks j a.depth d → Means sc.blocks d.block s c → class_of a n ≡ c → StandsInside n →
-      IsThere sc.uses (left_use (the_use n d) s) → IsSeen sc j n
+      IsThere sc.uses (left_use (the_use n d) s) → BlockIsSeen sc j n
   left_as n d s c k (a_variable kind) e i t = seen_use n (the_use n d) t k.found
   left_as n d s c k (a_name kind) e i t = seen_use n (the_use n d) t k.found
   left_as n d s c k a_file e i t = seen_use n (the_use n d) t k.found
@@ -284,7 +284,7 @@ module _ (sc : Scopes) (j : ℕ) (outer : List Spot) (a : Surroundings) (r : IsA
       seen_use n (record { spot = n.spot; block = own; up = a.depth - d.depth - 1; sort = sort.variable }) t (ap (slice_get (j ∷ around sc.blocks j)) up_is ∙ its.found)
 
   left_by : (n : Named) (o : Option Declared) → declared_as a n ≡ o → if_so (not (is_some o)) n.spot ≡ [] → StandsInside n → AllByRecursion (IsThere sc.uses) (left_uses (use_by a n o)) →
-      IsSeen sc j n
+      BlockIsSeen sc j n
   left_by n None e k i t = absurd (let clash : n.spot ∷ [] ≡ [] = k in cc)
   left_by n (Some d) e k i t =
       let known = known_as n d e in
@@ -293,7 +293,7 @@ module _ (sc : Scopes) (j : ℕ) (outer : List Spot) (a : Surroundings) (r : IsA
   abbrev unknown : List Named → List Spot
   unknown ns = places_if (λ (n : Named). not (is_some (declared_as a n))) ns
 
-  pub all_seen : (ns : List Named) → unknown ns ≡ [] → AllByRecursion (IsThere sc.uses) (flat_map (used a) ns) → AllByRecursion (IsSeen sc j) ns
+  pub all_seen : (ns : List Named) → unknown ns ≡ [] → AllByRecursion (IsThere sc.uses) (flat_map (used a) ns) → AllByRecursion (BlockIsSeen sc j) ns
   all_seen [] k t = tt
   all_seen (n ∷ ns) k t =
       let its = if_so (not (is_some (declared_as a n))) n.spot in (
@@ -311,7 +311,7 @@ module _ (sc : Scopes) (j : ℕ) (outer : List Spot) (a : Surroundings) (r : IsA
       let its : n.spot ∷ _ ≡ [] = rw c at kept.right in absurd cc
 
   pub left_seen : (n : Named) (es : PExprs) (e : PExpr) (listed : Bool) → unknown (n ∷ []) ≡ [] → IsKept sc.blocks (here_stmt (tree.assign (tree.subscripted n es) e) listed a) →
-      AllByRecursion (IsThere sc.uses) (left_uses (used a n)) → IsSeen sc j n
+      AllByRecursion (IsThere sc.uses) (left_uses (used a n)) → BlockIsSeen sc j n
   left_seen n es e listed k kept t =
       left_by n (declared_as a n) refl (nil_front (if_so (not (is_some (declared_as a n))) n.spot) [] k) (stands_inside n es e listed kept) t
 
@@ -367,7 +367,7 @@ module _ (sc : Scopes) (j : ℕ) (outer : List Spot) (a : Surroundings) (r : IsA
           )
 
   abbrev Seen : Named → Type 0
-  Seen n = IsSeen sc j n
+  Seen n = BlockIsSeen sc j n
 
   one_seen : KnownAs Seen
   one_seen n k t = (all_seen (n ∷ []) k t).0

@@ -14,7 +14,7 @@ use Rattle.algol_tree.specs.Scopes.{Scopes, if_named}
 use Rattle.algol_tree.specs.Sites.{Site, sites, sites_in_pairs, here_stmt, inside_list, inside_stmt, sites_in_stmts, sites_in_decls, has_decls}
 use Rattle.algol_tree.specs.Sorts.{Declared, Parameter, is_named_in, sort_in, parameters_of}
 use Rattle.algol_tree.specs.Surroundings.{Surroundings, formals_at, knowing, knowing_all, inside_begin, inside_procedure}
-use Rattle.algol_paths.specs.Blocks.{IsSeen, IsInner}
+use Rattle.algol_paths.specs.Blocks.{BlockIsSeen, IsInner}
 use Rattle.algol_paths.specs.Texts.{InName, InStmt, InStmts}
 use Rattle.b67_templates.specs.Cells.{actuals_in_stmt, actuals_in_stmts}
 use Rattle.b67_fitting.proofs.Headings.{DeclsSpecified, StmtSpecified, StmtsSpecified}
@@ -51,16 +51,16 @@ module _ (sc : Scopes) (all : List Site) (each : (k : ℕ) → k < length sc.blo
 
   -- `j`: the block in which it stands. The body of a procedure is the text of the procedure's block.
   abbrev IsTextIn : Begin → ℕ → PStmt → Type 0
-  IsTextIn of_statement j t = InStmt (IsSeen sc j) (IsInner sc j) t
-  IsTextIn of_procedure j t = InStmts (IsSeen sc j) (IsInner sc j) (stmts_of t)
+  IsTextIn of_statement j t = InStmt (BlockIsSeen sc j) (IsInner sc j) t
+  IsTextIn of_procedure j t = InStmts (BlockIsSeen sc j) (IsInner sc j) (stmts_of t)
 
-  text_in : (begin : Begin) (j : ℕ) (t : PStmt) → IsNoBlock t → InStmt (IsSeen sc j) (IsInner sc j) t → IsTextIn begin j t
+  text_in : (begin : Begin) (j : ℕ) (t : PStmt) → IsNoBlock t → InStmt (BlockIsSeen sc j) (IsInner sc j) t → IsTextIn begin j t
   text_in of_statement j t p i = i
   text_in of_procedure j (tree.block b) p i = absurd p
   text_in of_procedure j t p i = (i, tt)
 
   -- the name of a task
-  task_in : (j : ℕ) (task : Option Named) → AllByRecursion (IsSeen sc j) (if_named task) → InName (IsSeen sc j) task
+  task_in : (j : ℕ) (task : Option Named) → AllByRecursion (BlockIsSeen sc j) (if_named task) → InName (BlockIsSeen sc j) task
   task_in j None h = tt
   task_in j (Some m) h = h.0
 
@@ -99,7 +99,7 @@ module _ (sc : Scopes) (all : List Site) (each : (k : ℕ) → k < length sc.blo
   IsNested begin j outer t = IsTextIn begin j t × Texts (blocks_of t begin outer)
 
   abbrev AreNestedIn : ℕ → List Spot → PStmts → Type 0
-  AreNestedIn j outer ss = InStmts (IsSeen sc j) (IsInner sc j) ss × Texts (blocks_in_stmts ss outer)
+  AreNestedIn j outer ss = InStmts (BlockIsSeen sc j) (IsInner sc j) ss × Texts (blocks_in_stmts ss outer)
 
   -- the procedures of these declarations have blocks in the block j
   pub callees : (j : ℕ) (outer : List Spot) (ds : PDecls) (a : Surroundings) (first : List Declared) → map (number_at sc.blocks) outer ≡ j ∷ around sc.blocks j → DeclsSpecified ds →

@@ -6,7 +6,7 @@ use Rattle.algol_tree.specs.Blocks.{Block}
 use Rattle.algol_tree.specs.Plain.{PPair}
 use Rattle.algol_tree.specs.Sites.{sites, sites_in_pairs}
 use Rattle.algol_tree.specs.Surroundings.{Surroundings}
-use Rattle.b67_templates.specs.Fragments.{IsWhole}
+use Rattle.b67_templates.specs.Fragments.{IsWholeNumber}
 use Rattle.algol_paths.specs.Arrays.{lows_of}
 use Rattle.b67_templates.specs.Code.{AreDimensions}
 use Rattle.b67_fitting.specs.Wholes.{HaveDimensions, NumbersWhole}
@@ -17,9 +17,9 @@ use Rattle.b67_fitting.proofs.Typed.{of_kind, typed}
 
 -- the lower bounds are whole
 abbrev pub LowsWhole : List PPair → Type 0
-LowsWhole ps = AllByRecursion (λ (p : PPair). IsWhole p.low) ps
+LowsWhole ps = AllByRecursion (λ (p : PPair). IsWholeNumber p.low) ps
 
-pub typed_pairs : (blocks : List Block) (a : Surroundings) → KnowsPlain a → (ps : List PPair) → AllByRecursion (λ (p : PPair). IsWhole p.low × NumbersWhole p.high) ps →
+pub typed_pairs : (blocks : List Block) (a : Surroundings) → KnowsPlain a → (ps : List PPair) → AllByRecursion (λ (p : PPair). IsWholeNumber p.low × NumbersWhole p.high) ps →
     AreClean blocks (sites_in_pairs ps a) → TypedPairs a ps
 typed_pairs blocks a plain [] w c = tt
 typed_pairs blocks a plain (p ∷ ps) w c =

@@ -7,7 +7,7 @@ use Rattle.algol_tree.specs.Accepted.{Accepted}
 use Rattle.algol_tree.specs.Ascending.{IsInOrder}
 use Rattle.algol_tree.specs.Blocks.{block_numbered, blocks_of_program}
 use Rattle.algol_tree.specs.Cells as cells
-use Rattle.algol_tree.specs.Cells.{level_at, level_of, is_by_name}
+use Rattle.algol_tree.specs.Cells.{level_at, level_of, formal_is_by_name}
 use Rattle.algol_tree.specs.Classes as class
 use Rattle.algol_tree.specs.Classes.{Class, Formal, is_label}
 use Rattle.algol_tree.specs.Couples.{Located, declaration_at, result_at, actual_at, known_at, known_there}
@@ -48,7 +48,7 @@ declared_at p spot = known_there (flat_map (known_at (blocks_of_program p)) (sit
 -- what a name is that is declared as this: of a procedure it is told which of its parameters are by name, of an event whether it is a parameter
 abbrev pub meant_as : Class → Sort → Meant
 meant_as (class.simple kind) s = if sort.is_by_name s then a_name else a_variable
-meant_as (class.procedure h) s = a_procedure (map (λ (f : Formal). is_by_name (Some f)) (formals_of h))
+meant_as (class.procedure h) s = a_procedure (map (λ (f : Formal). formal_is_by_name (Some f)) (formals_of h))
 meant_as class.event s = an_event (sort.is_formal s)
 meant_as class.task s = an_event false
 meant_as _ s = another

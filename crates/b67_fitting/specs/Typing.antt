@@ -25,7 +25,7 @@ use Rattle.b67_templates.specs.Code as code
 use Rattle.b67_templates.specs.Code.{AreParts, AreDimensions, numbers_in}
 use Rattle.b67_templates.specs.Events.{names_of, AreSoMany}
 use Rattle.b67_templates.specs.Fitting.{PhrasesFit}
-use Rattle.b67_templates.specs.Fragments.{IsWhole}
+use Rattle.b67_templates.specs.Fragments.{IsWholeNumber}
 use Rattle.b67_fitting.specs.Texts.{HasPlainTexts}
 use Rattle.b67_fitting.specs.Wholes.{SpecWhole, HasWholeNumbers}
 
@@ -78,7 +78,7 @@ module _ (a : Surroundings) where
   abbrev mutual
     -- an expression of this kind
     pub TypedExpr : Kind → PExpr → Type 0
-    TypedExpr k (tree.number z spot) = (k ≡ types.Number) × IsWhole z
+    TypedExpr k (tree.number z spot) = (k ≡ types.Number) × IsWholeNumber z
     TypedExpr k (tree.truth b spot) = k ≡ types.Truth
     TypedExpr k (tree.variable (tree.subscripted n tree.none)) = IsOf k n ⊎ IsFunction k n
     TypedExpr k (tree.variable (tree.subscripted n (tree.more e es))) = HasElements k n (tree.more e es) × TypedLine (tree.more e es)
@@ -125,7 +125,7 @@ module _ (a : Surroundings) where
 -- bounds of an array: the lower ones are whole, and the upper ones numbers
 abbrev pub TypedPairs : Surroundings → List PPair → Type 0
 TypedPairs a [] = Unit {0}
-TypedPairs a (p ∷ ps) = IsWhole p.low × TypedExpr a types.Number p.high × TypedPairs a ps
+TypedPairs a (p ∷ ps) = IsWholeNumber p.low × TypedExpr a types.Number p.high × TypedPairs a ps
 
 -- ---- statements and declarations
 
@@ -144,13 +144,13 @@ module _ (blocks : List Block) where
   IsResult a k n = (h : Heading) × (class_of a n ≡ class.procedure h) × (h.kind ≡ Some k) × (is_around h a ≡ true)
 
   -- on the left stands a variable, or the typed procedure around
-  abbrev pub IsLeft : Surroundings → Kind → Named → Type 0
-  IsLeft a k n = IsOf a k n ⊎ IsResult a k n
+  abbrev pub IsLeftSide : Surroundings → Kind → Named → Type 0
+  IsLeftSide a k n = IsOf a k n ⊎ IsResult a k n
 
   abbrev mutual
     pub TypedStmt : Begin → Surroundings → PStmt → Type 0
     TypedStmt begin a tree.empty = Unit {0}
-    TypedStmt begin a (tree.assign (tree.subscripted n tree.none) e) = (k : Kind) × IsLeft a k n × TypedExpr a k e
+    TypedStmt begin a (tree.assign (tree.subscripted n tree.none) e) = (k : Kind) × IsLeftSide a k n × TypedExpr a k e
     TypedStmt begin a (tree.assign (tree.subscripted n (tree.more i is)) e) = (k : Kind) × HasElements a k n (tree.more i is) × TypedLine a (tree.more i is) × TypedExpr a k e
     TypedStmt begin a (tree.call_of (tree.called n es)) = IsCalled a n es
     TypedStmt begin a (tree.block (tree.body spot ds ss)) =

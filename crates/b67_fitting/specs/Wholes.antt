@@ -8,7 +8,7 @@ use Rattle.algol_tree.specs.declared.tree.Spec.{Spec}
 use Rattle.algol_tree.specs.declared.tree.Spec.TheVariants as spec
 use Rattle.algol_tree.specs.Plain as tree
 use Rattle.algol_tree.specs.Plain.{PExpr, PExprs, PPair, PStmt, PStmts, PDecl, PDecls, PBody, PProgram}
-use Rattle.b67_templates.specs.Fragments.{IsWhole}
+use Rattle.b67_templates.specs.Fragments.{IsWholeNumber}
 use Rattle.b67_templates.specs.Code.{AreDimensions}
 
 -- one event is named, or where several may be, one at least
@@ -18,7 +18,7 @@ AreNamed false many = many ≡ 1
 
 abbrev mutual
   pub NumbersWhole : PExpr → Type 0
-  NumbersWhole (tree.number z spot) = IsWhole z
+  NumbersWhole (tree.number z spot) = IsWholeNumber z
   NumbersWhole (tree.variable (tree.subscripted n es)) = AllWhole es
   NumbersWhole (tree.call (tree.called n tree.none)) = ⊥
   NumbersWhole (tree.call (tree.called n (tree.more e es))) = NumbersWhole e × AllWhole es
@@ -37,12 +37,12 @@ abbrev mutual
 
 -- in bounds; there is one pair or two
 abbrev pub BoundsWhole : List PPair → Type 0
-BoundsWhole pairs = AreDimensions pairs × AllByRecursion (λ (p : PPair). IsWhole p.low × NumbersWhole p.high) pairs
+BoundsWhole pairs = AreDimensions pairs × AllByRecursion (λ (p : PPair). IsWholeNumber p.low × NumbersWhole p.high) pairs
 
 -- .. in the specification of an array
 abbrev pub HaveDimensions : List ℤ → Type 0
-HaveDimensions (low ∷ []) = IsWhole low
-HaveDimensions (low ∷ low' ∷ []) = IsWhole low × IsWhole low'
+HaveDimensions (low ∷ []) = IsWholeNumber low
+HaveDimensions (low ∷ low' ∷ []) = IsWholeNumber low × IsWholeNumber low'
 HaveDimensions _ = ⊥
 
 abbrev pub SpecWhole : Spec → Type 0

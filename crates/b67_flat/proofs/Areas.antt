@@ -5,7 +5,7 @@ use Rattle.std.proofs.lemmas.List.{drop-set-lt, drop-set-add, take-set-le}
 use Rattle.b67_word.specs.Word.{Word}
 use Rattle.b67_store.specs.Store.{at_number, opened_at}
 use Rattle.b67_flat.specs.declared.Span.{Span}
-use Rattle.b67_flat.specs.Spans.{end_of, Ascend, end_after, IsOneOf}
+use Rattle.b67_flat.specs.Spans.{end_of_span, Ascend, end_after, IsOneOf}
 use Rattle.b67_flat.specs.Flat.{words_at}
 use Rattle.b67_flat.proofs.Walks.{is_below, is_not_below}
 
@@ -17,23 +17,23 @@ some_same {X = X} d x y e = ap (λ (o : Option X). unwrap_or o d) e
 pub begins_past : (from k : ℕ) (spans : List Span) (t : Span) → Ascend from spans → slice_get spans k ≡ Some t → from ≤ t.place
 begins_past from k [] t a e = absurd (search rules)
 begins_past from zero (x ∷ xs) t a e = omega (arith, a.0, ap (λ (s : Span). s.place) (some_same x x t e))
-begins_past from (suc k) (x ∷ xs) t a e = omega (arith, a.0, begins_past (end_of x) k xs t a.2 e)
+begins_past from (suc k) (x ∷ xs) t a e = omega (arith, a.0, begins_past (end_of_span x) k xs t a.2 e)
 
 -- each ends within the end of all
-pub ends_within : (from k : ℕ) (spans : List Span) (t : Span) → Ascend from spans → slice_get spans k ≡ Some t → end_of t ≤ end_after from spans
+pub ends_within : (from k : ℕ) (spans : List Span) (t : Span) → Ascend from spans → slice_get spans k ≡ Some t → end_of_span t ≤ end_after from spans
 ends_within from k [] t a e = absurd (search rules)
-ends_within from zero (x ∷ xs) t a e = omega (arith, later (end_of x) xs a.2, ap end_of (some_same x x t e))
+ends_within from zero (x ∷ xs) t a e = omega (arith, later (end_of_span x) xs a.2, ap end_of_span (some_same x x t e))
   where
     later : (from : ℕ) (spans : List Span) → Ascend from spans → from ≤ end_after from spans
     later from [] a = omega arith
-    later from (s ∷ ss) a = omega (arith, a.0, later (end_of s) ss a.2)
-ends_within from (suc k) (x ∷ xs) t a e = ends_within (end_of x) k xs t a.2 e
+    later from (s ∷ ss) a = omega (arith, a.0, later (end_of_span s) ss a.2)
+ends_within from (suc k) (x ∷ xs) t a e = ends_within (end_of_span x) k xs t a.2 e
 
-pub ordered : (from j k : ℕ) (spans : List Span) (s t : Span) → Ascend from spans → j < k → slice_get spans j ≡ Some s → slice_get spans k ≡ Some t → end_of s ≤ t.place
+pub ordered : (from j k : ℕ) (spans : List Span) (s t : Span) → Ascend from spans → j < k → slice_get spans j ≡ Some s → slice_get spans k ≡ Some t → end_of_span s ≤ t.place
 ordered from j k [] s t a p e f = absurd (search rules)
 ordered from j zero (x ∷ xs) s t a p e f = absurd (omega arith)
-ordered from zero (suc k) (x ∷ xs) s t a p e f = omega (arith, begins_past (end_of x) k xs t a.2 f, ap end_of (some_same x x s e))
-ordered from (suc j) (suc k) (x ∷ xs) s t a p e f = ordered (end_of x) j k xs s t a.2 (omega arith) e f
+ordered from zero (suc k) (x ∷ xs) s t a p e f = omega (arith, begins_past (end_of_span x) k xs t a.2 f, ap end_of_span (some_same x x s e))
+ordered from (suc j) (suc k) (x ∷ xs) s t a p e f = ordered (end_of_span x) j k xs s t a.2 (omega arith) e f
 
 -- ---- words that are set
 
@@ -58,7 +58,7 @@ apart_case : (words : List Word) (spans : List Span) (s t : Span) (j k i count :
 apart_case words spans s t j k i count w true c x y a n e f p q =
     set_before words t.place count (s.place + i) w (omega (arith, p, ordered 0 j k spans s t a (is_below j k x) e f))
 apart_case words spans s t j k i count w false true x y a n e f p q =
-    let o : end_of t ≤ s.place = ordered 0 k j spans t s a (is_below k j y) f e in
+    let o : end_of_span t ≤ s.place = ordered 0 k j spans t s a (is_below k j y) f e in
     let m : s.place + i ≡ t.place + (s.place + i - t.place) = omega (arith, o) in
     ap (λ z. take count (drop t.place (set words z w))) m ∙ set_after words t.place count (s.place + i - t.place) w (omega (arith, o, q))
 apart_case words spans s t j k i count w false false x y a n e f p q = absurd (n (omega (arith, is_not_below j k x, is_not_below k j y)))

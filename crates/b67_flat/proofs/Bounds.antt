@@ -5,7 +5,7 @@ use Rattle.std.proofs.lemmas.Bool.{cases_lt, cases_eq}
 use Rattle.std.proofs.lemmas.List.{get_or-set_same, get_or-set_other}
 use Rattle.std.proofs.lemmas.Nat.{div_below, le-div, div-add-mod'}
 use Rattle.b67_flat.specs.declared.Span.{Span}
-use Rattle.b67_flat.specs.Spans.{end_of, Ascend, gap_before, first_fit}
+use Rattle.b67_flat.specs.Spans.{end_of_span, Ascend, gap_before, first_fit}
 use Rattle.b67_flat.specs.Widest.{AreWidest}
 use Rattle.b67_flat.proofs.Fits.{fit_is, gap_inserted, gap_removed, gap_past}
 
@@ -40,7 +40,7 @@ later_inserted from zero zero (s ∷ ss) new a p q = omega (arith, a.0)
 later_inserted from zero (suc k) (s ∷ ss) new a p q = omega arith
 later_inserted from (suc i) k [] new a p q = absurd (omega arith)
 later_inserted from (suc i) zero (s ∷ ss) new a p q = absurd (omega arith)
-later_inserted from (suc i) (suc k) (s ∷ ss) new a p q = later_inserted (end_of s) i k ss new a.2 (omega arith) (omega arith)
+later_inserted from (suc i) (suc k) (s ∷ ss) new a p q = later_inserted (end_of_span s) i k ss new a.2 (omega arith) (omega arith)
 
 later_removed : (from i k : ℕ) (spans : List Span) → i < k → gap_before from (remove spans i) k ≡ gap_before from spans (suc k)
 later_removed from zero k [] p = refl
@@ -49,7 +49,7 @@ later_removed from zero zero (s ∷ ss) p = absurd (omega arith)
 later_removed from zero (suc k) (s ∷ []) p = refl
 later_removed from zero (suc k) (s ∷ (t ∷ ts)) p = refl
 later_removed from (suc i) zero (s ∷ ss) p = absurd (omega arith)
-later_removed from (suc i) (suc k) (s ∷ ss) p = later_removed (end_of s) i k ss (omega arith)
+later_removed from (suc i) (suc k) (s ∷ ss) p = later_removed (end_of_span s) i k ss (omega arith)
 
 -- what is kept for its chunk bounds every gap but that at the place, and the one that came into each chunk after it
 put_later : (spans : List Span) (widest : List ℕ) (at j : ℕ) (new : Span) → AreWidest spans widest → at ≤ length spans → Ascend 0 (insert spans at new) → at ≤ j → ((at / 64 + 1) * 64 ≤ suc j → suc j % 64 ≢ (at / 64 + 1) * 64 % 64) → gap_before 0 (insert spans at new) (suc j) ≤ get_or widest (suc j / 64) 0

@@ -7,7 +7,7 @@ use Rattle.b67_store.proofs.StoreLaws.{opened_here, opened_others, changed_other
 use Rattle.b67_store.specs.Store.{at_number, opened_at}
 use Rattle.b67_flat.specs.declared.Span.{Span}
 use Rattle.b67_flat.specs.declared.row_table.HeldRow.{HeldRow}
-use Rattle.b67_flat.specs.Spans.{end_of, Ascend, first_fit, span_for, opened, below, closed, IsOneOf}
+use Rattle.b67_flat.specs.Spans.{end_of_span, Ascend, first_fit, span_for, span_opened, spans_below, closed, IsOneOf}
 use Rattle.b67_flat.specs.Flat.{span_of_row, IsHeld, AreSpans}
 use Rattle.b67_flat.proofs.Fits.{lt_true, lt_false, fit_within}
 use Rattle.b67_flat.proofs.Areas.{begins_past, some_same}
@@ -50,10 +50,10 @@ was_in (suc i) zero (s ∷ ss) t e = (0, e, λ z. absurd (omega (arith, z)))
 was_in (suc i) (suc k) (s ∷ ss) t e = let r = was_in i k ss t e in (suc r.0, r.1, λ z. r.2 (omega (arith, z)))
 
 -- as many begin below it as stand before it
-pub below_it : (from j : ℕ) (spans : List Span) (t : Span) → Ascend from spans → slice_get spans j ≡ Some t → below t.place spans ≡ j
+pub below_it : (from j : ℕ) (spans : List Span) (t : Span) → Ascend from spans → slice_get spans j ≡ Some t → spans_below t.place spans ≡ j
 below_it from j [] t a e = none_some t e
 below_it from zero (s ∷ ss) t a e = rw (lt_false s.place t.place (omega (arith, ap (λ (z : Span). z.place) (some_same s s t e)))) refl
-below_it from (suc j) (s ∷ ss) t a e = rw (lt_true s.place t.place (omega (arith, a.1, begins_past (end_of s) j ss t a.2 e))) (ap suc (below_it (end_of s) j ss t a.2 e))
+below_it from (suc j) (s ∷ ss) t a e = rw (lt_true s.place t.place (omega (arith, a.1, begins_past (end_of_span s) j ss t a.2 e))) (ap suc (below_it (end_of_span s) j ss t a.2 e))
 
 one_place : (spans : List Span) (t : Span) (j k : ℕ) → Ascend 0 spans → slice_get spans j ≡ Some t → slice_get spans k ≡ Some t → j ≡ k
 one_place spans t j k a e f = sym (below_it 0 j spans t a e) ∙ below_it 0 k spans t a f
@@ -64,21 +64,21 @@ there_is (y ∷ ys) zero x e = omega arith
 there_is (y ∷ ys) (suc j) x e = omega (arith, there_is ys j x e)
 
 -- the span that is closed is one of them
-pub below_within : (spans : List Span) (t : Span) → Ascend 0 spans → IsOneOf t spans → below t.place spans < length spans
+pub below_within : (spans : List Span) (t : Span) → Ascend 0 spans → IsOneOf t spans → spans_below t.place spans < length spans
 below_within spans t a (j, e) = omega (arith, below_it 0 j spans t a e, there_is spans j t e)
 
 -- the new span is one of them
-pub opened_in : (count row : ℕ) (spans : List Span) → IsOneOf (span_for count row spans) (opened count row spans)
+pub opened_in : (count row : ℕ) (spans : List Span) → IsOneOf (span_for count row spans) (span_opened count row spans)
 opened_in count row spans = put_in (first_fit 0 count spans) spans (span_for count row spans) (fit_within 0 count spans)
 
 -- and so is each that was
-pub still_in : (count row : ℕ) (spans : List Span) (t : Span) → IsOneOf t spans → IsOneOf t (opened count row spans)
+pub still_in : (count row : ℕ) (spans : List Span) (t : Span) → IsOneOf t spans → IsOneOf t (span_opened count row spans)
 still_in count row spans t (k, e) = stays_in (first_fit 0 count spans) k spans (span_for count row spans) t (fit_within 0 count spans) e
 
 -- ---- one more is open
 
 module _ (spans : List Span) (rows : List (Option HeldRow)) (are : AreSpans spans rows) where
-  pub row_opened : (n : ℕ) (held : HeldRow) → at_number rows n ≡ None → span_of_row n held ≡ span_for held.length n spans → AreSpans (opened held.length n spans) (opened_at rows n held)
+  pub row_opened : (n : ℕ) (held : HeldRow) → at_number rows n ≡ None → span_of_row n held ≡ span_for held.length n spans → AreSpans (span_opened held.length n spans) (opened_at rows n held)
   row_opened n held none same =
       record {
         of_rows = λ k x e. ⊎_elim
@@ -95,7 +95,7 @@ module _ (spans : List Span) (rows : List (Option HeldRow)) (are : AreSpans span
       now = opened_at rows n held
 
       all : List Span
-      all = opened held.length n spans
+      all = span_opened held.length n spans
 
       here : (k : ℕ) (x : HeldRow) → k ≡ n → held ≡ x → IsOneOf (span_of_row k x) all
       here k x f e =

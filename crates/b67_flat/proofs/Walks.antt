@@ -5,7 +5,7 @@ use Rattle.std.proofs.lemmas.Bool.Decides.{nat_tests}
 use Rattle.std.proofs.lemmas.List.{get_or_default}
 use Rattle.std.proofs.lemmas.Nat.{div_below}
 use Rattle.b67_flat.specs.declared.Span.{Span}
-use Rattle.b67_flat.specs.Spans.{end_of, Ascend, end_after, gap_before}
+use Rattle.b67_flat.specs.Spans.{end_of_span, Ascend, end_after, gap_before}
 use Rattle.b67_flat.proofs.Fits.{end_next, gap_is, gap_past, begins_after, places_ascend}
 
 pub is_below : (a b : ℕ) → nat_lt a b ≡ true → a < b
@@ -19,7 +19,7 @@ pub end_by : (spans : List Span) (at : ℕ) (s : Span) → at ≢ 0 → at ≤ l
 end_by spans zero s z p e = absurd (z refl)
 end_by spans (suc k) s z p e =
     let j : k ≡ suc k - 1 = omega arith in
-    end_next 0 k spans s (omega arith) ∙ ap end_of (ap (λ (n : ℕ). get_or spans n s) j ∙ sym e)
+    end_next 0 k spans s (omega arith) ∙ ap end_of_span (ap (λ (n : ℕ). get_or spans n s) j ∙ sym e)
 
 pub gap_by : (spans : List Span) (at : ℕ) (s : Span) → at < length spans → s ≡ get_or spans at s → gap_before 0 spans at ≡ s.place - end_after 0 (take at spans)
 gap_by spans at s p e = gap_is 0 at spans s p ∙ ap (λ (z : Span). z.place - end_after 0 (take at spans)) (sym e)

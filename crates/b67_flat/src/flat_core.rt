@@ -1,7 +1,7 @@
 // The store that keeps all rows in one list of words, and each stack in one of its own.
 ghost use Rattle.std.specs.Prelude.{◌≡◌, ℕ, ◌≤◌, ◌<◌, [], is_ok, OnOk, OnErr, IfOk, IfErr, false, is_some, if◌then◌else◌};
 ghost use Rattle.b67_store.specs.Store.{Held, at_number, with_stack, left_in, closed_at, row_at, row_limit, count_limit, least_free, opened_at, zero_row, exceeds, RowFails};
-ghost use Rattle.b67_flat.specs.Spans.{place_for, opened, closed};
+ghost use Rattle.b67_flat.specs.Spans.{place_for, span_opened, closed};
 ghost use Rattle.b67_flat.specs.Flat.{IsMemory, AreSpans, rows_in, lengthened, rows_of, zeroed, place_of_row};
 
 mod again;
@@ -146,7 +146,7 @@ impl Core for FlatCore {
         ensures rows { IfOk result (λ row. rows_of self.new ≡ opened_at (rows_of self.old) row (zero_row length counted)) }
         ensures unchanged { OnErr result (rows_of self.new ≡ rows_of self.old) }
         ensures stacks { self.new.stacks ≡ self.old.stacks }
-        ensures spans { IfOk result (λ row. self.new.memory.spans ≡ opened length row self.old.memory.spans) }
+        ensures spans { IfOk result (λ row. self.new.memory.spans ≡ span_opened length row self.old.memory.spans) }
         ensures kept { OnErr result (self.new.memory.spans ≡ self.old.memory.spans) }
         ensures words { OnOk result ((more : ℕ) × (self.new.memory.words ≡ zeroed (lengthened self.old.memory.words more) (place_for length self.old.memory.spans) length)) }
     {

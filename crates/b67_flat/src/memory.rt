@@ -2,7 +2,7 @@
 ghost use Rattle.std.specs.Prelude.{◌≡◌, ℕ, ◌+◌, ◌-◌, ◌^◌, ◌<◌, ◌≤◌, Option, Some, List, length, pos, OnOk, IfOk, is_ok, slice_get, slice_set, if◌then◌else◌};
 ghost use Rattle.std.specs.Vec.{vec_len};
 ghost use Rattle.b67_word.specs.Word.{Word, operand};
-ghost use Rattle.b67_flat.specs.Spans.{place_for, opened};
+ghost use Rattle.b67_flat.specs.Spans.{place_for, span_opened};
 ghost use Rattle.b67_flat.specs.Flat.{memory_of, IsMemory, lengthened, zeroed};
 
 use crate::Span;
@@ -56,7 +56,7 @@ pub fn open_span(
     requires some { 1 ≤ count }
     requires memory { IsMemory (memory_of words.old.items spans.old) }
     ensures place { IfOk result (λ place. place ≡ place_for count spans.old) }
-    ensures spans { spans.new ≡ (if is_ok result then opened count row spans.old else spans.old) }
+    ensures spans { spans.new ≡ (if is_ok result then span_opened count row spans.old else spans.old) }
     ensures words { (more : ℕ) × (words.new.items ≡ lengthened words.old.items more) }
     ensures memory { IsMemory (memory_of words.new.items spans.new) }
 {

@@ -2,7 +2,7 @@
 ghost use Rattle.std.specs.Prelude.{◌≡◌, ◌≢◌, ℕ, ◌+◌, ◌*◌, ◌/◌, ◌%◌, ◌^◌, ◌<◌, ◌≤◌, [], length, take, IfSome, IfNone, slice_index_or, is_ok, if◌then◌else◌};
 ghost use Rattle.std.specs.List.{insert, remove};
 ghost use Rattle.std.specs.Vec.{vec_len};
-ghost use Rattle.b67_flat.specs.Spans.{Ascend, end_after, gap_before, first_fit, below, closed};
+ghost use Rattle.b67_flat.specs.Spans.{Ascend, end_after, gap_before, first_fit, spans_below, closed};
 ghost use Rattle.b67_flat.specs.Widest.{AreWidest};
 ghost use Rattle.b67_flat.specs.declared.Span.{Span as Seen};
 
@@ -201,7 +201,7 @@ impl Spans {
     // How many spans begin below a place. A few steps where only the last one does not; else work that grows with the logarithm of
     // their number.
     pub fn below(&self, place: u64) -> usize
-        ensures { result ≡ below place self.now }
+        ensures { result ≡ spans_below place self.now }
     {
         let mut low = surely_below(&self.spans, place);
         let mut high = self.spans.len();
@@ -218,7 +218,7 @@ impl Spans {
 
     // Takes the span away that begins at a place, and takes no memory.
     pub fn close(&mut self, place: u32)
-        requires { below place self.old < length self.old }
+        requires { spans_below place self.old < length self.old }
         ensures { self.new ≡ closed place self.old }
     {
         let at = self.below(u64::from(place));

@@ -7,13 +7,13 @@ use Rattle.b67_segment.specs.declared.code.Code.{Code}
 use Rattle.b67_table.specs.declared.Class.TheVariants.{Action}
 use Rattle.b67_table.specs.Image.{Image, private_of}
 use Rattle.b67_table.specs.Program.{Program}
-use Rattle.b67_table.specs.Rows.{Row, private_part, action, row}
+use Rattle.b67_table.specs.Rows.{TableRow, private_part, action, row}
 use Rattle.b67_table.specs.Sound.{Lives, OperatorTouches}
 use Rattle.b67_table.specs.Table.{class_at, class_by}
 use Rattle.b67_table.specs.Touches.{RowTouches}
 use Rattle.b67_table.proofs.Beside.{Touch, raw_apart}
 use Rattle.b67_table.proofs.Lists.{numbered_within}
-use Rattle.b67_footprints.specs.Reaching.{Reaches}
+use Rattle.b67_footprints.specs.Reaching.{OperatorReaches}
 use Rattle.b67_footprints.specs.Laws.{IsOfNoOther, HaveOwnStacks, ValidHaveOwnStacks, ReachesNoOther, LeadsBelow, OthersStayPrivate, PrivatePartsStay}
 use Rattle.b67_footprints.proofs.Touching.{operators_touch_what_they_reach}
 use Rattle.b67_footprints.proofs.Within.{AreReached, reached_are}
@@ -46,11 +46,11 @@ module _ (code : Code) (img : Image) (p : ℕ) (own : HaveOwnStacks img) where
           are : AreReached img t.op t.registers (IsOfNoOther img p)
           are = record { own = own_of_no_other t.registers t.lives; cell = reaches.cells; mark = reaches.marks }
 
-          by_reach : Reaches img t.op t.registers x ⊎ (x.stack ≡ img.started + 1) → IsOfNoOther img p x
+          by_reach : OperatorReaches img t.op t.registers x ⊎ (x.stack ≡ img.started + 1) → IsOfNoOther img p x
           by_reach (inl k) = reached_are img t.op t.registers (IsOfNoOther img p) are k
           by_reach (inr e) = new_of_no_other x e
 
-      by_row : (w : Row) → row t.op t.registers.place ≡ w → RowTouches w code img p t.registers t.next x → IsOfNoOther img p x
+      by_row : (w : TableRow) → row t.op t.registers.place ≡ w → RowTouches w code img p t.registers t.next x → IsOfNoOther img p x
       by_row (private_part f) e touches = own_of_no_other t.registers t.lives x touches.0
       by_row (action program) e touches =
           of_action (below t.registers t.op t.next t.lives t.stands (acts_by t.op t.registers.place program e))

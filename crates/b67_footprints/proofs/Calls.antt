@@ -12,24 +12,24 @@ use Rattle.b67_segment.specs.declared.code.Code.{Code}
 use Rattle.b67_store.specs.Store.{words_of}
 use Rattle.b67_deeds.specs.declared.EventTest.{EventTest}
 use Rattle.b67_deeds.specs.Deeds.{EventDeed, tests, answers}
-use Rattle.b67_events.specs.Events.{is_open, state_at, first_happened}
+use Rattle.b67_events.specs.Events.{is_open, state_at, first_event_happened}
 use Rattle.b67_table.specs.declared.Cell.{Cell}
 use Rattle.b67_table.specs.declared.InterruptKind.TheVariants.{InvalidOperand}
 use Rattle.b67_table.specs.Image.{Image, woken_number}
 use Rattle.b67_table.specs.Limits.{end_of_code, segment_numbers, most_events}
 use Rattle.b67_table.specs.Private.{display_at, frame}
-use Rattle.b67_table.specs.Chains.{place, broken, mark_at, left_to, rebuilt}
+use Rattle.b67_table.specs.Chains.{place, chain_broken, mark_at, left_to, rebuilt}
 use Rattle.b67_table.specs.Look.{Look, found, ◌>->◌, valid}
 use Rattle.b67_table.specs.References.{cell_place, cell_of, reached}
-use Rattle.b67_table.specs.Writes.{written}
+use Rattle.b67_table.specs.Writes.{write_made}
 use Rattle.b67_table.specs.Writes as writes
 use Rattle.b67_table.specs.Program.{Change, Program, answer, ◌>>=◌, done, registers, cut, event_deed, woken, loads, fault}
-use Rattle.b67_table.specs.Arguments.{wholes_in, wholes, number_in, if_open, event_in, event_of, events_of, no_such, if_chained, finished_at, Three, three_in, three}
+use Rattle.b67_table.specs.Arguments.{wholes_in, wholes, argument_number_in, if_open, reached_event_in, event_of, events_of, no_such, if_chained, finished_at, Three, three_in, three}
 use Rattle.b67_table.specs.Intrinsics.{case_in, case_place, gone_to_case, select, write, make_event, on_event, tell_event, gone_or_waiting, woken_or_not, wait_for_any}
 use Rattle.b67_table.specs.Lines.{line_for}
 use Rattle.b67_table.specs.Linkage.{if_not_critical}
 use Rattle.b67_table.specs.GoingTo.{Passed, Passing, passing, passed_by, Target, level_in, target_of, frames_left, passed_frames, gone_to, go_to}
-use Rattle.b67_footprints.specs.Reaching.{Follows, NamesCell, LeadsTo, own, shown}
+use Rattle.b67_footprints.specs.Reaching.{OperatorFollows, NamesCell, OperatorLeadsTo, own, shown}
 use Rattle.b67_footprints.specs.Keeping.{ReachesAll, TestKeeps, ChangeKeeps, ProgramKeeps}
 use Rattle.b67_footprints.proofs.Lists.{Each, each_take, each_drop}
 use Rattle.b67_footprints.proofs.Going.{Any, LookKeeps, look_then, see_then, test_then, look_by, test_by, look_there}
@@ -57,8 +57,8 @@ module _ (img : Image) (op : Operator) (r : Registers) (p : ℕ) where
   -- a mark stands below the one at F
   pub chained_kept : (m : Mscw) (more : Program) → ProgramKeeps img op r p more → ProgramKeeps img op r p (if_chained r m more)
   chained_kept m more k =
-      see_then img op r Any E (cond (nat_le m.df r.f) (mark_at (place r.stack (r.f - m.df))) broken) (λ (lower : Mscw). more)
-      (look_by img op r Any (nat_le m.df r.f) (mark_at (place r.stack (r.f - m.df))) broken (any_mark_kept img op r (place r.stack (r.f - m.df)) (own refl)) tt)
+      see_then img op r Any E (cond (nat_le m.df r.f) (mark_at (place r.stack (r.f - m.df))) chain_broken) (λ (lower : Mscw). more)
+      (look_by img op r Any (nat_le m.df r.f) (mark_at (place r.stack (r.f - m.df))) chain_broken (any_mark_kept img op r (place r.stack (r.f - m.df)) (own refl)) tt)
       (λ lower t. k)
 
   -- ---- whole numbers
@@ -90,13 +90,13 @@ module _ (img : Image) (op : Operator) (r : Registers) (p : ℕ) where
   if_open_kept true c i = i
   if_open_kept false c i = tt
 
-  pub event_of_kept : Follows op → (w : Word) → IsArgument w → TestKeeps img op r (NamesCell img op r) (event_of r w)
+  pub event_of_kept : OperatorFollows op → (w : Word) → IsArgument w → TestKeeps img op r (NamesCell img op r) (event_of r w)
   event_of_kept follows w i =
-      see_then img op r (IsReached img op r) (NamesCell img op r) (reached (cell_of r w)) event_in (reached_kept img op r follows (cell_of r w) i) (λ v k.
+      see_then img op r (IsReached img op r) (NamesCell img op r) (reached (cell_of r w)) reached_event_in (reached_kept img op r follows (cell_of r w) i) (λ v k.
       see_then img op r Any (NamesCell img op r) (valid (as_event v.word)) _ (any_valid (as_event v.word)) (λ e t.
       (inl (v.cell, k.names, refl), if_open_kept (is_open (cell_place v.cell) img.events) v.cell k.names)))
 
-  module _ (follows : Follows op) (code : Code) (next : ℕ) (m : Mscw) where
+  module _ (follows : OperatorFollows op) (code : Code) (next : ℕ) (m : Mscw) where
     end_kept : (words : List Word) (pointer : ℕ) (now : Image) → Keeps img op r p (finished_at r m words pointer) now
     end_kept words pointer now = finished_kept img op r p m words pointer now
 
@@ -105,7 +105,7 @@ module _ (img : Image) (op : Operator) (r : Registers) (p : ℕ) where
     case_place_kept : (first : ℤ) (o : Option ℕ) → LookKeeps img op r Any (case_place first o)
     case_place_kept first None = tt
     case_place_kept first (Some n) =
-        look_then img op r Any Any (valid (number_in (first +ℤ pos (3 * n)) end_of_code)) _ (any_valid (number_in (first +ℤ pos (3 * n)) end_of_code)) (λ to t. tt)
+        look_then img op r Any Any (valid (argument_number_in (first +ℤ pos (3 * n)) end_of_code)) _ (any_valid (argument_number_in (first +ℤ pos (3 * n)) end_of_code)) (λ to t. tt)
 
     case_kept : (o : Option ℕ) → ProgramKeeps img op r p (gone_to_case r m o)
     case_kept None = tt
@@ -121,12 +121,12 @@ module _ (img : Image) (op : Operator) (r : Registers) (p : ℕ) where
     write_kept words =
         see_then img op r Any E (wholes words >-> (λ (zs : List ℤ). valid (line_for code zs))) _
         (wholes_then Any words (λ (zs : List ℤ). valid (line_for code zs)) (λ zs. any_valid (line_for code zs))) (λ bytes t.
-        chained_kept m _ (tt, end_kept [] next (written p (writes.line bytes) img)))
+        chained_kept m _ (tt, end_kept [] next (write_made p (writes.line bytes) img)))
 
     -- ---- events
 
     pub make_event_kept : (words : List Word) → ProgramKeeps img op r p (make_event code r next m words)
-    make_event_kept [] = chained_kept m _ (refl, end_kept (event_word (record {}) ∷ []) next (written p (writes.open_event (place r.stack r.f)) img))
+    make_event_kept [] = chained_kept m _ (refl, end_kept (event_word (record {}) ∷ []) next (write_made p (writes.open_event (place r.stack r.f)) img))
     make_event_kept (w ∷ words) = tt
 
     pub tell_event_kept : (x : EventTest) (words : List Word) → Each IsArgument words → ProgramKeeps img op r p (tell_event x code r next m words)
@@ -137,7 +137,7 @@ module _ (img : Image) (op : Operator) (r : Registers) (p : ℕ) where
           inl (c, k, refl),
           (
             inl (c, k, refl),
-            end_kept (truth (answers x (state_at (cell_place c) img.events)) ∷ []) next (written p (writes.event_deed (tests x) (cell_place c)) img),
+            end_kept (truth (answers x (state_at (cell_place c) img.events)) ∷ []) next (write_made p (writes.event_deed (tests x) (cell_place c)) img),
           ),
         ))
     tell_event_kept x (w ∷ v ∷ words) i = tt
@@ -146,7 +146,7 @@ module _ (img : Image) (op : Operator) (r : Registers) (p : ℕ) where
     on_event_kept x [] i = tt
     on_event_kept x (w ∷ []) i =
         test_then img op r (NamesCell img op r) E (event_of r w) _ (event_of_kept follows w i.0) (λ c k.
-        chained_kept m (answer (event_deed x (cell_place c) (finished_at r m [] next))) (inl (c, k, refl), end_kept [] next (written p (writes.event_deed x (cell_place c)) img)))
+        chained_kept m (answer (event_deed x (cell_place c) (finished_at r m [] next))) (inl (c, k, refl), end_kept [] next (write_made p (writes.event_deed x (cell_place c)) img)))
     on_event_kept x (w ∷ v ∷ words) i = tt
 
     -- ---- several events
@@ -158,8 +158,8 @@ module _ (img : Image) (op : Operator) (r : Registers) (p : ℕ) where
         test_then img op r (ReachesAll img op r) (ReachesAll img op r) (events_of r words) _ (events_of_kept words i.1) (λ places ks. (inl (c, k, refl), ks)))
 
     waits_kept : (places : List Place) → ReachesAll img op r places → (n : ℕ) → ProgramKeeps img op r p (woken_or_not r next m places n)
-    waits_kept places ks (suc n) = (tt, end_kept (operand (pos (suc n)) ∷ []) next (written p writes.go_on img))
-    waits_kept places ks zero = (ks, by (first_happened places img.events))
+    waits_kept places ks (suc n) = (tt, end_kept (operand (pos (suc n)) ∷ []) next (write_made p writes.go_on img))
+    waits_kept places ks zero = (ks, by (first_event_happened places img.events))
       where
         by : (o : Option ℕ) → ProgramKeeps img op r p (gone_or_waiting r next m places o)
         by None = (ks, tt)
@@ -183,7 +183,7 @@ module _ (img : Image) (op : Operator) (r : Registers) (p : ℕ) where
     passing_kept zero target here = tt
     passing_kept (suc steps) target here =
         look_by img op r Any (nat_eq here.frame target) (found (record { frames = []; cells = here.cells })) _ tt
-        (look_by img op r Any (nat_lt here.frame target) broken _ tt
+        (look_by img op r Any (nat_lt here.frame target) chain_broken _ tt
         (look_then img op r (LeadsBelow img op r (place r.stack here.frame)) Any (left_to (place r.stack here.frame)) _
         (left_to_kept img op r (place r.stack here.frame) (own refl)) (λ b i.
         look_then img op r Any Any (passing steps r.stack target (record { frame = b.frame; cells = b.control.caller_cells })) _
@@ -196,14 +196,14 @@ module _ (img : Image) (op : Operator) (r : Registers) (p : ℕ) where
 
     -- the display leads to the target
     abbrev IsShown : Target → Type 0
-    IsShown t = LeadsTo img op r t.frame
+    IsShown t = OperatorLeadsTo img op r t.frame
 
     target_kept : (z : Three) → LookKeeps img op r IsShown (target_of r z)
     target_kept z =
         look_then img op r (λ (level : ℕ). level_in r z.first ≡ Some level) IsShown (valid (level_in r z.first)) _ (valid_kept img op r (level_in r z.first)) (λ level t.
         look_then img op r (λ (f : Place). display_at r level ≡ Some f) IsShown (valid (display_at r level)) _ (valid_kept img op r (display_at r level)) (λ f e.
-        look_then img op r Any IsShown (valid (number_in z.second (segment_numbers - 1))) _ (any_valid (number_in z.second (segment_numbers - 1))) (λ segment u.
-        look_then img op r Any IsShown (valid (number_in z.third end_of_code)) _ (any_valid (number_in z.third end_of_code)) (λ pointer v. let known = level_is r z.first level t in shown level known.0 known.1 e))))
+        look_then img op r Any IsShown (valid (argument_number_in z.second (segment_numbers - 1))) _ (any_valid (argument_number_in z.second (segment_numbers - 1))) (λ segment u.
+        look_then img op r Any IsShown (valid (argument_number_in z.third end_of_code)) _ (any_valid (argument_number_in z.third end_of_code)) (λ pointer v. let known = level_is r z.first level t in shown level known.0 known.1 e))))
 
     frames_follow : (words : List Word) (fs : List Passed) (more : Change) → ((n from : ℕ) → Each (IsDescribed img op r) (take n (drop from words)))
         → MayFollow img op r p more → MayFollow img op r p (frames_left r.stack words fs more)

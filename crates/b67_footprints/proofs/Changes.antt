@@ -12,7 +12,7 @@ use Rattle.b67_store.specs.Store.{Row, row_at, row_words, row_words_or, words_of
 use Rattle.b67_store.proofs.StoreLaws.{closed_here, changed_others}
 use Rattle.b67_table.specs.Image.{Image}
 use Rattle.b67_table.specs.Program.{Change, done, registers, row_of, close_row, close_events}
-use Rattle.b67_table.specs.Writes.{written}
+use Rattle.b67_table.specs.Writes.{write_made}
 use Rattle.b67_table.specs.Writes as writes
 use Rattle.b67_table.specs.Moves.{replaced, pushed}
 use Rattle.b67_table.specs.Linkage.{closed_by, rows_closed, array_closed, arrays_closed, frame_left}
@@ -29,13 +29,13 @@ module _ (img : Image) (op : Operator) (r : Registers) (p : ℕ) where
 
   pub pushed_kept : (words : List Word) (next : Change) → ((now : Image) → Keeps next now) → (now : Image) → Keeps (pushed r.stack words next) now
   pushed_kept [] next k now = k now
-  pushed_kept (w ∷ words) next k now = (refl, pushed_kept words next k (written p (writes.push r.stack w) now))
+  pushed_kept (w ∷ words) next k now = (refl, pushed_kept words next k (write_made p (writes.push r.stack w) now))
 
   pub replaced_kept : (next n : ℕ) (w : Word) (now : Image) → Keeps (replaced r next n w) now
   replaced_kept next n w now = (refl, (refl, (refl, tt)))
 
   pub finished_kept : (m : Mscw) (words : List Word) (pointer : ℕ) (now : Image) → Keeps (finished_at r m words pointer) now
-  finished_kept m words pointer now = (refl, pushed_kept words (registers _ done) (λ later. (refl, tt)) (written p (writes.cut r.stack r.f) now))
+  finished_kept m words pointer now = (refl, pushed_kept words (registers _ done) (λ later. (refl, tt)) (write_made p (writes.cut r.stack r.f) now))
 
   -- ---- rows that are closed
 
@@ -50,7 +50,7 @@ module _ (img : Image) (op : Operator) (r : Registers) (p : ℕ) where
   as_before a b n same (inl e) = inl (same ∙ e)
   as_before a b n same (inr e) = inr (same ∙ e)
 
-  fewer_after : (now : Image) (m : ℕ) → Fewer now → Fewer (written p (writes.close_row m) now)
+  fewer_after : (now : Image) (m : ℕ) → Fewer now → Fewer (write_made p (writes.close_row m) now)
   fewer_after now m few n = by_number (ℕ_discrete n m)
     where
       by_number : Dec (n ≡ m) → (row_at (closed_at now.rows m) n ≡ None) ⊎ (row_at (closed_at now.rows m) n ≡ row_at img.rows n)
@@ -62,7 +62,7 @@ module _ (img : Image) (op : Operator) (r : Registers) (p : ℕ) where
   MayFollow next = (now : Image) → Fewer now → Keeps next now
 
   close_follows : (n : ℕ) (next : Change) → ReachesRow img op r n → MayFollow next → MayFollow (close_row n next)
-  close_follows n next i k now few = (i, k (written p (writes.close_row n) now) (fewer_after now n few))
+  close_follows n next i k now few = (i, k (write_made p (writes.close_row n) now) (fewer_after now n few))
 
   by_copy : (b : Bool) (first second : Change) → MayFollow first → MayFollow second → MayFollow (cond b first second)
   by_copy true first second f s = f
@@ -109,7 +109,7 @@ module _ (img : Image) (op : Operator) (r : Registers) (p : ℕ) where
   -- a frame of the own stack with these cells is left
   pub frame_follows : (f : ℕ) (cells : List Word) (next : Change) → Each (IsDescribed img op r) cells → MayFollow next → MayFollow (frame_left r.stack f cells next)
   frame_follows f cells next i k =
-      arrays_follow cells (close_events r.stack f next) i (λ now few. (refl, k (written p (writes.close_events r.stack f) now) few))
+      arrays_follow cells (close_events r.stack f next) i (λ now few. (refl, k (write_made p (writes.close_events r.stack f) now) few))
 
   -- the words of the own stack
   pub own_described : Each (IsDescribed img op r) (words_of img.stacks r.stack)

@@ -6,7 +6,7 @@ use Rattle.b67_store.specs.Store.{words_or, words_of}
 use Rattle.b67_table.specs.declared.Private.{Private}
 use Rattle.b67_table.specs.Image.{Image, private_of}
 use Rattle.b67_table.specs.Private.{floor}
-use Rattle.b67_table.specs.Privacy.{Stands}
+use Rattle.b67_table.specs.Privacy.{ProcessStands}
 use Rattle.b67_cores.specs.Cores.{Core, stack_of, over, IsCore, HasCore}
 use Rattle.b67_footprints.specs.Cores.{CoresStayAbove}
 use Rattle.b67_footprints.proofs.Apart.{private_parts_stay}
@@ -23,7 +23,7 @@ core_above core is = subst (λ (k : ℕ). drop k (stack_of core) ≡ reverse cor
 turned_same : (xs ys : List Word) → reverse xs ≡ reverse ys → xs ≡ ys
 turned_same xs ys e = sym (reverse-reverse xs) ∙ ap reverse e ∙ reverse-reverse ys
 
-module _ (img new : Image) (q : ℕ) (core : Core) (has : HasCore img q core) (stands : Stands new q core.registers)
+module _ (img new : Image) (q : ℕ) (core : Core) (has : HasCore img q core) (stands : ProcessStands new q core.registers)
     (same : private_of new core.registers ≡ private_of img core.registers) where
   abbrev lower : List Word
   lower = take (floor core.registers) stands.words
@@ -52,7 +52,7 @@ module _ (img new : Image) (q : ℕ) (core : Core) (has : HasCore img q core) (s
   }
 
 -- a process that has a core stands
-stands_so : (img : Image) (q : ℕ) (core : Core) → HasCore img q core → Stands img q core.registers
+stands_so : (img : Image) (q : ℕ) (core : Core) → HasCore img q core → ProcessStands img q core.registers
 stands_so img q core has = record {
   live = has.live;
   has = has.registers;

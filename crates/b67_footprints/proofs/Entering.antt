@@ -30,7 +30,7 @@ use Rattle.b67_table.specs.Program.{Change}
 use Rattle.b67_table.specs.Linkage.{entering, entry}
 use Rattle.b67_table.specs.Intrinsics.{row_of_intrinsic, intrinsic_row, intrinsic}
 use Rattle.b67_table.specs.Rows.{enter_procedure, level_below, enter_by, not_entered, marked, enter}
-use Rattle.b67_footprints.specs.Reaching.{by_word, by_argument, by_its_argument, LeadsTo, around, home}
+use Rattle.b67_footprints.specs.Reaching.{by_word, by_argument, by_its_argument, OperatorLeadsTo, around, home}
 use Rattle.b67_footprints.specs.Keeping.{ChangeKeeps, ProgramKeeps}
 use Rattle.b67_footprints.proofs.Lists.{Each, each_map, each_take, LiesFrom, each_after}
 use Rattle.b67_footprints.proofs.Going.{Any, LookKeeps, look_then, see_then, look_by, look_there}
@@ -87,12 +87,12 @@ module _ (img : Image) (r : Registers) (p : ℕ) (code : Code) (next : ℕ) wher
 
   -- ---- procedures
 
-  entry_kept : (df : ℕ) (pcw : Pcw) (o : Option Place) → ((h : Place) → o ≡ Some h → LeadsTo img op r h) → ProgramKeeps img op r p (entry r next df pcw o)
+  entry_kept : (df : ℕ) (pcw : Pcw) (o : Option Place) → ((h : Place) → o ≡ Some h → OperatorLeadsTo img op r h) → ProgramKeeps img op r p (entry r next df pcw o)
   entry_kept df pcw o i =
       see_then img op r Any E (entering r next (nat_le (r.s - (r.f + 2)) most_cells) r.f pcw o) _
       (entering_kept img op r next (nat_le (r.s - (r.f + 2)) most_cells) r.f pcw o i) (λ e t. (inl refl, (inl refl, (refl, tt))))
 
-  procedure_kept : (m : Mscw) (pcw : Pcw) (o : Option Place) → ((h : Place) → o ≡ Some h → LeadsTo img op r h) → (pcw.intrinsic ≡ true → HasArguments)
+  procedure_kept : (m : Mscw) (pcw : Pcw) (o : Option Place) → ((h : Place) → o ≡ Some h → OperatorLeadsTo img op r h) → (pcw.intrinsic ≡ true → HasArguments)
       → ProgramKeeps img op r p (enter_procedure code r next m pcw o)
   procedure_kept m pcw o i k = by_kind pcw.intrinsic refl
     where
@@ -109,7 +109,7 @@ module _ (img : Image) (r : Registers) (p : ℕ) (code : Code) (next : ℕ) wher
       see_then img op r (IsReached img op r) E (reached (Some c)) _
       (reached_kept img op r tt (Some c) (λ d f. by_word (r.f + 1) w refl i (e ∙ f))) (λ v k.
       see_then img op r (λ (pcw : Pcw). as_pcw v.word ≡ Some pcw) E (valid (as_pcw v.word)) _ (valid_kept img op r (as_pcw v.word)) (λ pcw is.
-      procedure_kept m pcw (Some v.cell.frame) (λ h f. let same : v.cell.frame ≡ h = cc in subst (LeadsTo img op r) same (home v.cell v.word pcw k.names k.there is))
+      procedure_kept m pcw (Some v.cell.frame) (λ h f. let same : v.cell.frame ≡ h = cc in subst (OperatorLeadsTo img op r) same (home v.cell v.word pcw k.names k.there is))
       (λ kind n u after there d named. by_its_argument v.word u n refl k.names k.there (pcw, is, kind) after there named)))
 
   marked_kept : LookKeeps img op r Any (marked r)

@@ -10,7 +10,7 @@ use Rattle.b67_ops.specs.declared.PlainKind.TheVariants as kinds
 use Rattle.b67_segment.specs.declared.code.Code.{Code}
 use Rattle.b67_table.specs.Image.{Image}
 use Rattle.b67_table.specs.PrivateRows.{branch}
-use Rattle.b67_table.specs.Rows.{private_part, acts, turn, plain_row, row}
+use Rattle.b67_table.specs.Rows.{private_part, acts, branch_turn, plain_row, row}
 use Rattle.b67_footprints.specs.Keeping.{RowKeeps}
 use Rattle.b67_footprints.specs.Laws.{OperatorsKeep}
 use Rattle.b67_footprints.proofs.Operators.{turn_kept, value_call_kept, load_value_kept, load_through_kept, evaluate_kept, index_kept, index_and_load_kept, index_mother_kept, store_kept, exit_kept, return_value_kept}
@@ -56,7 +56,7 @@ module _ (code : Code) (img : Image) (p : ℕ) (r : Registers) (next : ℕ) wher
   plain_kept kinds.Load = load_value_kept img (ops.Plain kinds.Load) r p next refl tt
   plain_kept kinds.Noop = tt
 
-  branch_kept : (op : Operator) (kind : BranchKind) (target : ℕ) (b : Bool) → RowKeeps (cond b (private_part (branch kind target)) (acts (turn kind target))) code img op p r next
+  branch_kept : (op : Operator) (kind : BranchKind) (target : ℕ) (b : Bool) → RowKeeps (cond b (private_part (branch kind target)) (acts (branch_turn kind target))) code img op p r next
   branch_kept op kind target true = tt
   branch_kept op kind target false = turn_kept img op r p next kind target
 

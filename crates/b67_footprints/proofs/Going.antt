@@ -8,7 +8,7 @@ use Rattle.b67_table.specs.Image.{Image}
 use Rattle.b67_table.specs.Look.{Look, found, stops, at, several, ◌>->◌, there_or}
 use Rattle.b67_table.specs.Questions.{told}
 use Rattle.b67_table.specs.Program.{Test, answer, interrupt, fault, ask, see, ◌>>=◌}
-use Rattle.b67_footprints.specs.Reaching.{Reaches}
+use Rattle.b67_footprints.specs.Reaching.{OperatorReaches}
 use Rattle.b67_footprints.specs.Keeping.{TestKeeps}
 
 -- whatever is found
@@ -20,7 +20,7 @@ module _ (img : Image) (op : Operator) (r : Registers) where
   abbrev pub LookKeeps : {A : Type 0} → (A → Type 0) → Look A → Type 0
   LookKeeps P (found a) = P a
   LookKeeps P (stops kind) = Unit {0}
-  LookKeeps P (at x more) = Reaches img op r x × LookKeeps P (more (word_at img.stacks x))
+  LookKeeps P (at x more) = OperatorReaches img op r x × LookKeeps P (more (word_at img.stacks x))
   LookKeeps P (several x n more) = (x.stack ≡ r.stack) × LookKeeps P (more (take n (drop x.at (words_of img.stacks x.stack))))
 
   pub look_then : {A B : Type 0} (P : A → Type 0) (Q : B → Type 0) (l : Look A) (f : A → Look B) → LookKeeps P l → ((a : A) → P a → LookKeeps Q (f a))

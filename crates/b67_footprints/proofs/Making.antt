@@ -12,12 +12,12 @@ use Rattle.b67_store.proofs.StoreLaws.{opened_here, opened_others, free_here}
 use Rattle.b67_table.specs.declared.InterruptKind.TheVariants.{InvalidOperand}
 use Rattle.b67_table.specs.Image.{Image}
 use Rattle.b67_table.specs.Look.{valid, ◌>->◌}
-use Rattle.b67_table.specs.Writes.{written}
+use Rattle.b67_table.specs.Writes.{write_made}
 use Rattle.b67_table.specs.Writes as writes
 use Rattle.b67_table.specs.Program.{Change, answer, fault, open_row, write_row}
 use Rattle.b67_table.specs.Arguments.{wholes, finished_at}
 use Rattle.b67_table.specs.Arrays.{Extents, one, two, elements, extent_in, extent, if_small, if_held, array_word, rows_made, array_made, arrays_made}
-use Rattle.b67_table.specs.Intrinsics.{count_in, wanted_with, wanted, extents, arrays}
+use Rattle.b67_table.specs.Intrinsics.{count_in, wanted_with, intrinsic_wanted, extents, arrays}
 use Rattle.b67_footprints.specs.Reaching.{ReachesRow, free}
 use Rattle.b67_footprints.specs.Keeping.{TestKeeps, ChangeKeeps, ProgramKeeps}
 use Rattle.b67_footprints.proofs.Going.{Any, LookKeeps, look_then, see_then, test_then, test_by, look_there}
@@ -63,13 +63,13 @@ module _ (img : Image) (op : Operator) (r : Registers) (p : ℕ) where
         tt,
         (
           was_free,
-          k (least_free now.rows) (free was_free) (written p (writes.open_row (least_free now.rows) count counts) now)
+          k (least_free now.rows) (free was_free) (write_made p (writes.open_row (least_free now.rows) count counts) now)
               (λ m e. i m (opened_free now.rows (least_free now.rows) m (zero_row count counts) e)),
         ),
       )
 
   row_comes : (n at : ℕ) (w : Word) (next : Change) → ReachesRow img op r n → Comes next → Comes (write_row n at w next)
-  row_comes n at w next j k now i = (j, k (written p (writes.write_row n at w) now) (λ m e. i m (written_free now.rows n m at w e)))
+  row_comes n at w next j k now i = (j, k (write_made p (writes.write_row n at w) now) (λ m e. i m (written_free now.rows n m at w e)))
 
   rows_come : (k mother at n : ℕ) (next : Change) → ReachesRow img op r mother → Comes next → Comes (rows_made k mother at n next)
   rows_come zero mother at n next j c = c
@@ -115,7 +115,7 @@ module _ (img : Image) (op : Operator) (r : Registers) (p : ℕ) where
   with_kept : (k : ℤ) (bounds : List ℤ) → LookKeeps img op r Any (wanted_with k bounds)
   with_kept k bounds = look_then img op r Any Any (valid (count_in k)) _ (look_there img op r Any InvalidOperand (count_in k) (λ n e. tt)) (λ n t. tt)
 
-  wanted_kept : (zs : List ℤ) → LookKeeps img op r Any (wanted zs)
+  wanted_kept : (zs : List ℤ) → LookKeeps img op r Any (intrinsic_wanted zs)
   wanted_kept [] = tt
   wanted_kept (k ∷ []) = tt
   wanted_kept (k ∷ low ∷ []) = tt
@@ -128,7 +128,7 @@ module _ (img : Image) (op : Operator) (r : Registers) (p : ℕ) where
 
   pub arrays_kept : (code : Code) (next : ℕ) (m : Mscw) (words : List Word) → ProgramKeeps img op r p (arrays code r next m words)
   arrays_kept code next m words =
-      see_then img op r Any E (wholes words >-> wanted) _ (wholes_then img op r p Any words wanted wanted_kept) (λ w t.
+      see_then img op r Any E (wholes words >-> intrinsic_wanted) _ (wholes_then img op r p Any words intrinsic_wanted wanted_kept) (λ w t.
       chained_kept img op r p m _
       (test_then img op r Any E (extents w.bounds) _ (extents_kept w.bounds) (λ e u.
       test_then img op r Any E (if_held w.count e) _ (held_kept w.count e) (λ held v.

@@ -24,12 +24,12 @@ use Rattle.b67_table.specs.Questions.{live_criticals}
 use Rattle.b67_table.specs.References.{cell_place, couple_cell, cell_of, named, reached, popped, popped_two, operand_in, invalid}
 use Rattle.b67_table.specs.Program.{Change, Program, done, registers, row, cut, see, end_process, fault}
 use Rattle.b67_table.specs.Moves.{pushed}
-use Rattle.b67_table.specs.Writes.{written}
+use Rattle.b67_table.specs.Writes.{write_made}
 use Rattle.b67_table.specs.Writes as writes
-use Rattle.b67_table.specs.Linkage.{entering, selected, accidental, is_critical, if_not_critical, leaving, left, leave, leave_base, leave_other, caused_by}
-use Rattle.b67_table.specs.Arrays.{is_array, array_in, array_by, array_of, indexed_in, as_indexed, index_in, index_or_fault, Subscripted, subscripted, word_in, element, if_row, subscripted_element, index, index_and_load, index_mother}
-use Rattle.b67_table.specs.Rows.{turn_by, turn, operand_pushed, value_or_entry, value_call, loaded, load_value, is_passed, load_through, cell_or_entry, evaluate, after_store, kept_words, store_by, store, is_result, exit, return_value}
-use Rattle.b67_footprints.specs.Reaching.{Takes, Follows, NamesCell, by_couple, by_word, LeadsTo, own, home, ReachesRow}
+use Rattle.b67_table.specs.Linkage.{entering, selected, accidental, is_critical, if_not_critical, leaving, registers_left, leave, leave_base, leave_other, caused_by}
+use Rattle.b67_table.specs.Arrays.{is_array_descriptor, array_in, array_by, array_of, indexed_in, as_indexed, index_in, index_or_fault, Subscripted, subscripted, word_in_row, element, if_row, subscripted_element, index_program, index_and_load, index_mother}
+use Rattle.b67_table.specs.Rows.{turn_by, branch_turn, operand_pushed, value_or_entry, value_call, loaded, load_value, is_passed, load_through, cell_or_entry, evaluate, after_store, kept_words, store_by, store, is_result, exit, return_value}
+use Rattle.b67_footprints.specs.Reaching.{OperatorTakes, OperatorFollows, NamesCell, by_couple, by_word, OperatorLeadsTo, own, home, ReachesRow}
 use Rattle.b67_footprints.specs.Keeping.{Stores, TestKeeps, ChangeKeeps, ProgramKeeps}
 use Rattle.b67_footprints.proofs.Going.{Any, LookKeeps, look_then, see_then, see_kept, test_then, look_by, test_by, look_there}
 use Rattle.b67_footprints.proofs.References.{IsAt, popped_kept, AreTop, two_kept, IsReached, named_kept, reached_kept, operand_kept, valid_kept, IsDescribed, top_described, reached_described}
@@ -62,21 +62,21 @@ module _ (img : Image) (op : Operator) (r : Registers) (p next : ℕ) where
       operand_any : (w : Word) → LookKeeps img op r Any (operand_in w)
       operand_any w = look_by img op r Any (nat_eq w.tag 0) (found w) invalid tt tt
 
-  pub turn_kept : (kind : BranchKind) (target : ℕ) → ProgramKeeps img op r p (turn kind target r next)
+  pub turn_kept : (kind : BranchKind) (target : ℕ) → ProgramKeeps img op r p (branch_turn kind target r next)
   turn_kept Brun target = (refl, tt)
   turn_kept Brfl target = turned_kept Brfl target
   turn_kept Brtr target = turned_kept Brtr target
 
   -- ---- entries by the way
 
-  pub accidental_kept : (taken : ℕ) (pcw : Pcw) (f : Place) (selector : ℕ) → LeadsTo img op r f → ProgramKeeps img op r p (accidental r next taken pcw f selector)
+  pub accidental_kept : (taken : ℕ) (pcw : Pcw) (f : Place) (selector : ℕ) → OperatorLeadsTo img op r f → ProgramKeeps img op r p (accidental r next taken pcw f selector)
   accidental_kept taken pcw f selector i =
       see_then img op r Any Ends (entering r next (nat_lt r.f (r.s - taken)) (r.s - taken) pcw (Some f)) _
-      (entering_kept img op r next (nat_lt r.f (r.s - taken)) (r.s - taken) pcw (Some f) (λ h e. let same : f ≡ h = cc in subst (LeadsTo img op r) same i))
+      (entering_kept img op r next (nat_lt r.f (r.s - taken)) (r.s - taken) pcw (Some f) (λ h e. let same : f ≡ h = cc in subst (OperatorLeadsTo img op r) same i))
       (λ e t. (refl, (refl, (refl, pushed_kept img op r p (selected pcw.names selector) (registers _ done) (λ now. (refl, tt)) _))))
 
   -- where a control word was found, its frame is home
-  at_home : (v : Reached) (pcw : Pcw) → IsReached img op r v → as_pcw v.word ≡ Some pcw → LeadsTo img op r v.cell.frame
+  at_home : (v : Reached) (pcw : Pcw) → IsReached img op r v → as_pcw v.word ≡ Some pcw → OperatorLeadsTo img op r v.cell.frame
   at_home v pcw i e = home v.cell v.word pcw i.names i.there e
 
   -- ---- reading
@@ -92,21 +92,21 @@ module _ (img : Image) (op : Operator) (r : Registers) (p next : ℕ) where
   pub value_call_kept : (couple : Couple) → op ≡ ops.Valc couple → ProgramKeeps img op r p (value_call couple r next)
   value_call_kept couple is =
       see_then img op r (IsReached img op r) Ends (reached (couple_cell r couple.level couple.index)) _
-      (reached_kept img op r (subst Follows (sym is) tt) (couple_cell r couple.level couple.index) (λ c e. by_couple couple is e)) (λ v i. value_or_entry_kept v i (as_pcw v.word) refl)
+      (reached_kept img op r (subst OperatorFollows (sym is) tt) (couple_cell r couple.level couple.index) (λ c e. by_couple couple is e)) (λ v i. value_or_entry_kept v i (as_pcw v.word) refl)
 
   -- ---- elements
 
   pub element_kept : (n at : ℕ) → ReachesRow img op r n → TestKeeps img op r Any (element n at)
   element_kept n at i =
-      (i, see_kept img op r Any (valid (word_in (row_at img.rows n) at)) (look_there img op r Any InvalidOperand (word_in (row_at img.rows n) at) (λ w e. tt)))
+      (i, see_kept img op r Any (valid (word_in_row (row_at img.rows n) at)) (look_there img op r Any InvalidOperand (word_in_row (row_at img.rows n) at) (λ w e. tt)))
 
   -- ---- what is named by the word at a place of the own stack
 
-  module _ (n : ℕ) (takes : Takes op r n) where
+  module _ (n : ℕ) (takes : OperatorTakes op r n) where
     taken_names : (w : Word) → IsAt img op r n w → (c : Cell) → cell_of r w ≡ Some c → NamesCell img op r c
     taken_names w i c e = by_word n w takes i e
 
-    taken_reached : Follows op → (w : Word) → IsAt img op r n w → LookKeeps img op r (IsReached img op r) (reached (cell_of r w))
+    taken_reached : OperatorFollows op → (w : Word) → IsAt img op r n w → LookKeeps img op r (IsReached img op r) (reached (cell_of r w))
     taken_reached follows w i = reached_kept img op r follows (cell_of r w) (taken_names w i)
 
     taken_named : (w : Word) → IsAt img op r n w → LookKeeps img op r (IsReached img op r) (named (cell_of r w))
@@ -114,14 +114,14 @@ module _ (img : Image) (op : Operator) (r : Registers) (p next : ℕ) where
 
   -- ---- by the word on top
 
-  module _ (takes : Takes op r (r.s - 1)) where
+  module _ (takes : OperatorTakes op r (r.s - 1)) where
     pub load_through_kept : ProgramKeeps img op r p (load_through r next)
     load_through_kept =
         see_then img op r (IsReached img op r) Ends (popped r >-> (λ (x : Word). named (cell_of r x))) _
         (look_then img op r (IsAt img op r (r.s - 1)) (IsReached img op r) (popped r) _ (popped_kept img op r) (λ x i. taken_named (r.s - 1) takes x i)) (λ v k.
         test_by img op r Ends (is_passed v.word) _ (see invalid) (replaced_kept img op r p next 1 v.word img) tt)
 
-  module _ (takes : Takes op r (r.s - 1)) (follows : Follows op) where
+  module _ (takes : OperatorTakes op r (r.s - 1)) (follows : OperatorFollows op) where
     loaded_kept : (x : Word) → IsAt img op r (r.s - 1) x → (o : Option Descriptor) → as_indexed x ≡ o → TestKeeps img op r Any (loaded r x o)
     loaded_kept x i (Some d) e = element_kept d.address d.length (top_described img op r (r.s - 1) x i d (indexed_is x d e))
     loaded_kept x i None e =
@@ -153,7 +153,7 @@ module _ (img : Image) (op : Operator) (r : Registers) (p next : ℕ) where
 
     array_in_kept : (mother : Bool) (w : Word) (o : Option Descriptor) → as_descriptor w ≡ o → IsDescribed img op r w → LookKeeps img op r IsRow (array_in mother o)
     array_in_kept mother w None e i = tt
-    array_in_kept mother w (Some d) e i = look_by img op r IsRow (is_array mother d) (found d) invalid (i d e) tt
+    array_in_kept mother w (Some d) e i = look_by img op r IsRow (is_array_descriptor mother d) (found d) invalid (i d e) tt
 
     array_kept : (mother : Bool) (w : Word) → IsAt img op r (r.s - 1) w → (o : Option Cell) → cell_of r w ≡ o → LookKeeps img op r IsRow (array_by r mother w o)
     array_kept mother w i None e = array_in_kept mother w (as_descriptor w) refl (top_described img op r (r.s - 1) w i)
@@ -175,7 +175,7 @@ module _ (img : Image) (op : Operator) (r : Registers) (p next : ℕ) where
     index_or_kept None = tt
     index_or_kept (Some n) = tt
 
-    pub index_kept : ProgramKeeps img op r p (index r next)
+    pub index_kept : ProgramKeeps img op r p (index_program r next)
     index_kept =
         see_then img op r IsSubscripted Ends (subscripted r false) _ (subscripted_kept false) (λ t k.
         test_then img op r Any Ends (index_or_fault (index_in t.subscript t.array.length)) _ (index_or_kept (index_in t.subscript t.array.length)) (λ n u.
@@ -209,17 +209,17 @@ module _ (img : Image) (op : Operator) (r : Registers) (p next : ℕ) where
   after_store_kept false x now = (refl, (refl, tt))
   after_store_kept true x now = (refl, (refl, (refl, tt)))
 
-  module _ (takes : Takes op r (r.s - 2)) (stores : Stores op) (keeps : Bool) where
+  module _ (takes : OperatorTakes op r (r.s - 2)) (stores : Stores op) (keeps : Bool) where
     store_by_kept : (x y : Word) → IsAt img op r (r.s - 2) y → (o : Option Descriptor) → as_indexed y ≡ o → ProgramKeeps img op r p (store_by keeps r next x y o)
     store_by_kept x y i (Some d) e =
         let reaches : ReachesRow img op r d.address = top_described img op r (r.s - 2) y i d (indexed_is y d e) in
         test_then img op r Any Ends (element d.address d.length) _ (element_kept d.address d.length reaches) (λ old t.
-        (reaches, after_store_kept keeps x (written p (writes.write_row d.address d.length x) img)))
+        (reaches, after_store_kept keeps x (write_made p (writes.write_row d.address d.length x) img)))
     store_by_kept x y i None e =
         see_then img op r (IsReached img op r) Ends (named (cell_of r y)) _ (taken_named (r.s - 2) takes y i) (λ v k.
         see_then img op r (λ (w : Word). v.word.tag ≡ 0) Ends (operand_in v.word) _ (operand_kept img op r v.word) (λ old t. (
           inr (record { stores = stores; cell = v.cell; names = k.names; lies = refl; word = v.word; there = k.there; operand = t }),
-          after_store_kept keeps x (written p (writes.save (cell_place v.cell) x) img),
+          after_store_kept keeps x (write_made p (writes.save (cell_place v.cell) x) img),
         )))
 
     pub store_kept : ProgramKeeps img op r p (store keeps r next)
@@ -243,15 +243,15 @@ module _ (img : Image) (op : Operator) (r : Registers) (p next : ℕ) where
       not_critical_kept (0 ∷ []) _
       (frame_follows img op r p 0 (take n (drop from (words_of img.stacks r.stack)))
       (registers (record r { place = next }) (caused_by r.task (end_process r.stack done))) (taken_described img op r p n from)
-      (λ now few. (refl, caused_kept r.task refl (written p (writes.registers (record r { place = next })) now))) img (fewer_now img op r p))
+      (λ now few. (refl, caused_kept r.task refl (write_made p (writes.registers (record r { place = next })) now))) img (fewer_now img op r p))
 
   other_kept : (n from f : ℕ) (words : List Word) → ProgramKeeps img op r p (leave_other r (take n (drop from (words_of img.stacks r.stack))) f words)
   other_kept n from f words =
       see_then img op r Any Ends (leaving (place r.stack f)) _ (leaving_kept img op r (place r.stack f) (own refl)) (λ l t.
       not_critical_kept (f ∷ []) _
-      (frame_follows img op r p f (take n (drop from (words_of img.stacks r.stack))) (cut r.stack f (pushed r.stack words (registers (left r (f + length words) f l) done)))
+      (frame_follows img op r p f (take n (drop from (words_of img.stacks r.stack))) (cut r.stack f (pushed r.stack words (registers (registers_left r (f + length words) f l) done)))
       (taken_described img op r p n from)
-      (λ now few. (refl, pushed_kept img op r p words (registers (left r (f + length words) f l) done) (λ later. (refl, tt)) (written p (writes.cut r.stack f) now)))
+      (λ now few. (refl, pushed_kept img op r p words (registers (registers_left r (f + length words) f l) done) (λ later. (refl, tt)) (write_made p (writes.cut r.stack f) now)))
       img (fewer_now img op r p)))
 
   leave_kept : (words : List Word) → ProgramKeeps img op r p (leave r next words)

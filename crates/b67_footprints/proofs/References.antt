@@ -17,7 +17,7 @@ use Rattle.b67_table.specs.Image.{Image}
 use Rattle.b67_table.specs.Look.{found, stops, valid}
 use Rattle.b67_table.specs.Chains.{place}
 use Rattle.b67_table.specs.References.{cell_place, sirw_cell, reached_in, named, no_second, one_sirw, reached, need, from_top, popped, Two, popped_two, operand_in, invalid}
-use Rattle.b67_footprints.specs.Reaching.{Follows, NamesCell, by_reference, Reaches, own_word, cell_word, ReachesRow, from_stack, from_cell}
+use Rattle.b67_footprints.specs.Reaching.{OperatorFollows, NamesCell, by_reference, OperatorReaches, own_word, cell_word, ReachesRow, from_stack, from_cell}
 use Rattle.b67_footprints.proofs.Going.{LookKeeps, look_then, look_by, look_there}
 
 module _ (img : Image) (op : Operator) (r : Registers) where
@@ -27,7 +27,7 @@ module _ (img : Image) (op : Operator) (r : Registers) where
   abbrev pub IsAt : ℕ → Word → Type 0
   IsAt n w = word_at img.stacks (place r.stack n) ≡ Some w
 
-  pub own_at : (n : ℕ) → Reaches img op r (place r.stack n)
+  pub own_at : (n : ℕ) → OperatorReaches img op r (place r.stack n)
   own_at n = own_word refl
 
   top_kept : (n : ℕ) → LookKeeps img op r (IsAt (r.s - (n + 1))) (from_top r n)
@@ -69,13 +69,13 @@ module _ (img : Image) (op : Operator) (r : Registers) where
   through : (s : Sirw) → NamesCell img op r (sirw_cell s) → (c : Cell) → Some (sirw_cell s) ≡ Some c → NamesCell img op r c
   through s i c e = let same : sirw_cell s ≡ c = cc in subst (NamesCell img op r) same i
 
-  one_kept : Follows op → (o : Option Sirw) (v : Reached) → as_sirw v.word ≡ o → IsReached v → LookKeeps img op r IsReached (one_sirw o v)
+  one_kept : OperatorFollows op → (o : Option Sirw) (v : Reached) → as_sirw v.word ≡ o → IsReached v → LookKeeps img op r IsReached (one_sirw o v)
   one_kept follows None v e i = i
   one_kept follows (Some s) v e i =
       look_then img op r IsReached IsReached (named (Some (sirw_cell s))) (λ (x : Reached). no_second (as_sirw x.word) x)
       (named_kept (Some (sirw_cell s)) (through s (by_reference v.word s follows i.names i.there e))) (λ x k. second_kept (as_sirw x.word) x k)
 
-  pub reached_kept : Follows op → (o : Option Cell) → ((c : Cell) → o ≡ Some c → NamesCell img op r c) → LookKeeps img op r IsReached (reached o)
+  pub reached_kept : OperatorFollows op → (o : Option Cell) → ((c : Cell) → o ≡ Some c → NamesCell img op r c) → LookKeeps img op r IsReached (reached o)
   reached_kept follows o k =
       look_then img op r IsReached IsReached (named o) (λ (v : Reached). one_sirw (as_sirw v.word) v) (named_kept o k)
       (λ v i. one_kept follows (as_sirw v.word) v refl i)

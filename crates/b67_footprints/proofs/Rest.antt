@@ -11,7 +11,7 @@ use Rattle.b67_deeds.specs.declared.EventTest.TheVariants as test
 use Rattle.b67_deeds.specs.Deeds.{EventDeed, acts, tests, Next, goes, waits, procures, deed}
 use Rattle.b67_deeds.specs.Events.{EventState, joined, left_by}
 use Rattle.b67_deeds.specs.Listed.{IsListed}
-use Rattle.b67_events.specs.Events.{Event, event_at, state_at, same_place, is_from, is_among, joined_all, withdrawn, changed_by, with_state, deed_at}
+use Rattle.b67_events.specs.Events.{Event, event_at, state_at, same_place, is_from, event_is_among, joined_all, withdrawn, changed_by, with_state, deed_at}
 use Rattle.b67_events.proofs.EventLaws.{one_event}
 use Rattle.b67_events.proofs.Listed.{same_place-true}
 use Rattle.b67_word.specs.declared.Place.{Place}
@@ -31,10 +31,10 @@ use Rattle.b67_table.specs.Private.{floor}
 use Rattle.b67_table.specs.Chains.{place}
 use Rattle.b67_table.specs.Image.{Image, private_of, with_private}
 use Rattle.b67_table.specs.Questions.{told}
-use Rattle.b67_table.specs.Writes.{Write, written, able_again, waiting, states_after}
+use Rattle.b67_table.specs.Writes.{Write, write_made, able_again, waiting, states_after}
 use Rattle.b67_table.specs.Writes as writes
 use Rattle.b67_table.specs.Program.{Change, done, look_up, write, Program, asked, changed, effect_of, does}
-use Rattle.b67_table.specs.Rows.{Row as OpRow, private_part, action, row}
+use Rattle.b67_table.specs.Rows.{TableRow, private_part, action, row}
 use Rattle.b67_table.specs.Table.{raw, operator_at, by_row, by_operator, by_registers}
 use Rattle.b67_table.specs.Sound.{Lives}
 use Rattle.b67_table.proofs.Keeping.{Gives}
@@ -83,7 +83,7 @@ module _ (img : Image) (op : Operator) (r : Registers) (p : ℕ) where
     save_word now y w (inl k) = elsewhere now.stacks y.stack _ (not_own y.stack k)
     save_word now y w (inr k) = saved_beside now.stacks x y w (λ e. no_operand (subst (NamesOperand img op r) (sym e) k))
 
-    written_word : (w : Write) (now : Image) → MayWrite img op r w → word_at (written p w now).stacks x ≡ word_at now.stacks x
+    written_word : (w : Write) (now : Image) → MayWrite img op r w → word_at (write_made p w now).stacks x ≡ word_at now.stacks x
     written_word (writes.save y w) now k = save_word now y w k
     written_word (writes.cut stack n) now k = elsewhere now.stacks stack _ (not_own stack k)
     written_word (writes.push stack w) now k = elsewhere now.stacks stack _ (not_own stack k)
@@ -104,7 +104,7 @@ module _ (img : Image) (op : Operator) (r : Registers) (p : ℕ) where
     pub changed_word : (c : Change) (now : Image) → ChangeKeeps img op r p c now → word_at (changed p c now).stacks x ≡ word_at now.stacks x
     changed_word done now k = refl
     changed_word (look_up q more) now k = changed_word (more (told now q)) now k.1
-    changed_word (write w next) now k = changed_word next (written p w now) k.1 ∙ written_word w now k.0
+    changed_word (write w next) now k = changed_word next (write_made p w now) k.1 ∙ written_word w now k.0
 
   -- ---- rows
 
@@ -112,7 +112,7 @@ module _ (img : Image) (op : Operator) (r : Registers) (p : ℕ) where
     not_reached : (m : ℕ) → ReachesRow img op r m → n ≢ m
     not_reached m k e = unreached (subst (ReachesRow img op r) (sym e) k)
 
-    written_row : (w : Write) (now : Image) → MayWrite img op r w → row_at (written p w now).rows n ≡ row_at now.rows n
+    written_row : (w : Write) (now : Image) → MayWrite img op r w → row_at (write_made p w now).rows n ≡ row_at now.rows n
     written_row (writes.save y w) now k = refl
     written_row (writes.cut stack m) now k = refl
     written_row (writes.push stack w) now k = refl
@@ -132,7 +132,7 @@ module _ (img : Image) (op : Operator) (r : Registers) (p : ℕ) where
     pub changed_row : (c : Change) (now : Image) → ChangeKeeps img op r p c now → row_at (changed p c now).rows n ≡ row_at now.rows n
     changed_row done now k = refl
     changed_row (look_up q more) now k = changed_row (more (told now q)) now k.1
-    changed_row (write w next) now k = changed_row next (written p w now) k.1 ∙ written_row w now k.0
+    changed_row (write w next) now k = changed_row next (write_made p w now) k.1 ∙ written_row w now k.0
 
 -- ---- states
 
@@ -176,7 +176,7 @@ module _ (p q : ℕ) (other : q ≢ p) where
   waiting_stays waits y ss h = (inl (get_numbered_other ss p q (WaitsFor y) other), omega (arith, h, length_states ss p (WaitsFor y)))
   waiting_stays procures y ss h = (inl (get_numbered_other ss p q (Procures y) other), omega (arith, h, length_states ss p (Procures y)))
 
-  written_states : (w : Write) (now : Image) → q ≤ length now.states → StaysOrAble p q other now.states (written p w now).states
+  written_states : (w : Write) (now : Image) → q ≤ length now.states → StaysOrAble p q other now.states (write_made p w now).states
   written_states (writes.save y w) now h = (inl refl, h)
   written_states (writes.cut stack n) now h = (inl refl, h)
   written_states (writes.push stack w) now h = (inl refl, h)
@@ -201,7 +201,7 @@ module _ (p q : ℕ) (other : q ≢ p) where
   changed_all done now h = (inl refl, h)
   changed_all (look_up s more) now h = changed_all (more (told now s)) now h
   changed_all (write w next) now h =
-      let k = written_states w now h in stays_then p q other now.states (written p w now).states (changed p next (written p w now)).states k (changed_all next (written p w now) k.1)
+      let k = written_states w now h in stays_then p q other now.states (write_made p w now).states (changed p next (write_made p w now)).states k (changed_all next (write_made p w now) k.1)
 
   pub changed_states : (c : Change) (now : Image) → q ≤ length now.states →
       (numbered (changed p c now).states q ≡ numbered now.states q) ⊎ (numbered (changed p c now).states q ≡ Some Able)
@@ -306,11 +306,11 @@ module _ (img : Image) (op : Operator) (r : Registers) (p : ℕ) (x : Place) (aw
   changed_event (Some change) y es other = one_event.elsewhere y x (with_state change) (λ e. refl) other es
 
   -- a wait for several events that it reaches changes none else
-  not_among : (places : List Place) → ReachesAll img op r places → is_among places x ≡ false
+  not_among : (places : List Place) → ReachesAll img op r places → event_is_among places x ≡ false
   not_among [] k = refl
   not_among (y ∷ places) k = by (not_among places k.1) (same_place y x) refl
     where
-      by : is_among places x ≡ false → (b : Bool) → same_place y x ≡ b → (b || is_among places x) ≡ false
+      by : event_is_among places x ≡ false → (b : Bool) → same_place y x ≡ b → (b || event_is_among places x) ≡ false
       by rest true e = absurd (not_here y k.0 (sym (same_place-true y x e)))
       by rest false e = rest
 
@@ -318,10 +318,10 @@ module _ (img : Image) (op : Operator) (r : Registers) (p : ℕ) (x : Place) (aw
   joined_event places es k = mapped_at join stays x es ∙ by (event_at x es) refl
     where
       join : Event → Event
-      join e = if is_among places e.place then with_state (joined p) e else e
+      join e = if event_is_among places e.place then with_state (joined p) e else e
 
       stays : (e : Event) → (join e).place ≡ e.place
-      stays e = by_test (is_among places e.place)
+      stays e = by_test (event_is_among places e.place)
         where
           by_test : (b : Bool) → (if b then with_state (joined p) e else e).place ≡ e.place
           by_test true = refl
@@ -329,24 +329,24 @@ module _ (img : Image) (op : Operator) (r : Registers) (p : ℕ) (x : Place) (aw
 
       by : (o : Option Event) → event_at x es ≡ o → option_map join o ≡ o
       by None e = refl
-      by (Some f) e = ap (λ (b : Bool). Some (if b then with_state (joined p) f else f)) (ap (is_among places) (event_place x es f e) ∙ not_among places k)
+      by (Some f) e = ap (λ (b : Bool). Some (if b then with_state (joined p) f else f)) (ap (event_is_among places) (event_place x es f e) ∙ not_among places k)
 
   -- one write
 
   stays_so : (now after : Image) → event_at x after.events ≡ event_at x now.events → LeavesEvent now after p x
   stays_so now after e = record { left = []; is = e ∙ sym (nobody_left (event_at x now.events)); able = λ k i other low h. absurd i }
 
-  written_event : (w : Write) (now : Image) → MayWrite img op r w → LeavesEvent now (written p w now) p x
-  written_event (writes.save y w) now k = stays_so now (written p (writes.save y w) now) refl
-  written_event (writes.cut stack n) now k = stays_so now (written p (writes.cut stack n) now) refl
-  written_event (writes.push stack w) now k = stays_so now (written p (writes.push stack w) now) refl
-  written_event (writes.registers q) now k = stays_so now (written p (writes.registers q) now) refl
-  written_event (writes.open_row n count counted) now k = stays_so now (written p (writes.open_row n count counted) now) refl
-  written_event (writes.write_row n at w) now k = stays_so now (written p (writes.write_row n at w) now) refl
-  written_event (writes.close_row n) now k = stays_so now (written p (writes.close_row n) now) refl
-  written_event (writes.open_event y) now k = stays_so now (written p (writes.open_event y) now) (one_event.opened_elsewhere y x (not_there y k) now.events)
+  written_event : (w : Write) (now : Image) → MayWrite img op r w → LeavesEvent now (write_made p w now) p x
+  written_event (writes.save y w) now k = stays_so now (write_made p (writes.save y w) now) refl
+  written_event (writes.cut stack n) now k = stays_so now (write_made p (writes.cut stack n) now) refl
+  written_event (writes.push stack w) now k = stays_so now (write_made p (writes.push stack w) now) refl
+  written_event (writes.registers q) now k = stays_so now (write_made p (writes.registers q) now) refl
+  written_event (writes.open_row n count counted) now k = stays_so now (write_made p (writes.open_row n count counted) now) refl
+  written_event (writes.write_row n at w) now k = stays_so now (write_made p (writes.write_row n at w) now) refl
+  written_event (writes.close_row n) now k = stays_so now (write_made p (writes.close_row n) now) refl
+  written_event (writes.open_event y) now k = stays_so now (write_made p (writes.open_event y) now) (one_event.opened_elsewhere y x (not_there y k) now.events)
   written_event (writes.close_events stack at) now k =
-      stays_so now (written p (writes.close_events stack at) now)
+      stays_so now (write_made p (writes.close_events stack at) now)
       (one_event.closed_there stack at x now.events ∙ ap (λ (b : Bool). if b then None else event_at x now.events) (away_from stack at k))
   written_event (writes.event_deed d y) now k =
       let done_so = deed_at d p y now.events in
@@ -358,11 +358,11 @@ module _ (img : Image) (op : Operator) (r : Registers) (p : ℕ) (x : Place) (aw
         able = λ j i other low h.
             able_listed p j other done_so.frees (waiting done_so.next y p now.states) (withdrawn_freed d p (state_at y now.events) j i) low (waiting_stays p j other done_so.next y now.states h).1;
       }
-  written_event (writes.wait_any places) now k = stays_so now (written p (writes.wait_any places) now) (joined_event places now.events k)
-  written_event writes.go_on now k = stays_so now (written p writes.go_on now) refl
-  written_event (writes.line bytes) now k = stays_so now (written p (writes.line bytes) now) refl
-  written_event (writes.start q words) now k = stays_so now (written p (writes.start q words) now) refl
-  written_event (writes.end_process stack) now k = stays_so now (written p (writes.end_process stack) now) refl
+  written_event (writes.wait_any places) now k = stays_so now (write_made p (writes.wait_any places) now) (joined_event places now.events k)
+  written_event writes.go_on now k = stays_so now (write_made p writes.go_on now) refl
+  written_event (writes.line bytes) now k = stays_so now (write_made p (writes.line bytes) now) refl
+  written_event (writes.start q words) now k = stays_so now (write_made p (writes.start q words) now) refl
+  written_event (writes.end_process stack) now k = stays_so now (write_made p (writes.end_process stack) now) refl
 
   -- one after the other
   then_left : (c : Change) (now mid : Image) → LeavesEvent now mid p x → ((j : ℕ) → j ≢ p → j ≤ length now.states → j ≤ length mid.states) → LeavesEvent mid (changed p c mid) p x
@@ -381,7 +381,7 @@ module _ (img : Image) (op : Operator) (r : Registers) (p : ℕ) (x : Place) (aw
   pub changed_events : (c : Change) (now : Image) → ChangeKeeps img op r p c now → LeavesEvent now (changed p c now) p x
   changed_events done now k = stays_so now now refl
   changed_events (look_up q more) now k = changed_events (more (told now q)) now k.1
-  changed_events (write w next) now k = then_left next now (written p w now) (written_event w now k.0) (λ j other h. (written_states p j other w now h).1) (changed_events next (written p w now) k.1)
+  changed_events (write w next) now k = then_left next now (write_made p w now) (written_event w now k.0) (λ j other h. (written_states p j other w now h).1) (changed_events next (write_made p w now) k.1)
 
 -- ---- registers
 
@@ -391,7 +391,7 @@ length_numbered rs (suc k) r = length-set rs k r
 
 module _ (p q : ℕ) (other : q ≢ p) where
   -- the registers of another are as they were, and its number is still among those that there have been
-  written_registers : (w : Write) (now : Image) → q ≤ length now.regs → (numbered (written p w now).regs q ≡ numbered now.regs q) × (q ≤ length (written p w now).regs)
+  written_registers : (w : Write) (now : Image) → q ≤ length now.regs → (numbered (write_made p w now).regs q ≡ numbered now.regs q) × (q ≤ length (write_made p w now).regs)
   written_registers (writes.save y w) now h = (refl, h)
   written_registers (writes.cut stack n) now h = (refl, h)
   written_registers (writes.push stack w) now h = (refl, h)
@@ -412,7 +412,7 @@ module _ (p q : ℕ) (other : q ≢ p) where
   changed_registers done now h = refl
   changed_registers (look_up s more) now h = changed_registers (more (told now s)) now h
   changed_registers (write w next) now h =
-      let k = written_registers w now h in changed_registers next (written p w now) k.1 ∙ k.0
+      let k = written_registers w now h in changed_registers next (write_made p w now) k.1 ∙ k.0
 
 -- ---- operators
 
@@ -444,7 +444,7 @@ module _ (img new : Image) (p : ℕ) (op : Operator) (r : Registers) where
     states = λ q other h. inl refl;
   }
 
-by_rows : (code : Code) (img new : Image) (p : ℕ) (op : Operator) (r : Registers) (next : ℕ) → operator_at code r ≡ Ok (op, next) → (w : OpRow) → row op r.place ≡ w
+by_rows : (code : Code) (img new : Image) (p : ℕ) (op : Operator) (r : Registers) (next : ℕ) → operator_at code r ≡ Ok (op, next) → (w : TableRow) → row op r.place ≡ w
     → RowKeeps w code img op p r next → by_row w code img p r next ≡ gives new → LeavesTheRest img new p op r
 by_rows code img new p op r next stands (private_part change) is k e =
     let t = put_by img new p (floor r) (change next (private_of img r)) e in

@@ -8,13 +8,13 @@ use Rattle.b67_table.specs.Effect.{Effect, gives, faults, interrupts}
 use Rattle.b67_table.specs.Image.{Image}
 use Rattle.b67_table.specs.Questions.{Question, told}
 use Rattle.b67_table.specs.Questions as questions
-use Rattle.b67_table.specs.Writes.{Write, written}
+use Rattle.b67_table.specs.Writes.{Write, write_made}
 use Rattle.b67_table.specs.Writes as writes
 use Rattle.b67_table.specs.Program.{Test, answer, interrupt, fault, ask, asked, Change, done, look_up, write, Program}
-use Rattle.b67_table.specs.Rows.{Row, private_part, action, row}
-use Rattle.b67_table.specs.Touches.{Reads, Changes, TestReads, ChangeTouches, EffectTouches, Touches, RowTouches}
+use Rattle.b67_table.specs.Rows.{TableRow, private_part, action, row}
+use Rattle.b67_table.specs.Touches.{QuestionReads, Changes, TestReads, ChangeTouches, EffectTouches, Touches, RowTouches}
 use Rattle.b67_table.proofs.Keeping.{Gives}
-use Rattle.b67_footprints.specs.Reaching.{Reaches, own_word, cell_word}
+use Rattle.b67_footprints.specs.Reaching.{OperatorReaches, own_word, cell_word}
 use Rattle.b67_footprints.specs.Keeping.{MayAsk, MayWrite, NamesOperand, TestKeeps, ChangeKeeps, ProgramKeeps, RowKeeps}
 use Rattle.b67_footprints.specs.Laws.{OperatorsTouchWhatTheyReach}
 use Rattle.b67_footprints.proofs.Every.{operators_keep}
@@ -28,13 +28,13 @@ keeps_gives img op r Q (ask q more) k = keeps_gives img op r Q (more (told img q
 
 module _ (img : Image) (op : Operator) (r : Registers) (p : ℕ) (x : Place) where
   abbrev Comes : Type 0
-  Comes = Reaches img op r x ⊎ (x.stack ≡ img.started + 1)
+  Comes = OperatorReaches img op r x ⊎ (x.stack ≡ img.started + 1)
 
   stack_same : (y : Place) → x ≡ y → x.stack ≡ y.stack
   stack_same y e = ap (λ (z : Place). z.stack) e
 
-  reads_reached : (q : Question) → Reads q x → MayAsk img op r q → Reaches img op r x
-  reads_reached (questions.word y) e k = subst (Reaches img op r) (sym e) k
+  reads_reached : (q : Question) → QuestionReads q x → MayAsk img op r q → OperatorReaches img op r x
+  reads_reached (questions.word y) e k = subst (OperatorReaches img op r) (sym e) k
   reads_reached (questions.words y n) e k = own_word (e.0 ∙ k)
   reads_reached (questions.row n) e k = absurd e
   reads_reached questions.free_row e k = absurd e
@@ -49,7 +49,7 @@ module _ (img : Image) (op : Operator) (r : Registers) (p : ℕ) (x : Place) whe
 
   saved_reached : (y : Place) → x ≡ y → (y.stack ≡ r.stack) ⊎ NamesOperand img op r y → Comes
   saved_reached y e (inl own) = inl (own_word (stack_same y e ∙ own))
-  saved_reached y e (inr k) = inl (subst (Reaches img op r) (sym (e ∙ k.lies)) (cell_word k.cell k.names))
+  saved_reached y e (inr k) = inl (subst (OperatorReaches img op r) (sym (e ∙ k.lies)) (cell_word k.cell k.names))
 
   changes_reached : (w : Write) (now : Image) → Changes w now x → MayWrite img op r w → Comes
   changes_reached (writes.save y w) now e k = saved_reached y e k
@@ -68,7 +68,7 @@ module _ (img : Image) (op : Operator) (r : Registers) (p : ℕ) (x : Place) whe
   changes_reached (writes.start q words) now e k = inr (e ∙ k)
   changes_reached (writes.end_process stack) now e k = inl (own_word (e ∙ k))
 
-  test_reached : {A : Type 0} (Q : A → Type 0) (t : Test A) → TestReads img t x → TestKeeps img op r Q t → Reaches img op r x
+  test_reached : {A : Type 0} (Q : A → Type 0) (t : Test A) → TestReads img t x → TestKeeps img op r Q t → OperatorReaches img op r x
   test_reached Q (answer a) e k = absurd e
   test_reached Q (interrupt kind) e k = absurd e
   test_reached Q (fault kind) e k = absurd e
@@ -80,7 +80,7 @@ module _ (img : Image) (op : Operator) (r : Registers) (p : ℕ) (x : Place) whe
   change_reached (look_up q more) now (inl e) k = inl (reads_reached q e k.0)
   change_reached (look_up q more) now (inr e) k = change_reached (more (told now q)) now e k.1
   change_reached (write w next) now (inl e) k = changes_reached w now e k.0
-  change_reached (write w next) now (inr e) k = change_reached next (written p w now) e k.1
+  change_reached (write w next) now (inr e) k = change_reached next (write_made p w now) e k.1
 
   effect_reached : (e : Effect Change) → EffectTouches p img e x → Gives (λ (change : Change). ChangeKeeps img op r p change img) e → Comes
   effect_reached (gives c) t k = change_reached c img t k
@@ -92,7 +92,7 @@ module _ (img : Image) (op : Operator) (r : Registers) (p : ℕ) (x : Place) whe
   program_reached program (inr t) k =
       effect_reached (asked img program) t (keeps_gives img op r (λ (change : Change). ChangeKeeps img op r p change img) program k)
 
-  pub row_reached : (w : Row) (code : Code) (next : ℕ) → RowTouches w code img p r next x → RowKeeps w code img op p r next → Reaches img op r x ⊎ (x.stack ≡ img.started + 1)
+  pub row_reached : (w : TableRow) (code : Code) (next : ℕ) → RowTouches w code img p r next x → RowKeeps w code img op p r next → OperatorReaches img op r x ⊎ (x.stack ≡ img.started + 1)
   row_reached (private_part f) code next t k = inl (own_word t.0)
   row_reached (action program) code next t k = program_reached (program code r next) t k
 

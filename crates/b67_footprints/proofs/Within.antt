@@ -18,7 +18,7 @@ use Rattle.b67_table.specs.Private.{display_at}
 use Rattle.b67_table.specs.Chains.{place, link_of}
 use Rattle.b67_table.specs.References.{cell_place, couple_cell, sirw_cell, cell_of}
 use Rattle.b67_table.specs.Rows.{level_below}
-use Rattle.b67_footprints.specs.Reaching.{Takes, Follows, IsIntrinsic, NamesCell, by_couple, by_word, by_reference, by_argument, by_its_argument, LeadsTo, own as by_own, shown as by_display, around as by_control, home as by_home, linked as by_link, lower as by_distance, depends as by_dependence, Reaches, own_word, cell_word, mark as at_mark, control as above_mark}
+use Rattle.b67_footprints.specs.Reaching.{OperatorTakes, OperatorFollows, IsIntrinsic, NamesCell, by_couple, by_word, by_reference, by_argument, by_its_argument, OperatorLeadsTo, own as by_own, shown as by_display, around as by_control, home as by_home, linked as by_link, lower as by_distance, depends as by_dependence, OperatorReaches, own_word, cell_word, mark as at_mark, control as above_mark}
 
 module _ (img : Image) (op : Operator) (r : Registers) where
   -- ---- cells
@@ -26,8 +26,8 @@ module _ (img : Image) (op : Operator) (r : Registers) where
   -- the cells of a property are those that are named first, and those to which references in them lead
   pub record AreNamed (C : Cell → Type 0) : Type 0 where
     pub couple : (c : Cell) (couple : Couple) → op ≡ ops.Valc couple → couple_cell r couple.level couple.index ≡ Some c → C c
-    pub taken : (c : Cell) (n : ℕ) (w : Word) → Takes op r n → word_at img.stacks (place r.stack n) ≡ Some w → cell_of r w ≡ Some c → C c
-    pub reference : (b : Cell) (w : Word) (s : Sirw) → Follows op → C b → word_at img.stacks (cell_place b) ≡ Some w → as_sirw w ≡ Some s → C (sirw_cell s)
+    pub taken : (c : Cell) (n : ℕ) (w : Word) → OperatorTakes op r n → word_at img.stacks (place r.stack n) ≡ Some w → cell_of r w ≡ Some c → C c
+    pub reference : (b : Cell) (w : Word) (s : Sirw) → OperatorFollows op → C b → word_at img.stacks (cell_place b) ≡ Some w → as_sirw w ≡ Some s → C (sirw_cell s)
     pub argument : (c : Cell) (v w : Word) (n : ℕ) → op ≡ ops.Plain kinds.Entr → word_at img.stacks (place r.stack (r.f + 1)) ≡ Some v → IsIntrinsic v → r.f + 1 < n
         → word_at img.stacks (place r.stack n) ≡ Some w → cell_of r w ≡ Some c → C c
     pub its_argument : (b c : Cell) (v w : Word) (n : ℕ) → op ≡ ops.Plain kinds.Entr → C b → word_at img.stacks (cell_place b) ≡ Some v → IsIntrinsic v → r.f + 1 < n
@@ -55,7 +55,7 @@ module _ (img : Image) (op : Operator) (r : Registers) where
     pub depends : (f c : Place) → M f → critical_of img.regs f.stack ≡ Some c → M c
 
   module _ (M : Place → Type 0) (are : AreLed M) where
-    pub led_are : {f : Place} → LeadsTo img op r f → M f
+    pub led_are : {f : Place} → OperatorLeadsTo img op r f → M f
     led_are {f} (by_own e) = are.own f e
     led_are {f} (by_display level low high e) = are.shown f level low high e
     led_are {f} (by_control w pcw is i k e) = are.around f w pcw is i k e
@@ -69,9 +69,9 @@ module _ (img : Image) (op : Operator) (r : Registers) where
   pub record AreReached (W : Place → Type 0) : Type 0 where
     pub own : (x : Place) → x.stack ≡ r.stack → W x
     pub cell : (c : Cell) → NamesCell img op r c → W (cell_place c)
-    pub mark : (f : Place) → LeadsTo img op r f → W f × W (place f.stack (f.at + 1))
+    pub mark : (f : Place) → OperatorLeadsTo img op r f → W f × W (place f.stack (f.at + 1))
 
-  pub reached_are : (W : Place → Type 0) → AreReached W → {x : Place} → Reaches img op r x → W x
+  pub reached_are : (W : Place → Type 0) → AreReached W → {x : Place} → OperatorReaches img op r x → W x
   reached_are W are {x} (own_word e) = are.own x e
   reached_are W are (cell_word c k) = are.cell c k
   reached_are W are {x} (at_mark k) = (are.mark x k).0

@@ -13,11 +13,11 @@ use Rattle.b67_table.specs.References.{cell_place}
 use Rattle.b67_table.specs.Image.{Image}
 use Rattle.b67_table.specs.Questions.{Question, told}
 use Rattle.b67_table.specs.Questions as questions
-use Rattle.b67_table.specs.Writes.{Write, written}
+use Rattle.b67_table.specs.Writes.{Write, write_made}
 use Rattle.b67_table.specs.Writes as writes
 use Rattle.b67_table.specs.Program.{Test, answer, interrupt, fault, ask, Change, done, look_up, write, Program}
-use Rattle.b67_table.specs.Rows.{Row, private_part, action}
-use Rattle.b67_footprints.specs.Reaching.{NamesCell, Reaches, ReachesRow, ReachesEvent}
+use Rattle.b67_table.specs.Rows.{TableRow, private_part, action}
+use Rattle.b67_footprints.specs.Reaching.{NamesCell, OperatorReaches, ReachesRow, ReachesEvent}
 
 -- all of these events
 abbrev pub ReachesAll : Image → Operator → Registers → List Place → Type 0
@@ -27,7 +27,7 @@ ReachesAll img op r (x ∷ xs) = ReachesEvent img op r x × ReachesAll img op r 
 -- Single words that it reaches, and many words of its own stack; rows and events that it reaches; its own woken number. What is public of all
 -- processes anyone may ask.
 abbrev pub MayAsk : Image → Operator → Registers → Question → Type 0
-MayAsk img op r (questions.word x) = Reaches img op r x
+MayAsk img op r (questions.word x) = OperatorReaches img op r x
 MayAsk img op r (questions.words x n) = x.stack ≡ r.stack
 MayAsk img op r (questions.row n) = ReachesRow img op r n
 MayAsk img op r questions.free_row = Unit {0}
@@ -88,13 +88,13 @@ TestKeeps img op r Q (ask q more) = MayAsk img op r q × TestKeeps img op r Q (m
 abbrev pub ChangeKeeps : Image → Operator → Registers → ℕ → Change → Image → Type 0
 ChangeKeeps img op r p done now = Unit {0}
 ChangeKeeps img op r p (look_up q more) now = MayAsk img op r q × ChangeKeeps img op r p (more (told now q)) now
-ChangeKeeps img op r p (write w next) now = MayWrite img op r w × ChangeKeeps img op r p next (written p w now)
+ChangeKeeps img op r p (write w next) now = MayWrite img op r w × ChangeKeeps img op r p next (write_made p w now)
 
 -- a program asks and writes only what it may
 abbrev pub ProgramKeeps : Image → Operator → Registers → ℕ → Program → Type 0
 ProgramKeeps img op r p program = TestKeeps img op r (λ (change : Change). ChangeKeeps img op r p change img) program
 
 -- so does a row; a private operator is a function of its own private part
-abbrev pub RowKeeps : Row → Code → Image → Operator → ℕ → Registers → ℕ → Type 0
+abbrev pub RowKeeps : TableRow → Code → Image → Operator → ℕ → Registers → ℕ → Type 0
 RowKeeps (private_part f) code img op p r next = Unit {0}
 RowKeeps (action program) code img op p r next = ProgramKeeps img op r p (program code r next)

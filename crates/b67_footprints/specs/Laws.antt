@@ -17,13 +17,13 @@ use Rattle.b67_table.specs.Chains.{place}
 use Rattle.b67_table.specs.References.{cell_place}
 use Rattle.b67_table.specs.Effect.{gives}
 use Rattle.b67_table.specs.Image.{Image, private_of}
-use Rattle.b67_table.specs.Privacy.{Stands}
+use Rattle.b67_table.specs.Privacy.{ProcessStands}
 use Rattle.b67_table.specs.Rows.{row}
 use Rattle.b67_table.specs.Table.{raw, operator_at, class_at}
 use Rattle.b67_table.specs.Touches.{IsPrivate}
 use Rattle.b67_table.specs.Sound.{Lives, OperatorTouches}
 use Rattle.b67_table.specs.Valid.{IsValid}
-use Rattle.b67_footprints.specs.Reaching.{NamesCell, LeadsTo, Reaches, ReachesRow, ReachesEvent}
+use Rattle.b67_footprints.specs.Reaching.{NamesCell, OperatorLeadsTo, OperatorReaches, ReachesRow, ReachesEvent}
 use Rattle.b67_footprints.specs.Keeping.{NamesOperand, RowKeeps}
 
 -- an operator asks and writes only what it may
@@ -33,7 +33,7 @@ OperatorsKeep = (code : Code) (img : Image) (p : ℕ) (r : Registers) (op : Oper
 -- each word that it reads or writes it reaches, or it is one of the stack of the process that it starts
 abbrev pub OperatorsTouchWhatTheyReach : Type 0
 OperatorsTouchWhatTheyReach =
-    (code : Code) (img : Image) (p : ℕ) (x : Place) (t : OperatorTouches code img p x) → Reaches img t.op t.registers x ⊎ (x.stack ≡ img.started + 1)
+    (code : Code) (img : Image) (p : ℕ) (x : Place) (t : OperatorTouches code img p x) → OperatorReaches img t.op t.registers x ⊎ (x.stack ≡ img.started + 1)
 
 -- ---- what is another's
 
@@ -52,7 +52,7 @@ ValidHaveOwnStacks = (code : Code) (img : Image) → IsValid code img → HaveOw
 -- No cell that the operator names, and no mark to which it is led, with the place above it, is in the private part of a process but p.
 pub record ReachesNoOther (img : Image) (p : ℕ) (op : Operator) (r : Registers) : Type 0 where
   pub cells : (c : Cell) → NamesCell img op r c → IsOfNoOther img p (cell_place c)
-  pub marks : (f : Place) → LeadsTo img op r f → IsOfNoOther img p f × IsOfNoOther img p (place f.stack (f.at + 1))
+  pub marks : (f : Place) → OperatorLeadsTo img op r f → IsOfNoOther img p f × IsOfNoOther img p (place f.stack (f.at + 1))
 
 -- So it is with the process's next operator, where it is an action: where references, the display and links lead to cells and frames below floors.
 abbrev pub LeadsBelow : Code → Image → ℕ → Type 0
@@ -67,8 +67,8 @@ OthersStayPrivate =
 -- and leaves its private part and its registers as they are: what it writes into that stack lies below the floor
 abbrev pub PrivatePartsStay : Type 0
 PrivatePartsStay =
-    (code : Code) (img new : Image) (p q : ℕ) (o : Registers) → HaveOwnStacks img → LeadsBelow code img p → p ≢ q → Stands img q o
-    → raw code img p ≡ gives new → Stands new q o × (private_of new o ≡ private_of img o)
+    (code : Code) (img new : Image) (p q : ℕ) (o : Registers) → HaveOwnStacks img → LeadsBelow code img p → p ≢ q → ProcessStands img q o
+    → raw code img p ≡ gives new → ProcessStands new q o × (private_of new o ≡ private_of img o)
 
 -- ---- what is not reached
 

@@ -39,16 +39,16 @@ TakesBy kinds.Ston r n = n ≡ r.s - 2
 TakesBy kinds.Entr r n = n ≡ r.f + 1
 TakesBy _ r n = ⊥
 
-abbrev pub Takes : Operator → Registers → ℕ → Type 0
-Takes (ops.Plain kind) r n = TakesBy kind r n
-Takes _ r n = ⊥
+abbrev pub OperatorTakes : Operator → Registers → ℕ → Type 0
+OperatorTakes (ops.Plain kind) r n = TakesBy kind r n
+OperatorTakes _ r n = ⊥
 
 -- it goes on where the cell that it names holds a reference: all but LODT, STOD and STON do
-abbrev pub Follows : Operator → Type 0
-Follows (ops.Plain kinds.Lodt) = ⊥
-Follows (ops.Plain kinds.Stod) = ⊥
-Follows (ops.Plain kinds.Ston) = ⊥
-Follows _ = Unit {0}
+abbrev pub OperatorFollows : Operator → Type 0
+OperatorFollows (ops.Plain kinds.Lodt) = ⊥
+OperatorFollows (ops.Plain kinds.Stod) = ⊥
+OperatorFollows (ops.Plain kinds.Ston) = ⊥
+OperatorFollows _ = Unit {0}
 
 -- the control word of an intrinsic
 abbrev pub IsIntrinsic : Word → Type 0
@@ -59,10 +59,10 @@ pub data NamesCell (img : Image) (op : Operator) (r : Registers) : Cell → Type
   -- by its couple
   by_couple : {c : Cell} (couple : Couple) → op ≡ ops.Valc couple → couple_cell r couple.level couple.index ≡ Some c → NamesCell img op r c
   -- by a word that it takes
-  by_word : {c : Cell} (n : ℕ) (w : Word) → Takes op r n → word_at img.stacks (place r.stack n) ≡ Some w → cell_of r w ≡ Some c
+  by_word : {c : Cell} (n : ℕ) (w : Word) → OperatorTakes op r n → word_at img.stacks (place r.stack n) ≡ Some w → cell_of r w ≡ Some c
       → NamesCell img op r c
   -- by a reference in a cell that it names
-  by_reference : {b : Cell} (w : Word) (s : Sirw) → Follows op → NamesCell img op r b → word_at img.stacks (cell_place b) ≡ Some w → as_sirw w ≡ Some s
+  by_reference : {b : Cell} (w : Word) (s : Sirw) → OperatorFollows op → NamesCell img op r b → word_at img.stacks (cell_place b) ≡ Some w → as_sirw w ≡ Some s
       → NamesCell img op r (sirw_cell s)
   -- by an argument of an intrinsic that is entered, whose control word stands above the mark at F
   by_argument : {c : Cell} (v w : Word) (n : ℕ) → op ≡ ops.Plain kinds.Entr → word_at img.stacks (place r.stack (r.f + 1)) ≡ Some v → IsIntrinsic v
@@ -74,32 +74,32 @@ pub data NamesCell (img : Image) (op : Operator) (r : Registers) : Cell → Type
 -- ---- frames
 
 -- the operator is led to a mark, or to where one is to stand
-pub data LeadsTo (img : Image) (op : Operator) (r : Registers) : Place → Type 0 where
+pub data OperatorLeadsTo (img : Image) (op : Operator) (r : Registers) : Place → Type 0 where
   -- in its own stack
-  own : {f : Place} → f.stack ≡ r.stack → LeadsTo img op r f
+  own : {f : Place} → f.stack ≡ r.stack → OperatorLeadsTo img op r f
   -- by the display, at a level from 2 to its own
-  shown : {f : Place} (level : ℕ) → 2 ≤ level → level ≤ r.ll → display_at r level ≡ Some f → LeadsTo img op r f
+  shown : {f : Place} (level : ℕ) → 2 ≤ level → level ≤ r.ll → display_at r level ≡ Some f → OperatorLeadsTo img op r f
   -- by the control word of a procedure above the mark at F: to the frame that the display names around the procedure
   around : {f : Place} (w : Word) (pcw : Pcw) → op ≡ ops.Plain kinds.Entr → word_at img.stacks (place r.stack (r.f + 1)) ≡ Some w → as_pcw w ≡ Some pcw
-      → level_below r pcw.level ≡ Some f → LeadsTo img op r f
+      → level_below r pcw.level ≡ Some f → OperatorLeadsTo img op r f
   -- by the control word of a procedure in a cell that it names: to the frame in which that cell lies
   home : (c : Cell) (w : Word) (pcw : Pcw) → NamesCell img op r c → word_at img.stacks (cell_place c) ≡ Some w → as_pcw w ≡ Some pcw
-      → LeadsTo img op r c.frame
+      → OperatorLeadsTo img op r c.frame
   -- by the static link of a mark, and by its distance to the mark below it
-  linked : (f : Place) (w : Word) (m : Mscw) → LeadsTo img op r f → word_at img.stacks f ≡ Some w → as_mscw w ≡ Some m → LeadsTo img op r (link_of m)
-  lower : (f : Place) (w : Word) (m : Mscw) → LeadsTo img op r f → word_at img.stacks f ≡ Some w → as_mscw w ≡ Some m
-      → LeadsTo img op r (place f.stack (f.at - m.df))
+  linked : (f : Place) (w : Word) (m : Mscw) → OperatorLeadsTo img op r f → word_at img.stacks f ≡ Some w → as_mscw w ≡ Some m → OperatorLeadsTo img op r (link_of m)
+  lower : (f : Place) (w : Word) (m : Mscw) → OperatorLeadsTo img op r f → word_at img.stacks f ≡ Some w → as_mscw w ≡ Some m
+      → OperatorLeadsTo img op r (place f.stack (f.at - m.df))
   -- by the critical place of the process whose stack it is
-  depends : {c : Place} (f : Place) → LeadsTo img op r f → critical_of img.regs f.stack ≡ Some c → LeadsTo img op r c
+  depends : {c : Place} (f : Place) → OperatorLeadsTo img op r f → critical_of img.regs f.stack ≡ Some c → OperatorLeadsTo img op r c
 
 -- ---- words
 
 -- the word at a place is in its own stack, in a cell that it names, or is a mark or the control word above one to which it is led
-pub data Reaches (img : Image) (op : Operator) (r : Registers) : Place → Type 0 where
-  own_word : {x : Place} → x.stack ≡ r.stack → Reaches img op r x
-  cell_word : (c : Cell) → NamesCell img op r c → Reaches img op r (cell_place c)
-  mark : {f : Place} → LeadsTo img op r f → Reaches img op r f
-  control : (f : Place) → LeadsTo img op r f → Reaches img op r (place f.stack (f.at + 1))
+pub data OperatorReaches (img : Image) (op : Operator) (r : Registers) : Place → Type 0 where
+  own_word : {x : Place} → x.stack ≡ r.stack → OperatorReaches img op r x
+  cell_word : (c : Cell) → NamesCell img op r c → OperatorReaches img op r (cell_place c)
+  mark : {f : Place} → OperatorLeadsTo img op r f → OperatorReaches img op r f
+  control : (f : Place) → OperatorLeadsTo img op r f → OperatorReaches img op r (place f.stack (f.at + 1))
 
 -- ---- rows
 

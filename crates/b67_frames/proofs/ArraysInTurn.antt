@@ -1,6 +1,6 @@
 -- Arrays are made one after another, each among the rows that the one before leaves.
 use Rattle.std.proofs.Common.{◌≡◌, refl, sym, ap, ◌∙◌, ℕ, zero, suc, ◌+◌, ◌*◌, ◌≤◌, List, [], ◌∷◌, ◌++◌, length, Option, Some, None, arith}
-use Rattle.b67_frames.proofs.Prelude.{map, slice_get, length-replicate, Kind, Named, PPair, initial_value, Bounds, elements_of, new_arrays, NamedCell, Made, lows_of, made_in, Word, Row, Rows, row_at, row_limit, counted_words, some_same, none_some, Allotted, numbers_of, AreSized, AreMade, HoldElements, open_rows, rows_of_bounds}
+use Rattle.b67_frames.proofs.Prelude.{map, slice_get, length-replicate, Kind, Named, PPair, initial_value, Bounds, elements_of, new_arrays, NamedCell, Made, lows_of, made_in, Word, Row, Rows, row_at, row_limit, counted_words, some_same, none_some, Allotted, row_numbers_of, AreSized, AreMade, HoldElements, open_rows, rows_of_bounds}
 use Rattle.b67_frames.proofs.ArraySizes.{HasDimensions, extents_of}
 use Rattle.b67_frames.proofs.ArrayRows.{array_rows, arrays_rows, arrays_allotted, arrays_descriptors}
 use Rattle.b67_frames.proofs.MotherRows.{open_apart}
@@ -37,15 +37,15 @@ made_both (d ∷ ds) (c ∷ cells) (a ∷ as') (w ∷ ws) es more bs vs made oth
 -- Between these rows and those so many arrays are made, and rows that were open stay as they are.
 pub record AreAdded (kind : Kind) (bs : List Bounds) (rows after : Rows) (as' : List Allotted) : Type 0 where
   pub kept : (n : ℕ) (row : Row) → row_at rows n ≡ Some row → row_at after n ≡ Some row
-  pub free : (j l n : ℕ) (a : Allotted) → slice_get as' j ≡ Some a → slice_get (numbers_of a) l ≡ Some n → row_at rows n ≡ None
-  pub apart : (i j k l n : ℕ) (a b : Allotted) → slice_get as' i ≡ Some a → slice_get as' j ≡ Some b → slice_get (numbers_of a) k ≡ Some n → slice_get (numbers_of b) l ≡ Some n → (i ≡ j) × (k ≡ l)
+  pub free : (j l n : ℕ) (a : Allotted) → slice_get as' j ≡ Some a → slice_get (row_numbers_of a) l ≡ Some n → row_at rows n ≡ None
+  pub apart : (i j k l n : ℕ) (a b : Allotted) → slice_get as' i ≡ Some a → slice_get as' j ≡ Some b → slice_get (row_numbers_of a) k ≡ Some n → slice_get (row_numbers_of b) l ≡ Some n → (i ≡ j) × (k ≡ l)
   pub holds : (j : ℕ) (a : Allotted) → slice_get as' j ≡ Some a → HoldElements after kind (new_cell kind bs) a
   pub counted : counted_words after ≡ counted_words rows + length as' * elements_of bs
   pub opened : open_rows after ≡ open_rows rows + length as' * rows_of_bounds bs
 
 module _ (kind : Kind) (bs : List Bounds) (rows between after : Rows) (a : Allotted) (as' : List Allotted) (word : Word) (one : IsAdded kind (new_cell kind bs) rows between a word) (rest : AreAdded kind bs between after as') where
   -- a row of the first is open between, and one of the others is free there
-  first_apart : (j k l n : ℕ) (b : Allotted) → slice_get as' j ≡ Some b → slice_get (numbers_of a) k ≡ Some n → slice_get (numbers_of b) l ≡ Some n → ⊥
+  first_apart : (j k l n : ℕ) (b : Allotted) → slice_get as' j ≡ Some b → slice_get (row_numbers_of a) k ≡ Some n → slice_get (row_numbers_of b) l ≡ Some n → ⊥
   first_apart j k l n b here there other =
       let o = holds_open between kind (new_cell kind bs) a one.holds k n there in
       open_apart between n n o.0 o.1 (rest.free j l n b here other) refl
@@ -58,19 +58,19 @@ module _ (kind : Kind) (bs : List Bounds) (rows between after : Rows) (a : Allot
   free_before n None is free = refl
   free_before n (Some row) is free = none_some (sym free ∙ one.kept n row is)
 
-  free_all : (j l n : ℕ) (b : Allotted) → slice_get (a ∷ as') j ≡ Some b → slice_get (numbers_of b) l ≡ Some n → row_at rows n ≡ None
-  free_all zero l n b here there = one.free l n (ap (λ (x : Allotted). slice_get (numbers_of x) l) (some_same here) ∙ there)
+  free_all : (j l n : ℕ) (b : Allotted) → slice_get (a ∷ as') j ≡ Some b → slice_get (row_numbers_of b) l ≡ Some n → row_at rows n ≡ None
+  free_all zero l n b here there = one.free l n (ap (λ (x : Allotted). slice_get (row_numbers_of x) l) (some_same here) ∙ there)
   free_all (suc j) l n b here there = free_before n (row_at rows n) refl (rest.free j l n b here there)
 
-  apart_all : (i j k l n : ℕ) (b c : Allotted) → slice_get (a ∷ as') i ≡ Some b → slice_get (a ∷ as') j ≡ Some c → slice_get (numbers_of b) k ≡ Some n → slice_get (numbers_of c) l ≡ Some n → (i ≡ j) × (k ≡ l)
+  apart_all : (i j k l n : ℕ) (b c : Allotted) → slice_get (a ∷ as') i ≡ Some b → slice_get (a ∷ as') j ≡ Some c → slice_get (row_numbers_of b) k ≡ Some n → slice_get (row_numbers_of c) l ≡ Some n → (i ≡ j) × (k ≡ l)
   apart_all zero zero k l n b c e f there other = (
     refl,
-    one.apart k l n (ap (λ (x : Allotted). slice_get (numbers_of x) k) (some_same e) ∙ there) (ap (λ (x : Allotted). slice_get (numbers_of x) l) (some_same f) ∙ other),
+    one.apart k l n (ap (λ (x : Allotted). slice_get (row_numbers_of x) k) (some_same e) ∙ there) (ap (λ (x : Allotted). slice_get (row_numbers_of x) l) (some_same f) ∙ other),
   )
   apart_all zero (suc j) k l n b c e f there other =
-      absurd (first_apart j k l n c f (ap (λ (x : Allotted). slice_get (numbers_of x) k) (some_same e) ∙ there) other)
+      absurd (first_apart j k l n c f (ap (λ (x : Allotted). slice_get (row_numbers_of x) k) (some_same e) ∙ there) other)
   apart_all (suc i) zero k l n b c e f there other =
-      absurd (first_apart i l k n b e (ap (λ (x : Allotted). slice_get (numbers_of x) l) (some_same f) ∙ other) there)
+      absurd (first_apart i l k n b e (ap (λ (x : Allotted). slice_get (row_numbers_of x) l) (some_same f) ∙ other) there)
   apart_all (suc i) (suc j) k l n b c e f there other =
       let same = rest.apart i j k l n b c e f there other in
       (ap suc same.0, same.1)

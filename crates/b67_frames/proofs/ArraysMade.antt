@@ -1,6 +1,6 @@
 -- The rows of an image hold the arrays of a world in which an instance has made more of them.
 use Rattle.std.proofs.Common.{◌≡◌, ◌≢◌, ◌⊎◌, inl, inr, refl, sym, ap, ◌∙◌, ℕ, zero, suc, ◌+◌, ◌-◌, ◌*◌, ◌<◌, ◌≤◌, List, [], ◌∷◌, ◌++◌, length, Some, Bool, false, arith, length-append}
-use Rattle.b67_frames.proofs.Prelude.{map, slice_get, numbered, set_numbered, Kind, Named, PPair, block_numbered, Scopes, Bounds, ArrayCell, array, elements_of, size_of_cells, size_unless, live_elements, new_arrays, has_wrong_size, has_no_room, NamedCell, Instance, World, DeclaredArray, Made, lows_of, made_in, an_array, an_event, Word, Rows, row_limit, get_within, simple_cells, made_of, AreDimensions, some_same, none_some, same_or_not, most_or_more, numbered_set, numbered_other, Allotted, Layout, numbers_of, AreSized, AreMade, HoldElements, open_rows, rows_of_bounds, rows_of_cells, live_rows, HasArray, ArraysAre}
+use Rattle.b67_frames.proofs.Prelude.{map, slice_get, numbered, set_numbered, Kind, Named, PPair, block_numbered, Scopes, Bounds, ArrayCell, array, elements_of, size_of_cells, size_unless, live_elements, new_arrays, has_wrong_size, has_no_room, NamedCell, Instance, World, DeclaredArray, Made, lows_of, made_in, an_array, an_event, Word, Rows, row_limit, get_within, simple_cells, made_of, AreDimensions, some_same, none_some, same_or_not, most_or_more, numbered_set, numbered_other, Allotted, Layout, row_numbers_of, AreSized, AreMade, HoldElements, open_rows, rows_of_bounds, rows_of_cells, live_rows, HasArray, ArraysAre}
 use Rattle.std.proofs.lemmas.List.{length-map}
 use Rattle.algol_meaning.specs.Arrays.{new_array}
 use Rattle.algol_paths.specs.Arrays.{arrays_in}
@@ -192,12 +192,12 @@ module _ (sc : Scopes) (w : World) (lay : Layout) (rows : Rows) (are : ArraysAre
     held_after j number d cell a (fresh l same place given kind_is cell_is) = rw (kind_is, cell_is) (added.holds l a given)
 
     -- a row of an array before is no row of one that is made
-    old_new : (j number k n l q : ℕ) (d : DeclaredArray) (cell : ArrayCell) (a b : Allotted) → HasArray sc w lay j number d cell a → slice_get (numbers_of a) k ≡ Some n → slice_get (allotted_new ns bs rows) l ≡ Some b → slice_get (numbers_of b) q ≡ Some n → ⊥
+    old_new : (j number k n l q : ℕ) (d : DeclaredArray) (cell : ArrayCell) (a b : Allotted) → HasArray sc w lay j number d cell a → slice_get (row_numbers_of a) k ≡ Some n → slice_get (allotted_new ns bs rows) l ≡ Some b → slice_get (row_numbers_of b) q ≡ Some n → ⊥
     old_new j number k n l q d cell a b h there given also =
         let o = holds_open rows d.kind cell a (are.held j number d cell a h) k n there in
         open_apart rows n n o.0 o.1 (added.free l q n b given also) refl
 
-    apart_after : (j j' number other k l n : ℕ) (d e : DeclaredArray) (cell cell' : ArrayCell) (a b : Allotted) → Came j number d cell a → Came j' other e cell' b → slice_get (numbers_of a) k ≡ Some n → slice_get (numbers_of b) l ≡ Some n →
+    apart_after : (j j' number other k l n : ℕ) (d e : DeclaredArray) (cell cell' : ArrayCell) (a b : Allotted) → Came j number d cell a → Came j' other e cell' b → slice_get (row_numbers_of a) k ≡ Some n → slice_get (row_numbers_of b) l ≡ Some n →
         (j ≡ j') × (number ≡ other) × (k ≡ l)
     apart_after j j' number other k l n d e cell cell' a b (before h) (before g) there also =
         are.apart j j' number other k l n (record { declared = d; cell = cell; allotted = a; array = h; there = there }) (record { declared = e; cell = cell'; allotted = b; array = g; there = also })

@@ -1,6 +1,6 @@
 -- GO TO to a frame of another process's stack: a fault.
 use Rattle.std.proofs.Common.{◌≡◌, ◌≢◌, ap, ◌∙◌, ℕ, ◌+◌, ◌-◌, ◌≤◌, List, [], ◌∷◌, Option, Some, Bool, false, Ok, arith}
-use Rattle.b67_frames.proofs.Prelude.{if◌then◌else◌, nat_eq, reverse, pos, nat_tests, BadGoTo, Place, Word, Registers, GoTo, Code, wholes_in, rebuilt, Effect, faults, Passing, Target, passing, passed_by, passed_frames, Image, segment_numbers, end_of_code, if_not_critical, found, seen, display_at, frame, Program, Change, effect_of, asked, fault, raw, operator_at, Core, HasCore, see_found, CallsIntrinsic}
+use Rattle.b67_frames.proofs.Prelude.{if◌then◌else◌, nat_eq, reverse, pos, nat_tests, BadGoTo, Place, Word, Registers, GoTo, Code, wholes_in, rebuilt, Effect, faults, Passing, Target, passing, passed_by, passed_frames, Image, segment_numbers, end_of_code, if_not_critical, found, look_seen, display_at, frame, Program, Change, effect_of, asked, fault, raw, operator_at, Core, HasCore, see_found, CallsIntrinsic}
 use Rattle.b67_ops.specs.declared.Operator.TheVariants as ops
 use Rattle.b67_ops.specs.declared.PlainKind.TheVariants as kinds
 use Rattle.b67_frames.proofs.JumpSteps.{gone, with_display, with_passing, target_named}
@@ -16,7 +16,7 @@ pub record JumpsAway (img : Image) (core : Core) (to : Place) (level segment poi
   pub away : to.stack ≢ core.registers.stack
   pub segment_small : segment ≤ segment_numbers - 1
   pub pointer_small : pointer ≤ end_of_code
-  pub shows : seen img.stacks (rebuilt to level) ≡ Ok display
+  pub shows : look_seen img.stacks (rebuilt to level) ≡ Ok display
 
 module _ (code : Code) (img : Image) (p : ℕ) (core : Core) (has : HasCore img p core) (next : ℕ) (there : operator_at code core.registers ≡ Ok (ops.Plain kinds.Entr, next))
     (arguments : List Word) (reference marked : Word) (below : List Word) (c : CallsIntrinsic img core GoTo arguments reference marked below)
@@ -35,9 +35,9 @@ module _ (code : Code) (img : Image) (p : ℕ) (core : Core) (has : HasCore img 
   abbrev none_passed : Passing
   none_passed = record { frames = []; cells = 0 }
 
-  passed_there : seen img.stacks (passed_by r to) ≡ Ok none_passed
+  passed_there : look_seen img.stacks (passed_by r to) ≡ Ok none_passed
   passed_there =
-      ap (λ (b : Bool). seen img.stacks (if b then passing (frame r + 1) r.stack to.at (record { frame = frame r; cells = r.cells }) else found none_passed)) (not_same to.stack r.stack e.away)
+      ap (λ (b : Bool). look_seen img.stacks (if b then passing (frame r + 1) r.stack to.at (record { frame = frame r; cells = r.cells }) else found none_passed)) (not_same to.stack r.stack e.away)
 
   pub jump_bad : raw code img p ≡ faults BadGoTo
   jump_bad =

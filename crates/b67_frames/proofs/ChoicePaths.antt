@@ -1,6 +1,6 @@
 -- Each action keeps the stacks of all processes but for the newest instances of the one that acts, and so the paths from the instances that stand on.
 use Rattle.std.proofs.Common.{◌≡◌, ◌⊎◌, inl, inr, refl, sym, ap, ◌∙◌, subst, ℕ, zero, suc, pos, List, [], ◌∷◌, ◌++◌, length, Option, Some, None, Bool, true, false}
-use Rattle.b67_frames.proofs.Prelude.{if◌then◌else◌, ◌==◌, nat_lt, numbered, set_numbered, EventDeed, Named, Block, block_numbered, Scopes, Value, Reference, ArrayCell, Cell, simple, event, array, named, reference, EventState, Instance, Part, Process, World, instance_at, or_no_instance, cells_with, followed, is_evaluation, own_instances, has_wrong_size, has_no_room, bounds_of, leave, Answer, Ask, ask, resume, IsIn, IsStanding, IsOnPath, AllPairs, numbered_forth}
+use Rattle.b67_frames.proofs.Prelude.{if◌then◌else◌, ◌==◌, nat_lt, numbered, set_numbered, EventDeed, Named, Block, block_numbered, Scopes, Value, Reference, ArrayCell, Cell, simple, event, array, named, reference, EventState, Instance, Part, Process, World, instance_at, or_no_instance, cells_with, followed, is_evaluation, own_instances, has_wrong_size, has_no_room, bounds_of, leave, Answer, Ask, ask, resume, IsInSkeleton, IsStanding, IsOnPath, AllPairs, numbered_forth}
 use Rattle.b67_num.specs.declared.FaultKind.TheVariants as fault
 use Rattle.b67_num.specs.Whole.{fault_of}
 use Rattle.b67_deeds.specs.Deeds as deeds
@@ -17,7 +17,7 @@ use Rattle.algol_meaning.specs.Rest as rests
 use Rattle.algol_meaning.specs.Rest.{done, value, entered}
 use Rattle.algol_meaning.specs.Statements.{items_from, settle_items}
 use Rattle.algol_meaning.specs.Asks as asks
-use Rattle.algol_meaning.specs.Choice.{Choice, choice, choice_in, choice_of, is_subscripted, nth_exists, home, here, fails, read_of, resolved_of, indexed_at, element_read_at, stored, left, left_with, left_or_ended, gone, gone_to, goes_to, told, did, does_with_first, all_followed, waits_for_any, wakes_or_waits, does_with}
+use Rattle.algol_meaning.specs.Choice.{Choice, choice, choice_in, choice_of, is_subscripted, nth_exists, home, here, fails, read_of, resolved_of, indexed_at, element_read_at, stored, left_choice, left_with, left_or_ended, gone, gone_to, goes_to, told_answer, did, does_with_first, all_followed, waits_for_any, wakes_or_waits, does_with}
 use Rattle.algol_standing.proofs.Jumping.{cut_all}
 use Rattle.algol_standing.proofs.Pairs.{pairs_self, pairs_then_set}
 use Rattle.algol_standing.proofs.Stacks.{leave_processes, leave_back, numbered_cases}
@@ -61,12 +61,12 @@ released_alike w v r gone ps same =
 
 -- each of these is left
 abbrev AreLeft : World → List ℕ → Type 0
-AreLeft v is = (i : ℕ) (y : Instance) → IsIn is i → numbered v.instances i ≡ Some y → y.left ≡ true
+AreLeft v is = (i : ℕ) (y : Instance) → IsInSkeleton is i → numbered v.instances i ≡ Some y → y.left ≡ true
 
 left_are : (w : World) (is : List ℕ) → AreLeft (leave w is) is
 left_are w is i y inside e = by_left ((leave_back w is i y e).2).left
   where
-    by_left : (IsIn is i × (y.left ≡ true)) ⊎ ((IsIn is i → ⊥) × (y.left ≡ ((leave_back w is i y e).0).left)) → y.left ≡ true
+    by_left : (IsInSkeleton is i × (y.left ≡ true)) ⊎ ((IsInSkeleton is i → ⊥) × (y.left ≡ ((leave_back w is i y e).0).left)) → y.left ≡ true
     by_left (inl h) = h.1
     by_left (inr h) = absurd (h.0 inside)
 
@@ -94,7 +94,7 @@ left_withdrawn : (v : World) (is : List ℕ) (r : Reference) (ps : List ℕ) →
 left_withdrawn v is r [] are = are
 left_withdrawn v is r (p ∷ ps) are = left_withdrawn (withdrawn v r p) is r ps (left_forgotten v is p (list_in (process_at v p).state) are)
 
-left_gone : (v : World) → HasFacts v → (is : List ℕ) → AreLeft v is → (i : ℕ) → IsIn is i → IsStanding v i → ⊥
+left_gone : (v : World) → HasFacts v → (is : List ℕ) → AreLeft v is → (i : ℕ) → IsInSkeleton is i → IsStanding v i → ⊥
 left_gone v facts is are i inside st =
     let x = facts.there i st in
     let clash : true ≡ false = sym (are i x.0 inside x.1) ∙ x.2 in cc
@@ -196,7 +196,7 @@ module _ (sc : Scopes) (w : World) (p : ℕ) (q : Process) (part : Part) (outer 
       goes_keep w (record q { todo = record next { rest = resume sc next.rest a } ∷ parts }) (alike_self w.processes) refl
       (sym (ap (λ (ps : List Part). own_instances (part ∷ ps)) below ∙ ap (λ (b : Bool). if b then own_instances (next ∷ parts) else part.instance ∷ own_instances (next ∷ parts)) evaluates))
 
-  left_keeps : (a : Answer) → KeepsHere (left sc w p q part outer a)
+  left_keeps : (a : Answer) → KeepsHere (left_choice sc w p q part outer a)
   left_keeps a = by (is_evaluation part.purpose) refl
     where
       by : (b : Bool) → is_evaluation part.purpose ≡ b →
@@ -275,7 +275,7 @@ module _ (sc : Scopes) (w : World) (p : ℕ) (q : Process) (part : Part) (outer 
       alike = released_alike w (change_event w r d.change) r d.withdraws d.frees (changed_processes w r d.change)
 
       by : (m : Next) → KeepsHere (did sc w p q part outer x r d m)
-      by deeds.goes = answers (released w r d).world alike (told sc w p q part outer d.answer)
+      by deeds.goes = answers (released w r d).world alike (told_answer sc w p q part outer d.answer)
       by deeds.waits = waits (released w r d).world alike (waits_for r)
       by deeds.procures = waits (released w r d).world alike (procures r)
 

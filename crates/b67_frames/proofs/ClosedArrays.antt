@@ -1,6 +1,6 @@
 -- The arrays of an instance are closed when its frame is left.
 use Rattle.std.proofs.Common.{◌≡◌, ◌≢◌, ◌⊎◌, inl, inr, refl, sym, ap, ◌∙◌, subst, ℕ, zero, suc, ◌+◌, ◌*◌, ◌<◌, ◌≤◌, List, [], ◌∷◌, ◌++◌, length, Option, Some, Bool, true, false, arith}
-use Rattle.b67_frames.proofs.Prelude.{slice_get, slice_set, numbered, set_numbered, block_numbered, Scopes, ArrayCell, Cell, array, size_of_cell, size_of_cells, size_unless, live_elements, leave, NamedCell, Instance, World, instance_at, DeclaredArray, Made, an_array, an_event, Word, Descriptor, as_descriptor, Rows, row_at, Image, with_rows, closed_by, array_closed, arrays_closed, Change, changed, Pcw, simple_cells, made_of, control_words, some_same, none_some, same_or_not, numbered_set, numbered_other, get-front, get-behind, Allotted, numbers_of, Layout, IsMade, AreMade, HoldElements, rows_of_cell, rows_of_cells, live_rows, HasArray, HasRow, ArraysAre, block_controls}
+use Rattle.b67_frames.proofs.Prelude.{slice_get, slice_set, numbered, set_numbered, block_numbered, Scopes, ArrayCell, Cell, array, size_of_cell, size_of_cells, size_unless, live_elements, leave, NamedCell, Instance, World, instance_at, DeclaredArray, Made, an_array, an_event, Word, Descriptor, as_descriptor, Rows, row_at, Image, with_rows, closed_by, array_closed, arrays_closed, Change, changed, Pcw, simple_cells, made_of, control_words, some_same, none_some, same_or_not, numbered_set, numbered_other, get-front, get-behind, Allotted, row_numbers_of, Layout, CellIsMade, AreMade, HoldElements, rows_of_cell, rows_of_cells, live_rows, HasArray, ArrayHasRow, ArraysAre, block_controls}
 use Rattle.b67_rows.proofs.Words.{event_describes_nothing}
 use Rattle.b67_frames.specs.Arrays.{IsEventMade}
 use Rattle.b67_frames.proofs.ArraysKept.{no_elements, no_rows}
@@ -53,17 +53,17 @@ skipped (w ∷ words) more next none =
 module _ (sc : Scopes) (w : World) (lay : Layout) (img : Image) (are : ArraysAre sc w lay img.rows) (i : ℕ) (x : Instance) (own : OwnCells sc w lay i x) where
   -- no array of the instance with a number below this one has the row
   abbrev IsNone : ℕ → ℕ → Type 0
-  IsNone k n = (number j : ℕ) → number < k → HasRow sc w lay i number j n → ⊥
+  IsNone k n = (number j : ℕ) → number < k → ArrayHasRow sc w lay i number j n → ⊥
 
   -- what the closing of the arrays from that number on leaves
   record Closes (rows : Rows) (cells : List NamedCell) (words : List Word) : Type 0 where
     after : Rows
     changes : (p : ℕ) (next : Change) (now : Image) → now.rows ≡ rows → changed p (arrays_closed words next) now ≡ changed p next (with_rows now after)
     fewer : Fewer rows after (rows_of_cells cells) (size_of_cells cells)
-    keeps : (n : ℕ) → ((number j : ℕ) → HasRow sc w lay i number j n → ⊥) → row_at after n ≡ row_at img.rows n
+    keeps : (n : ℕ) → ((number j : ℕ) → ArrayHasRow sc w lay i number j n → ⊥) → row_at after n ≡ row_at img.rows n
 
   -- one array, and then those after it
-  one_more : (d : DeclaredArray) (c : NamedCell) (a : Allotted) (word : Word) (cells : List NamedCell) (words : List Word) (k : ℕ) (rows : Rows) (made : IsMade d c a word) →
+  one_more : (d : DeclaredArray) (c : NamedCell) (a : Allotted) (word : Word) (cells : List NamedCell) (words : List Word) (k : ℕ) (rows : Rows) (made : CellIsMade d c a word) →
       ((n : ℕ) → IsNone k n → row_at rows n ≡ row_at img.rows n) → HasArray sc w lay i k d made.cell a →
       (((n : ℕ) → IsNone (k + 1) n → row_at (without_array rows a) n ≡ row_at img.rows n) → Closes (without_array rows a) cells words) → Closes rows (c ∷ cells) (word ∷ words)
   one_more d c a word cells words k rows made keeps has next =
@@ -77,7 +77,7 @@ module _ (sc : Scopes) (w : World) (lay : Layout) (img : Image) (are : ArraysAre
         keeps = rest.keeps;
       }
     where
-      row : (j n : ℕ) → slice_get (numbers_of a) j ≡ Some n → HasRow sc w lay i k j n
+      row : (j n : ℕ) → slice_get (row_numbers_of a) j ≡ Some n → ArrayHasRow sc w lay i k j n
       row j n e = record { declared = d; cell = made.cell; allotted = a; array = has; there = e }
 
       holds : HoldElements rows d.kind made.cell a
@@ -188,7 +188,7 @@ module _ (sc : Scopes) (w : World) (lay : Layout) (img : Image) (are : ArraysAre
         other,
       )
 
-  row_before : (j number k n : ℕ) → HasRow sc w' lay j number k n → HasRow sc w lay j number k n
+  row_before : (j number k n : ℕ) → ArrayHasRow sc w' lay j number k n → ArrayHasRow sc w lay j number k n
   row_before j number k n h = record { declared = h.declared; cell = h.cell; allotted = h.allotted; array = (before j number h.declared h.cell h.allotted h.array).0; there = h.there }
 
   no_size : size_of_cells x.cells ≡ size_of_cells own.arrays

@@ -4,9 +4,9 @@ use Rattle.b67_frames.proofs.Prelude.{slice_get, map, Kind, Scopes, Value, Bound
 use Rattle.algol_meaning.specs.Arrays.{or_number, element_at}
 use Rattle.algol_standing.proofs.Pairs.{map_forth}
 use Rattle.b67_control.proofs.ControlLaws.{as_descriptor-descriptor_word}
-use Rattle.b67_table.specs.Arrays.{word_in, indexed_in, as_indexed}
+use Rattle.b67_table.specs.Arrays.{word_in_row, indexed_in, as_indexed}
 use Rattle.b67_rows.proofs.Numbers.{get_within}
-use Rattle.b67_frames.specs.Arrays.{IsIn, row_copy, element_copy}
+use Rattle.b67_frames.specs.Arrays.{ElementIsIn, row_copy, element_copy}
 
 -- ---- words
 
@@ -40,7 +40,7 @@ module _ (sc : Scopes) (w : World) (lay : Layout) where
   -- ---- places
 
   -- the number of an element, row by row
-  pub flat_is : (bs : List Bounds) (ks : List ℕ) (index at : ℕ) → IsIn sc w lay bs ks index at → flat 0 bs ks ≡ index * row_length bs + at
+  pub flat_is : (bs : List Bounds) (ks : List ℕ) (index at : ℕ) → ElementIsIn sc w lay bs ks index at → flat 0 bs ks ≡ index * row_length bs + at
   flat_is [] ks index at within = absurd within
   flat_is (b ∷ []) [] index at within = absurd within
   flat_is (b ∷ []) (k ∷ []) index at within =
@@ -58,7 +58,7 @@ module _ (sc : Scopes) (w : World) (lay : Layout) where
   flat_is (b ∷ c ∷ []) (j ∷ k ∷ l ∷ ks) index at within = absurd within
   flat_is (b ∷ c ∷ d ∷ bs) ks index at within = absurd within
 
-  pub at_below : (bs : List Bounds) (ks : List ℕ) (index at : ℕ) → IsIn sc w lay bs ks index at → at < row_length bs
+  pub at_below : (bs : List Bounds) (ks : List ℕ) (index at : ℕ) → ElementIsIn sc w lay bs ks index at → at < row_length bs
   at_below [] ks index at within = absurd within
   at_below (b ∷ []) [] index at within = absurd within
   at_below (b ∷ []) (k ∷ []) index at within = omega (arith, within.1, within.2)
@@ -70,7 +70,7 @@ module _ (sc : Scopes) (w : World) (lay : Layout) where
   at_below (b ∷ c ∷ d ∷ bs) ks index at within = absurd within
 
   -- the row in which it lies
-  pub part_there : (bs : List Bounds) (a : Allotted) (word : Word) (ks : List ℕ) (index at : ℕ) → DescriptorIs bs a word → IsIn sc w lay bs ks index at → (n : ℕ) × (slice_get a.parts index ≡ Some n)
+  pub part_there : (bs : List Bounds) (a : Allotted) (word : Word) (ks : List ℕ) (index at : ℕ) → DescriptorIs bs a word → ElementIsIn sc w lay bs ks index at → (n : ℕ) × (slice_get a.parts index ≡ Some n)
   part_there [] a word ks index at is within = absurd is
   part_there (b ∷ []) a word [] index at is within = absurd within
   part_there (b ∷ []) a word (k ∷ []) index at is within =
@@ -97,11 +97,11 @@ module _ (sc : Scopes) (w : World) (lay : Layout) where
       pub row : Row
       pub is : row_at rows number ≡ Some row
       pub word : Word
-      pub lies : word_in (row_at rows number) at ≡ Some word
+      pub lies : word_in_row (row_at rows number) at ≡ Some word
       pub kind_is : HasKind kind (element_at cell ks)
       pub value_is : ValueIs (element_at cell ks) word
 
-    pub element_found : (ks : List ℕ) (index at number : ℕ) → IsIn sc w lay cell.bounds ks index at → slice_get a.parts index ≡ Some number → ElementFound ks at number
+    pub element_found : (ks : List ℕ) (index at number : ℕ) → ElementIsIn sc w lay cell.bounds ks index at → slice_get a.parts index ≡ Some number → ElementFound ks at number
     element_found ks index at number within part =
         let opened = holds.opened index number part in
         let there : row_at rows number ≡ Some (record { words = opened.1.0; counted = true }) = opened.1.1 in
@@ -113,7 +113,7 @@ module _ (sc : Scopes) (w : World) (lay : Layout) where
           row = record { words = opened.1.0; counted = true };
           is = there;
           word = found.1;
-          lies = ap (λ (o : Option Row). word_in o at) there ∙ found.3;
+          lies = ap (λ (o : Option Row). word_in_row o at) there ∙ found.3;
           kind_is = subst (HasKind kind) (sym value) found.4;
           value_is = subst (λ (v : Value). ValueIs v found.1) (sym value) found.5;
         }
@@ -125,7 +125,7 @@ module _ (sc : Scopes) (w : World) (lay : Layout) where
       pub number : ℕ
       pub part : slice_get a.parts index ≡ Some number
       pub low : number < row_limit
-      pub lies : word_in (row_at rows m) index ≡ Some (array_word false (size_of second) number)
+      pub lies : word_in_row (row_at rows m) index ≡ Some (array_word false (size_of second) number)
 
     pub row_found : (b c : Bounds) (m index : ℕ) → cell.bounds ≡ b ∷ c ∷ [] → a.mother ≡ Some m → length a.parts ≡ size_of b → index < size_of b → RowFound c m index
     row_found b c m index is mother many below =
@@ -140,7 +140,7 @@ module _ (sc : Scopes) (w : World) (lay : Layout) where
           part = found.1;
           low = (holds.opened index number found.1).0;
           lies =
-              ap (λ (o : Option Row). word_in o index) there
+              ap (λ (o : Option Row). word_in_row o index) there
               ∙ map_forth (λ (n : ℕ). array_word false (row_length cell.bounds) n) a.parts index number found.1
               ∙ ap (λ (bs : List Bounds). Some (array_word false (row_length bs) number)) is;
         }

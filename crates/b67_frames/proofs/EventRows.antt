@@ -1,6 +1,6 @@
 -- ENTR on the intrinsics of events: an event is made, told, or acted on.
 use Rattle.std.proofs.Common.{◌≡◌, sym, ap, ◌∙◌, ℕ, ◌+◌, ◌-◌, List, [], ◌∷◌, ◌++◌, Option, Some, Bool, true, Ok, append-nil}
-use Rattle.b67_frames.proofs.Prelude.{reverse, reverse-reverse, numbered, Place, Word, Irw, Registers, Sirw, as_irw, as_sirw, event_word, is_open, opened, Intrinsic, Code, word_at, with_stack, event_of, if_chained, finished_at, place, Effect, gives, Image, with_stacks, with_registers, with_events, Look, ◌>->◌, valid, pushed, display_at, Change, Program, answer, asked, changed, effect_of, see, ◌>>=◌, done, registers, event_deed, cell_place, irw_or_sirw, enter, raw, operator_at, EventDeed, Core, HasCore, stack_of, with_core, CallsIntrinsic, entered_asked, entered, chained_asked, chained_is, cut_words, raw_is, stack-over, pushed_do}
+use Rattle.b67_frames.proofs.Prelude.{reverse, reverse-reverse, numbered, Place, Word, Irw, Registers, Sirw, as_irw, as_sirw, event_word, is_open, event_opened, Intrinsic, Code, word_at, with_stack, event_of, if_chained, finished_at, place, Effect, gives, Image, with_stacks, with_registers, with_events, Look, ◌>->◌, valid, pushed, display_at, Change, Program, answer, asked, changed, effect_of, see, ◌>>=◌, done, registers, event_deed, cell_place, irw_or_sirw, enter, raw, operator_at, EventDeed, Core, HasCore, stack_of, with_core, CallsIntrinsic, entered_asked, entered, chained_asked, chained_is, cut_words, raw_is, stack-over, pushed_do}
 use Rattle.b67_word.specs.Word as words
 use Rattle.b67_control.specs.declared.EventWord.{EventWord}
 use Rattle.b67_events.specs.Events.{state_at, deed_at}
@@ -9,9 +9,9 @@ use Rattle.b67_ops.specs.declared.PlainKind.TheVariants as kinds
 use Rattle.b67_ops.specs.declared.intrinsic.Intrinsic.TheVariants.{Event}
 use Rattle.b67_table.specs.declared.Cell.{Cell}
 use Rattle.b67_table.specs.declared.Reached.{Reached}
-use Rattle.b67_table.specs.Arguments.{IntrinsicRow, if_open, event_in}
+use Rattle.b67_table.specs.Arguments.{IntrinsicRow, if_open, reached_event_in}
 use Rattle.b67_table.specs.Intrinsics.{on_event, tell_event, row_of_intrinsic}
-use Rattle.b67_table.specs.Program.{write, event_answer, is_event}
+use Rattle.b67_table.specs.Program.{write, event_answer, test_is_event}
 use Rattle.b67_table.specs.References.{cell_in, reached, reached_in, one_sirw, no_second}
 use Rattle.b67_table.specs.Rows.{row}
 use Rattle.b67_letters.specs.Releases.{effect_releases, fetched_releases, registers_releases}
@@ -34,7 +34,7 @@ module _ (code : Code) (img : Image) (p : ℕ) (core : Core) (has : HasCore img 
   here = place r.stack r.f
 
   abbrev after : Image
-  after = with_events img (opened (place core.registers.stack core.registers.f) img.events)
+  after = with_events img (event_opened (place core.registers.stack core.registers.f) img.events)
 
   abbrev made : List Word
   made = event_word (record {}) ∷ []
@@ -46,7 +46,7 @@ module _ (code : Code) (img : Image) (p : ℕ) (core : Core) (has : HasCore img 
   with_words ws = gives (with_registers (with_stacks after (with_stack img.stacks r.stack ws)) p new.registers)
 
   -- it is there_open at the mark's place, where its word lies in place of the call
-  pub event_raw : raw code img p ≡ gives (with_core (with_events img (opened (place core.registers.stack core.registers.f) img.events)) p (with_descriptors core (event_word (record {}) ∷ []) c.m.df next))
+  pub event_raw : raw code img p ≡ gives (with_core (with_events img (event_opened (place core.registers.stack core.registers.f) img.events)) p (with_descriptors core (event_word (record {}) ∷ []) c.m.df next))
   event_raw =
       entered code img p core has next there Event [] reference marked below c
       ∙ chained_is code img p core has next there Event [] reference marked below c (answer (write (writes.open_event here) (finished_at r c.m made next)))
@@ -71,12 +71,12 @@ module _ (code : Code) (img : Image) (p : ℕ) (r : Registers) (word : Word) whe
   tested t = asked img t
 
   abbrev on_reached : (Cell → Program) → Look Reached → Program
-  on_reached goes l = see l >>= event_in >>= goes
+  on_reached goes l = see l >>= reached_event_in >>= goes
 
   -- the cell of an event that is there_open
-  open_there : (c : Cell) (goes : Cell → Program) → is_open (cell_place c) img.events ≡ true → tested (event_in (record { word = event_word (record {}); cell = c }) >>= goes) ≡ tested (goes c)
+  open_there : (c : Cell) (goes : Cell → Program) → is_open (cell_place c) img.events ≡ true → tested (reached_event_in (record { word = event_word (record {}); cell = c }) >>= goes) ≡ tested (goes c)
   open_there c goes there_open =
-      ap (λ (o : Option EventWord). tested (see (valid o) >>= (λ (e : EventWord). is_event (cell_place c) (λ (b : Bool). if_open b c)) >>= goes)) event_read
+      ap (λ (o : Option EventWord). tested (see (valid o) >>= (λ (e : EventWord). test_is_event (cell_place c) (λ (b : Bool). if_open b c)) >>= goes)) event_read
       ∙ ap (λ (b : Bool). tested (if_open b c >>= goes)) there_open
 
   pub event_reached : (c : Cell) → FindsEvent img p r word c → (goes : Cell → Program) → is_open (cell_place c) img.events ≡ true → asked img (event_of r word >>= goes) ≡ asked img (goes c)

@@ -1,9 +1,9 @@
 -- The events of an image are those of a later world, in which an instance has made one more, or in which one has changed.
 use Rattle.std.proofs.Common.{◌≡◌, ◌≢◌, ◌⊎◌, inl, inr, sym, ap, ◌∙◌, subst, ℕ, zero, suc, ◌+◌, ◌<◌, ◌≤◌, List, [], ◌∷◌, ◌++◌, length, Some, arith}
-use Rattle.b67_frames.proofs.Prelude.{slice_get, numbered, set_numbered, block_numbered, Scopes, event, EventState, NamedCell, Instance, World, Place, Event, event_at, opened, one_event, place, get_within, simple_cells, made_of, made_base, some_same, same_or_not, most_or_more, numbered_set, numbered_other, get-seam, Layout, HasEvent, EventsAre}
+use Rattle.b67_frames.proofs.Prelude.{slice_get, numbered, set_numbered, block_numbered, Scopes, event, EventState, NamedCell, Instance, World, Place, Event, event_at, event_opened, one_event, place, get_within, simple_cells, made_of, made_base, some_same, same_or_not, most_or_more, numbered_set, numbered_other, get-seam, Layout, HasEvent, EventsAre}
 use Rattle.std.specs.Option.{option_map}
 use Rattle.b67_deeds.specs.Events.{fresh_state}
-use Rattle.b67_events.specs.Events.{changed}
+use Rattle.b67_events.specs.Events.{event_changed}
 use Rattle.b67_events.specs.Laws.{StaysInPlace}
 use Rattle.b67_frames.specs.Events.{event_there}
 
@@ -149,9 +149,9 @@ module _ (sc : Scopes) (w w' : World) (lay lay' : Layout) (i : ℕ) (x : Instanc
   -- it is open there, and is fresh
   pub events_made : (events : List Event) →
       ((j other : ℕ) (e : EventState) (at : Place) → HasEvent sc w lay j other e at → at ≢ place frame.stack (frame.at + (made_base sc (block_numbered sc.blocks x.block) + number))) → EventsAre sc w lay events →
-      EventsAre sc w' lay' (opened (place frame.stack (frame.at + (made_base sc (block_numbered sc.blocks x.block) + number))) events)
+      EventsAre sc w' lay' (event_opened (place frame.stack (frame.at + (made_base sc (block_numbered sc.blocks x.block) + number))) events)
   events_made events none_there are =
-      events_came sc w w' lay lay' i number fresh_state there made_origin events (opened there events) (one_event.opened_here there events)
+      events_came sc w w' lay lay' i number fresh_state there made_origin events (event_opened there events) (one_event.opened_here there events)
       (λ j other e at h apart. (none_there j other e at h, one_event.opened_elsewhere there at (none_there j other e at h) events)) are
 
 -- ---- another event
@@ -235,9 +235,9 @@ module _ (sc : Scopes) (w w' : World) (lay : Layout) (i : ℕ) (x y : Instance) 
             }) (λ same number_is. different same)
 
   -- so does the event that is open at its place
-  pub events_changed : (change : Event → Event) → StaysInPlace change → change (event_there there e) ≡ event_there there later → (events : List Event) → EventsAre sc w lay events → EventsAre sc w' lay (changed there change events)
+  pub events_changed : (change : Event → Event) → StaysInPlace change → change (event_there there e) ≡ event_there there later → (events : List Event) → EventsAre sc w lay events → EventsAre sc w' lay (event_changed there change events)
   events_changed change stays becomes events are =
-      events_came sc w w' lay lay i number later there changed_origin events (changed there change events)
+      events_came sc w w' lay lay i number later there changed_origin events (event_changed there change events)
       (one_event.here there change stays events ∙ ap (option_map change) (are.are_open i number e there has) ∙ ap (λ (x : Event). Some x) becomes)
       (λ j other f at h apart.
       let elsewhere : at ≢ there =

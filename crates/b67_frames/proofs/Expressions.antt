@@ -2,7 +2,7 @@
 use Rattle.b67_frames.proofs.Prelude.{Scopes, Hole, argument, Actuals, Aim, Rest, evaluating, locating, Answer, Ask, goes_to, ask_hole, ask_actuals, ask_aim, ask, resume, IsOfExpression}
 use Rattle.b67_deeds.specs.Deeds as deeds
 use Rattle.algol_meaning.specs.Rest.{read, element, index, tests, broken, enter, inside, subscript, left, right, negated, inverted, condition, Half, val, busy, pass, in_value, resolve, place_index, inside_place, place_subscript, HalfPlace, at, aims, giving, giving_place, done, cell, entered}
-use Rattle.algol_meaning.specs.Settle.{put, put_place}
+use Rattle.algol_meaning.specs.Settle.{answer_put, put_place}
 use Rattle.algol_meaning.specs.Asks.{reads_result, leaves, stores, selects, turns, enters_block, starts, event_deed, writes, makes_arrays, makes_event, evaluated_of, located_of}
 
 -- an expression asks for no part of a statement, for no result of a procedure, and for no entry of a block; it leaves with a value or a place
@@ -68,7 +68,7 @@ located_is (aims a) = tt
 
 -- and so it is after an answer
 pub expression_resumed : (sc : Scopes) (r : Rest) (a : Answer) → IsOfExpression r → IsOfExpression (resume sc r a)
-expression_resumed sc (evaluating h) a is = evaluated_is (put sc h a)
+expression_resumed sc (evaluating h) a is = evaluated_is (answer_put sc h a)
 expression_resumed sc (locating x) a is = located_is (put_place sc x a)
 expression_resumed sc (giving v) a is = tt
 expression_resumed sc (giving_place p) a is = tt

@@ -1,6 +1,6 @@
 -- The cells of the parameters of a procedure that is entered: values, and references that stand for something else.
 use Rattle.std.proofs.Common.{◌≡◌, refl, sym, ap, ◌∙◌, subst, ℕ, zero, suc, List, [], ◌∷◌, ◌++◌, Some}
-use Rattle.b67_frames.proofs.Prelude.{slice_get, map, Kind, Named, Scopes, Parameter, Reference, NameCell, Cell, reference, simple, Given, valued, refers, names, NamedCell, Part, Process, World, DeclaredArray, Shape, shape_of, Word, as_descriptor, Couple, Context, Simple, Wanted, Agrees, IsVariable, IsDeclaredArray, IsDeclaredEvent, cell_named, actual as actual_held, passed as passed_held, Known, AreTold, some_same, none_some, InReferred, Layout, named_from, LeadsTo, LeadsToEvent, LeadsToVariable, Denotes, IsNamed, IsActual, AreKnown, CellIs, Refers, CellsAre}
+use Rattle.b67_frames.proofs.Prelude.{slice_get, map, Kind, Named, Scopes, Parameter, Reference, NameCell, Cell, reference, simple, Given, valued, refers, names, NamedCell, Part, Process, World, DeclaredArray, Shape, shape_of, Word, as_descriptor, Couple, Context, Simple, Wanted, ShapeAgrees, IsVariable, IsDeclaredArray, IsDeclaredEvent, cell_named, actual as actual_held, passed as passed_held, Known, AreTold, some_same, none_some, InReferred, Layout, named_from, ReferenceLeadsTo, LeadsToEvent, LeadsToVariable, Denotes, IsNamed, IsActual, AreKnown, CellIs, Refers, CellsAre}
 use Rattle.algol_meaning.specs.Value as cells
 use Rattle.algol_meaning.specs.Choice.{given_cell, given_cells}
 use Rattle.algol_meaning.specs.Instances.{parameter_cells}
@@ -57,8 +57,8 @@ module _ (sc : Scopes) (w : World) (lay : Layout) (Stand : ℕ → Type 0) where
 
 module _ (sc : Scopes) (context : Context) (w : World) (lay : Layout) (p : ℕ) (q : Process) (part : Part) (outer : List Part) (level home base : ℕ) (Stand : ℕ → Type 0) (known : List Known) (are : AreKnown sc w lay Stand part.instance known)
     (P : Named → Type 0)
-    (leads : (n : Named) → P n → (shape : Shape) (d : DeclaredArray) (c : Couple) → IsDeclaredArray sc context.level n d c → Agrees shape (shape_of d) → (x : Word) → IsNamed sc w lay Stand part.instance n x →
-    LeadsTo sc w lay Stand shape (named_from sc w lay part.instance n) x)
+    (leads : (n : Named) → P n → (shape : Shape) (d : DeclaredArray) (c : Couple) → IsDeclaredArray sc context.level n d c → ShapeAgrees shape (shape_of d) → (x : Word) → IsNamed sc w lay Stand part.instance n x →
+    ReferenceLeadsTo sc w lay Stand shape (named_from sc w lay part.instance n) x)
     (leads_event : (n : Named) → P n → (c : Couple) → IsDeclaredEvent sc context.level n c → (x : Word) → IsNamed sc w lay Stand part.instance n x →
     LeadsToEvent sc w lay Stand (named_from sc w lay part.instance n) x)
     (leads_variable : (n : Named) → P n → (kind : Kind) (c : Couple) → IsVariable sc context.level n kind c → (x : Word) → IsNamed sc w lay Stand part.instance n x →
@@ -87,7 +87,7 @@ module _ (sc : Scopes) (context : Context) (w : World) (lay : Layout) (p : ℕ) 
 
   -- of an array
   array_given : (s : Simple) (ss : List Simple) (q' : Parameter) (ps : List Parameter) (g : Given) (gs : List Given) (x : Word) (words : List Word) (shape : Shape) (r : Reference) → q'.name ≡ s.name →
-      wants.array shape ≡ s.wanted → given_cell sc w p q part outer g ≡ reference r → LeadsTo sc w lay Stand shape r x → AreGivenCells ss ps gs words →
+      wants.array shape ≡ s.wanted → given_cell sc w p q part outer g ≡ reference r → ReferenceLeadsTo sc w lay Stand shape r x → AreGivenCells ss ps gs words →
       AreGivenCells (s ∷ ss) (q' ∷ ps) (g ∷ gs) (x ∷ words)
   array_given s ss q' ps g gs x words shape r name wanted is lead more =
       referred_given s ss q' ps g gs x words (wants.array shape) (reference r) name wanted is (ap as_descriptor lead.word_is ∙ cell_describes_nothing _) lead more

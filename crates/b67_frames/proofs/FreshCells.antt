@@ -20,7 +20,7 @@ cells_both (s ∷ ss) (c ∷ cells) (w ∷ ws) ss' cells' ws' a b = (a.0, a.1, c
 
 -- those of the parameters, and after them those of 0
 pub cells_joined : (sc : Scopes) (b : Block) → simple_cells sc b ≡ cells.parameter_cells sc b ++ zero_cells b
-cells_joined sc b = append_assoc (cells.parameter_cells sc b) (cells.result_of b.result b.name) (cells.variables b.decls)
+cells_joined sc b = append_assoc (cells.parameter_cells sc b) (cells.result_cells_of b.result b.name) (cells.variables b.decls)
 
 -- after the cells of the parameters they are as many zeros as its code pushes
 pub fresh_are : (sc : Scopes) (b : Block) (given : List Cell) (ws : List Word) → CellsAre (cells.parameter_cells sc b) (instances.parameter_cells b.parameters given) ws →

@@ -1,6 +1,6 @@
 -- The display of a part's frame: below its own place those of the frames down its links.
 use Rattle.std.proofs.Common.{◌≡◌, sym, ap, ◌∙◌, subst, ℕ, ◌+◌, ◌-◌, List, ◌∷◌, length, Option, Bool, arith}
-use Rattle.b67_frames.proofs.Prelude.{block_numbered, level_of, PProgram, Scopes, Instance, Part, World, or_no_instance, Place, Word, as_mscw, as_rcw, Code, Stacks, place, read_as, Texts, some_same, IsEntered, Links, shown, shown_below, Layout, IsChained, IsInReach, Frame, Owned, of_own, of_lent, run_level, level_at, Lent}
+use Rattle.b67_frames.proofs.Prelude.{block_numbered, level_of, PProgram, Scopes, Instance, Part, World, or_no_instance, Place, Word, as_mscw, as_rcw, Code, Stacks, place, read_as, Texts, some_same, IsEntered, Links, shown, shown_below, Layout, IsChained, IsInReach, Frame, Owned, of_own, of_lent, run_level, level_of_part, Lent}
 use Rattle.algol_tree.specs.Scopes.{scopes_of}
 use Rattle.b67_frames.specs.Frames.{Shape, names_at}
 use Rattle.b67_frames.proofs.Linked.{Linked, Begins_with, mark_there, control_there, all_linked, all_each, shown_chained}
@@ -29,7 +29,7 @@ module _ (tree : PProgram) (code : Code) (texts : Texts) (w : World) (lay : Layo
     pub more : List Place
     pub entered : IsEntered stacks (place p (length f.lower)) home (length more + 2)
     pub links : Links stacks home more
-    pub level_is : level_at tree code texts w lay p part ≡ length more + 2
+    pub level_is : level_of_part tree code texts w lay p part ≡ length more + 2
     pub chained : IsChained (scopes_of tree) w lay part.instance (names_at tree code texts w lay p part) (shown (place p (length f.lower)) more)
 
   -- ---- an own frame: those of the static parents
@@ -54,7 +54,7 @@ module _ (tree : PProgram) (code : Code) (texts : Texts) (w : World) (lay : Layo
     home_is : f.home ≡ l.at
     home_is = some_same (sym e.linked ∙ l.laid)
 
-    one_more : level_at tree code texts w lay p part ≡ length more + 2
+    one_more : level_of_part tree code texts w lay p part ≡ length more + 2
     one_more = ap (λ (b : Bool). run_level b names) e.evaluates ∙ omega (arith, l.level_is)
 
     own_level : f.back.own_level ≡ length more + 2

@@ -1,6 +1,6 @@
 -- GO TO: the entry of its intrinsic, which leaves all frames above that of a level and goes on in that one.
 use Rattle.std.proofs.Common.{◌≡◌, sym, ap, ◌∙◌, ℕ, ◌+◌, ◌-◌, ◌≤◌, List, [], ◌∷◌, ◌++◌, length, take, drop, Option, Some, Bool, true, false, Ok, arith, append_assoc, append-nil}
-use Rattle.b67_frames.proofs.Prelude.{if◌then◌else◌, nat_eq, reverse, pos, nat_tests, BadGoTo, CriticalBlockExit, Place, Word, Registers, GoTo, Code, Rows, words_of, with_stack, wholes_in, place, rebuilt, Effect, gives, faults, Passed, Passing, Target, passing, passed_by, frames_left, passed_frames, gone_to, Image, with_stacks, with_registers, segment_numbers, end_of_code, is_critical, if_not_critical, found, seen, display_at, frame, Program, Change, done, changed, effect_of, asked, answer, fault, registers, live_criticals, raw, operator_at, Core, HasCore, with_core, stack_of, see_found, CallsIntrinsic, words_are, take-seam}
+use Rattle.b67_frames.proofs.Prelude.{if◌then◌else◌, nat_eq, reverse, pos, nat_tests, BadGoTo, CriticalBlockExit, Place, Word, Registers, GoTo, Code, Rows, words_of, with_stack, wholes_in, place, rebuilt, Effect, gives, faults, Passed, Passing, Target, passing, passed_by, frames_left, passed_frames, gone_to, Image, with_stacks, with_registers, segment_numbers, end_of_code, is_critical, if_not_critical, found, look_seen, display_at, frame, Program, Change, done, changed, effect_of, asked, answer, fault, registers, live_criticals, raw, operator_at, Core, HasCore, with_core, stack_of, see_found, CallsIntrinsic, words_are, take-seam}
 use Rattle.b67_ops.specs.declared.Operator.TheVariants as ops
 use Rattle.b67_ops.specs.declared.PlainKind.TheVariants as kinds
 use Rattle.b67_table.specs.Program.{cut}
@@ -29,8 +29,8 @@ pub record Jumps (img : Image) (core : Core) (front rest : List Word) (at cells 
   pub shown : display_at core.registers level ≡ Some (place core.registers.stack at)
   pub segment_small : segment ≤ segment_numbers - 1
   pub pointer_small : pointer ≤ end_of_code
-  pub passes : seen img.stacks (passing (frame core.registers + 1) core.registers.stack at (record { frame = frame core.registers; cells = core.registers.cells })) ≡ Ok (record { frames = passed; cells = cells })
-  pub shows : seen img.stacks (rebuilt (place core.registers.stack at) level) ≡ Ok display
+  pub passes : look_seen img.stacks (passing (frame core.registers + 1) core.registers.stack at (record { frame = frame core.registers; cells = core.registers.cells })) ≡ Ok (record { frames = passed; cells = cells })
+  pub shows : look_seen img.stacks (rebuilt (place core.registers.stack at) level) ≡ Ok display
   pub rows : Rows
   pub closed : (m : ℕ) (next : Change) → changed m (frames_left core.registers.stack (stack_of core) passed next) img ≡ changed m next (image_left img rows core.registers.stack passed)
 
@@ -57,9 +57,9 @@ module _ (code : Code) (img : Image) (p : ℕ) (core : Core) (has : HasCore img 
   abbrev passing_it : Passing
   passing_it = record { frames = passed; cells = cells }
 
-  passed_there : seen img.stacks (passed_by r (place r.stack at)) ≡ Ok passing_it
+  passed_there : look_seen img.stacks (passed_by r (place r.stack at)) ≡ Ok passing_it
   passed_there =
-      ap (λ (b : Bool). seen img.stacks (if b then passing (frame r + 1) r.stack at (record { frame = frame r; cells = r.cells }) else found (record { frames = []; cells = 0 }))) (same_number r.stack)
+      ap (λ (b : Bool). look_seen img.stacks (if b then passing (frame r + 1) r.stack at (record { frame = frame r; cells = r.cells }) else found (record { frames = []; cells = 0 }))) (same_number r.stack)
       ∙ e.passes
 
   loaded : take r.s (drop 0 (words_of img.stacks r.stack)) ≡ stack_of core

@@ -1,7 +1,7 @@
 -- GO TO step by step: its three numbers, the frames that it passes, and the display at the target.
 use Rattle.std.proofs.Common.{◌≡◌, ap, ◌∙◌, ℕ, ◌-◌, ◌≤◌, List, [], ◌∷◌, Option, Some, None, Bool, Ok, ℤ}
 use Rattle.b67_frames.proofs.Prelude.{if◌then◌else◌, ◌&&◌, nat_le, reverse, pos, Place, Word, Registers, GoTo, Code, wholes_in, place, rebuilt, Effect, Passing, Target, passed_by, passed_frames, gone_to, Image, segment_numbers, end_of_code, if_not_critical, Look, found, ◌>->◌, valid, display_at, Program, effect_of, asked, see, ◌>>=◌, answer, raw, operator_at, Core, HasCore, CallsIntrinsic, entered, most_is}
-use Rattle.b67_table.specs.Arguments.{Three, three_in, number_in}
+use Rattle.b67_table.specs.Arguments.{Three, three_in, argument_number_in}
 use Rattle.b67_table.specs.GoingTo.{level_in, target_of, if_same_stack}
 use Rattle.b67_table.specs.Program.{loads}
 use Rattle.b67_ops.specs.declared.Operator.TheVariants as ops
@@ -37,10 +37,10 @@ module _ (code : Code) (img : Image) (p : ℕ) (core : Core) (has : HasCore img 
   to_pointer f l s q = found (record { frame = f; level = l; segment = s; pointer = q })
 
   abbrev to_segment : Place → ℕ → ℕ → Look Target
-  to_segment f l s = valid (number_in (pos pointer) end_of_code) >-> to_pointer f l s
+  to_segment f l s = valid (argument_number_in (pos pointer) end_of_code) >-> to_pointer f l s
 
   abbrev to_frame : ℕ → Place → Look Target
-  to_frame l f = valid (number_in (pos segment) (segment_numbers - 1)) >-> to_segment f l
+  to_frame l f = valid (argument_number_in (pos segment) (segment_numbers - 1)) >-> to_segment f l
 
   abbrev to_level : ℕ → Look Target
   to_level l = valid (display_at r l) >-> to_frame l

@@ -1,17 +1,17 @@
 -- What is known of descriptors and references on a stack holds of a later world as well, in which each instance that it is of keeps its arrays.
 use Rattle.std.proofs.Common.{◌≡◌, ◌⊎◌, inl, inr, refl, sym, ap, ◌∙◌, subst, ℕ, zero, suc, ◌+◌, List, [], ◌∷◌, Some, Bool, true, false}
-use Rattle.b67_frames.proofs.Prelude.{if◌then◌else◌, slice_get, numbered, Kind, Named, PExpr, block_numbered, Scopes, use_of, same_name, Value, Reference, Bounds, ArrayCell, NameCell, Cell, simple, event, array, named, reference, EventState, NamedCell, Instance, World, instance_at, or_no_instance, ancestor, cell_in, cells_with, by_cell, followed, referred_in, DeclaredArray, Shape, IsIn as IsAmongThese, Place, Word, cell_word, Couple, Wanted, simple_cells, found_from, made_base, made_of, made_from, Held, element, variable, cell_named, actual, passed, Known, IsKnown, Allotted, Layout, IsArrayOf, LeadsTo, LeadsToEvent, LeadsToVariable, Denotes, named_from, Names, an_array_named, an_event_named, a_variable_named, IsNamed, IsActual, HeldIs, AreKnown}
+use Rattle.b67_frames.proofs.Prelude.{if◌then◌else◌, slice_get, numbered, Kind, Named, PExpr, block_numbered, Scopes, use_of, same_name, Value, Reference, Bounds, ArrayCell, NameCell, Cell, simple, event, array, named, reference, EventState, NamedCell, Instance, World, instance_at, or_no_instance, ancestor, cell_in, cells_with, by_cell, followed, referred_in, DeclaredArray, Shape, IsInSkeleton, Place, Word, cell_word, Couple, Wanted, simple_cells, found_from, made_base, made_of, made_from, HeldWord, element, variable, cell_named, actual, passed, Known, IsKnown, Allotted, Layout, IsArrayOf, ReferenceLeadsTo, LeadsToEvent, LeadsToVariable, Denotes, named_from, Names, an_array_named, an_event_named, a_variable_named, IsNamed, IsActual, HeldIs, AreKnown}
 use Rattle.b67_templates.specs.Cells as wants
 use Rattle.b67_templates.specs.Cells.{IsOwnActual}
 use Rattle.b67_standing.specs.Stepping.{row}
-use Rattle.b67_frames.specs.Arrays.{IsIn, IsRow, IsElement}
+use Rattle.b67_frames.specs.Arrays.{ElementIsIn, IsRow, IsElement}
 
 -- what is known of a word is so
-pub known_is : (sc : Scopes) (w : World) (lay : Layout) (Stand : ℕ → Type 0) (i : ℕ) (known : List Known) → AreKnown sc w lay Stand i known → (held : Held) (word : Word) → IsKnown known held word →
+pub known_is : (sc : Scopes) (w : World) (lay : Layout) (Stand : ℕ → Type 0) (i : ℕ) (known : List Known) → AreKnown sc w lay Stand i known → (held : HeldWord) (word : Word) → IsKnown known held word →
     HeldIs sc w lay Stand i held word
 known_is sc w lay Stand i [] are held word is = absurd is
 known_is sc w lay Stand i (x ∷ known) are held word (inl same) =
-    subst (λ (u : Word). HeldIs sc w lay Stand i held u) same.1 (subst (λ (h : Held). HeldIs sc w lay Stand i h x.word) same.0 are.0)
+    subst (λ (u : Word). HeldIs sc w lay Stand i held u) same.1 (subst (λ (h : HeldWord). HeldIs sc w lay Stand i h x.word) same.0 are.0)
 known_is sc w lay Stand i (x ∷ known) are held word (inr later) = known_is sc w lay Stand i known are.1 held word later
 
 -- ---- what a parameter's cell stands for
@@ -29,7 +29,7 @@ referred_denoted sc w lay Stand (wants.by_name kind) (named a) word is = has_act
 referred_denoted sc w lay Stand _ c word is = absurd is
 
 -- so it does where the instances to which it leads stand in another way
-pub denotes_so : (sc : Scopes) (w : World) (lay : Layout) (Stand Stand' : ℕ → Type 0) (wanted : Wanted) (c : Cell) (word : Word) → ((j : ℕ) → IsAmongThese (referred_in c) j → Stand j → Stand' j) →
+pub denotes_so : (sc : Scopes) (w : World) (lay : Layout) (Stand Stand' : ℕ → Type 0) (wanted : Wanted) (c : Cell) (word : Word) → ((j : ℕ) → IsInSkeleton (referred_in c) j → Stand j → Stand' j) →
     Denotes sc w lay Stand wanted c word → Denotes sc w lay Stand' wanted c word
 denotes_so sc w lay Stand Stand' (wants.array shape) (reference r) word so h =
     record {
@@ -93,7 +93,7 @@ module _ (sc : Scopes) (w w' : World) (lay lay' : Layout) where
 
   module _ (Stand Stand' : ℕ → Type 0) (remain : Remain Stand Stand') where
     -- a reference leads where it led
-    pub leads_lasts : (shape : Shape) (r : Reference) (word : Word) → LeadsTo sc w lay Stand shape r word → LeadsTo sc w' lay' Stand' shape r word
+    pub leads_lasts : (shape : Shape) (r : Reference) (word : Word) → ReferenceLeadsTo sc w lay Stand shape r word → ReferenceLeadsTo sc w' lay' Stand' shape r word
     leads_lasts shape r word h =
         let k : KeepsArrays r.instance = remain.keeps r.instance h.own in
         record {
@@ -205,7 +205,7 @@ module _ (sc : Scopes) (w w' : World) (lay lay' : Layout) where
             array = array_lasts r.instance r.name h.declared h.cell h.allotted k h.array;
             index = h.index;
             at = h.at;
-            within = subst (λ (bs : List Bounds). IsIn sc w lay bs ks h.index h.at) (sym (k.arrays r.name h.cell h.array.is).bounds) h.within;
+            within = subst (λ (bs : List Bounds). ElementIsIn sc w lay bs ks h.index h.at) (sym (k.arrays r.name h.cell h.array.is).bounds) h.within;
             number = h.number;
             part = h.part;
             few = h.few;
@@ -230,7 +230,7 @@ module _ (sc : Scopes) (w w' : World) (lay lay' : Layout) where
             word_is = h.word_is;
           }
 
-      held_lasts : (held : Held) (word : Word) → HeldIs sc w lay Stand i held word → HeldIs sc w' lay' Stand' i held word
+      held_lasts : (held : HeldWord) (word : Word) → HeldIs sc w lay Stand i held word → HeldIs sc w' lay' Stand' i held word
       held_lasts (row n ks) word h = row_lasts n ks word h
       held_lasts (element r ks kind) word h = element_lasts r ks kind word h
       held_lasts (cell_named n) word h = named_lasts n word h

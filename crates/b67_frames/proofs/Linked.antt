@@ -1,6 +1,6 @@
 -- The frames of instances in the stacks, and the links between them.
 use Rattle.std.proofs.Common.{◌≡◌, refl, sym, ap, ◌∙◌, subst, ℕ, zero, suc, ◌+◌, ◌-◌, ◌<◌, ◌≤◌, List, [], ◌∷◌, ◌++◌, length, Some, arith, append_assoc, length-append}
-use Rattle.b67_frames.proofs.Prelude.{slice_get, reverse, numbered, Block, block_numbered, around, level_of, PProgram, Scopes, Instance, Part, World, instance_at, or_no_instance, ancestor, IsStanding, Place, Word, as_mscw, as_rcw, place_at, Code, Texts, Stacks, words_of, word_at, place, Image, read_as, Core, HasCore, some_same, none_some, IsEntered, Links, shown, shown_below, words_are, length_around, get-seam, get-front, Layout, IsChained, home_of, IsPlaced, outermost, inside, ArePlaced, Frame, Owned}
+use Rattle.b67_frames.proofs.Prelude.{slice_get, reverse, numbered, Block, block_numbered, around, level_of, PProgram, Scopes, Instance, Part, World, instance_at, or_no_instance, ancestor, IsStanding, Place, Word, as_mscw, as_rcw, place_at, Code, Texts, Stacks, words_of, word_at, place, Image, read_as, Core, HasCore, some_same, none_some, IsEntered, Links, shown, shown_below, words_are, length_around, get-seam, get-front, Layout, IsChained, home_of, FrameIsPlaced, outermost, inside, ArePlaced, Frame, Owned}
 use Rattle.algol_tree.specs.Scopes.{scopes_of}
 use Rattle.b67_rows.proofs.Displays.{root, onward, shown_top}
 use Rattle.b67_frames.proofs.Lying.{Lies}
@@ -92,12 +92,12 @@ module _ (sc : Scopes) (w : World) (lay : Layout) (stacks : Stacks) where
     linked_by : (bs : List ℕ) (i : ℕ) → IsStanding w i → around sc.blocks (block i) ≡ bs → Linked i
     linked_by [] i st e = by_placed (placed i st)
       where
-        by_placed : IsPlaced sc w lay (instance_at w i) → Linked i
+        by_placed : FrameIsPlaced sc w lay (instance_at w i) → Linked i
         by_placed (outermost none alone) = from_outermost i (entered i st) none alone
         by_placed (inside one_up next made) = absurd (let clash : block (parent i) ∷ around sc.blocks (block (parent i)) ≡ [] = sym next ∙ e in cc)
     linked_by (b ∷ bs) i st e = by_placed (placed i st) (λ j one h. linked_by bs j one h)
       where
-        by_placed : IsPlaced sc w lay (instance_at w i) → ((j : ℕ) → IsStanding w j → around sc.blocks (block j) ≡ bs → Linked j) → Linked i
+        by_placed : FrameIsPlaced sc w lay (instance_at w i) → ((j : ℕ) → IsStanding w j → around sc.blocks (block j) ≡ bs → Linked j) → Linked i
         by_placed (outermost none alone) again = from_outermost i (entered i st) none alone
         by_placed (inside one_up next made) again =
             let both : block (parent i) ∷ around sc.blocks (block (parent i)) ≡ b ∷ bs = sym next ∙ e in

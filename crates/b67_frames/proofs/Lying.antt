@@ -1,6 +1,6 @@
 -- Where the frames of a process's parts lie in its stack.
 use Rattle.std.proofs.Common.{◌≡◌, ◌⊎◌, inl, inr, refl, sym, ap, ◌∙◌, subst, ℕ, suc, ◌+◌, ◌<◌, ◌≤◌, List, [], ◌∷◌, ◌++◌, length, Some, true, false, arith, append_assoc, append-nil, length-append, Bool, Option}
-use Rattle.b67_frames.proofs.Prelude.{if◌then◌else◌, slice_get, reverse, numbered, block_numbered, level_of, PProgram, Scopes, NamedCell, Instance, Part, World, instance_at, or_no_instance, Rest, Answer, Ask, ask, resume, is_evaluation, segment_of, IsStanding, IsOnPath, IsOwn, newest_own, skeleton, Place, Word, Code, place, Yields, Simple, simple_cells, Texts, Core, Known, SlotsAre, tokens_around, none_some, get-front, Allotted, Layout, AreMade, Denotes, AreKnown, Refers, most_around, IsInReach, Framed, Frame, Stands, Waits, Around, Owned, of_own, of_lent, run_level, level_at, all_to_make, Fits-as_rcw, IsOfExpression, Lent}
+use Rattle.b67_frames.proofs.Prelude.{if◌then◌else◌, slice_get, reverse, numbered, block_numbered, level_of, PProgram, Scopes, NamedCell, Instance, Part, World, instance_at, or_no_instance, Rest, Answer, Ask, ask, resume, is_evaluation, segment_of, IsStanding, IsOnPath, IsOwn, newest_own, skeleton, Place, Word, Code, place, Yields, Simple, simple_cells, Texts, Core, Known, SlotsAre, tokens_around, none_some, get-front, Allotted, Layout, AreMade, Denotes, AreKnown, Refers, most_around, IsInReach, Framed, Frame, FrameStands, Waits, Around, Owned, of_own, of_lent, run_level, level_of_part, all_to_make, Fits-as_rcw, IsOfExpression, Lent}
 use Rattle.std.specs.Prelude.{◌*◌}
 use Rattle.algol_tree.specs.Scopes.{scopes_of}
 use Rattle.algol_paths.specs.Laws.{KeepsToText}
@@ -84,9 +84,9 @@ module _ (tree : PProgram) (code : Code) (texts : Texts) (w : World) (lay : Layo
       by_shape (of_lent l) = absurd (let clash : true ≡ false = sym l.evaluates ∙ owns in cc)
 
   -- the code of a part runs at a level that a control word holds
-  pub runs_low : (part : Part) (outer : List Part) (words : List Word) (f : Frame tree code texts w lay p part outer words) → level_at tree code texts w lay p part < 32
+  pub runs_low : (part : Part) (outer : List Part) (words : List Word) (f : Frame tree code texts w lay p part outer words) → level_of_part tree code texts w lay p part < 32
   runs_low part outer words f =
-      let same : level_at tree code texts w lay p part ≡ run_level (is_evaluation part.purpose) (level_of (block_numbered (scopes_of tree).blocks f.instance.block)) =
+      let same : level_of_part tree code texts w lay p part ≡ run_level (is_evaluation part.purpose) (level_of (block_numbered (scopes_of tree).blocks f.instance.block)) =
       ap (λ (o : Option Instance). run_level (is_evaluation part.purpose) (level_of (block_numbered (scopes_of tree).blocks ((or_no_instance o).block)))) f.is in
       omega (arith, same, f.level_is, (Fits-as_rcw f.control f.control_is).1.1.1.1.1.0)
 
@@ -167,7 +167,7 @@ module _ (tree : PProgram) (code : Code) (texts : Texts) (w : World) (lay : Layo
         inside = λ j own. inr (l.inside j own);
       }
 
-  pub lies_in : (part : Part) (outer : List Part) (core : Core) (s : Stands tree code texts w lay p part outer core) → Around tree code texts w lay p outer s.frame.lower s.frame.mark s.frame.control s.frame.gives →
+  pub lies_in : (part : Part) (outer : List Part) (core : Core) (s : FrameStands tree code texts w lay p part outer core) → Around tree code texts w lay p outer s.frame.lower s.frame.mark s.frame.control s.frame.gives →
       (i : ℕ) → IsOwn (part ∷ outer) i → Lies (part ∷ outer) i core.below
   lies_in part outer core s a = lies_frame part outer core.below s.frame a
 

@@ -5,7 +5,7 @@ use Rattle.b67_frames.proofs.Prelude.{if◌then◌else◌, ◌&&◌, nat_le, rev
 use Rattle.b67_ops.specs.declared.Operator.TheVariants as ops
 use Rattle.b67_ops.specs.declared.PlainKind.TheVariants as kinds
 use Rattle.b67_ops.specs.declared.intrinsic.Intrinsic.TheVariants.{Arrays}
-use Rattle.b67_table.specs.Intrinsics.{Wanted, count_in, wanted_with, wanted}
+use Rattle.b67_table.specs.Intrinsics.{Wanted, count_in, wanted_with, intrinsic_wanted}
 use Rattle.b67_table.specs.Limits.{most_arrays}
 use Rattle.b67_frames.proofs.ArrayRows.{arrays_rows, arrays_descriptors, arrays_made_do}
 use Rattle.b67_frames.proofs.ArraySizes.{HasDimensions, bound_numbers, extents_of, extents_wrong, extents_right, held_full, held_fits}
@@ -17,7 +17,7 @@ counted_in n some few =
     ap (λ (b : Bool). if b && nat_le n most_arrays then Some n else None) (most_is 1 n some)
     ∙ ap (λ (b : Bool). if b then Some n else None) (most_is n most_arrays few)
 
-wanted_is : (n : ℕ) (bs : List Bounds) → HasDimensions bs → wanted (pos n ∷ bound_numbers bs) ≡ wanted_with (pos n) (bound_numbers bs)
+wanted_is : (n : ℕ) (bs : List Bounds) → HasDimensions bs → intrinsic_wanted (pos n ∷ bound_numbers bs) ≡ wanted_with (pos n) (bound_numbers bs)
 wanted_is n [] has = absurd has
 wanted_is n (b ∷ []) has = refl
 wanted_is n (b ∷ c ∷ []) has = refl
@@ -58,7 +58,7 @@ module _ (code : Code) (img : Image) (p : ℕ) (core : Core) (has : HasCore img 
   called : raw code img p ≡ does (extents (bound_numbers bs) >>= then_made n)
   called =
       entered code img p core has next there Arrays arguments reference marked below c
-      ∙ ap (λ (o : Option (List ℤ)). does (see (valid o >-> wanted) >>= on_wanted)) whole
+      ∙ ap (λ (o : Option (List ℤ)). does (see (valid o >-> intrinsic_wanted) >>= on_wanted)) whole
       ∙ ap (λ l. does (see l >>= on_wanted)) (wanted_is n bs dimensions)
       ∙ ap (λ (o : Option ℕ). does (see (valid o >-> (λ (k : ℕ). found (record { count = k; bounds = bound_numbers bs }))) >>= on_wanted)) (counted_in n some few)
       ∙ chained_is code img p core has next there Arrays arguments reference marked below c (extents (bound_numbers bs) >>= then_made n)

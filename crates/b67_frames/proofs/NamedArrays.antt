@@ -1,6 +1,6 @@
 -- The name of a declared array that is given to a procedure leads to the cell of an array, which its instance has made.
 use Rattle.std.proofs.Common.{◌≡◌, ◌⊎◌, inl, inr, sym, ap, ◌∙◌, ℕ, zero, suc, ◌+◌, ◌≤◌, List, [], ◌∷◌, Some, true, false, arith}
-use Rattle.b67_frames.proofs.Prelude.{Named, block_numbered, PProgram, Scopes, use_of, is_variable, is_formal, Given, valued, refers, names, Instance, Part, World, instance_at, or_no_instance, ancestor, DeclaredArray, an_array, Shape, shape_of, Made, IsSeen, IsSeenAround, IsStanding, Word, Couple, cell_word, Agrees, simple_cells, made_base, found_from, IsDeclaredArray, made_of, made_from, FoundMade, some_same, InReferred, Layout, named_from, LeadsTo, Names, an_array_named, an_event_named, a_variable_named, IsNamed, IsComplete, ArePlaced}
+use Rattle.b67_frames.proofs.Prelude.{Named, block_numbered, PProgram, Scopes, use_of, is_variable, is_formal, Given, valued, refers, names, Instance, Part, World, instance_at, or_no_instance, ancestor, DeclaredArray, an_array, Shape, shape_of, Made, BlockIsSeen, IsSeenAround, IsStanding, Word, Couple, cell_word, ShapeAgrees, simple_cells, made_base, found_from, IsDeclaredArray, made_of, made_from, FoundMade, some_same, InReferred, Layout, named_from, ReferenceLeadsTo, Names, an_array_named, an_event_named, a_variable_named, IsNamed, IsComplete, ArePlaced}
 use Rattle.algol_tree.specs.Scopes.{scopes_of}
 use Rattle.algol_meaning.specs.Rest.{passed}
 use Rattle.b67_templates.specs.Cells.{IsMadeThere}
@@ -10,15 +10,15 @@ use Rattle.b67_frames.proofs.StaticParents.{IsParent, parents}
 -- a name that is seen, where all is made that its block declares, or as one in a bound
 abbrev pub IsSeenMade : PProgram → World → Layout → Part → Named → Type 0
 IsSeenMade tree w lay part n =
-    IsSeen (scopes_of tree) ((instance_at w part.instance).block) n
+    BlockIsSeen (scopes_of tree) ((instance_at w part.instance).block) n
     × (IsComplete (scopes_of tree) w lay part.instance ⊎ IsSeenAround (scopes_of tree) ((instance_at w part.instance).block) n)
 
 -- each of those that are given is so
-pub both_seen : (tree : PProgram) (w : World) (lay : Layout) (part : Part) (gs : List Given) → InReferred (IsSeen (scopes_of tree) ((instance_at w part.instance).block)) gs →
+pub both_seen : (tree : PProgram) (w : World) (lay : Layout) (part : Part) (gs : List Given) → InReferred (BlockIsSeen (scopes_of tree) ((instance_at w part.instance).block)) gs →
     IsComplete (scopes_of tree) w lay part.instance ⊎ InReferred (IsSeenAround (scopes_of tree) ((instance_at w part.instance).block)) gs → InReferred (IsSeenMade tree w lay part) gs
 both_seen tree w lay part gs seen (inl none) = none_made gs seen
   where
-    none_made : (xs : List Given) → InReferred (IsSeen (scopes_of tree) ((instance_at w part.instance).block)) xs → InReferred (IsSeenMade tree w lay part) xs
+    none_made : (xs : List Given) → InReferred (BlockIsSeen (scopes_of tree) ((instance_at w part.instance).block)) xs → InReferred (IsSeenMade tree w lay part) xs
     none_made [] is = tt
     none_made (refers n ∷ xs) is = ((is.0, inl none), none_made xs is.1)
     none_made (valued v ∷ xs) is = none_made xs is
@@ -26,7 +26,7 @@ both_seen tree w lay part gs seen (inl none) = none_made gs seen
     none_made (names e ∷ xs) is = none_made xs is
 both_seen tree w lay part gs seen (inr around_it) = all_around gs seen around_it
   where
-    all_around : (xs : List Given) → InReferred (IsSeen (scopes_of tree) ((instance_at w part.instance).block)) xs → InReferred (IsSeenAround (scopes_of tree) ((instance_at w part.instance).block)) xs →
+    all_around : (xs : List Given) → InReferred (BlockIsSeen (scopes_of tree) ((instance_at w part.instance).block)) xs → InReferred (IsSeenAround (scopes_of tree) ((instance_at w part.instance).block)) xs →
         InReferred (IsSeenMade tree w lay part) xs
     all_around [] is more = tt
     all_around (refers n ∷ xs) is more = ((is.0, inr more.0), all_around xs is.1 more.1)
@@ -58,7 +58,7 @@ module _ (tree : PProgram) (w : World) (lay : Layout) (placed : ArePlaced (scope
   abbrev block : ℕ
   block = (instance_at w part.instance).block
 
-  module _ (level : ℕ) (n : Named) (seen : IsSeenMade tree w lay part n) (shape : Shape) (d : DeclaredArray) (c : Couple) (v : IsDeclaredArray sc level n d c) (agrees : Agrees shape (shape_of d))
+  module _ (level : ℕ) (n : Named) (seen : IsSeenMade tree w lay part n) (shape : Shape) (d : DeclaredArray) (c : Couple) (v : IsDeclaredArray sc level n d c) (agrees : ShapeAgrees shape (shape_of d))
       (x : Word) (h : IsNamed sc w lay Stand part.instance n x) where
     abbrev up : ℕ
     up = (use_of sc n).up
@@ -104,7 +104,7 @@ module _ (tree : PProgram) (w : World) (lay : Layout) (placed : ArePlaced (scope
       index_is : h.couple.index ≡ made_base sc (block_numbered sc.blocks ((instance_at w home).block)) + v.made.number
       index_is = made_index sc w lay level h.level ((instance_at w home).block) n (an_array d) c h.couple v.made (ap is_variable v.sort_is) same_block h.names
 
-      leads_there : LeadsTo sc w lay Stand shape (named_from sc w lay part.instance n) x
+      leads_there : ReferenceLeadsTo sc w lay Stand shape (named_from sc w lay part.instance n) x
       leads_there =
           record {
             own = h.own;
@@ -123,5 +123,5 @@ module _ (tree : PProgram) (w : World) (lay : Layout) (placed : ArePlaced (scope
             word_is = h.word_is ∙ ap (λ (k : ℕ). cell_word (record { frame = h.frame; index = k })) index_is;
           }
 
-    pub named_leads : LeadsTo (scopes_of tree) w lay Stand shape (named_from (scopes_of tree) w lay part.instance n) x
+    pub named_leads : ReferenceLeadsTo (scopes_of tree) w lay Stand shape (named_from (scopes_of tree) w lay part.instance n) x
     named_leads = let c = each home parent.stands in leads_there c.0 c.1

@@ -1,6 +1,6 @@
 -- One array is made: its rows, which were free, hold its elements, and its descriptor names them.
 use Rattle.std.proofs.Common.{◌≡◌, ◌≢◌, refl, sym, ap, ◌∙◌, ℕ, zero, suc, ◌+◌, ◌*◌, ◌<◌, ◌≤◌, List, [], ◌∷◌, length, Option, Some, None, true, false, arith}
-use Rattle.b67_frames.proofs.Prelude.{pos, slice_get, replicate, length-replicate, Kind, Value, initial_value, Bounds, ArrayCell, size_of, elements_of, Word, least_free, Row, Rows, row_at, row_limit, zero_row, counted_words, get_within, HasKind, ValueIs, some_same, none_some, Allotted, numbers_of, DescriptorIs, HoldElements, open_rows, rows_of_bounds}
+use Rattle.b67_frames.proofs.Prelude.{pos, slice_get, replicate, length-replicate, Kind, Value, initial_value, Bounds, ArrayCell, size_of, elements_of, Word, least_free, Row, Rows, row_at, row_limit, zero_row, counted_words, get_within, HasKind, ValueIs, some_same, none_some, Allotted, row_numbers_of, DescriptorIs, HoldElements, open_rows, rows_of_bounds}
 use Rattle.std.proofs.lemmas.Nat.{mul-add-lt}
 use Rattle.b67_word.specs.Word as words
 use Rattle.b67_frames.specs.Arrays.{numbers_after}
@@ -25,7 +25,7 @@ hold_still rows after kind cell a kept h =
     }
 
 -- each of them is open
-pub holds_open : (rows : Rows) (kind : Kind) (cell : ArrayCell) (a : Allotted) → HoldElements rows kind cell a → (l n : ℕ) → slice_get (numbers_of a) l ≡ Some n → (row : Row) × (row_at rows n ≡ Some row)
+pub holds_open : (rows : Rows) (kind : Kind) (cell : ArrayCell) (a : Allotted) → HoldElements rows kind cell a → (l n : ℕ) → slice_get (row_numbers_of a) l ≡ Some n → (row : Row) × (row_at rows n ≡ Some row)
 holds_open rows kind cell a h l n there = by_mother a.mother refl l there
   where
     part : (j : ℕ) → slice_get a.parts j ≡ Some n → (row : Row) × (row_at rows n ≡ Some row)
@@ -44,8 +44,8 @@ new_cell kind bs = record { bounds = bs; elements = replicate (elements_of bs) (
 -- Between these rows and those an array is made, and rows that were open stay as they are.
 pub record IsAdded (kind : Kind) (cell : ArrayCell) (rows after : Rows) (a : Allotted) (word : Word) : Type 0 where
   pub kept : (n : ℕ) (row : Row) → row_at rows n ≡ Some row → row_at after n ≡ Some row
-  pub free : (l n : ℕ) → slice_get (numbers_of a) l ≡ Some n → row_at rows n ≡ None
-  pub apart : (k l n : ℕ) → slice_get (numbers_of a) k ≡ Some n → slice_get (numbers_of a) l ≡ Some n → k ≡ l
+  pub free : (l n : ℕ) → slice_get (row_numbers_of a) l ≡ Some n → row_at rows n ≡ None
+  pub apart : (k l n : ℕ) → slice_get (row_numbers_of a) k ≡ Some n → slice_get (row_numbers_of a) l ≡ Some n → k ≡ l
   pub holds : HoldElements after kind cell a
   pub names : DescriptorIs cell.bounds a word
   pub counted : counted_words after ≡ counted_words rows + elements_of cell.bounds

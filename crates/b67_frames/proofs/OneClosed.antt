@@ -1,21 +1,21 @@
 -- One array is closed: its rows.
 use Rattle.std.proofs.Common.{◌≡◌, refl, sym, ap, ◌∙◌, subst, ℕ, zero, suc, ◌+◌, ◌*◌, ◌<◌, ◌≤◌, List, [], ◌∷◌, length, Option, Some, None, true, false, arith}
-use Rattle.b67_frames.proofs.Prelude.{slice_get, map, Kind, Bounds, ArrayCell, Cell, array, size_of, elements_of, size_of_cell, Word, Descriptor, as_descriptor, closed_at, Row, Rows, row_at, row_limit, array_word, Image, with_rows, closed_by, rows_closed, array_closed, Change, changed, close_row, Allotted, numbers_of, row_length, DescriptorIs, AreSized, HoldElements, rows_of_bounds, rows_of_cell}
+use Rattle.b67_frames.proofs.Prelude.{slice_get, map, Kind, Bounds, ArrayCell, Cell, array, size_of, elements_of, size_of_cell, Word, Descriptor, as_descriptor, closed_at, Row, Rows, row_at, row_limit, array_word, Image, with_rows, closed_by, rows_closed, array_closed, Change, changed, close_row, Allotted, row_numbers_of, row_length, DescriptorIs, AreSized, HoldElements, rows_of_bounds, rows_of_cell}
 use Rattle.b67_store.specs.Store.{row_words_or}
 use Rattle.b67_frames.proofs.ClosedRows.{rows_without, without_keeps, Fewer, one_fewer, AreApart, rows_fewer, rows_close}
 use Rattle.b67_frames.proofs.ElementRows.{array_read}
 use Rattle.b67_frames.proofs.FewElements.{OneSized, one_sized, TwoSized, two_sized}
 
 -- a part is one of the numbers of its array
-pub part_number : (a : Allotted) (j n : ℕ) → slice_get a.parts j ≡ Some n → (k : ℕ) × (slice_get (numbers_of a) k ≡ Some n)
+pub part_number : (a : Allotted) (j n : ℕ) → slice_get a.parts j ≡ Some n → (k : ℕ) × (slice_get (row_numbers_of a) k ≡ Some n)
 part_number a j n part = by_mother a.mother
   where
-    by_mother : (o : Option ℕ) → (k : ℕ) × (slice_get (numbers_of (record { mother = o; parts = a.parts })) k ≡ Some n)
+    by_mother : (o : Option ℕ) → (k : ℕ) × (slice_get (row_numbers_of (record { mother = o; parts = a.parts })) k ≡ Some n)
     by_mother None = (j, part)
     by_mother (Some m) = (suc j, part)
 
 -- rows hold an array where its own rows are the same
-pub holds_same : (rows rows' : Rows) (kind : Kind) (cell : ArrayCell) (a : Allotted) → ((k n : ℕ) → slice_get (numbers_of a) k ≡ Some n → row_at rows' n ≡ row_at rows n) →
+pub holds_same : (rows rows' : Rows) (kind : Kind) (cell : ArrayCell) (a : Allotted) → ((k n : ℕ) → slice_get (row_numbers_of a) k ≡ Some n → row_at rows' n ≡ row_at rows n) →
     HoldElements rows kind cell a → HoldElements rows' kind cell a
 holds_same rows rows' kind cell a same holds =
     record {
@@ -30,7 +30,7 @@ holds_same rows rows' kind cell a same holds =
     part_same j n part = let k = part_number a j n part in same k.0 n k.1
 
     mother_same : (m : ℕ) → a.mother ≡ Some m → row_at rows' m ≡ row_at rows m
-    mother_same m is = same 0 m (ap (λ (o : Option ℕ). slice_get (numbers_of (record { mother = o; parts = a.parts })) 0) is)
+    mother_same m is = same 0 m (ap (λ (o : Option ℕ). slice_get (row_numbers_of (record { mother = o; parts = a.parts })) 0) is)
 
 -- the rows without those of an array
 abbrev mother_numbers : Option ℕ → List ℕ
@@ -41,10 +41,10 @@ abbrev pub without_array : Rows → Allotted → Rows
 without_array rows a = rows_without (rows_without rows a.parts) (mother_numbers a.mother)
 
 -- all others stay
-pub array_keeps : (rows : Rows) (a : Allotted) (n : ℕ) → ((k : ℕ) → slice_get (numbers_of a) k ≡ Some n → ⊥) → row_at (without_array rows a) n ≡ row_at rows n
+pub array_keeps : (rows : Rows) (a : Allotted) (n : ℕ) → ((k : ℕ) → slice_get (row_numbers_of a) k ≡ Some n → ⊥) → row_at (without_array rows a) n ≡ row_at rows n
 array_keeps rows a n apart = by_mother a.mother a.parts apart
   where
-    by_mother : (o : Option ℕ) (parts : List ℕ) → ((k : ℕ) → slice_get (numbers_of (record { mother = o; parts = parts })) k ≡ Some n → ⊥) →
+    by_mother : (o : Option ℕ) (parts : List ℕ) → ((k : ℕ) → slice_get (row_numbers_of (record { mother = o; parts = parts })) k ≡ Some n → ⊥) →
         row_at (rows_without (rows_without rows parts) (mother_numbers o)) n ≡ row_at rows n
     by_mother None parts apart = without_keeps parts rows n apart
     by_mother (Some m) parts apart =
@@ -119,7 +119,7 @@ module _ (rows : Rows) (kind : Kind) (cell : ArrayCell) where
       product : length parts * size_of c ≡ size_of b * size_of c
       product = ap (λ (n : ℕ). n * size_of c) long
 
-  pub one_closes : (a : Allotted) (w : Word) (bs : List Bounds) → HoldElements rows kind cell a → AreApart (numbers_of a) → cell.bounds ≡ bs → AreSized bs → DescriptorIs bs a w →
+  pub one_closes : (a : Allotted) (w : Word) (bs : List Bounds) → HoldElements rows kind cell a → AreApart (row_numbers_of a) → cell.bounds ≡ bs → AreSized bs → DescriptorIs bs a w →
       OneClosed rows a (array cell) w
   one_closes a w [] holds apart is sized descriptor = absurd descriptor
   one_closes a w (b ∷ []) holds apart is sized descriptor =
@@ -130,6 +130,6 @@ module _ (rows : Rows) (kind : Kind) (cell : ArrayCell) where
       let two : TwoSized b c = two_sized b c sized in
       let rows_are : a ≡ record { mother = Some descriptor.0; parts = a.parts } = ap (λ (o : Option ℕ). record { mother = o; parts = a.parts }) descriptor.2 in
       subst (λ (x : Allotted). OneClosed rows x (array cell) w) (sym rows_are)
-      (two_rows b c descriptor.0 a.parts w is two.first.few two.second.few descriptor.1 descriptor.3 descriptor.4 (subst (λ (x : Allotted). AreApart (numbers_of x)) rows_are apart)
+      (two_rows b c descriptor.0 a.parts w is two.first.few two.second.few descriptor.1 descriptor.3 descriptor.4 (subst (λ (x : Allotted). AreApart (row_numbers_of x)) rows_are apart)
       (subst (HoldElements rows kind cell) rows_are holds))
   one_closes a w (b ∷ c ∷ d ∷ bs) holds apart is sized descriptor = absurd descriptor

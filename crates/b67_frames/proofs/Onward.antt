@@ -1,6 +1,6 @@
 -- What a change of a world leaves of the instances that stand before and after it.
 use Rattle.std.proofs.Common.{◌≡◌, inl, inr, ◌∙◌, subst, sym, ℕ, zero, suc, List, Some}
-use Rattle.b67_frames.proofs.Prelude.{numbered, Scopes, Cell, Part, World, instance_at, referred_in, IsIn, IsStanding, IsOnPath, newest_own, Place, Word, Wanted, Layout, Denotes, IsInReach, home_of}
+use Rattle.b67_frames.proofs.Prelude.{numbered, Scopes, Cell, Part, World, instance_at, referred_in, IsInSkeleton, IsStanding, IsOnPath, newest_own, Place, Word, Wanted, Layout, Denotes, IsInReach, home_of}
 use Rattle.b67_frames.proofs.Facts.{HasFacts, IsStandingOrNone}
 use Rattle.b67_frames.proofs.Knowing.{KeepsArrays, Remain, Climbs, IsInOrNone, climbs_in, denotes_lasts, denotes_so}
 
@@ -52,7 +52,7 @@ module _ (sc : Scopes) (w w' : World) (lay lay' : Layout) where
         }
 
     -- and so does what a cell stands for that refers only to what stands later
-    pub denotes_on : (wanted : Wanted) (c : Cell) (word : Word) → ((r : ℕ) → IsIn (referred_in c) r → IsStanding w' r) → Denotes sc w lay (IsStanding w) wanted c word →
+    pub denotes_on : (wanted : Wanted) (c : Cell) (word : Word) → ((r : ℕ) → IsInSkeleton (referred_in c) r → IsStanding w' r) → Denotes sc w lay (IsStanding w) wanted c word →
         Denotes sc w' lay' (IsStanding w') wanted c word
     denotes_on wanted c word later h =
         denotes_lasts sc w w' lay lay' StandsStill (IsStanding w')

@@ -1,7 +1,7 @@
 -- Paths stay where each process keeps its stack but for its newest instances, and depends on the instance on which it depended.
 use Rattle.std.proofs.Common.{◌≡◌, ◌≢◌, ◌⊎◌, inl, inr, refl, sym, ap, ◌∙◌, subst, ℕ, zero, suc, List, [], ◌∷◌, ◌++◌, Option, Some, false}
-use Rattle.b67_frames.proofs.Prelude.{numbered, set_numbered, Process, World, own_instances, IsIn, here, down, IsStanding, IsOnPath, skeleton, below_in, AllPairs, numbered_forth, some_same, none_some, same_or_not, numbered_set, numbered_other, get-front}
-use Rattle.algol_standing.specs.Skeleton.{Stack, NextIn, Next}
+use Rattle.b67_frames.proofs.Prelude.{numbered, set_numbered, Process, World, own_instances, IsInSkeleton, here, down, IsStanding, IsOnPath, skeleton, below_in, AllPairs, numbered_forth, some_same, none_some, same_or_not, numbered_set, numbered_other, get-front}
+use Rattle.algol_standing.specs.Skeleton.{Stack, NextIn, SkeletonNext}
 use Rattle.algol_standing.specs.Worlds.{stack_of}
 use Rattle.algol_standing.proofs.Pairs.{stack_forth, stack_back}
 use Rattle.b67_frames.proofs.Facts.{HasFacts}
@@ -16,7 +16,7 @@ pub record KeepsStack (w' : World) (k : ℕ) (q : Process) : Type 0 where
   pub rest : List ℕ
   pub own : own_instances q.todo ≡ newer ++ rest
   pub own_then : own_instances process.todo ≡ others ++ rest
-  pub gone : (i : ℕ) → IsIn newer i → IsStanding w' i → ⊥
+  pub gone : (i : ℕ) → IsInSkeleton newer i → IsStanding w' i → ⊥
 
 -- with as many instances, with more, and with fewer
 pub keeps_all : (w' : World) (k : ℕ) (q q' : Process) → numbered w'.processes k ≡ Some q' → q'.critical ≡ q.critical → own_instances q'.todo ≡ own_instances q.todo → KeepsStack w' k q
@@ -28,7 +28,7 @@ keeps_more w' k q q' others is critical own =
     record { process = q'; is = is; critical = critical; newer = []; others = others; rest = own_instances q.todo; own = refl; own_then = own; gone = λ i inside st. absurd inside }
 
 pub keeps_fewer : (w' : World) (k : ℕ) (q q' : Process) (newer : List ℕ) → numbered w'.processes k ≡ Some q' → q'.critical ≡ q.critical → own_instances q.todo ≡ newer ++ own_instances q'.todo →
-    ((i : ℕ) → IsIn newer i → IsStanding w' i → ⊥) → KeepsStack w' k q
+    ((i : ℕ) → IsInSkeleton newer i → IsStanding w' i → ⊥) → KeepsStack w' k q
 keeps_fewer w' k q q' newer is critical own gone =
     record { process = q'; is = is; critical = critical; newer = newer; others = []; rest = own_instances q'.todo; own = own; own_then = refl; gone = gone }
 
@@ -76,7 +76,7 @@ each_but w w' p q q' ps at alike after acted k r e = by_number (same_or_not k p)
 -- ---- paths
 
 -- what lies below an instance that is none of the newer ones
-next_rest : (c : Option ℕ) (newer rest : List ℕ) (a b : ℕ) → (IsIn newer a → ⊥) → NextIn c (newer ++ rest) a b → NextIn c rest a b
+next_rest : (c : Option ℕ) (newer rest : List ℕ) (a b : ℕ) → (IsInSkeleton newer a → ⊥) → NextIn c (newer ++ rest) a b → NextIn c rest a b
 next_rest c [] rest a b other n = n
 next_rest c (x ∷ []) [] a b other n = absurd (other (inl n.0))
 next_rest c (x ∷ []) (y ∷ rest) a b other (inl n) = absurd (other (inl n.0))
@@ -93,11 +93,11 @@ next_below c (x ∷ y ∷ others) rest a b n = inr (next_below c (y ∷ others) 
 
 module _ (w w' : World) (before : HasFacts w) (after : HasFacts w') (each : (k : ℕ) (q : Process) → numbered w.processes k ≡ Some q → KeepsStack w' k q) where
   -- from an instance that stands after it the same lies next
-  next_then : (a b : ℕ) → IsStanding w' a → Next (skeleton w) a b → Next (skeleton w') a b
+  next_then : (a b : ℕ) → IsStanding w' a → SkeletonNext (skeleton w) a b → SkeletonNext (skeleton w') a b
   next_then a b later n = by_stack (stack_back w n.number n.stack n.is)
     where
-      by_stack : ((n.stack.own ≡ []) × (n.stack.evaluations ≡ []) × (n.stack.live ≡ false)) ⊎ ((q : Process) × (numbered w.processes n.number ≡ Some q) × (n.stack ≡ stack_of q)) → Next (skeleton w') a b
-      by_stack (inl none) = absurd (subst (λ (own : List ℕ). IsIn own a) none.0 (below_in n.stack.critical n.stack.own a b n.next))
+      by_stack : ((n.stack.own ≡ []) × (n.stack.evaluations ≡ []) × (n.stack.live ≡ false)) ⊎ ((q : Process) × (numbered w.processes n.number ≡ Some q) × (n.stack ≡ stack_of q)) → SkeletonNext (skeleton w') a b
+      by_stack (inl none) = absurd (subst (λ (own : List ℕ). IsInSkeleton own a) none.0 (below_in n.stack.critical n.stack.own a b n.next))
       by_stack (inr q) =
           let k : KeepsStack w' n.number q.0 = each n.number q.0 q.1 in
           let next : NextIn (q.0).critical (own_instances (q.0).todo) a b = subst (λ (s : Stack). NextIn s.critical s.own a b) q.2 n.next in
@@ -114,5 +114,5 @@ module _ (w w' : World) (before : HasFacts w) (after : HasFacts w') (each : (k :
   pub paths_stay : (a b : ℕ) → IsStanding w a → IsStanding w' a → IsOnPath w a b → IsOnPath w' a b
   paths_stay a b st later here = here
   paths_stay a b st later (down {b = c} n path) =
-      let next : Next (skeleton w') a c = next_then a c later n in
+      let next : SkeletonNext (skeleton w') a c = next_then a c later n in
       down next (paths_stay c b (before.on_path a c st (down n here)) (after.on_path a c later (down next here)) path)

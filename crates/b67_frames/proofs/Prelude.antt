@@ -25,11 +25,11 @@ pub use Rattle.algol_meaning.specs.Value.{ArrayCell, Bounds, Cell, NameCell, Ref
 pub use Rattle.algol_meaning.specs.World.{Instance, NamedCell, Part, Process, World, ancestor, by_cell, cell_in, cells_with, followed, instance_at, or_no_instance}
 pub use Rattle.algol_meaning.specs.declared.TheConstants.{MOST_ELEMENTS}
 pub use Rattle.algol_paths.specs.Arrays.{DeclaredArray, Made, Shape, all_to_make, an_array, an_event, lows_of, made_in, shape_of}
-pub use Rattle.algol_paths.specs.Blocks.{IsSeen, IsSeenAround}
+pub use Rattle.algol_paths.specs.Blocks.{BlockIsSeen, IsSeenAround}
 pub use Rattle.algol_paths.specs.Segments.{segment_of}
 pub use Rattle.algol_standing.proofs.Firsts.{below_in}
 pub use Rattle.algol_standing.proofs.Pairs.{AllPairs, numbered_forth}
-pub use Rattle.algol_standing.specs.Skeleton.{IsIn, down, here}
+pub use Rattle.algol_standing.specs.Skeleton.{IsInSkeleton, down, here}
 pub use Rattle.algol_standing.specs.Worlds.{IsOnPath, IsOwn, IsStanding, newest_own, skeleton}
 pub use Rattle.b67_word.specs.Word.{Word, operand}
 pub use Rattle.b67_word.specs.declared.Place.{Place}
@@ -41,7 +41,7 @@ pub use Rattle.b67_control.specs.declared.Irw.{Irw}
 pub use Rattle.b67_control.specs.declared.Pcw.{Pcw}
 pub use Rattle.b67_control.specs.declared.Registers.{Registers}
 pub use Rattle.b67_control.specs.declared.Sirw.{Sirw}
-pub use Rattle.b67_ops.specs.Intrinsics.{couple_of_intrinsic, number_of}
+pub use Rattle.b67_ops.specs.Intrinsics.{couple_of_intrinsic, intrinsic_number_of}
 pub use Rattle.b67_ops.specs.declared.Couple.{Couple}
 pub use Rattle.b67_ops.specs.declared.TheConstants.{OUTER_LEVEL}
 pub use Rattle.b67_ops.specs.declared.intrinsic.Intrinsic.{Intrinsic}
@@ -50,7 +50,7 @@ pub use Rattle.b67_segment.specs.declared.code.Code.{Code}
 pub use Rattle.b67_store.proofs.StoreLaws.{changed_others, counts}
 pub use Rattle.b67_store.specs.Store.{Row, Rows, Stacks, closed_at, counted_words, least_free, live_words, row_at, row_limit, row_with, with_row_word, with_stack, word_at, words_of, zero_row}
 pub use Rattle.b67_events.proofs.EventLaws.{one_event}
-pub use Rattle.b67_events.specs.Events.{Event, closed_from, event_at, is_from, is_open, opened}
+pub use Rattle.b67_events.specs.Events.{Event, closed_from, event_at, is_from, is_open, event_opened}
 pub use Rattle.b67_table.proofs.Lists.{get_within}
 pub use Rattle.b67_table.specs.Arguments.{event_of, finished_at, if_chained, wholes_in}
 pub use Rattle.b67_table.specs.Arrays.{Extents, array_word, arrays_made, if_held, one, two}
@@ -62,7 +62,7 @@ pub use Rattle.b67_table.specs.Image.{Image, with_events, with_registers, with_r
 pub use Rattle.b67_table.specs.Intrinsics.{extents}
 pub use Rattle.b67_table.specs.Limits.{end_of_code, segment_numbers}
 pub use Rattle.b67_table.specs.Linkage.{array_closed, arrays_closed, caused_by, closed_by, frame_left, if_not_critical, is_critical, leave_base, leave_other, rows_closed}
-pub use Rattle.b67_table.specs.Look.{Look, found, read_as, seen, valid, ◌>->◌}
+pub use Rattle.b67_table.specs.Look.{Look, found, read_as, look_seen, valid, ◌>->◌}
 pub use Rattle.b67_table.specs.Moves.{pushed}
 pub use Rattle.b67_table.specs.Private.{display_at, frame}
 pub use Rattle.b67_table.specs.Program.{Change, Program, Test, answer, asked, changed, close_events, close_row, does, done, effect_of, end_process, event_deed, fault, registers, see, ◌>>=◌}
@@ -73,7 +73,7 @@ pub use Rattle.b67_table.specs.Table.{operator_at, raw}
 pub use Rattle.b67_letters.proofs.Looks.{see_found}
 pub use Rattle.b67_templates.proofs.Few.{actuals_are_few}
 pub use Rattle.b67_templates.specs.Arguments.{arguments_in_stmts}
-pub use Rattle.b67_templates.specs.Cells.{Actual, Agrees, Found, FoundMade, IsDeclaredArray, IsDeclaredEvent, IsVariable, Simple, Wanted, actuals_of, found_from, made_base, made_from, made_of, procedures, simple_cells, zero_cells}
+pub use Rattle.b67_templates.specs.Cells.{Actual, ShapeAgrees, Found, FoundMade, IsDeclaredArray, IsDeclaredEvent, IsVariable, Simple, Wanted, actuals_of, found_from, made_base, made_from, made_of, procedures, simple_cells, zero_cells}
 pub use Rattle.b67_templates.specs.Code.{AreDimensions}
 pub use Rattle.b67_templates.specs.Contexts.{Context, Yields}
 pub use Rattle.b67_templates.specs.Depths.{stmts_depth}
@@ -81,7 +81,7 @@ pub use Rattle.b67_templates.specs.Fragments.{HasKind}
 pub use Rattle.b67_templates.specs.Names.{HasNames}
 pub use Rattle.b67_templates.specs.Nested.{AreNested, AreTold}
 pub use Rattle.b67_templates.specs.Programs.{Texts}
-pub use Rattle.b67_standing.specs.Stepping.{Held, Slot, actual, cell_named, element, intrinsic, mark, passed, variable}
+pub use Rattle.b67_standing.specs.Stepping.{HeldWord, Slot, actual, cell_named, element, intrinsic, mark, passed, variable}
 pub use Rattle.b67_cores.proofs.Moving.{slots_length}
 pub use Rattle.b67_cores.specs.Cores.{Core, HasCore, stack_of, with_core}
 pub use Rattle.b67_cores.specs.Slots.{IsKnown, Known, SlotsAre, ValueIs}
@@ -100,7 +100,7 @@ pub use Rattle.b67_rows.proofs.StoreRow.{most_is}
 pub use Rattle.b67_rows.proofs.TopRow.{pushed_do}
 pub use Rattle.b67_rows.proofs.Weighing.{decls_small, stmt_small, stmts_small}
 pub use Rattle.b67_rows.proofs.Words.{pcw_kind, tag_zero, value_tag}
-pub use Rattle.b67_frames.specs.Arrays.{Allotted, AreKnown, AreMade, AreSized, ArraysAre, Denotes, DescriptorIs, HasArray, HasRow, HeldIs, HoldElements, IsActual, IsArrayOf, IsMade, IsMadeSo, IsNamed, Layout, LeadsTo, LeadsToEvent, LeadsToVariable, Names, a_variable_named, an_array_named, an_event_named, live_rows, named_from, numbers_of, open_rows, row_length, rows_of_bounds, rows_of_cell, rows_of_cells}
+pub use Rattle.b67_frames.specs.Arrays.{Allotted, AreKnown, AreMade, AreSized, ArraysAre, Denotes, DescriptorIs, HasArray, ArrayHasRow, HeldIs, HoldElements, IsActual, IsArrayOf, CellIsMade, IsMadeSo, IsNamed, Layout, ReferenceLeadsTo, LeadsToEvent, LeadsToVariable, Names, a_variable_named, an_array_named, an_event_named, live_rows, named_from, row_numbers_of, open_rows, row_length, rows_of_bounds, rows_of_cell, rows_of_cells}
 pub use Rattle.b67_frames.specs.Events.{EventsAre, HasEvent}
-pub use Rattle.b67_frames.specs.Frames.{ArePlaced, Around, CellIs, CellsAre, Frame, Framed, IsChained, IsComplete, IsInReach, IsPlaced, Owned, Refers, Stands, Waits, block_controls, home_of, inside, level_at, most_around, of_lent, of_own, outermost, run_level}
+pub use Rattle.b67_frames.specs.Frames.{ArePlaced, Around, CellIs, CellsAre, Frame, Framed, IsChained, IsComplete, IsInReach, FrameIsPlaced, Owned, Refers, FrameStands, Waits, block_controls, home_of, inside, level_of_part, most_around, of_lent, of_own, outermost, run_level}
 pub use Rattle.b67_frames.specs.Lent.{IsOfExpression, Lent}

@@ -1,6 +1,6 @@
 -- The frame of a part that goes on with an answer.
 use Rattle.std.proofs.Common.{◌≡◌, sym, ◌∙◌, ℕ, List, length}
-use Rattle.b67_frames.proofs.Prelude.{PProgram, Answer, Part, World, instance_at, resume, all_to_make, IsSeen, Word, Code, Texts, Layout, Frame}
+use Rattle.b67_frames.proofs.Prelude.{PProgram, Answer, Part, World, instance_at, resume, all_to_make, BlockIsSeen, Word, Code, Texts, Layout, Frame}
 use Rattle.algol_tree.specs.Scopes.{scopes_of}
 use Rattle.algol_paths.specs.Arrays.{all_left_to_make}
 use Rattle.algol_paths.specs.Laws.{RestsKeepToTheirText, AllIsMadeInOrder}
@@ -11,7 +11,7 @@ use Rattle.b67_frames.proofs.Lying.{shape_on}
 module _ (tree : PProgram) (code : Code) (texts : Texts) (w : World) (lay : Layout) (p : ℕ) (keeps : RestsKeepToTheirText) (order : AllIsMadeInOrder) where
   -- the frame of a part that goes on with an answer: the same words, for what the part has then to do
   abbrev pub frame_resumed : (part : Part) (outer : List Part) (below words : List Word) (f : Frame tree code texts w lay p part outer below) → words ≡ below → all_left_to_make part.rest ≡ all_to_make part.rest →
-      (a : Answer) → InAnswer (IsSeen (scopes_of tree) ((instance_at w part.instance).block)) a → Frame tree code texts w lay p (record part { rest = resume (scopes_of tree) part.rest a }) outer words
+      (a : Answer) → InAnswer (BlockIsSeen (scopes_of tree) ((instance_at w part.instance).block)) a → Frame tree code texts w lay p (record part { rest = resume (scopes_of tree) part.rest a }) outer words
   frame_resumed part outer below words f same unmade a nameless =
       record {
         lower = f.lower;

@@ -3,7 +3,7 @@ use Rattle.std.proofs.Common.{◌≡◌, refl, sym, ap, ◌∙◌, ℕ, suc, ◌
 use Rattle.b67_frames.proofs.Prelude.{reverse, nat_le, if◌then◌else◌, reverse-reverse, set_numbered, Place, Word, operand, Registers, is_open, Code, with_stack, event_of, if_chained, gives, Image, with_stacks, with_registers, pushed, Test, Program, answer, fault, asked, changed, effect_of, ◌>>=◌, done, registers, cell_place, enter, raw, operator_at, Core, HasCore, stack_of, with_core, CallsIntrinsic, entered_asked, chained_asked, cut_words, raw_is, stack-over, most_is, pushed_do}
 use Rattle.std.specs.Prelude.{Bool, true}
 use Rattle.algol_standing.proofs.PathOrder.{and_true}
-use Rattle.b67_events.specs.Events.{first_happened, joined_all, with_list}
+use Rattle.b67_events.specs.Events.{first_event_happened, joined_all, with_list}
 use Rattle.b67_ops.specs.declared.Operator.TheVariants as ops
 use Rattle.b67_ops.specs.declared.PlainKind.TheVariants as kinds
 use Rattle.b67_ops.specs.declared.intrinsic.Intrinsic.TheVariants.{WaitAny}
@@ -90,7 +90,7 @@ module _ (code : Code) (img : Image) (p : ℕ) (core : Core) (has : HasCore img 
       ∙ ap (λ (k : ℕ). effect_of p img (asked img (woken_or_not r next c.m places k))) is
       ∙ ap (λ (i : Image). gives i) (numbered_so (suc n) (set_numbered img.numbers p 0))
 
-  waits_or_goes : woken_number img.numbers core.registers.stack ≡ 0 → (o : Option ℕ) → first_happened places img.events ≡ o →
+  waits_or_goes : woken_number img.numbers core.registers.stack ≡ 0 → (o : Option ℕ) → first_event_happened places img.events ≡ o →
       raw code img p ≡ effect_of p img (asked img (gone_or_waiting core.registers next c.m places o))
   waits_or_goes is o found =
       raw_so
@@ -98,10 +98,10 @@ module _ (code : Code) (img : Image) (p : ℕ) (core : Core) (has : HasCore img 
       ∙ ap (λ (x : Option ℕ). effect_of p img (asked img (gone_or_waiting r next c.m places x))) found
 
   -- it goes on with the first that has happened
-  pub gone_raw : (n : ℕ) → woken_number img.numbers core.registers.stack ≡ 0 → first_happened places img.events ≡ Some n → raw code img p ≡ gives (with_core img p (number_core n))
+  pub gone_raw : (n : ℕ) → woken_number img.numbers core.registers.stack ≡ 0 → first_event_happened places img.events ≡ Some n → raw code img p ≡ gives (with_core img p (number_core n))
   gone_raw n is found = waits_or_goes is (Some n) found ∙ ap (λ (i : Image). gives i) (numbered_so n img.numbers)
 
   -- it waits, and no word or register changes
-  pub waiting_raw : woken_number img.numbers core.registers.stack ≡ 0 → first_happened places img.events ≡ None →
+  pub waiting_raw : woken_number img.numbers core.registers.stack ≡ 0 → first_event_happened places img.events ≡ None →
       raw code img p ≡ gives (record img { events = joined_all places p img.events; lists = with_list img.lists p places; states = set_numbered img.states p WaitsAny })
   waiting_raw is found = waits_or_goes is None found

@@ -1,6 +1,6 @@
 -- The static parents of an instance that stands: they stand, and their blocks are those around its own.
 use Rattle.std.proofs.Common.{◌≡◌, sym, ap, ◌∙◌, ℕ, zero, suc, ◌+◌, ◌≤◌, List, ◌∷◌, Some, arith}
-use Rattle.b67_frames.proofs.Prelude.{slice_get, around, block_numbered, level_of, Scopes, World, instance_at, ancestor, IsStanding, OUTER_LEVEL, some_same, none_some, length_around, Layout, IsComplete, IsPlaced, outermost, inside, ArePlaced}
+use Rattle.b67_frames.proofs.Prelude.{slice_get, around, block_numbered, level_of, Scopes, World, instance_at, ancestor, IsStanding, OUTER_LEVEL, some_same, none_some, length_around, Layout, IsComplete, FrameIsPlaced, outermost, inside, ArePlaced}
 use Rattle.b67_rows.proofs.Numbers.{get_within}
 
 module _ (sc : Scopes) (w : World) (lay : Layout) where
@@ -20,7 +20,7 @@ module _ (sc : Scopes) (w : World) (lay : Layout) where
     parents i st zero b e = record { stands = st; block = some_same e; complete = λ far. absurd (omega (arith, far)) }
     parents i st (suc up) b e = by_placed (placed i st) (λ j one h. parents j one up b h)
       where
-        by_placed : IsPlaced sc w lay (instance_at w i) →
+        by_placed : FrameIsPlaced sc w lay (instance_at w i) →
             ((j : ℕ) → IsStanding w j → slice_get ((instance_at w j).block ∷ around sc.blocks ((instance_at w j).block)) up ≡ Some b → IsParent j up b) → IsParent i (suc up) b
         by_placed (outermost none alone) again = absurd (none_some (ap (λ (bs : List ℕ). slice_get bs up) (sym alone) ∙ e))
         by_placed (inside one_up next made) again =

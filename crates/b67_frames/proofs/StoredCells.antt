@@ -1,6 +1,6 @@
 -- Cells among which an array has another element: it keeps its bounds, and all others are as they were.
 use Rattle.std.proofs.Common.{◌≡◌, refl, sym, ap, ◌∙◌, subst, ℕ, ◌+◌, List, [], ◌∷◌, length, Bool, true, false}
-use Rattle.b67_frames.proofs.Prelude.{if◌then◌else◌, map, same_name, Bounds, ArrayCell, Cell, event, array, elements_of, size_of_cell, size_of_cells, NamedCell, cell_in, cells_with, DeclaredArray, Made, lows_of, an_array, an_event, Word, Allotted, DescriptorIs, AreSized, IsMade, AreMade, rows_of_bounds, rows_of_cell, rows_of_cells, IsMadeSo}
+use Rattle.b67_frames.proofs.Prelude.{if◌then◌else◌, map, same_name, Bounds, ArrayCell, Cell, event, array, elements_of, size_of_cell, size_of_cells, NamedCell, cell_in, cells_with, DeclaredArray, Made, lows_of, an_array, an_event, Word, Allotted, DescriptorIs, AreSized, CellIsMade, AreMade, rows_of_bounds, rows_of_cell, rows_of_cells, IsMadeSo}
 
 -- the same array with other elements
 pub record IsAlike (cell later : ArrayCell) : Type 0 where
@@ -50,7 +50,7 @@ module _ (name : List ℕ) (cell later : ArrayCell) (alike : IsAlike cell later)
   -- ---- arrays
 
   -- an array is made as it was
-  made_alike : (d : DeclaredArray) (c : NamedCell) (a : Allotted) (w : Word) → IsMade d c a w → c.cell ≡ array cell → IsMade d (record c { cell = array later }) a w
+  made_alike : (d : DeclaredArray) (c : NamedCell) (a : Allotted) (w : Word) → CellIsMade d c a w → c.cell ≡ array cell → CellIsMade d (record c { cell = array later }) a w
   made_alike d c a w made here =
       let same : made.cell ≡ cell = let arrays : array made.cell ≡ array cell = sym made.is ∙ here in cc in
       let bounds : made.cell.bounds ≡ later.bounds = ap (λ (x : ArrayCell). x.bounds) same ∙ sym alike.bounds in

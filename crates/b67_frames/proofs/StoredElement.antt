@@ -1,8 +1,8 @@
 -- An element is stored, in the world and in its row.
 use Rattle.std.proofs.Common.{◌≡◌, ◌≢◌, ◌⊎◌, inl, inr, refl, sym, ap, ◌∙◌, subst, ℕ, ◌+◌, ◌*◌, ◌≤◌, List, ◌++◌, length, Option, Some, false, arith}
-use Rattle.b67_frames.proofs.Prelude.{slice_get, slice_set, numbered, set_numbered, block_numbered, Scopes, Value, ArrayCell, Cell, event, array, size_of_cells, size_unless, live_elements, flat, with_element, NamedCell, Instance, World, instance_at, or_no_instance, cell_in, cells_with, by_cell, DeclaredArray, an_array, Word, Rows, with_row_word, counts, HasKind, simple_cells, made_of, ValueIs, some_same, same_or_not, numbered_set, numbered_other, get_set, length-set, get-behind, Allotted, numbers_of, Layout, HoldElements, rows_of_cells, live_rows, AreMade, HasArray, HasRow, ArraysAre, IsArrayOf}
+use Rattle.b67_frames.proofs.Prelude.{slice_get, slice_set, numbered, set_numbered, block_numbered, Scopes, Value, ArrayCell, Cell, event, array, size_of_cells, size_unless, live_elements, flat, with_element, NamedCell, Instance, World, instance_at, or_no_instance, cell_in, cells_with, by_cell, DeclaredArray, an_array, Word, Rows, with_row_word, counts, HasKind, simple_cells, made_of, ValueIs, some_same, same_or_not, numbered_set, numbered_other, get_set, length-set, get-behind, Allotted, row_numbers_of, Layout, HoldElements, rows_of_cells, live_rows, AreMade, HasArray, ArrayHasRow, ArraysAre, IsArrayOf}
 use Rattle.algol_meaning.specs.World.{set_cell}
-use Rattle.b67_frames.specs.Arrays.{IsIn}
+use Rattle.b67_frames.specs.Arrays.{ElementIsIn}
 use Rattle.b67_frames.proofs.ArraysKept.{elements_numbered, rows_numbered}
 use Rattle.b67_frames.proofs.ClosedRows.{AreApart}
 use Rattle.b67_frames.proofs.Knowing.{KeepsArrays, IsNoReference, keeps_same, other_stays, names_stay}
@@ -19,7 +19,7 @@ data Before (sc : Scopes) (w : World) (lay : Layout) (i number : ℕ) (declared 
 
 module _ (sc : Scopes) (w : World) (lay : Layout) (rows : Rows) (are : ArraysAre sc w lay rows) (i : ℕ) (x : Instance) (own : OwnCells sc w lay i x)
     (name : List ℕ) (declared : DeclaredArray) (cell : ArrayCell) (a : Allotted) (of : IsArrayOf sc w lay i name declared cell a)
-    (ks : List ℕ) (index at number : ℕ) (within : IsIn sc w lay cell.bounds ks index at) (part : slice_get a.parts index ≡ Some number)
+    (ks : List ℕ) (index at number : ℕ) (within : ElementIsIn sc w lay cell.bounds ks index at) (part : slice_get a.parts index ≡ Some number)
     (v : Value) (word : Word) (fits : HasKind declared.kind v) (is : ValueIs v word) where
   abbrev later : ArrayCell
   later = with_element cell ks v
@@ -70,10 +70,10 @@ module _ (sc : Scopes) (w : World) (lay : Layout) (rows : Rows) (are : ArraysAre
   means_behind : cell_in own.arrays name ≡ array cell
   means_behind = sym (found.behind own.arrays) ∙ ap (λ (cells : List NamedCell). cell_in cells name) (sym own.has) ∙ means
 
-  row : (k n : ℕ) → slice_get (numbers_of a) k ≡ Some n → HasRow sc w lay i of.number k n
+  row : (k n : ℕ) → slice_get (row_numbers_of a) k ≡ Some n → ArrayHasRow sc w lay i of.number k n
   row k n e = record { declared = declared; cell = cell; allotted = a; array = has; there = e }
 
-  apart : AreApart (numbers_of a)
+  apart : AreApart (row_numbers_of a)
   apart k l n e f = (are.apart i i of.number of.number k l n (row k n e) (row l n f)).2
 
   -- ---- the cells of the instance
@@ -172,14 +172,14 @@ module _ (sc : Scopes) (w : World) (lay : Layout) (rows : Rows) (are : ArraysAre
             allotted = h.allotted;
           }) (λ own_is _. other_is own_is)
 
-  row_before : (j other k n : ℕ) → HasRow sc element_world lay j other k n → HasRow sc w lay j other k n
+  row_before : (j other k n : ℕ) → ArrayHasRow sc element_world lay j other k n → ArrayHasRow sc w lay j other k n
   row_before j other k n h = by_before (before j other h.declared h.cell h.allotted h.array)
     where
-      by_before : Was j other h.declared h.cell h.allotted → HasRow sc w lay j other k n
+      by_before : Was j other h.declared h.cell h.allotted → ArrayHasRow sc w lay j other k n
       by_before (same had apart_is) = record { declared = h.declared; cell = h.cell; allotted = h.allotted; array = had; there = h.there }
       by_before (stored own_is number_is declared_is cell_is' rows_is) =
-          subst (λ (l : ℕ). HasRow sc w lay l other k n) own_is
-          (subst (λ (l : ℕ). HasRow sc w lay i l k n) number_is (row k n (ap (λ (b : Allotted). slice_get (numbers_of b) k) rows_is ∙ h.there)))
+          subst (λ (l : ℕ). ArrayHasRow sc w lay l other k n) own_is
+          (subst (λ (l : ℕ). ArrayHasRow sc w lay i l k n) number_is (row k n (ap (λ (b : Allotted). slice_get (row_numbers_of b) k) rows_is ∙ h.there)))
 
   held_after : (j other : ℕ) (d : DeclaredArray) (c : ArrayCell) (b : Allotted) → HasArray sc element_world lay j other d c b → HoldElements (with_row_word rows number at word) d.kind c b
   held_after j other d c b h = by_before (before j other d c b h)

@@ -1,7 +1,7 @@
 -- A word is written into a row of an array: the rows hold the array with that element.
 use Rattle.std.proofs.Common.{◌≡◌, ◌≢◌, ◌⊎◌, inl, inr, refl, sym, ap, ◌∙◌, ℕ, zero, suc, ◌+◌, ◌*◌, ◌<◌, ◌≤◌, List, [], ◌∷◌, length, Option, Some, None, true, arith}
-use Rattle.b67_frames.proofs.Prelude.{slice_get, slice_set, Kind, Scopes, Value, ArrayCell, flat, with_element, World, Word, Row, Rows, row_at, row_limit, row_with, with_row_word, changed_others, HasKind, ValueIs, some_same, none_some, same_or_not, numbered_other, most_or_more, get_set, length-set, Allotted, numbers_of, Layout, row_length, HoldElements, open_rows}
-use Rattle.b67_frames.specs.Arrays.{IsIn}
+use Rattle.b67_frames.proofs.Prelude.{slice_get, slice_set, Kind, Scopes, Value, ArrayCell, flat, with_element, World, Word, Row, Rows, row_at, row_limit, row_with, with_row_word, changed_others, HasKind, ValueIs, some_same, none_some, same_or_not, numbered_other, most_or_more, get_set, length-set, Allotted, row_numbers_of, Layout, row_length, HoldElements, open_rows}
+use Rattle.b67_frames.specs.Arrays.{ElementIsIn}
 use Rattle.b67_frames.proofs.ClosedRows.{AreApart}
 use Rattle.b67_frames.proofs.ElementRows.{flat_is, at_below}
 
@@ -52,8 +52,8 @@ get_other xs k j y other = numbered_other xs (suc k) (suc j) y (λ same. other (
 
 -- ---- an element
 
-module _ (sc : Scopes) (w : World) (lay : Layout) (rows : Rows) (kind : Kind) (cell : ArrayCell) (a : Allotted) (holds : HoldElements rows kind cell a) (apart : AreApart (numbers_of a))
-    (ks : List ℕ) (index at number : ℕ) (within : IsIn sc w lay cell.bounds ks index at) (part : slice_get a.parts index ≡ Some number)
+module _ (sc : Scopes) (w : World) (lay : Layout) (rows : Rows) (kind : Kind) (cell : ArrayCell) (a : Allotted) (holds : HoldElements rows kind cell a) (apart : AreApart (row_numbers_of a))
+    (ks : List ℕ) (index at number : ℕ) (within : ElementIsIn sc w lay cell.bounds ks index at) (part : slice_get a.parts index ≡ Some number)
     (v : Value) (word : Word) (fits : HasKind kind v) (is : ValueIs v word) where
   abbrev rows' : Rows
   rows' = with_row_word rows number at word
@@ -65,14 +65,14 @@ module _ (sc : Scopes) (w : World) (lay : Layout) (rows : Rows) (kind : Kind) (c
   parts_apart : (j l n : ℕ) → slice_get a.parts j ≡ Some n → slice_get a.parts l ≡ Some n → j ≡ l
   parts_apart j l n e f = by_mother a.mother a.parts apart e f
     where
-      by_mother : (o : Option ℕ) (parts : List ℕ) → AreApart (numbers_of (record { mother = o; parts = parts })) → slice_get parts j ≡ Some n → slice_get parts l ≡ Some n → j ≡ l
+      by_mother : (o : Option ℕ) (parts : List ℕ) → AreApart (row_numbers_of (record { mother = o; parts = parts })) → slice_get parts j ≡ Some n → slice_get parts l ≡ Some n → j ≡ l
       by_mother None parts alone e f = alone j l n e f
       by_mother (Some m) parts alone e f = let next : suc j ≡ suc l = alone (suc j) (suc l) n e f in omega (arith, next)
 
   mother_apart : (m : ℕ) → a.mother ≡ Some m → m ≢ number
   mother_apart m mother same = by_mother a.mother a.parts apart mother part
     where
-      by_mother : (o : Option ℕ) (parts : List ℕ) → AreApart (numbers_of (record { mother = o; parts = parts })) → o ≡ Some m → slice_get parts index ≡ Some number → ⊥
+      by_mother : (o : Option ℕ) (parts : List ℕ) → AreApart (row_numbers_of (record { mother = o; parts = parts })) → o ≡ Some m → slice_get parts index ≡ Some number → ⊥
       by_mother None parts alone e there = none_some e
       by_mother (Some n) parts alone e there =
           let here : n ≡ number = some_same e ∙ same in

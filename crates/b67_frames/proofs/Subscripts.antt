@@ -3,9 +3,9 @@ use Rattle.std.proofs.Common.{◌≡◌, refl, sym, ap, ◌∙◌, subst, ℕ, �
 use Rattle.b67_frames.proofs.Prelude.{map, slice_get, pos, negsuc, ◌-ℤ◌, int_lt, int_le, nat_abs, nat_lt, ◌&&◌, if◌then◌else◌, ints, nat_tests, Bounds, ArrayCell, size_of, some_same, none_some, AreSized}
 use Rattle.std.specs.Prelude.{neg_ℤ, ◌+ℤ◌, ◌<ℤ◌, ◌≤ℤ◌}
 use Rattle.algol_tree.specs.Sorts.{Sort, array, formal_array}
-use Rattle.algol_meaning.specs.Arrays.{placed, placed_in, moved_to, moved as moved_by_sort, subscript_place}
+use Rattle.algol_meaning.specs.Arrays.{placed, placed_in, moved_to, moved, subscript_place}
 use Rattle.b67_table.specs.Arrays.{index_in}
-use Rattle.b67_templates.specs.Fragments.{Low, zero, above, near, far, moved, moved_by}
+use Rattle.b67_templates.specs.Fragments.{Low, zero, above, near, far, moved_number, moved_by}
 use Rattle.b67_frames.proofs.FewElements.{OneSized, one_sized, TwoSized, two_sized}
 
 -- ---- tests of whole numbers
@@ -155,7 +155,7 @@ module _ (b : Bounds) (s : Span b) where
         let long : pos (size_of b) ≤ℤ neg_ℤ b.low = omega (arith, ints) in
         beyond_none (neg_ℤ b.low) (size_of b) long ∙ sym (higher_none b z outside))
 
-    moved_placed : (z : ℤ) → Leads z (moved b.low z)
+    moved_placed : (z : ℤ) → Leads z (moved_number b.low z)
     moved_placed z =
         on_test P (int_lt (pos 0) b.low) above _ (λ e. from_above e z)
         (λ e.
@@ -165,8 +165,8 @@ module _ (b : Bounds) (s : Span b) where
         P : Low → Type 0
         P low = Leads z (moved_by low b.low z)
 
-pub index_placed : (b : Bounds) (low z : ℤ) → b.low ≡ low → 1 ≤ size_of b → size_of b ≤ 1048576 → index_in (moved low z) (size_of b) ≡ placed b z
-index_placed b low z is some few = subst (λ (l : ℤ). index_in (moved l z) (size_of b) ≡ placed b z) is (moved_placed b (span b some) few z)
+pub index_placed : (b : Bounds) (low z : ℤ) → b.low ≡ low → 1 ≤ size_of b → size_of b ≤ 1048576 → index_in (moved_number low z) (size_of b) ≡ placed b z
+index_placed b low z is some few = subst (λ (l : ℤ). index_in (moved_number l z) (size_of b) ≡ placed b z) is (moved_placed b (span b some) few z)
 
 -- an index is below the size
 pub index_below : (y : ℤ) (m k : ℕ) → index_in y m ≡ Some k → k < m
@@ -196,13 +196,13 @@ same_size b low some =
     ∙ ap (λ (d : ℤ). nat_abs d + 1) beyond
     ∙ sym s.size
 
-shifted_placed : (b : Bounds) (low z : ℤ) → 1 ≤ size_of b → size_of b ≤ 1048576 → index_in (moved low z) (size_of b) ≡ placed b (z +ℤ (b.low -ℤ low))
+shifted_placed : (b : Bounds) (low z : ℤ) → 1 ≤ size_of b → size_of b ≤ 1048576 → index_in (moved_number low z) (size_of b) ≡ placed b (z +ℤ (b.low -ℤ low))
 shifted_placed b low z some few =
     let same : size_of (shifted b low) ≡ size_of b = same_size b low some in
     let some' : 1 ≤ size_of (shifted b low) = omega (arith, same, some) in
     let few' : size_of (shifted b low) ≤ 1048576 = omega (arith, same, few) in
     let there : (z +ℤ (b.low -ℤ low)) -ℤ b.low ≡ z -ℤ low = omega (arith, ints) in
-    ap (λ (n : ℕ). index_in (moved low z) n) (sym same)
+    ap (λ (n : ℕ). index_in (moved_number low z) n) (sym same)
     ∙ index_placed (shifted b low) low z refl some' few'
     ∙ sym (difference_placed (shifted b low) (span (shifted b low) some') z)
     ∙ ap (λ (n : ℕ). index_in (z -ℤ low) n) same
@@ -238,27 +238,27 @@ two_bounds s (b ∷ c ∷ d ∷ bs) low second (by_others is e) = absurd (omega 
 
 -- in one dimension, whose bounds are these, where the subscript counts from there
 in_own : (s : Sort) → s ≡ array → (b : Bounds) (low : ℤ) (dimension : ℕ) (z : ℤ) → b.low ≡ low → 1 ≤ size_of b → size_of b ≤ 1048576 →
-    index_in (moved low z) (size_of b) ≡ placed b (moved_by_sort s (Some b) dimension z)
-in_own s is b low dimension z same some few = index_placed b low z same some few ∙ sym (ap (λ (t : Sort). placed b (moved_by_sort t (Some b) dimension z)) is)
+    index_in (moved_number low z) (size_of b) ≡ placed b (moved s (Some b) dimension z)
+in_own s is b low dimension z same some few = index_placed b low z same some few ∙ sym (ap (λ (t : Sort). placed b (moved t (Some b) dimension z)) is)
 
 in_others : (s : Sort) (lows : List ℤ) → s ≡ formal_array lows → (b : Bounds) (low : ℤ) (dimension : ℕ) (z : ℤ) → slice_get lows dimension ≡ Some low → 1 ≤ size_of b → size_of b ≤ 1048576 →
-    index_in (moved low z) (size_of b) ≡ placed b (moved_by_sort s (Some b) dimension z)
+    index_in (moved_number low z) (size_of b) ≡ placed b (moved s (Some b) dimension z)
 in_others s lows is b low dimension z there some few =
     shifted_placed b low z some few
-    ∙ sym (ap (λ (t : Sort). placed b (moved_by_sort t (Some b) dimension z)) is ∙ ap (λ (o : Option ℤ). placed b (moved_to (Some b) o z)) there)
+    ∙ sym (ap (λ (t : Sort). placed b (moved t (Some b) dimension z)) is ∙ ap (λ (o : Option ℤ). placed b (moved_to (Some b) o z)) there)
 
 module _ (s : Sort) (cell : ArrayCell) (sized : AreSized cell.bounds) where
   -- the place of a subscript after so many
   abbrev At : List Bounds → List ℕ → ℤ → Option ℕ
-  At bs ks z = placed_in (slice_get bs (length ks)) (moved_by_sort s (slice_get bs (length ks)) (length ks) z)
+  At bs ks z = placed_in (slice_get bs (length ks)) (moved s (slice_get bs (length ks)) (length ks) z)
 
-  pub only_index : (b : Bounds) (low z : ℤ) → CountsBy s cell.bounds (low ∷ []) → cell.bounds ≡ b ∷ [] → index_in (moved low z) (size_of b) ≡ subscript_place s cell [] z
+  pub only_index : (b : Bounds) (low z : ℤ) → CountsBy s cell.bounds (low ∷ []) → cell.bounds ≡ b ∷ [] → index_in (moved_number low z) (size_of b) ≡ subscript_place s cell [] z
   only_index b low z counts is = by_lows (subst (λ (bs : List Bounds). CountsBy s bs (low ∷ [])) is counts) ∙ sym (ap (λ (bs : List Bounds). At bs [] z) is)
     where
       one : OneSized b
       one = one_sized b (subst AreSized is sized)
 
-      by_lows : CountsBy s (b ∷ []) (low ∷ []) → index_in (moved low z) (size_of b) ≡ At (b ∷ []) [] z
+      by_lows : CountsBy s (b ∷ []) (low ∷ []) → index_in (moved_number low z) (size_of b) ≡ At (b ∷ []) [] z
       by_lows (by_own array_is e) = in_own s array_is b low 0 z (let same : b.low ∷ [] ≡ low ∷ [] = e in cc) one.some one.few
       by_lows (by_others formal_is e) = in_others s (low ∷ []) formal_is b low 0 z refl one.some one.few
 
@@ -269,16 +269,16 @@ module _ (s : Sort) (cell : ArrayCell) (sized : AreSized cell.bounds) where
     both : CountsBy s (b ∷ c ∷ []) (low ∷ second ∷ [])
     both = subst (λ (bs : List Bounds). CountsBy s bs (low ∷ second ∷ [])) is counts
 
-    pub first_index : (z : ℤ) → index_in (moved low z) (size_of b) ≡ subscript_place s cell [] z
+    pub first_index : (z : ℤ) → index_in (moved_number low z) (size_of b) ≡ subscript_place s cell [] z
     first_index z = by_lows both ∙ sym (ap (λ (bs : List Bounds). At bs [] z) is)
       where
-        by_lows : CountsBy s (b ∷ c ∷ []) (low ∷ second ∷ []) → index_in (moved low z) (size_of b) ≡ At (b ∷ c ∷ []) [] z
+        by_lows : CountsBy s (b ∷ c ∷ []) (low ∷ second ∷ []) → index_in (moved_number low z) (size_of b) ≡ At (b ∷ c ∷ []) [] z
         by_lows (by_own array_is e) = in_own s array_is b low 0 z (let same : b.low ∷ c.low ∷ [] ≡ low ∷ second ∷ [] = e in cc) two.first.some two.first.few
         by_lows (by_others formal_is e) = in_others s (low ∷ second ∷ []) formal_is b low 0 z refl two.first.some two.first.few
 
-    pub second_index : (k : ℕ) (z : ℤ) → index_in (moved second z) (size_of c) ≡ subscript_place s cell (k ∷ []) z
+    pub second_index : (k : ℕ) (z : ℤ) → index_in (moved_number second z) (size_of c) ≡ subscript_place s cell (k ∷ []) z
     second_index k z = by_lows both ∙ sym (ap (λ (bs : List Bounds). At bs (k ∷ []) z) is)
       where
-        by_lows : CountsBy s (b ∷ c ∷ []) (low ∷ second ∷ []) → index_in (moved second z) (size_of c) ≡ At (b ∷ c ∷ []) (k ∷ []) z
+        by_lows : CountsBy s (b ∷ c ∷ []) (low ∷ second ∷ []) → index_in (moved_number second z) (size_of c) ≡ At (b ∷ c ∷ []) (k ∷ []) z
         by_lows (by_own array_is e) = in_own s array_is c second 1 z (let same : b.low ∷ c.low ∷ [] ≡ low ∷ second ∷ [] = e in cc) two.second.some two.second.few
         by_lows (by_others formal_is e) = in_others s (low ∷ second ∷ []) formal_is c second 1 z refl two.second.some two.second.few

@@ -1,6 +1,6 @@
 -- The entry of an intrinsic: it names the cell of its control word in the system's stack, and no other, since its arguments are operands.
 use Rattle.std.proofs.Common.{◌≡◌, refl, sym, ap, ◌∙◌, subst, ℕ, ◌+◌, ◌-◌, ◌≤◌, List, ◌∷◌, ◌++◌, Option, Some, None, true, false, arith, length, lit<, length-append}
-use Rattle.b67_frames.proofs.Prelude.{slice_get, reverse, length-reverse, Scopes, Value, Word, Irw, Pcw, Sirw, as_irw, as_sirw, place_at, Intrinsic, number_of, couple_of_intrinsic, word_at, system_stack, place, Image, irw_or_sirw, Slot, intrinsic, mark, Core, HasCore, Known, SlotsAre, slots_length, none_some, words_are, stack-over, get-behind, pcw_kind, tag_zero}
+use Rattle.b67_frames.proofs.Prelude.{slice_get, reverse, length-reverse, Scopes, Value, Word, Irw, Pcw, Sirw, as_irw, as_sirw, place_at, Intrinsic, intrinsic_number_of, couple_of_intrinsic, word_at, system_stack, place, Image, irw_or_sirw, Slot, intrinsic, mark, Core, HasCore, Known, SlotsAre, slots_length, none_some, words_are, stack-over, get-behind, pcw_kind, tag_zero}
 use Rattle.b67_control.proofs.ControlLaws.{as_sirw-other, irw_laws}
 use Rattle.b67_ops.specs.declared.Operator.TheVariants as ops
 use Rattle.b67_ops.specs.declared.PlainKind.TheVariants as kinds
@@ -39,10 +39,10 @@ over_top img p core has x words top =
 
 -- the control word of an intrinsic
 abbrev control_of : Intrinsic → Pcw
-control_of name = record { intrinsic = true; names = false; segment = 0; psr = 0; pir = 0; level = 0; number = number_of name }
+control_of name = record { intrinsic = true; names = false; segment = 0; psr = 0; pir = 0; level = 0; number = intrinsic_number_of name }
 
 -- it stands at its number in the system's stack
-pub lies_there : (name : Intrinsic) → slice_get system_stack (0 + number_of name) ≡ Some (intrinsic_pcw (number_of name))
+pub lies_there : (name : Intrinsic) → slice_get system_stack (0 + intrinsic_number_of name) ≡ Some (intrinsic_pcw (intrinsic_number_of name))
 lies_there names.GoTo = refl
 lies_there names.Select = refl
 lies_there names.Arrays = refl
@@ -60,8 +60,8 @@ lies_there names.CauseAndReset = refl
 lies_there names.Available = refl
 lies_there names.Fix = refl
 
-pub pcw_no_sirw : (name : Intrinsic) → as_sirw (intrinsic_pcw (number_of name)) ≡ None
-pcw_no_sirw name = as_sirw-other (intrinsic_pcw (number_of name)) (λ k. let is = sym (pcw_kind (control_of name)) ∙ k in cc)
+pub pcw_no_sirw : (name : Intrinsic) → as_sirw (intrinsic_pcw (intrinsic_number_of name)) ≡ None
+pcw_no_sirw name = as_sirw-other (intrinsic_pcw (intrinsic_number_of name)) (λ k. let is = sym (pcw_kind (control_of name)) ∙ k in cc)
 
 -- ---- operands
 
@@ -82,8 +82,8 @@ above_others P below args words are n u high e =
 module _ (img : Image) (p : ℕ) (core : Core) (has : HasCore img p core) (system : stack_at img.stacks 0 ≡ Some system_stack) (sees : place_at core.registers.display 0 ≡ Some (place 0 0))
     (sc : Scopes) (known : List Known) (level home : ℕ) (slots : List Slot) (mark_is : core.registers.f ≡ newest home (length core.below) slots) (words_here : SlotsAre sc known level home (length core.below) slots core.words)
     (name : Intrinsic) (vs : List Value) (below : List Slot) (lies : slots ≡ operands vs (intrinsic name ∷ mark ∷ below)) where
-  entry_lies : word_at img.stacks (place 0 (0 + number_of name)) ≡ Some (intrinsic_pcw (number_of name))
-  entry_lies = ap (λ (o : Option (List Word)). slice_get (words_or o) (0 + number_of name)) system ∙ lies_there name
+  entry_lies : word_at img.stacks (place 0 (0 + intrinsic_number_of name)) ≡ Some (intrinsic_pcw (intrinsic_number_of name))
+  entry_lies = ap (λ (o : Option (List Word)). slice_get (words_or o) (0 + intrinsic_number_of name)) system ∙ lies_there name
 
   pub call_names : NamesNear p img (ops.Plain kinds.Entr) core.registers
   call_names =
@@ -97,8 +97,8 @@ module _ (img : Image) (p : ℕ) (core : Core) (has : HasCore img p core) (syste
       let whole : core.words ≡ g.arguments ++ i.word ∷ i.words_below = g.is ∙ ap (λ (ws : List Word). g.arguments ++ ws) i.is in
       entry_names p img core.registers i.word
       (under_top img p core has g.arguments i.word i.words_below whole (core.registers.f + 1) (omega (arith, f, many)))
-      (record { level = 0; index = number_of name }) (ap as_irw i.slot_is ∙ reference_read (couple_of_intrinsic name) (lit< tt) (numbers_small name))
-      (place 0 0) sees (system_cell p img (record { frame = place 0 0; index = number_of name }) refl) (intrinsic_pcw (number_of name)) entry_lies (pcw_no_sirw name)
+      (record { level = 0; index = intrinsic_number_of name }) (ap as_irw i.slot_is ∙ reference_read (couple_of_intrinsic name) (lit< tt) (numbers_small name))
+      (place 0 0) sees (system_cell p img (record { frame = place 0 0; index = intrinsic_number_of name }) refl) (intrinsic_pcw (intrinsic_number_of name)) entry_lies (pcw_no_sirw name)
       (λ kind n u c after there names.
       operand_none u
       (above_others (λ (w : Word). w.tag ≡ 0) core.below g.arguments (i.word ∷ i.words_below) g.are_operands n u (omega (arith, f, many, after))

@@ -1,6 +1,6 @@
 -- The marks in a process's stack lead to the frames below them that lie there, and to the system's stack.
 use Rattle.std.proofs.Common.{◌≡◌, ◌≢◌, ◌⊎◌, inl, inr, refl, sym, ap, ◌∙◌, subst, ℕ, zero, suc, ◌+◌, ◌<◌, ◌≤◌, ◌^◌, List, [], ◌∷◌, ◌++◌, length, Option, Some, Bool, true, false, arith, lit<, length-append}
-use Rattle.b67_frames.proofs.Prelude.{if◌then◌else◌, ◌==◌, slice_get, reverse, length-reverse, numbered, MOST_BLOCK_CELLS, Kind, Named, Block, block_numbered, level_of, PProgram, Scopes, use_of, same_name, Value, Bounds, Cell, simple, event, array, named, reference as refers, NamedCell, Instance, Part, World, or_no_instance, Made, an_array, an_event, IsStanding, Place, Word, Descriptor, Irw, Pcw, Sirw, as_mscw, as_rcw, event_word, pcw_word, Fits-as_rcw, Couple, Intrinsic, number_of, couple_of_intrinsic, Code, system_stack, place, cell_word, Yields, Simple, Found, simple_cells, found_from, procedures, IsVariable, Wanted, made_of, Texts, Held, element, variable, cell_named, actual, passed, Slot, intrinsic, mark, Core, stack_of, ValueIs, Known, IsKnown, SlotsAre, control_words, slots_length, some_same, AreNested, value_tag, pcw_kind, tag_zero, Allotted, Layout, DescriptorIs, AreMade, Denotes, HeldIs, AreKnown, CellIs, Refers, CellsAre, block_controls, IsInReach, IsPlaced, outermost, inside, ArePlaced, home_of, IsOnPath, Frame, Stands, Waits, Around, level_at, Owned, of_own, of_lent, run_level, is_evaluation, get_within}
+use Rattle.b67_frames.proofs.Prelude.{if◌then◌else◌, ◌==◌, slice_get, reverse, length-reverse, numbered, MOST_BLOCK_CELLS, Kind, Named, Block, block_numbered, level_of, PProgram, Scopes, use_of, same_name, Value, Bounds, Cell, simple, event, array, named, reference as refers, NamedCell, Instance, Part, World, or_no_instance, Made, an_array, an_event, IsStanding, Place, Word, Descriptor, Irw, Pcw, Sirw, as_mscw, as_rcw, event_word, pcw_word, Fits-as_rcw, Couple, Intrinsic, intrinsic_number_of, couple_of_intrinsic, Code, system_stack, place, cell_word, Yields, Simple, Found, simple_cells, found_from, procedures, IsVariable, Wanted, made_of, Texts, HeldWord, element, variable, cell_named, actual, passed, Slot, intrinsic, mark, Core, stack_of, ValueIs, Known, IsKnown, SlotsAre, control_words, slots_length, some_same, AreNested, value_tag, pcw_kind, tag_zero, Allotted, Layout, DescriptorIs, AreMade, Denotes, HeldIs, AreKnown, CellIs, Refers, CellsAre, block_controls, IsInReach, FrameIsPlaced, outermost, inside, ArePlaced, home_of, IsOnPath, Frame, FrameStands, Waits, Around, level_of_part, Owned, of_own, of_lent, run_level, is_evaluation, get_within}
 use Rattle.algol_tree.specs.Scopes.{scopes_of}
 use Rattle.b67_word.specs.Word.{field}
 use Rattle.b67_control.specs.Kind as kind
@@ -27,7 +27,7 @@ use Rattle.b67_frames.proofs.Lying.{owned_stands, part_in}
 use Rattle.b67_faithful.proofs.Sources.{reverse-cons}
 
 -- the number of an intrinsic fits a reference
-pub numbers_small : (name : Intrinsic) → number_of name < 2 ^ 14
+pub numbers_small : (name : Intrinsic) → intrinsic_number_of name < 2 ^ 14
 numbers_small names.GoTo = lit< tt
 numbers_small names.Select = lit< tt
 numbers_small names.Arrays = lit< tt
@@ -197,7 +197,7 @@ module _ (Home : ℕ → ℕ → Type 0) (root : (n : ℕ) → Home 0 n) where
 
 -- what is known of descriptors and references is of no marks
 abbrev pub KnownLead : (ℕ → ℕ → Type 0) → List Known → Type 0
-KnownLead Home known = (h : Held) (x : Word) → IsKnown known h x → LinksTo Home x
+KnownLead Home known = (h : HeldWord) (x : Word) → IsKnown known h x → LinksTo Home x
 
 module _ (sc : Scopes) (w : World) (lay : Layout) (Home : ℕ → ℕ → Type 0) (root : (n : ℕ) → Home 0 n) (Stand : ℕ → Type 0) (i : ℕ) where
   pub denoted_leads : (wanted : Wanted) (c : Cell) (x : Word) → Denotes sc w lay Stand wanted c x → LinksTo Home x
@@ -207,7 +207,7 @@ module _ (sc : Scopes) (w : World) (lay : Layout) (Home : ℕ → ℕ → Type 0
   denoted_leads (wants.by_name kind) (named a) x is = subst (LinksTo Home) (sym is.word_is) (cell_word_leads Home root _)
   denoted_leads _ c x is = absurd is
 
-  held_leads : (h : Held) (x : Word) → HeldIs sc w lay Stand i h x → LinksTo Home x
+  held_leads : (h : HeldWord) (x : Word) → HeldIs sc w lay Stand i h x → LinksTo Home x
   held_leads (row n ks) x is = subst (LinksTo Home) (sym is.word_is) (descriptor_leads Home root _)
   held_leads (element r ks kind) x is = subst (LinksTo Home) (sym is.word_is) (descriptor_leads Home root _)
   held_leads (cell_named n) x is = subst (LinksTo Home) (sym is.word_is) (cell_word_leads Home root _)
@@ -292,10 +292,10 @@ module _ (tree : PProgram) (code : Code) (texts : Texts) (nested : AreNested (sc
   abbrev Outer : List Part → List Word → Word → Word → Yields → Type 0
   Outer parts lower m c wanted = Around tree code texts w lay p parts lower m c wanted
 
-  module _ (part : Part) (outer : List Part) (core : Core) (s : Stands tree code texts w lay p part outer core) (a : Outer outer s.frame.lower s.frame.mark s.frame.control s.frame.gives) where
-    pub level_known : level_at tree code texts w lay p part < 32
+  module _ (part : Part) (outer : List Part) (core : Core) (s : FrameStands tree code texts w lay p part outer core) (a : Outer outer s.frame.lower s.frame.mark s.frame.control s.frame.gives) where
+    pub level_known : level_of_part tree code texts w lay p part < 32
     level_known =
-        let same : level_at tree code texts w lay p part ≡ run_level (is_evaluation part.purpose) (level_of (block_numbered sc.blocks s.frame.instance.block)) =
+        let same : level_of_part tree code texts w lay p part ≡ run_level (is_evaluation part.purpose) (level_of (block_numbered sc.blocks s.frame.instance.block)) =
         ap (λ (o : Option Instance). run_level (is_evaluation part.purpose) (level_of (block_numbered sc.blocks ((or_no_instance o).block)))) s.frame.is in
         omega (arith, same, s.frame.level_is, (Fits-as_rcw s.frame.control s.frame.control_is).1.1.1.1.1.0)
 
@@ -310,7 +310,7 @@ module _ (tree : PProgram) (code : Code) (texts : Texts) (nested : AreNested (sc
     root_near : (home : Place) → Some (place 0 0) ≡ Some home → IsHome home
     root_near home e = subst (λ (f : Place). Home f.stack f.at) (some_same e) (root 0)
 
-    home_near : (j : ℕ) (x : Instance) → numbered w.instances j ≡ Some x → x.process ≡ p → x.left ≡ false → IsPlaced sc w lay x → (home : Place) → home_of sc w lay x.parent ≡ Some home → IsHome home
+    home_near : (j : ℕ) (x : Instance) → numbered w.instances j ≡ Some x → x.process ≡ p → x.left ≡ false → FrameIsPlaced sc w lay x → (home : Place) → home_of sc w lay x.parent ≡ Some home → IsHome home
     home_near j x is own stands (outermost none_up alone) home e = root_near home (sym (ap (home_of sc w lay) none_up) ∙ e)
     home_near j x is own stands (inside up next made) home e = by_parent x.parent e (λ some. up_path j x is stands some)
       where
@@ -339,8 +339,8 @@ module _ (tree : PProgram) (code : Code) (texts : Texts) (nested : AreNested (sc
       ),
     )
       where
-        own_placed : IsPlaced sc w lay o.framed.instance
-        own_placed = subst (λ (x : Instance). IsPlaced sc w lay x) (ap or_no_instance o.framed.is) (placed part.instance (owned_stands tree code texts w lay p facts part outer at m c cells o))
+        own_placed : FrameIsPlaced sc w lay o.framed.instance
+        own_placed = subst (λ (x : Instance). FrameIsPlaced sc w lay x) (ap or_no_instance o.framed.is) (placed part.instance (owned_stands tree code texts w lay p facts part outer at m c cells o))
 
     -- the instance of a frame's part
     part_has : (part : Part) (outer : List Part) (words : List Word) (f : Frame tree code texts w lay p part outer words) → Outer outer f.lower f.mark f.control f.gives → Has part.instance
@@ -366,15 +366,15 @@ module _ (tree : PProgram) (code : Code) (texts : Texts) (nested : AreNested (sc
         let s : Waits tree code texts w lay p part outer lower m c wanted = a.0 in
         let long : length lower ≡ length s.below + length s.words = ap length s.lower_is ∙ length-append s.below (reverse s.words) ∙ ap (λ (n : ℕ). length s.below + n) (length-reverse s.words) in
         let lowest : length s.below ≡ length s.frame.lower + (2 + length s.frame.cells) = ap length s.frame.words_are ∙ length-append s.frame.lower (s.frame.mark ∷ s.frame.control ∷ s.frame.cells) ∙ omega arith in
-        let many : length s.words ≡ length s.slots = slots_length sc s.held (level_at tree code texts w lay p part) (length s.frame.lower) (length s.below) s.slots s.words s.words_are in
+        let many : length s.words ≡ length s.slots = slots_length sc s.held (level_of_part tree code texts w lay p part) (length s.frame.lower) (length s.below) s.slots s.words s.words_are in
         subst (AllLead Home root) (sym s.lower_is)
         (lead_both Home root s.below (reverse s.words)
         (frame_leads part outer s.below s.frame a.1
         (around_leads outer s.frame.lower s.frame.mark s.frame.control s.frame.gives a.1 (omega (arith, room, long, lowest))))
-        (lead_turned Home root s.words (slots_lead sc s.held Home root (level_at tree code texts w lay p part) (length s.frame.lower) (length s.below)
+        (lead_turned Home root s.words (slots_lead sc s.held Home root (level_of_part tree code texts w lay p part) (length s.frame.lower) (length s.below)
         (known_lead sc w lay Home root (IsInReach w (part ∷ outer)) part.instance s.held s.held_are) s.slots s.words s.words_are (omega (arith, room, long, many)))))
 
-    module _ (part : Part) (outer : List Part) (core : Core) (s : Stands tree code texts w lay p part outer core) (a : Outer outer s.frame.lower s.frame.mark s.frame.control s.frame.gives) where
+    module _ (part : Part) (outer : List Part) (core : Core) (s : FrameStands tree code texts w lay p part outer core) (a : Outer outer s.frame.lower s.frame.mark s.frame.control s.frame.gives) where
       -- so do the words below the floor
       pub below_leads : length s.frame.lower ≤ 2 ^ 16 → AllLead Home root core.below
       below_leads room = frame_leads part outer core.below s.frame a (around_leads outer s.frame.lower s.frame.mark s.frame.control s.frame.gives a room)
@@ -384,7 +384,7 @@ module _ (tree : PProgram) (code : Code) (texts : Texts) (nested : AreNested (sc
       core_leads room =
           let lowest : length core.below ≡ length s.frame.lower + (2 + length s.frame.cells) = ap length s.frame.words_are ∙ length-append s.frame.lower (s.frame.mark ∷ s.frame.control ∷ s.frame.cells) ∙ omega arith in
           let many : length core.words ≡ length s.slots =
-          slots_length sc s.held (level_at tree code texts w lay p part) _ (length core.below) s.slots core.words s.there.words_are in
+          slots_length sc s.held (level_of_part tree code texts w lay p part) _ (length core.below) s.slots core.words s.there.words_are in
           lead_both Home root core.below (reverse core.words) (below_leads (omega (arith, room, lowest)))
-          (lead_turned Home root core.words (slots_lead sc s.held Home root (level_at tree code texts w lay p part) _ (length core.below)
+          (lead_turned Home root core.words (slots_lead sc s.held Home root (level_of_part tree code texts w lay p part) _ (length core.below)
           (known_lead sc w lay Home root (IsInReach w (part ∷ outer)) part.instance s.held s.held_are) s.slots core.words s.there.words_are (omega (arith, room, many))))

@@ -5,7 +5,7 @@ use Rattle.algol_tree.specs.declared.tree.Kind.TheVariants as types
 use Rattle.algol_tree.specs.Plain as tree
 use Rattle.algol_meaning.specs.Instances.{result_cells, initial_cells, variable_cells}
 use Rattle.b67_word.specs.Word as words
-use Rattle.b67_templates.specs.Cells.{of_kind, result_of, variables, value}
+use Rattle.b67_templates.specs.Cells.{of_kind, result_cells_of, variables, value}
 
 abbrev pub zero_word : Word
 zero_word = words.operand (pos 0)
@@ -33,7 +33,7 @@ declared_zeros (tree.decls (tree.arrays kind ns pairs) ds) = declared_zeros ds
 declared_zeros (tree.decls (tree.forward h) ds) = declared_zeros ds
 declared_zeros (tree.decls (tree.procedure h s) ds) = declared_zeros ds
 
-result_zeros : (o : Option Kind) (name : List ℕ) (ss : List Simple) (cells : List NamedCell) → AreZeroCells ss cells → AreZeroCells (result_of o name ++ ss) (result_cells o name ++ cells)
+result_zeros : (o : Option Kind) (name : List ℕ) (ss : List Simple) (cells : List NamedCell) → AreZeroCells ss cells → AreZeroCells (result_cells_of o name ++ ss) (result_cells o name ++ cells)
 result_zeros None name ss cells are = are
 result_zeros (Some kind) name ss cells are = (refl, zero_is kind, are)
 
@@ -71,7 +71,7 @@ declared_kinds (tree.decls (tree.arrays kind ns pairs) ds) = declared_kinds ds
 declared_kinds (tree.decls (tree.forward h) ds) = declared_kinds ds
 declared_kinds (tree.decls (tree.procedure h s) ds) = declared_kinds ds
 
-result_kinds : (o : Option Kind) (name : List ℕ) (ss : List Simple) → HaveKinds ss → HaveKinds (result_of o name ++ ss)
+result_kinds : (o : Option Kind) (name : List ℕ) (ss : List Simple) → HaveKinds ss → HaveKinds (result_cells_of o name ++ ss)
 result_kinds None name ss have = have
 result_kinds (Some kind) name ss have = ((kind, refl), have)
 

@@ -22,8 +22,8 @@ use Rattle.b67_table.specs.Arrays.{array_word}
 use Rattle.b67_table.specs.References.{cell_word}
 use Rattle.b67_templates.specs.Fragments.{HasKind}
 use Rattle.b67_templates.specs.Cells as wants
-use Rattle.b67_templates.specs.Cells.{Wanted, Agrees, Found, found_from, simple_cells, made_of, made_from, made_base, IsVariable, IsDeclaredArray, IsDeclaredEvent, IsOwnActual}
-use Rattle.b67_standing.specs.Stepping.{Held, row, element, variable, cell_named, actual, passed}
+use Rattle.b67_templates.specs.Cells.{Wanted, ShapeAgrees, Found, found_from, simple_cells, made_of, made_from, made_base, IsVariable, IsDeclaredArray, IsDeclaredEvent, IsOwnActual}
+use Rattle.b67_standing.specs.Stepping.{HeldWord, row, element, variable, cell_named, actual, passed}
 use Rattle.b67_cores.specs.Slots.{Known, ValueIs}
 
 -- ---- layouts
@@ -43,8 +43,8 @@ abbrev pub numbers_after : Option ℕ → List ℕ → List ℕ
 numbers_after None parts = parts
 numbers_after (Some m) parts = m ∷ parts
 
-abbrev pub numbers_of : Allotted → List ℕ
-numbers_of a = numbers_after a.mother a.parts
+abbrev pub row_numbers_of : Allotted → List ℕ
+row_numbers_of a = numbers_after a.mother a.parts
 
 -- ---- an array and its descriptor
 
@@ -70,7 +70,7 @@ AreSized bs = EachSized bs × (elements_of bs ≤ MOST_ELEMENTS)
     EachSized (b ∷ bs) = (1 ≤ size_of b) × EachSized bs
 
 -- the cell of an array that is declared so
-pub record IsMade (declared : DeclaredArray) (c : NamedCell) (a : Allotted) (w : Word) : Type 0 where
+pub record CellIsMade (declared : DeclaredArray) (c : NamedCell) (a : Allotted) (w : Word) : Type 0 where
   pub named : c.name ≡ declared.name
   pub cell : ArrayCell
   pub is : c.cell ≡ array cell
@@ -89,7 +89,7 @@ pub record IsEventMade (name : List ℕ) (c : NamedCell) (a : Allotted) (w : Wor
 
 -- .. of what a declaration makes: an array, or an event
 abbrev pub IsMadeSo : Made → NamedCell → Allotted → Word → Type 0
-IsMadeSo (an_array declared) c a w = IsMade declared c a w
+IsMadeSo (an_array declared) c a w = CellIsMade declared c a w
 IsMadeSo (an_event name) c a w = IsEventMade name c a w
 
 -- what an instance has made, in the order of the declarations
@@ -146,19 +146,19 @@ module _ (sc : Scopes) (w : World) (lay : Layout) where
     pub allotted : slice_get (lay.rows i) number ≡ Some a
 
   -- so the row with this number is the k-th of that array
-  pub record HasRow (i number k n : ℕ) : Type 0 where
+  pub record ArrayHasRow (i number k n : ℕ) : Type 0 where
     pub declared : DeclaredArray
     pub cell : ArrayCell
     pub allotted : Allotted
     pub array : HasArray i number declared cell allotted
-    pub there : slice_get (numbers_of allotted) k ≡ Some n
+    pub there : slice_get (row_numbers_of allotted) k ≡ Some n
 
   -- The arrays of the instances that stand are held by rows of their own, and no other rows are open. Each of these instances has at most
   -- two rows for each element, so that there is always a number for one row more.
   pub record ArraysAre (rows : Rows) : Type 0 where
     pub held : (i number : ℕ) (declared : DeclaredArray) (cell : ArrayCell) (a : Allotted) → HasArray i number declared cell a →
         HoldElements rows declared.kind cell a
-    pub apart : (i j number other k l n : ℕ) → HasRow i number k n → HasRow j other l n → (i ≡ j) × (number ≡ other) × (k ≡ l)
+    pub apart : (i j number other k l n : ℕ) → ArrayHasRow i number k n → ArrayHasRow j other l n → (i ≡ j) × (number ≡ other) × (k ≡ l)
     pub counted : counted_words rows ≡ live_elements w.instances
     pub opened : open_rows rows ≡ live_rows w.instances
     pub few : (i : ℕ) (x : Instance) → numbered w.instances i ≡ Some x → x.left ≡ false → rows_of_cells x.cells ≤ 2 * size_of_cells x.cells
@@ -175,10 +175,10 @@ module _ (sc : Scopes) (w : World) (lay : Layout) where
     pub allotted : slice_get (lay.rows i) number ≡ Some a
 
   -- the place of an element among the rows of an array, and in its row
-  abbrev pub IsIn : List Bounds → List ℕ → ℕ → ℕ → Type 0
-  IsIn (b ∷ []) (k ∷ []) part at = (part ≡ 0) × (at ≡ k) × (k < size_of b)
-  IsIn (b ∷ c ∷ []) (j ∷ k ∷ []) part at = (part ≡ j) × (at ≡ k) × (j < size_of b) × (k < size_of c)
-  IsIn _ _ part at = ⊥
+  abbrev pub ElementIsIn : List Bounds → List ℕ → ℕ → ℕ → Type 0
+  ElementIsIn (b ∷ []) (k ∷ []) part at = (part ≡ 0) × (at ≡ k) × (k < size_of b)
+  ElementIsIn (b ∷ c ∷ []) (j ∷ k ∷ []) part at = (part ≡ j) × (at ≡ k) × (j < size_of b) × (k < size_of c)
+  ElementIsIn _ _ part at = ⊥
 
   -- a copy of the descriptor of a row, and one of its element
   abbrev pub row_copy : ℕ → ℕ → Word
@@ -188,10 +188,10 @@ module _ (sc : Scopes) (w : World) (lay : Layout) where
   element_copy at n = descriptor_word (record { presence = true; copy = true; indexed = true; mother = false; length = at; address = n })
 
   -- The reference leads to the cell of an array that agrees with this shape; this is its word, wherever it is read.
-  pub record LeadsTo (Stand : ℕ → Type 0) (shape : Shape) (r : Reference) (word : Word) : Type 0 where
+  pub record ReferenceLeadsTo (Stand : ℕ → Type 0) (shape : Shape) (r : Reference) (word : Word) : Type 0 where
     pub own : Stand r.instance
     pub declared : DeclaredArray
-    pub agrees : Agrees shape (shape_of declared)
+    pub agrees : ShapeAgrees shape (shape_of declared)
     pub cell : ArrayCell
     pub allotted : Allotted
     pub array : IsArrayOf r.instance r.name declared cell allotted
@@ -247,7 +247,7 @@ module _ (sc : Scopes) (w : World) (lay : Layout) where
   -- The word of a parameter's cell, of which that is wanted: a reference to the cell of an array of that shape; to that of an event; to that of a
   -- variable of that kind, or of an actual of that kind.
   abbrev pub Denotes : (ℕ → Type 0) → Wanted → Cell → Word → Type 0
-  Denotes Stand (wants.array shape) (reference r) word = LeadsTo Stand shape r word
+  Denotes Stand (wants.array shape) (reference r) word = ReferenceLeadsTo Stand shape r word
   Denotes Stand wants.event (reference r) word = LeadsToEvent Stand r word
   Denotes Stand (wants.by_name kind) (reference r) word = LeadsToVariable Stand kind r word
   Denotes Stand (wants.by_name kind) (meant.named a) word = IsActual Stand a.instance a.actual kind word
@@ -286,7 +286,7 @@ module _ (sc : Scopes) (w : World) (lay : Layout) where
     pub array : IsArrayOf r.instance r.name declared cell allotted
     pub index : ℕ
     pub at : ℕ
-    pub within : IsIn cell.bounds ks index at
+    pub within : ElementIsIn cell.bounds ks index at
     pub number : ℕ
     pub part : slice_get allotted.parts index ≡ Some number
     pub few : number < row_limit
@@ -308,7 +308,7 @@ module _ (sc : Scopes) (w : World) (lay : Layout) where
     pub laid : numbered lay.places (ancestor w ((use_of sc n).up) i) ≡ Some frame
     pub word_is : word ≡ cell_word (record { frame = frame; index = couple.index })
 
-  abbrev pub HeldIs : (ℕ → Type 0) → ℕ → Held → Word → Type 0
+  abbrev pub HeldIs : (ℕ → Type 0) → ℕ → HeldWord → Word → Type 0
   HeldIs Stand i (row n ks) word = IsRow Stand i n ks word
   HeldIs Stand i (element r ks kind) word = IsElement Stand r ks kind word
   HeldIs Stand i (variable r kind) word = LeadsToVariable Stand kind r word

@@ -32,7 +32,7 @@ use Rattle.b67_table.specs.Linkage.{code_place}
 use Rattle.b67_templates.specs.Contexts as yielding
 use Rattle.b67_templates.specs.Contexts.{Yields, yields_of, Context}
 use Rattle.b67_templates.specs.Fragments.{HasKind}
-use Rattle.b67_templates.specs.Programs.{Texts, text_of as text_numbered, context_of}
+use Rattle.b67_templates.specs.Programs.{Texts, text_of, context_of}
 use Rattle.b67_templates.specs.Cells as wants
 use Rattle.b67_templates.specs.Cells.{Simple, Wanted, simple_cells, procedures, actuals_of, made_of}
 use Rattle.b67_templates.specs.Code.{RoutinesAt, KAt, control_pcws, in_routine}
@@ -116,13 +116,13 @@ module _ (sc : Scopes) (w : World) (lay : Layout) where
 
   -- An instance of an outermost block has no parent. That of another block has one that stands, of the block around it, and that has made all
   -- that its block declares.
-  pub data IsPlaced (x : Instance) : Type 0 where
-    outermost : x.parent ≡ 0 → around sc.blocks x.block ≡ [] → IsPlaced x
-    inside : IsStanding w x.parent → around sc.blocks x.block ≡ (instance_at w x.parent).block ∷ around sc.blocks ((instance_at w x.parent).block) → IsComplete x.parent → IsPlaced x
+  pub data FrameIsPlaced (x : Instance) : Type 0 where
+    outermost : x.parent ≡ 0 → around sc.blocks x.block ≡ [] → FrameIsPlaced x
+    inside : IsStanding w x.parent → around sc.blocks x.block ≡ (instance_at w x.parent).block ∷ around sc.blocks ((instance_at w x.parent).block) → IsComplete x.parent → FrameIsPlaced x
 
   -- so are the instances that stand
   abbrev pub ArePlaced : Type 0
-  ArePlaced = (i : ℕ) → IsStanding w i → IsPlaced (instance_at w i)
+  ArePlaced = (i : ℕ) → IsStanding w i → FrameIsPlaced (instance_at w i)
 
   -- The frame of an instance of process p, so high in its stack: its mark and its control word, which are read as such, and these words for its
   -- cells.
@@ -167,7 +167,7 @@ AllFit (c ∷ cs) = Fits_pcw c × AllFit cs
 -- the code of the actuals of the block with this number stands at these places, and the block's control words can hold where their code stands
 abbrev pub RoutinesStand : PProgram → Code → Texts → ℕ → List ℕ → Type 0
 RoutinesStand tree code texts j ats =
-    RoutinesAt (scopes_of tree) (context_of code texts (scopes_of tree) j) (text_numbered texts (scopes_of tree) j) (level_of (block_numbered (scopes_of tree).blocks j) + 1)
+    RoutinesAt (scopes_of tree) (context_of code texts (scopes_of tree) j) (text_of texts (scopes_of tree) j) (level_of (block_numbered (scopes_of tree).blocks j) + 1)
     (actuals_of (scopes_of tree) (block_numbered (scopes_of tree).blocks j)) ats
     × AllFit (block_controls (scopes_of tree) j ats)
 
@@ -175,34 +175,34 @@ RoutinesStand tree code texts j ats =
 abbrev pub ItemsStand : PProgram → Code → Texts → ℕ → Type 0
 ItemsStand tree code texts j =
     (start : ℕ)
-    × KAt (scopes_of tree) (context_of code texts (scopes_of tree) j) (text_numbered texts (scopes_of tree) j) (level_of (block_numbered (scopes_of tree).blocks j))
+    × KAt (scopes_of tree) (context_of code texts (scopes_of tree) j) (text_of texts (scopes_of tree) j) (level_of (block_numbered (scopes_of tree).blocks j))
     (items_of (block_numbered (scopes_of tree).blocks j)) start
 
 module _ (tree : PProgram) (code : Code) (texts : Texts) (w : World) (lay : Layout) (p : ℕ) where
   -- the number of a part's block, and the segment in which its text stands
-  abbrev pub block_of : Part → ℕ
-  block_of part = (instance_at w part.instance).block
+  abbrev pub block_of_part : Part → ℕ
+  block_of_part part = (instance_at w part.instance).block
 
   abbrev pub segment_at : Part → ℕ
-  segment_at part = segment_of (scopes_of tree).blocks (block_of part)
+  segment_at part = segment_of (scopes_of tree).blocks (block_of_part part)
 
-  abbrev pub text_of : Part → List Placed
-  text_of part = texts.placed (segment_at part)
+  abbrev pub text_of_part : Part → List Placed
+  text_of_part part = texts.placed (segment_at part)
 
   -- what surrounds it, where it gives this when it leaves
   abbrev pub context_at : Part → Yields → Context
-  context_at part gives = in_routine gives (context_of code texts (scopes_of tree) (block_of part))
+  context_at part gives = in_routine gives (context_of code texts (scopes_of tree) (block_of_part part))
 
   -- how many words may lie above the cells of its frame
   abbrev pub most_of : Part → ℕ
-  most_of part = most_around tree (block_of part)
+  most_of part = most_around tree (block_of_part part)
 
   -- the level of its names, and that at which its code runs
   abbrev pub names_at : Part → ℕ
   names_at part = level_of (block_at (scopes_of tree) w lay part.instance)
 
-  abbrev pub level_at : Part → ℕ
-  level_at part = run_level (is_evaluation part.purpose) (names_at part)
+  abbrev pub level_of_part : Part → ℕ
+  level_of_part part = run_level (is_evaluation part.purpose) (names_at part)
 
   -- The frame is that of the part's own instance, which holds the cells of its block.
   pub record Owned (part : Part) (outer : List Part) (at : ℕ) (mark control : Word) (cells : List Word) : Type 0 where
@@ -236,25 +236,25 @@ module _ (tree : PProgram) (code : Code) (texts : Texts) (w : World) (lay : Layo
     pub back : Rcw
     pub control_is : as_rcw control ≡ Some back
     pub level_is : back.own_level ≡ run_level (is_evaluation part.purpose) (level_of (block_numbered (scopes_of tree).blocks instance.block))
-    pub text : KeepsToText (scopes_of tree) (block_of part) part.rest
+    pub text : KeepsToText (scopes_of tree) (block_of_part part) part.rest
     pub gives : Yields
     pub shape : Shape part outer (length lower) mark control cells home gives
 
   -- The innermost part: the core is at the place, and has the words, where the machine stands for what the part has still to do.
-  pub record Stands (part : Part) (outer : List Part) (core : Core) : Type 0 where
+  pub record FrameStands (part : Part) (outer : List Part) (core : Core) : Type 0 where
     pub frame : Frame part outer core.below
     pub counted : core.registers.cells ≡ length frame.cells
     pub chained : IsChained (scopes_of tree) w lay part.instance (names_at part) core.registers.display
     -- at the level at which its code runs the display names its own frame
-    pub top : place_at core.registers.display (level_at part) ≡ Some (place p (length frame.lower))
+    pub top : place_at core.registers.display (level_of_part part) ≡ Some (place p (length frame.lower))
     pub segment_is : core.registers.segment ≡ segment_at part
     pub asks : ask part.rest ≡ nothing → ⊥
     pub pc : ℕ
     pub slots : List Slot
     pub held : List Known
     pub held_are : AreKnown (scopes_of tree) w lay (IsInReach w (part ∷ outer)) part.instance held
-    pub stands : StandsFor (scopes_of tree) (context_at part frame.gives) (text_of part) (level_at part) (most_of part) part.rest pc slots
-    pub there : CoreAt (scopes_of tree) held code (text_of part) (level_at part) pc slots core
+    pub stands : StandsFor (scopes_of tree) (context_at part frame.gives) (text_of_part part) (level_of_part part) (most_of part) part.rest pc slots
+    pub there : CoreAt (scopes_of tree) held code (text_of_part part) (level_of_part part) pc slots core
     pub few : length slots ≤ most_of part
 
   -- A part around, which waits for the one inside it. Once that has left with what is wanted of it, it goes on. The mark and the control word of the frame above lead back: the mark to the newest
@@ -268,11 +268,11 @@ module _ (tree : PProgram) (code : Code) (texts : Texts) (w : World) (lay : Layo
     pub pc : ℕ
     pub slots : List Slot
     pub returns : (a : Answer) → Gives wanted a →
-        ComesTo (scopes_of tree) (context_at part frame.gives) (text_of part) (level_at part) (most_of part) (resume (scopes_of tree) part.rest a) pc (pushed wanted a slots)
+        ComesTo (scopes_of tree) (context_at part frame.gives) (text_of_part part) (level_of_part part) (most_of part) (resume (scopes_of tree) part.rest a) pc (pushed wanted a slots)
     pub few : length slots + 1 ≤ most_of part
     pub held : List Known
     pub held_are : AreKnown (scopes_of tree) w lay (IsInReach w (part ∷ outer)) part.instance held
-    pub words_are : SlotsAre (scopes_of tree) held (level_at part) (length frame.lower) (length below) slots words
+    pub words_are : SlotsAre (scopes_of tree) held (level_of_part part) (length frame.lower) (length below) slots words
     pub home : Place
     pub df : ℕ
     pub mark_is : as_mscw mark ≡ Some (record { entered = true; stack = home.stack; displacement = home.at; df = df })
@@ -281,7 +281,7 @@ module _ (tree : PProgram) (code : Code) (texts : Texts) (w : World) (lay : Layo
     pub control_is : as_rcw control ≡ Some back
     pub segment_is : back.segment ≡ segment_at part
     pub place_is : code_place back.psr back.pir ≡ pc
-    pub level_is : back.caller_level ≡ level_at part
+    pub level_is : back.caller_level ≡ level_of_part part
     pub cells_are : back.caller_cells ≡ length frame.cells
     pub light : length below + most_of part + 3 ≤ parts_weight tree w (part ∷ outer)
 
@@ -295,4 +295,4 @@ module _ (tree : PProgram) (code : Code) (texts : Texts) (w : World) (lay : Layo
   -- the parts of a process, the innermost first
   abbrev pub Frames : List Part → Core → Type 0
   Frames [] core = ⊥
-  Frames (part ∷ outer) core = (s : Stands part outer core) × Around outer s.frame.lower s.frame.mark s.frame.control s.frame.gives
+  Frames (part ∷ outer) core = (s : FrameStands part outer core) × Around outer s.frame.lower s.frame.mark s.frame.control s.frame.gives

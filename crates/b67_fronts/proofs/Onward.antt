@@ -5,7 +5,7 @@ use Rattle.std.proofs.lemmas.List.Sums.{sum_by-cons}
 use Rattle.b67_segment.specs.declared.code.Code.{Code}
 use Rattle.b67_table.specs.Image.{Image}
 use Rattle.b67_table.specs.Ending.{image_end, may_act, goes_on, ImageEnd}
-use Rattle.b67_table.specs.Runs.{Plains, stay, go, Entry, Runs, entry, Tails, TableRun}
+use Rattle.b67_table.specs.Runs.{Plains, stay, go, RunEntry, Runs, entry, Tails, TableRun}
 use Rattle.b67_fronts.specs.Fronts.{GoesThrough, tails_next, FrontsGoOn, FrontsAreRuns, RunsGoThroughAlike}
 use Rattle.b67_fronts.proofs.One.{SameRuns, runs_same, not_past, no_limit}
 
@@ -75,7 +75,7 @@ record Next (code : Code) (done : List ℕ) (p budget : ℕ) : Type 0 where
   runs : Runs code (reverse done) counts before
   plain : ℕ
   after : Image
-  its : Entry code p before plain after
+  its : RunEntry code p before plain after
   within : sum counts + plain < budget
 
 next_of : (code : Code) (done : List ℕ) (p budget total : ℕ) → total ≤ budget → Front code (p ∷ reverse done) total → Next code done p budget

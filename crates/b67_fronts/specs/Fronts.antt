@@ -19,7 +19,7 @@ abbrev pub tails_next : ℕ → ℕ → List ℕ
 tails_next p tail = replicate (p - 1) 0 ++ tail ∷ []
 
 -- The next process may act, comes to no stack limit, and operators are left for its action.
-pub record GoesOn (code : Code) (p tail operators budget : ℕ) (image : Image) : Type 0 where
+pub record FrontGoesOn (code : Code) (p tail operators budget : ℕ) (image : Image) : Type 0 where
   pub may : tail ≡ 0 → may_act image p ≡ true
   pub free : table code image p ≡ limit → ⊥
   pub left : operators + tail < budget
@@ -27,7 +27,7 @@ pub record GoesOn (code : Code) (p tail operators budget : ℕ) (image : Image) 
 abbrev pub FrontsGoOn : Type 0
 FrontsGoOn =
     (code : Code) (budget : ℕ) (done : List ℕ) (p : ℕ) (left : List ℕ) (tail : ℕ) (image : Image) → GoesThrough code (done ++ p ∷ left) budget
-    → (r : TableRun code done (tails_next p tail) image) → GoesOn code p tail (sum r.counts) budget image
+    → (r : TableRun code done (tails_next p tail) image) → FrontGoesOn code p tail (sum r.counts) budget image
 
 -- the first entries have a run
 abbrev pub FrontsAreRuns : Type 0

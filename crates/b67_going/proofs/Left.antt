@@ -6,7 +6,7 @@ use Rattle.b67_store.specs.Store.{Stacks}
 use Rattle.b67_events.specs.Events.{same_place}
 use Rattle.b67_table.specs.declared.InterruptKind.{InterruptKind}
 use Rattle.b67_table.specs.Chains.{place}
-use Rattle.b67_table.specs.Look.{Look, found, seen, ◌>->◌}
+use Rattle.b67_table.specs.Look.{Look, found, look_seen, ◌>->◌}
 use Rattle.b67_table.specs.Linkage.{is_critical}
 use Rattle.b67_table.specs.GoingTo.{Passing, Passed, passing, passed_frames}
 use Rattle.b67_table.specs.GoingTo as going
@@ -23,11 +23,11 @@ by_answer : {A B : Type 0} (f g : A → B) → ((a : A) → f a ≡ g a) → (r 
 by_answer f g h (Ok a) = ap (λ z. ok z) (h a)
 by_answer f g h (Err kind) = refl
 
-pub same_found : {A B : Type 0} (st : Stacks) (l : Look A) (f g : A → B) → ((a : A) → f a ≡ g a) → seen st (l >-> (λ (a : A). found (f a))) ≡ seen st (l >-> (λ (a : A). found (g a)))
-same_found st l f g h = seen_then st l (λ a. found (f a)) ∙ by_answer f g h (seen st l) ∙ sym (seen_then st l (λ a. found (g a)))
+pub same_found : {A B : Type 0} (st : Stacks) (l : Look A) (f g : A → B) → ((a : A) → f a ≡ g a) → look_seen st (l >-> (λ (a : A). found (f a))) ≡ look_seen st (l >-> (λ (a : A). found (g a)))
+same_found st l f g h = seen_then st l (λ a. found (f a)) ∙ by_answer f g h (look_seen st l) ∙ sym (seen_then st l (λ a. found (g a)))
 
 pub one_more : (stack frame cells : ℕ) (places : List Place) (critical here : Bool) → here ≡ (is_critical stack (frame ∷ []) places || critical) → (p : Passing)
-    → either stack places critical (going.after (record { frame = frame; cells = cells }) p) ≡ either stack places here p
+    → either stack places critical (going.passing_after (record { frame = frame; cells = cells }) p) ≡ either stack places here p
 one_more stack frame cells places critical here e p =
     join (list_any (same_place (place stack frame)) places) (is_critical stack (passed_frames p.frames) places) critical
     ∙ ap (λ (b : Bool). is_critical stack (passed_frames p.frames) places || b) (sym e)

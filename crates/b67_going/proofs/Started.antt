@@ -20,28 +20,28 @@ use Rattle.b67_table.specs.Chains.{place}
 use Rattle.b67_table.specs.Effect.{Effect}
 use Rattle.b67_table.specs.Image.{Image}
 use Rattle.b67_table.specs.Limits.{most_cells, most_processes}
-use Rattle.b67_table.specs.Look.{Look, found, stops, at, several, seen, valid, ◌>->◌}
+use Rattle.b67_table.specs.Look.{Look, found, stops, at, several, look_seen, valid, ◌>->◌}
 use Rattle.b67_table.specs.Outcome.{limited}
 use Rattle.b67_table.specs.Private.{frame}
-use Rattle.b67_table.specs.Program.{Test, answer, interrupt, fault, ask, asked, see, ◌>>=◌, started, Change, Program, start, effect_of}
+use Rattle.b67_table.specs.Program.{Test, answer, interrupt, fault, ask, asked, see, ◌>>=◌, started, Change, Program, change_start, effect_of}
 use Rattle.b67_table.specs.Questions.{told}
 use Rattle.b67_table.specs.References.{cell_of, reached}
-use Rattle.b67_table.specs.Starting.{Starting, starting, task_in, task_of, if_few, first_display, on_path, frames_with, named_frames, begun, first_words, start_process}
+use Rattle.b67_table.specs.Starting.{Starting, starting, task_in, task_of, if_few, first_display, on_path, frames_with, named_frames, process_begun, first_words, start_process}
 use Rattle.b67_table.specs.Table.{stack_length}
 use Rattle.b67_table.specs.Writes as writes
-use Rattle.b67_table.specs.Writes.{written}
+use Rattle.b67_table.specs.Writes.{write_made}
 use Rattle.b67_table.proofs.Stacks.{opened_other}
 use Rattle.b67_linkage.specs.Held.{IsLinked}
 use Rattle.b67_reach.specs.declared.Stop.{Stop}
 use Rattle.b67_reach.specs.declared.Stop.TheVariants.{Interrupt}
-use Rattle.b67_reach.specs.Answers.{whole, stopped, answered, looked, IsReady, Acts}
+use Rattle.b67_reach.specs.Answers.{whole_outcome, stopped, outcome_answered, looked, IsReady, ProgramActs}
 use Rattle.b67_reach.proofs.Looking.{asked_on, asked_then, tells_look, acts_then, acts_stop}
-use Rattle.b67_intrinsics.specs.Called.{arguments, mark_below, called, IsCalled}
+use Rattle.b67_intrinsics.specs.Called.{arguments, mark_below, intrinsic_called, IsCalled}
 use Rattle.b67_intrinsics.proofs.Calling.{drop_at}
 use Rattle.b67_going.specs.declared.processes.Unstarted.TheVariants.{Stopped}
 use Rattle.b67_going.specs.declared.starts.Given.{Given}
 use Rattle.b67_going.specs.Paths.{some_words}
-use Rattle.b67_going.specs.Starts.{procedure_of, given_in, Beginning, beginning, beginning_in, first_registers, if_number, Starts, IsCalling}
+use Rattle.b67_going.specs.Starts.{procedure_of, given_in, Beginning, beginning, beginning_in, started_first_registers, if_number, Starts, IsCalling}
 use Rattle.b67_going.proofs.Begins.{stops_test}
 
 -- ---- one test after another
@@ -66,10 +66,10 @@ module _ (img : Image) where
   see_then (at p more) k f = see_then (more (word_at img.stacks p)) k f
   see_then (several p n more) k f = see_then (more (take n (drop p.at (words_of img.stacks p.stack)))) k f
 
-  pub stop_on : {A B : Type 0} (t : Test A) (k : A → Test B) (stop : Stop) → whole (asked img t) ≡ stopped stop → whole (asked img (t >>= k)) ≡ stopped stop
-  stop_on t k stop e = ap whole (asked_then img t k) ∙ stops_test img (asked img t) k stop e
+  pub stop_on : {A B : Type 0} (t : Test A) (k : A → Test B) (stop : Stop) → whole_outcome (asked img t) ≡ stopped stop → whole_outcome (asked img (t >>= k)) ≡ stopped stop
+  stop_on t k stop e = ap whole_outcome (asked_then img t k) ∙ stops_test img (asked img t) k stop e
 
-  pub sees : {A : Type 0} (l : Look A) (st : Stacks) (r : Result A Stop) → img.stacks ≡ st → r ≡ looked (seen st l) → whole (asked img (see l)) ≡ answered r
+  pub sees : {A : Type 0} (l : Look A) (st : Stacks) (r : Result A Stop) → img.stacks ≡ st → r ≡ looked (look_seen st l) → whole_outcome (asked img (see l)) ≡ outcome_answered r
   sees l st r s e = (tells_look l st img.rows r e).told img s refl
 
 -- ---- the arguments
@@ -105,20 +105,20 @@ pub not_both : (b : Bool) → b ≡ false → b ≡ true → ⊥
 not_both b e f = let no : false ≡ true = sym e ∙ f in cc
 
 module _ (img : Image) (r : Registers) (w : Word) where
-  pub without_task : as_whole w ≡ Some (pos 0) → whole (asked img (task_of r w)) ≡ answered {A = Option Cell} (Ok None)
-  without_task e = ap (λ (z : Option ℤ). whole (asked img (task_in z r w))) e
+  pub without_task : as_whole w ≡ Some (pos 0) → whole_outcome (asked img (task_of r w)) ≡ outcome_answered {A = Option Cell} (Ok None)
+  without_task e = ap (λ (z : Option ℤ). whole_outcome (asked img (task_in z r w))) e
 
-  pub has_task : (c : Cell) → (as_whole w ≡ Some (pos 0) → ⊥) → whole (asked img (event_of r w)) ≡ answered (Ok c) → whole (asked img (task_of r w)) ≡ answered (Ok (Some c))
-  has_task c h e = ap whole (task_is img r w (as_whole w) h ∙ asked_on img (event_of r w) (λ (c : Cell). answer (Some c)) c e)
+  pub has_task : (c : Cell) → (as_whole w ≡ Some (pos 0) → ⊥) → whole_outcome (asked img (event_of r w)) ≡ outcome_answered (Ok c) → whole_outcome (asked img (task_of r w)) ≡ outcome_answered (Ok (Some c))
+  has_task c h e = ap whole_outcome (task_is img r w (as_whole w) h ∙ asked_on img (event_of r w) (λ (c : Cell). answer (Some c)) c e)
 
-  pub no_task : (stop : Stop) → (as_whole w ≡ Some (pos 0) → ⊥) → whole (asked img (event_of r w)) ≡ answered {A = Cell} (Err stop)
-      → whole (asked img (task_of r w)) ≡ answered {A = Option Cell} (Err stop)
-  no_task stop h e = ap whole (task_is img r w (as_whole w) h) ∙ stop_on img (event_of r w) (λ (c : Cell). answer (Some c)) stop e
+  pub no_task : (stop : Stop) → (as_whole w ≡ Some (pos 0) → ⊥) → whole_outcome (asked img (event_of r w)) ≡ outcome_answered {A = Cell} (Err stop)
+      → whole_outcome (asked img (task_of r w)) ≡ outcome_answered {A = Option Cell} (Err stop)
+  no_task stop h e = ap whole_outcome (task_is img r w (as_whole w) h) ∙ stop_on img (event_of r w) (λ (c : Cell). answer (Some c)) stop e
 
 -- ---- what START is given
 
-pub given_exit : (st : Stacks) (e : Effect Starting) (res : Result Given Stop) (stop : Stop) → IsErrAnd res (λ s. s ≡ stop) → whole e ≡ stopped stop
-    → whole e ≡ answered (given_in st res)
+pub given_exit : (st : Stacks) (e : Effect Starting) (res : Result Given Stop) (stop : Stop) → IsErrAnd res (λ s. s ≡ stop) → whole_outcome e ≡ stopped stop
+    → whole_outcome e ≡ outcome_answered (given_in st res)
 given_exit st e (Ok t) stop i h = absurd i
 given_exit st e (Err other) stop i h = h ∙ ap (λ (s : Stop). stopped s) (sym i)
 
@@ -136,30 +136,30 @@ module _ (img : Image) (r : Registers) (v w : Word) (ps : List Word) where
       (λ (x : Reached). sym (see_then img (valid (as_pcw x.word)) (λ (pcw : Pcw). found (pcw, x.cell.frame)) with_procedure))
       ∙ sym (see_then img (reached (cell_of r v)) (λ (x : Reached). valid (as_pcw x.word) >-> (λ (pcw : Pcw). found (pcw, x.cell.frame))) with_procedure)
 
-  pub no_procedure : (stop : Stop) → whole (asked img (see (procedure_of (cell_of r v)))) ≡ answered {A = Pcw × Place} (Err stop)
-      → whole (asked img (starting r (v ∷ w ∷ ps))) ≡ stopped stop
-  no_procedure stop e = ap whole in_order ∙ stop_on img (see (procedure_of (cell_of r v))) with_procedure stop e
+  pub no_procedure : (stop : Stop) → whole_outcome (asked img (see (procedure_of (cell_of r v)))) ≡ outcome_answered {A = Pcw × Place} (Err stop)
+      → whole_outcome (asked img (starting r (v ∷ w ∷ ps))) ≡ stopped stop
+  no_procedure stop e = ap whole_outcome in_order ∙ stop_on img (see (procedure_of (cell_of r v))) with_procedure stop e
 
-  module _ (p : Pcw × Place) (e : whole (asked img (see (procedure_of (cell_of r v)))) ≡ answered (Ok p)) where
+  module _ (p : Pcw × Place) (e : whole_outcome (asked img (see (procedure_of (cell_of r v)))) ≡ outcome_answered (Ok p)) where
     after_procedure : asked img (starting r (v ∷ w ∷ ps)) ≡ asked img (with_procedure p)
     after_procedure = in_order ∙ asked_on img (see (procedure_of (cell_of r v))) with_procedure p e
 
-    pub wrong_task : (stop : Stop) → whole (asked img (task_of r w)) ≡ answered {A = Option Cell} (Err stop) → whole (asked img (starting r (v ∷ w ∷ ps))) ≡ stopped stop
-    wrong_task stop f = ap whole after_procedure ∙ stop_on img (task_of r w) (λ (c : Option Cell). few_with p c) stop f
+    pub wrong_task : (stop : Stop) → whole_outcome (asked img (task_of r w)) ≡ outcome_answered {A = Option Cell} (Err stop) → whole_outcome (asked img (starting r (v ∷ w ∷ ps))) ≡ stopped stop
+    wrong_task stop f = ap whole_outcome after_procedure ∙ stop_on img (task_of r w) (λ (c : Option Cell). few_with p c) stop f
 
-    module _ (c : Option Cell) (f : whole (asked img (task_of r w)) ≡ answered (Ok c)) where
+    module _ (c : Option Cell) (f : whole_outcome (asked img (task_of r w)) ≡ outcome_answered (Ok c)) where
       after_task : (b : Bool) → nat_le (length ps) most_cells ≡ b
           → asked img (starting r (v ∷ w ∷ ps)) ≡ asked img (cond b (answer (record { procedure = p.0; home = p.1; task = c; parameters = ps })) no_such)
       after_task b g =
           after_procedure ∙ asked_on img (task_of r w) (λ (c : Option Cell). few_with p c) c f
           ∙ ap (λ (b : Bool). asked img (cond b (answer (record { procedure = p.0; home = p.1; task = c; parameters = ps })) no_such)) g
 
-      pub too_many_given : most_cells < length ps → whole (asked img (starting r (v ∷ w ∷ ps))) ≡ stopped (Interrupt InvalidOperand)
-      too_many_given h = ap whole (after_task false (grind (arith, nat_tests, h)))
+      pub too_many_given : most_cells < length ps → whole_outcome (asked img (starting r (v ∷ w ∷ ps))) ≡ stopped (Interrupt InvalidOperand)
+      too_many_given h = ap whole_outcome (after_task false (grind (arith, nat_tests, h)))
 
       pub is_given : length ps ≤ most_cells
-          → whole (asked img (starting r (v ∷ w ∷ ps))) ≡ answered (Ok (record { procedure = p.0; home = p.1; task = c; parameters = ps }))
-      is_given h = ap whole (after_task true (grind (arith, nat_tests, h)))
+          → whole_outcome (asked img (starting r (v ∷ w ∷ ps))) ≡ outcome_answered (Ok (record { procedure = p.0; home = p.1; task = c; parameters = ps }))
+      is_given h = ap whole_outcome (after_task true (grind (arith, nat_tests, h)))
 
 -- the arguments in an image, and how many parameters there are
 pub arguments_are : (img : Image) (st : Stacks) (r : Registers) (v w : Word) → img.stacks ≡ st → r.f + 4 ≤ r.s
@@ -183,51 +183,51 @@ parameters_length st r e h = part_length (words_of st r.stack) (r.f + 4) (r.s - 
 
 -- ---- what a new process begins with
 
-pub beginning_exit : (st : Stacks) (e : Effect Beginning) (res : Result (Given × Registers) Stop) (stop : Stop) → IsErrAnd res (λ s. s ≡ stop) → whole e ≡ stopped stop
-    → whole e ≡ answered (beginning_in st res)
+pub beginning_exit : (st : Stacks) (e : Effect Beginning) (res : Result (Given × Registers) Stop) (stop : Stop) → IsErrAnd res (λ s. s ≡ stop) → whole_outcome e ≡ stopped stop
+    → whole_outcome e ≡ outcome_answered (beginning_in st res)
 beginning_exit st e (Ok t) stop i h = absurd i
 beginning_exit st e (Err other) stop i h = h ∙ ap (λ (s : Stop). stopped s) (sym i)
 
 module _ (img : Image) (r : Registers) (m : Mscw) (words : List Word) where
   abbrev with_registers : Starting → ℕ → Test Beginning
-  with_registers t n = first_registers r n t >>= (λ (q : Registers). answer (record { starting = t; regs = q }))
+  with_registers t n = started_first_registers r n t >>= (λ (q : Registers). answer (record { starting = t; regs = q }))
 
   abbrev with_mark : Starting → Test Beginning
   with_mark t = see (mark_below r m) >>= (λ (lower : Mscw). started (λ (n : ℕ). with_registers t n))
 
-  pub nothing_given : (stop : Stop) → whole (asked img (starting r words)) ≡ stopped stop → whole (asked img (beginning r m words)) ≡ stopped stop
+  pub nothing_given : (stop : Stop) → whole_outcome (asked img (starting r words)) ≡ stopped stop → whole_outcome (asked img (beginning r m words)) ≡ stopped stop
   nothing_given stop e = stop_on img (starting r words) with_mark stop e
 
-  module _ (t : Starting) (e : whole (asked img (starting r words)) ≡ answered (Ok t)) where
-    pub not_chained : (stop : Stop) → whole (asked img (see (mark_below r m))) ≡ stopped stop → whole (asked img (beginning r m words)) ≡ stopped stop
+  module _ (t : Starting) (e : whole_outcome (asked img (starting r words)) ≡ outcome_answered (Ok t)) where
+    pub not_chained : (stop : Stop) → whole_outcome (asked img (see (mark_below r m))) ≡ stopped stop → whole_outcome (asked img (beginning r m words)) ≡ stopped stop
     not_chained stop f =
-        ap whole (asked_on img (starting r words) with_mark t e)
+        ap whole_outcome (asked_on img (starting r words) with_mark t e)
         ∙ stop_on img (see (mark_below r m)) (λ (lower : Mscw). started (λ (n : ℕ). with_registers t n)) stop f
 
-    module _ (lower : Mscw) (n : ℕ) (f : whole (asked img (see (mark_below r m))) ≡ answered (Ok lower)) (h : img.started ≡ n) where
+    module _ (lower : Mscw) (n : ℕ) (f : whole_outcome (asked img (see (mark_below r m))) ≡ outcome_answered (Ok lower)) (h : img.started ≡ n) where
       after_mark : asked img (beginning r m words) ≡ asked img (with_registers t n)
       after_mark =
           asked_on img (starting r words) with_mark t e
           ∙ asked_on img (see (mark_below r m)) (λ (lower : Mscw). started (λ (n : ℕ). with_registers t n)) lower f
           ∙ ap (λ (k : ℕ). asked img (with_registers t k)) h
 
-      pub no_registers : (stop : Stop) → whole (asked img (first_registers r n t)) ≡ stopped stop → whole (asked img (beginning r m words)) ≡ stopped stop
+      pub no_registers : (stop : Stop) → whole_outcome (asked img (started_first_registers r n t)) ≡ stopped stop → whole_outcome (asked img (beginning r m words)) ≡ stopped stop
       no_registers stop k =
-          ap whole after_mark ∙ stop_on img (first_registers r n t) (λ (q : Registers). answer (record { starting = t; regs = q })) stop k
+          ap whole_outcome after_mark ∙ stop_on img (started_first_registers r n t) (λ (q : Registers). answer (record { starting = t; regs = q })) stop k
 
-      pub all_found : (q : Registers) → whole (asked img (first_registers r n t)) ≡ answered (Ok q)
-          → whole (asked img (beginning r m words)) ≡ answered (Ok (record { starting = t; regs = q }))
+      pub all_found : (q : Registers) → whole_outcome (asked img (started_first_registers r n t)) ≡ outcome_answered (Ok q)
+          → whole_outcome (asked img (beginning r m words)) ≡ outcome_answered (Ok (record { starting = t; regs = q }))
       all_found q k =
-          ap whole (after_mark ∙ asked_on img (first_registers r n t) (λ (q : Registers). answer (record { starting = t; regs = q })) q k)
+          ap whole_outcome (after_mark ∙ asked_on img (started_first_registers r n t) (λ (q : Registers). answer (record { starting = t; regs = q })) q k)
 
 -- ---- the operator
 
 module _ (code : Code) (r : Registers) (next : ℕ) (m : Mscw) (img : Image) where
   abbrev ends : Beginning → Program
-  ends b = answer (start b.regs (first_words b.starting) (finished_at r m [] next))
+  ends b = answer (change_start b.regs (first_words b.starting) (finished_at r m [] next))
 
   abbrev started_with : Starting → Registers → Program
-  started_with t q = answer (start q (first_words t) (finished_at r m [] next))
+  started_with t q = answer (change_start q (first_words t) (finished_at r m [] next))
 
   abbrev path : Starting → Test (Option Place)
   path t = on_path r.stack (t.home ∷ frames_with t.task (named_frames t.parameters)) (place r.stack (frame r))
@@ -237,46 +237,46 @@ module _ (code : Code) (r : Registers) (next : ℕ) (m : Mscw) (img : Image) whe
   if_limit t q false = refl
 
   abbrev limited_start : Starting → ℕ → List (Option Place) → Option Place → Program
-  limited_start t n display c = cond (nat_lt n most_processes) (started_with t (begun (n + 1) t display c)) (fault ProcessLimit)
+  limited_start t n display c = cond (nat_lt n most_processes) (started_with t (process_begun (n + 1) t display c)) (fault ProcessLimit)
 
   after_started : (t : Starting) (n : ℕ)
       → asked img (see (first_display (n + 1) t) >>= (λ (display : List (Option Place)). path t >>= (λ (c : Option Place). limited_start t n display c)))
-      ≡ asked img ((first_registers r n t >>= (λ (q : Registers). answer (record { starting = t; regs = q }))) >>= ends)
+      ≡ asked img ((started_first_registers r n t >>= (λ (q : Registers). answer (record { starting = t; regs = q }))) >>= ends)
   after_started t n =
       rebind img (see (first_display (n + 1) t)) (λ (display : List (Option Place)). path t >>= (λ (c : Option Place). limited_start t n display c))
-      (λ (display : List (Option Place)). path t >>= (λ (c : Option Place). if_number n (begun (n + 1) t display c))) (started_with t)
+      (λ (display : List (Option Place)). path t >>= (λ (c : Option Place). if_number n (process_begun (n + 1) t display c))) (started_with t)
       (λ (display : List (Option Place)). rebind img (path t) (λ (c : Option Place). limited_start t n display c)
-      (λ (c : Option Place). if_number n (begun (n + 1) t display c)) (started_with t)
-      (λ (c : Option Place). if_limit t (begun (n + 1) t display c) (nat_lt n most_processes)))
-      ∙ rebind img (first_registers r n t) (started_with t) (λ (q : Registers). answer (record { starting = t; regs = q })) ends (λ (q : Registers). refl)
+      (λ (c : Option Place). if_number n (process_begun (n + 1) t display c)) (started_with t)
+      (λ (c : Option Place). if_limit t (process_begun (n + 1) t display c) (nat_lt n most_processes)))
+      ∙ rebind img (started_first_registers r n t) (started_with t) (λ (q : Registers). answer (record { starting = t; regs = q })) ends (λ (q : Registers). refl)
 
   start_is : (words : List Word) → asked img (start_process code r next m words) ≡ asked img (beginning r m words >>= ends)
   start_is words =
       rebind img (starting r words)
       (λ (t : Starting). if_chained r m (started (λ (n : ℕ). see (first_display (n + 1) t) >>= (λ (display : List (Option Place)). path t >>= (λ (c : Option Place). limited_start t n display c)))))
-      (λ (t : Starting). see (mark_below r m) >>= (λ (lower : Mscw). started (λ (n : ℕ). first_registers r n t >>= (λ (q : Registers). answer (record { starting = t; regs = q }))))) ends
+      (λ (t : Starting). see (mark_below r m) >>= (λ (lower : Mscw). started (λ (n : ℕ). started_first_registers r n t >>= (λ (q : Registers). answer (record { starting = t; regs = q }))))) ends
       (λ (t : Starting). rebind img (see (mark_below r m))
       (λ (lower : Mscw). started (λ (n : ℕ). see (first_display (n + 1) t) >>= (λ (display : List (Option Place)). path t >>= (λ (c : Option Place). limited_start t n display c))))
-      (λ (lower : Mscw). started (λ (n : ℕ). first_registers r n t >>= (λ (q : Registers). answer (record { starting = t; regs = q })))) ends
+      (λ (lower : Mscw). started (λ (n : ℕ). started_first_registers r n t >>= (λ (q : Registers). answer (record { starting = t; regs = q })))) ends
       (λ (lower : Mscw). after_started t img.started))
 
   module _ (p : ℕ) where
-    in_program : (new : Image) (res : Result ℕ Stop) → Acts p (beginning r m (arguments img.stacks r) >>= ends) img new res → Acts p (called start_process code r next m) img new res
+    in_program : (new : Image) (res : Result ℕ Stop) → ProgramActs p (beginning r m (arguments img.stacks r) >>= ends) img new res → ProgramActs p (intrinsic_called start_process code r next m) img new res
     in_program new res x = record {
       outcome = ap (λ (e : Effect Change). limited (stack_length p) (effect_of p img e)) (start_is (arguments img.stacks r)) ∙ x.outcome;
       stays = x.stays;
     }
 
-    pub is_stopped : (stop : Stop) → whole (asked img (beginning r m (arguments img.stacks r))) ≡ answered {A = Beginning} (Err stop)
-        → Starts p (called start_process code r next m) img img (Err (Stopped stop))
+    pub is_stopped : (stop : Stop) → whole_outcome (asked img (beginning r m (arguments img.stacks r))) ≡ outcome_answered {A = Beginning} (Err stop)
+        → Starts p (intrinsic_called start_process code r next m) img img (Err (Stopped stop))
     is_stopped stop e = in_program img (Err stop) (acts_stop p (beginning r m (arguments img.stacks r)) ends stop img img e refl)
 
-    pub is_started : (b : Beginning) (mid new : Image) (n : ℕ) → whole (asked img (beginning r m (arguments img.stacks r))) ≡ answered (Ok b)
-        → mid ≡ written p (writes.start b.regs (first_words b.starting)) img → Acts {A = Unit {0}} p (answer (finished_at r m [] next)) mid new (Ok tt)
-        → Starts p (called start_process code r next m) img new (Ok n)
+    pub is_started : (b : Beginning) (mid new : Image) (n : ℕ) → whole_outcome (asked img (beginning r m (arguments img.stacks r))) ≡ outcome_answered (Ok b)
+        → mid ≡ write_made p (writes.start b.regs (first_words b.starting)) img → ProgramActs {A = Unit {0}} p (answer (finished_at r m [] next)) mid new (Ok tt)
+        → Starts p (intrinsic_called start_process code r next m) img new (Ok n)
     is_started b mid new n e f x =
         in_program new (Ok n) (acts_then p (beginning r m (arguments img.stacks r)) ends b img new (Ok n) e
-        (record { outcome = (subst (λ (i : Image). Acts {A = Unit {0}} p (answer (finished_at r m [] next)) i new (Ok tt)) f x).outcome; stays = tt }))
+        (record { outcome = (subst (λ (i : Image). ProgramActs {A = Unit {0}} p (answer (finished_at r m [] next)) i new (Ok tt)) f x).outcome; stays = tt }))
 
 -- ---- the process that goes on
 

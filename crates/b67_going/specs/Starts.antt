@@ -17,11 +17,11 @@ use Rattle.b67_table.specs.Chains.{place}
 use Rattle.b67_table.specs.Look.{Look, found, ◌>->◌, valid}
 use Rattle.b67_table.specs.References.{reached}
 use Rattle.b67_table.specs.Program.{Test, Program, answer, fault, started, ◌>>=◌, see}
-use Rattle.b67_table.specs.Starting.{Starting, starting, first_display, on_path, frames_with, named_frames, begun}
+use Rattle.b67_table.specs.Starting.{Starting, starting, first_display, on_path, frames_with, named_frames, process_begun}
 use Rattle.b67_linkage.specs.Held.{IsLinked}
 use Rattle.b67_reach.specs.declared.Stop.{Stop}
 use Rattle.b67_reach.specs.declared.Parts.{Parts}
-use Rattle.b67_reach.specs.Answers.{Acts}
+use Rattle.b67_reach.specs.Answers.{ProgramActs}
 use Rattle.b67_intrinsics.specs.Called.{mark_below}
 use Rattle.b67_going.specs.Paths.{some_words}
 use Rattle.b67_going.specs.declared.starts.Given.{Given}
@@ -38,7 +38,7 @@ starting_of stacks t = record {
 }
 
 -- its parameters are there and few, and its task has a place
-pub record IsGiven (stacks : Stacks) (t : Given) : Type 0 where
+pub record StartIsGiven (stacks : Stacks) (t : Given) : Type 0 where
   pub procedure : Fits_pcw t.procedure
   pub few : t.needs.count ≤ most_cells
   pub there : t.needs.first + t.needs.count ≤ length (words_of stacks t.needs.stack)
@@ -50,11 +50,11 @@ abbrev pub if_number : ℕ → Registers → Test Registers
 if_number n r = if nat_lt n most_processes then answer r else fault ProcessLimit
 
 -- with what a new process begins, where there have been so many
-abbrev pub first_registers : Registers → ℕ → Starting → Test Registers
-first_registers r n t =
+abbrev pub started_first_registers : Registers → ℕ → Starting → Test Registers
+started_first_registers r n t =
     see (first_display (n + 1) t) >>= (λ (display : List (Option Place)).
     on_path r.stack (t.home ∷ frames_with t.task (named_frames t.parameters)) (place r.stack (frame r)) >>= (λ (c : Option Place).
-    if_number n (begun (n + 1) t display c)))
+    if_number n (process_begun (n + 1) t display c)))
 
 -- ---- the operator
 
@@ -76,7 +76,7 @@ pub record Beginning : Type 0 where
 abbrev pub beginning : Registers → Mscw → List Word → Test Beginning
 beginning r m words =
     starting r words >>= (λ (t : Starting). see (mark_below r m) >>= (λ (lower : Mscw). started (λ (n : ℕ).
-    first_registers r n t >>= (λ (q : Registers). answer (record { starting = t; regs = q })))))
+    started_first_registers r n t >>= (λ (q : Registers). answer (record { starting = t; regs = q })))))
 
 abbrev pub beginning_in : Stacks → Result (Given × Registers) Stop → Result Beginning Stop
 beginning_in stacks (Ok b) = Ok (record { starting = starting_of stacks b.0; regs = b.1 })
@@ -85,8 +85,8 @@ beginning_in stacks (Err stop) = Err stop
 -- What START does in an image: it does what its program does, and answers the number of the new process; or it is stopped as the program
 -- is. Without memory nothing is changed.
 abbrev pub Starts : ℕ → Program → Image → Image → Result ℕ Unstarted → Type 0
-Starts p program old new (Ok n) = Acts {A = ℕ} p program old new (Ok n)
-Starts p program old new (Err (Stopped stop)) = Acts {A = ℕ} p program old new (Err stop)
+Starts p program old new (Ok n) = ProgramActs {A = ℕ} p program old new (Ok n)
+Starts p program old new (Err (Stopped stop)) = ProgramActs {A = ℕ} p program old new (Err stop)
 Starts p program old new (Err NoMemory) = new ≡ old
 
 -- a process that is linked has its mark at F and a procedure's word above it

@@ -9,13 +9,13 @@ use Rattle.b67_table.specs.Arguments.{Three, three}
 use Rattle.b67_table.specs.Chains.{rebuilt}
 use Rattle.b67_table.specs.Image.{Image}
 use Rattle.b67_table.specs.Linkage.{if_not_critical}
-use Rattle.b67_table.specs.Look.{Look, seen, ◌>->◌}
+use Rattle.b67_table.specs.Look.{Look, look_seen, ◌>->◌}
 use Rattle.b67_table.specs.Program.{Program, asked, see, ◌>>=◌}
 use Rattle.b67_table.specs.GoingTo.{Passing, passed_by, passed_frames, target_of, if_same_stack}
 use Rattle.b67_table.specs.GoingTo as going
 use Rattle.b67_linkage.specs.Leaving.{Cutting, cutting}
 use Rattle.b67_reach.specs.declared.Stop.{Stop}
-use Rattle.b67_reach.specs.Answers.{Acts}
+use Rattle.b67_reach.specs.Answers.{ProgramActs}
 use Rattle.b67_going.specs.declared.targets.Target.{Target}
 
 -- a target in the table's words
@@ -39,10 +39,10 @@ route r t next =
 -- In an image the tests find the frames above the target and its display, and go on with them; or they are stopped.
 abbrev pub Routes : {A : Type 0} → Registers → going.Target → Image → Result A Stop → Type 0
 Routes r t img (Ok a) =
-    (c : Cutting) → seen img.stacks (cutting r t.frame t.level) ≡ Ok c
+    (c : Cutting) → look_seen img.stacks (cutting r t.frame t.level) ≡ Ok c
     → (next : Passing → List (Option Place) → Program) → asked img (route r t next) ≡ asked img (next c.passing c.display)
-Routes {A = A} r t img (Err stop) = (p : ℕ) (next : Passing → List (Option Place) → Program) → Acts {A = A} p (route r t next) img img (Err stop)
+Routes {A = A} r t img (Err stop) = (p : ℕ) (next : Passing → List (Option Place) → Program) → ProgramActs {A = A} p (route r t next) img img (Err stop)
 
 -- the frames above the target and its display are found, and the target ends within the limit of a stack
 abbrev pub IsClear : Stacks → Registers → Target → Type 0
-IsClear stacks r t = (c : Cutting) × (seen stacks (cutting r t.frame t.level) ≡ Ok c) × (t.frame.at + 2 + c.passing.cells ≤ stack_limit)
+IsClear stacks r t = (c : Cutting) × (look_seen stacks (cutting r t.frame t.level) ≡ Ok c) × (t.frame.at + 2 + c.passing.cells ≤ stack_limit)

@@ -6,10 +6,10 @@ ghost use Rattle.b67_events.specs.Events.{Events};
 ghost use Rattle.b67_table.specs.declared.ProcessState.TheVariants.{Able};
 ghost use Rattle.b67_table.specs.Limits.{most_processes};
 ghost use Rattle.b67_table.specs.Starting.{first_words};
-ghost use Rattle.b67_table.specs.Writes.{written};
+ghost use Rattle.b67_table.specs.Writes.{write_made};
 ghost use Rattle.b67_table.specs.Writes as writes;
 ghost use Rattle.b67_reach.specs.Images.{image_of};
-ghost use Rattle.b67_going.specs.Starts.{starting_of, IsGiven};
+ghost use Rattle.b67_going.specs.Starts.{starting_of, StartIsGiven};
 
 use crate::opens::{NoMemory, open_process};
 use crate::starts::Given;
@@ -68,14 +68,14 @@ pub fn add_process<C: Core>(
     start: &Given,
     registers: Registers,
 ) -> Result<(), NoMemory>
-    requires given { IsGiven (C.Core.stacks core.old) start.now }
+    requires given { StartIsGiven (C.Core.stacks core.old) start.now }
     requires free { stack_at (C.Core.stacks core.old) registers.stack ≡ None }
     requires home { start.now.needs.home.stack < 2 ^ 10 }
     requires other { start.now.needs.stack ≢ registers.stack }
     requires each { length parts.old.regs.items ≡ length parts.old.states.items }
     requires numbers { length parts.old.regs.items ≡ length parts.old.numbers.items }
     requires most { parts.old.started < most_processes }
-    ensures added { (p : ℕ) (kernel : Events) → OnOk result (image_of (C.Core.stacks core.new) (C.Core.rows core.new) kernel parts.new ≡ written p (writes.start registers (first_words (starting_of (C.Core.stacks core.old) start.now))) (image_of (C.Core.stacks core.old) (C.Core.rows core.old) kernel parts.old)) }
+    ensures added { (p : ℕ) (kernel : Events) → OnOk result (image_of (C.Core.stacks core.new) (C.Core.rows core.new) kernel parts.new ≡ write_made p (writes.start registers (first_words (starting_of (C.Core.stacks core.old) start.now))) (image_of (C.Core.stacks core.old) (C.Core.rows core.old) kernel parts.old)) }
     ensures regs { OnOk result (parts.new.regs.items ≡ parts.old.regs.items ++ registers ∷ []) }
     ensures started { OnOk result (parts.new.started ≡ parts.old.started + 1) }
     ensures code { parts.new.code ≡ parts.old.code }

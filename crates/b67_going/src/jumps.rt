@@ -8,14 +8,14 @@ ghost use Rattle.b67_store.specs.Store.{words_of, stack_limit};
 ghost use Rattle.b67_table.specs.Chains.{rebuilt};
 ghost use Rattle.b67_table.specs.GoingTo.{gone_to, go_to};
 ghost use Rattle.b67_table.specs.Image.{Image, with_events};
-ghost use Rattle.b67_table.specs.Look.{seen};
+ghost use Rattle.b67_table.specs.Look.{look_seen};
 ghost use Rattle.b67_table.specs.Private.{display_at};
 ghost use Rattle.b67_table.specs.Program.{changed};
 ghost use Rattle.b67_table.specs.Questions.{live_criticals};
 ghost use Rattle.b67_linkage.specs.Held.{IsLinked};
 ghost use Rattle.b67_linkage.specs.Leaving.{Cutting, cutting};
-ghost use Rattle.b67_reach.specs.Images.{image_of, own, with_own};
-ghost use Rattle.b67_reach.specs.Answers.{looked, Acts, IsReady};
+ghost use Rattle.b67_reach.specs.Images.{image_of, own_of_image, with_own};
+ghost use Rattle.b67_reach.specs.Answers.{looked, ProgramActs, IsReady};
 ghost use Rattle.b67_intrinsics.specs.Called.{arguments, called_in};
 ghost use Rattle.b67_going.specs.Leaves.{leaves_critical};
 ghost use Rattle.b67_going.specs.Starts.{IsCalling};
@@ -38,7 +38,7 @@ use b67_store::Core;
 fn find_target<C: Core>(core: &C, regs: &Registers) -> Result<Target, Stop>
     requires ready { IsReady (C.Core.stacks core.now) regs.now }
     requires above { regs.now.f + 2 ≤ regs.now.s }
-    ensures value { result ≡ looked (target_in (seen (C.Core.stacks core.now) (named_target regs.now (arguments (C.Core.stacks core.now) regs.now)))) }
+    ensures value { result ≡ looked (target_in (look_seen (C.Core.stacks core.now) (named_target regs.now (arguments (C.Core.stacks core.now) regs.now)))) }
     ensures low { IfOk result (λ t. 2 ≤ t.level) }
     ensures high { IfOk result (λ t. t.level ≤ regs.now.ll) }
     ensures frame { IfOk result (λ t. display_at regs.now t.level ≡ Some t.frame) }
@@ -56,7 +56,7 @@ fn leaves_critical<C: Core>(
     target: &Target,
 ) -> Result<bool, Stop>
     requires { regs.now.ll < levels }
-    ensures { result ≡ looked (seen (C.Core.stacks core.now) (leaves_critical (live_criticals states.now all.now) regs.now target.now.frame)) }
+    ensures { result ≡ looked (look_seen (C.Core.stacks core.now) (leaves_critical (live_criticals states.now all.now) regs.now target.now.frame)) }
 {
     if target.frame.stack != regs.stack {
         return Ok(false);
@@ -74,7 +74,7 @@ fn leaves_critical<C: Core>(
 // The display of the target.
 fn display_of<C: Core>(core: &C, target: &Target) -> Result<Display, Stop>
     requires { target.now.level < levels }
-    ensures { result ≡ looked (seen (C.Core.stacks core.now) (rebuilt target.now.frame target.now.level)) }
+    ensures { result ≡ looked (look_seen (C.Core.stacks core.now) (rebuilt target.now.frame target.now.level)) }
 {
     match rebuild(core, target.frame, target.level) {
         Ok(display) => Ok(display),
@@ -115,7 +115,7 @@ fn leave_above<C: Core>(core: &mut C, kernel: &mut Kernel, regs: &mut Registers,
     requires frame { display_at regs.old target.now.level ≡ Some target.now.frame }
     requires own { target.now.frame.stack ≡ regs.old.stack }
     requires clear { IsClear (C.Core.stacks core.old) regs.old target.now }
-    ensures changes { (c : Cutting) → seen (C.Core.stacks core.old) (cutting regs.old target.now.frame target.now.level) ≡ Ok c → (p : ℕ) (img : Image) → img.stacks ≡ C.Core.stacks core.old → img.rows ≡ C.Core.rows core.old → img.events ≡ kernel.old.events → changed p (gone_to regs.old (tabled target.now) c.passing c.display (words_of (C.Core.stacks core.old) regs.old.stack)) img ≡ with_events (with_own (own (C.Core.stacks core.new) (C.Core.rows core.new) regs.new) p img) kernel.new.events }
+    ensures changes { (c : Cutting) → look_seen (C.Core.stacks core.old) (cutting regs.old target.now.frame target.now.level) ≡ Ok c → (p : ℕ) (img : Image) → img.stacks ≡ C.Core.stacks core.old → img.rows ≡ C.Core.rows core.old → img.events ≡ kernel.old.events → changed p (gone_to regs.old (tabled target.now) c.passing c.display (words_of (C.Core.stacks core.old) regs.old.stack)) img ≡ with_events (with_own (own_of_image (C.Core.stacks core.new) (C.Core.rows core.new) regs.new) p img) kernel.new.events }
     ensures lists { kernel.new.lists ≡ kernel.old.lists }
     ensures room { regs.new.s ≤ stack_limit }
     ensures processes { kernel.new.room ≡ kernel.old.room }
@@ -136,7 +136,7 @@ pub fn go_to<C: Core>(
     process: u32,
 ) -> Result<(), Stop>
     requires { IsCalling (C.Core.stacks core.old) (C.Core.rows core.old) (numbered parts.old.regs.items process) }
-    ensures acts { (next : ℕ) (mark : Mscw) → Acts process (called_in go_to parts.old.code (numbered parts.old.regs.items process) next mark) (image_of (C.Core.stacks core.old) (C.Core.rows core.old) kernel.old parts.old) (image_of (C.Core.stacks core.new) (C.Core.rows core.new) kernel.new parts.new) result }
+    ensures acts { (next : ℕ) (mark : Mscw) → ProgramActs process (called_in go_to parts.old.code (numbered parts.old.regs.items process) next mark) (image_of (C.Core.stacks core.old) (C.Core.rows core.old) kernel.old parts.old) (image_of (C.Core.stacks core.new) (C.Core.rows core.new) kernel.new parts.new) result }
     ensures processes { kernel.new.room ≡ kernel.old.room }
     ensures code { parts.new.code ≡ parts.old.code }
     ensures woken { parts.new.woken ≡ parts.old.woken }

@@ -1,7 +1,7 @@
 //! The frames that GOTO leaves.
 
 ghost use Rattle.std.specs.Prelude.{◌≡◌, ◌||◌, [], ◌∷◌, Ok, IsOk};
-ghost use Rattle.b67_table.specs.Look.{seen};
+ghost use Rattle.b67_table.specs.Look.{look_seen};
 ghost use Rattle.b67_table.specs.Linkage.{is_critical};
 ghost use Rattle.b67_table.specs.Questions.{live_criticals};
 ghost use Rattle.b67_linkage.specs.Leaving.{target_cells};
@@ -32,7 +32,7 @@ pub fn passes_critical<C: Core>(
     cells: u16,
     target: u16,
 ) -> Result<bool, Stop>
-    ensures { result ≡ looked (seen (C.Core.stacks core.now) (passes_critical (live_criticals states.now regs.now) from cells target)) }
+    ensures { result ≡ looked (look_seen (C.Core.stacks core.now) (passes_critical (live_criticals states.now regs.now) from cells target)) }
 {
     let mut at = from.at;
     let mut count = cells;
@@ -64,8 +64,8 @@ pub fn passes_critical<C: Core>(
 // Each frame from one with so many cells down to a target, which is met on the way, is left with its events; the target is
 // not left.
 pub fn close_events<C: Core>(core: &C, kernel: &mut Kernel, from: Place, cells: u16, target: u16)
-    requires { IsOk (seen (C.Core.stacks core.now) (target_cells from cells target)) }
-    ensures events { seen (C.Core.stacks core.now) (target_events kernel.old.events from cells target) ≡ Ok kernel.new.events }
+    requires { IsOk (look_seen (C.Core.stacks core.now) (target_cells from cells target)) }
+    ensures events { look_seen (C.Core.stacks core.now) (target_events kernel.old.events from cells target) ≡ Ok kernel.new.events }
     ensures lists { kernel.new.lists ≡ kernel.old.lists }
     ensures processes { kernel.new.room ≡ kernel.old.room }
 {

@@ -6,7 +6,7 @@ ghost use Rattle.b67_store.specs.Store.{stack_at, words_of, with_stack, with_pus
 ghost use Rattle.b67_table.specs.Linkage.{entered_mark, base_control};
 ghost use Rattle.b67_table.specs.Starting.{first_words};
 ghost use Rattle.b67_going.specs.Paths.{some_words};
-ghost use Rattle.b67_going.specs.Starts.{starting_of, IsGiven};
+ghost use Rattle.b67_going.specs.Starts.{starting_of, StartIsGiven};
 
 use crate::paths::Needs;
 use crate::starts::Given;
@@ -85,7 +85,7 @@ fn open_base<C: Core>(core: &mut C, number: u16, home: Place, level: u8) -> Resu
 /// Opens the stack of a new process, with the mark and the control word of its base frame and its parameters. Without
 /// memory nothing changes.
 pub fn open_process<C: Core>(core: &mut C, number: u16, start: &Given) -> Result<(), NoMemory>
-    requires given { IsGiven (C.Core.stacks core.old) start.now }
+    requires given { StartIsGiven (C.Core.stacks core.old) start.now }
     requires free { stack_at (C.Core.stacks core.old) number ≡ None }
     requires home { start.now.needs.home.stack < 2 ^ 10 }
     requires other { start.now.needs.stack ≢ number }

@@ -6,13 +6,13 @@ ghost use Rattle.b67_control.specs.Control.{as_sirw};
 ghost use Rattle.b67_events.specs.Events.{same_place};
 ghost use Rattle.b67_store.specs.Store.{stack_limit};
 ghost use Rattle.b67_table.specs.Image.{critical_of};
-ghost use Rattle.b67_table.specs.Look.{seen};
+ghost use Rattle.b67_table.specs.Look.{look_seen};
 ghost use Rattle.b67_table.specs.Chains.{frame_below};
 ghost use Rattle.b67_table.specs.Starting.{is_among, sirw_frame, frames_with, named_frames, on_path};
 ghost use Rattle.b67_table.specs.declared.InterruptKind.TheVariants.{BrokenChain};
 ghost use Rattle.b67_reach.specs.declared.Stop.TheVariants.{Interrupt};
 ghost use Rattle.b67_reach.specs.Answers.{looked};
-ghost use Rattle.b67_going.specs.Paths.{met, some_words, needed, Leads};
+ghost use Rattle.b67_going.specs.Paths.{met, some_words, needed, TestLeads};
 
 use b67_control::Sirw;
 use b67_display::mark_at;
@@ -54,7 +54,7 @@ pub fn broken() -> Stop
 /// The frame below a frame that is not the base frame. BrokenChain comes exactly where no mark stands at the frame, or the
 /// chain below it does not lead to an entered mark.
 pub fn frame_below<C: Core>(core: &C, frame: Place) -> Result<Place, Stop>
-    ensures { result ≡ looked (seen (C.Core.stacks core.now) (frame_below frame)) }
+    ensures { result ≡ looked (look_seen (C.Core.stacks core.now) (frame_below frame)) }
 {
     let mark = match mark_at(core, frame) {
         Ok(mark) => mark,
@@ -136,7 +136,7 @@ fn is_needed<C: Core>(core: &C, needs: &Needs, frame: Place) -> bool
 // The first frame that a new process needs down a stack from a frame, None where there is none down to the base frame.
 fn met<C: Core>(core: &C, needs: &Needs, from: Place) -> Result<Option<Place>, Stop>
     requires { needs.now.first + needs.now.count ≤ stack_limit }
-    ensures { result ≡ looked (seen (C.Core.stacks core.now) (met (from.at + 1) (needed (C.Core.stacks core.now) needs.now) from)) }
+    ensures { result ≡ looked (look_seen (C.Core.stacks core.now) (met (from.at + 1) (needed (C.Core.stacks core.now) needs.now) from)) }
 {
     let mut frame = from;
     let mut steps = u32::from(from.at) + 1;
@@ -180,7 +180,7 @@ pub fn on_path<C: Core>(
     from: Place,
 ) -> Result<Option<Place>, Stop>
     requires { needs.now.first + needs.now.count ≤ stack_limit }
-    ensures { Leads (on_path stacks (needed (C.Core.stacks core.now) needs.now) from) (C.Core.stacks core.now) regs.now result }
+    ensures { TestLeads (on_path stacks (needed (C.Core.stacks core.now) needs.now) from) (C.Core.stacks core.now) regs.now result }
 {
     let mut frame = from;
     let mut left = stacks;

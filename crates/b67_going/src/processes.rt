@@ -7,14 +7,14 @@ ghost use Rattle.b67_control.specs.Control.{Fits_pcw};
 ghost use Rattle.b67_store.specs.Store.{stack_at, words_of, stack_limit};
 ghost use Rattle.b67_table.specs.Image.{Image};
 ghost use Rattle.b67_table.specs.Limits.{most_processes};
-ghost use Rattle.b67_table.specs.Look.{seen};
+ghost use Rattle.b67_table.specs.Look.{look_seen};
 ghost use Rattle.b67_table.specs.Program.{asked};
 ghost use Rattle.b67_table.specs.References.{cell_of};
 ghost use Rattle.b67_table.specs.Starting.{task_of, starting, start_process};
 ghost use Rattle.b67_reach.specs.Images.{image_of};
-ghost use Rattle.b67_reach.specs.Answers.{looked, whole, answered, IsReady};
+ghost use Rattle.b67_reach.specs.Answers.{looked, whole_outcome, outcome_answered, IsReady};
 ghost use Rattle.b67_intrinsics.specs.Called.{arguments, called_in};
-ghost use Rattle.b67_going.specs.Starts.{procedure_of, given_in, beginning, beginning_in, IsGiven, Starts, IsCalling, HasNext};
+ghost use Rattle.b67_going.specs.Starts.{procedure_of, given_in, beginning, beginning_in, StartIsGiven, Starts, IsCalling, HasNext};
 
 use crate::adds::add_process;
 use crate::paths::Needs;
@@ -50,7 +50,7 @@ fn argument<C: Core>(core: &C, regs: &Registers, n: u32) -> Word
 
 // The procedure that a reference reaches, and the frame in which it lies.
 fn procedure_of<C: Core>(core: &C, regs: &Registers, word: Word) -> Result<(Pcw, Place), Stop>
-    ensures value { result ≡ looked (seen (C.Core.stacks core.now) (procedure_of (cell_of regs.now word))) }
+    ensures value { result ≡ looked (look_seen (C.Core.stacks core.now) (procedure_of (cell_of regs.now word))) }
     ensures fits { IfOk result (λ p. Fits_pcw p.0) }
     ensures is_open { IfOk result (λ p. IsSome (stack_at (C.Core.stacks core.now) p.1.stack)) }
 {
@@ -78,7 +78,7 @@ fn task_of<C: Core>(
     regs: &Registers,
     word: Word,
 ) -> Result<Option<Cell>, Stop>
-    ensures told { (img : Image) → img.stacks ≡ C.Core.stacks core.now → img.events ≡ kernel.now.events → whole (asked img (task_of regs.now word)) ≡ answered result }
+    ensures told { (img : Image) → img.stacks ≡ C.Core.stacks core.now → img.events ≡ kernel.now.events → whole_outcome (asked img (task_of regs.now word)) ≡ outcome_answered result }
     ensures fits { IfOk result (λ task. IfSome task (λ c. c.frame.at + c.index < stack_limit)) }
 {
     if is_zero(word) {
@@ -94,8 +94,8 @@ fn task_of<C: Core>(
 fn find_given<C: Core>(core: &C, kernel: &Kernel, regs: &Registers) -> Result<Given, Stop>
     requires ready { IsReady (C.Core.stacks core.now) regs.now }
     requires above { regs.now.f + 2 ≤ regs.now.s }
-    ensures told { (img : Image) → img.stacks ≡ C.Core.stacks core.now → img.events ≡ kernel.now.events → whole (asked img (starting regs.now (arguments img.stacks regs.now))) ≡ answered (given_in (C.Core.stacks core.now) result) }
-    ensures given { IfOk result (IsGiven (C.Core.stacks core.now)) }
+    ensures told { (img : Image) → img.stacks ≡ C.Core.stacks core.now → img.events ≡ kernel.now.events → whole_outcome (asked img (starting regs.now (arguments img.stacks regs.now))) ≡ outcome_answered (given_in (C.Core.stacks core.now) result) }
+    ensures given { IfOk result (StartIsGiven (C.Core.stacks core.now)) }
     ensures home { IfOk result (λ t. IsSome (stack_at (C.Core.stacks core.now) t.needs.home.stack)) }
     ensures stack { IfOk result (λ t. t.needs.stack ≡ regs.now.stack) }
 {
@@ -132,9 +132,9 @@ fn beginning<C: Core>(
     requires ready { IsReady (C.Core.stacks core.now) regs.now }
     requires above { regs.now.f + 2 ≤ regs.now.s }
     requires most { started ≤ most_processes }
-    ensures told { (img : Image) → img.stacks ≡ C.Core.stacks core.now → img.events ≡ kernel.now.events → img.regs ≡ all.now → img.started ≡ started → whole (asked img (beginning regs.now mark.now (arguments img.stacks regs.now))) ≡ answered (beginning_in (C.Core.stacks core.now) result) }
+    ensures told { (img : Image) → img.stacks ≡ C.Core.stacks core.now → img.events ≡ kernel.now.events → img.regs ≡ all.now → img.started ≡ started → whole_outcome (asked img (beginning regs.now mark.now (arguments img.stacks regs.now))) ≡ outcome_answered (beginning_in (C.Core.stacks core.now) result) }
     ensures within { OnOk result (mark.now.df ≤ regs.now.f) }
-    ensures given { IfOk result (λ b. IsGiven (C.Core.stacks core.now) b.0) }
+    ensures given { IfOk result (λ b. StartIsGiven (C.Core.stacks core.now) b.0) }
     ensures home { IfOk result (λ b. IsSome (stack_at (C.Core.stacks core.now) b.0.needs.home.stack)) }
     ensures stack { IfOk result (λ b. b.0.needs.stack ≡ regs.now.stack) }
     ensures number { IfOk result (λ b. b.1.stack ≡ started + 1) }

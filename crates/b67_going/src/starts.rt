@@ -5,12 +5,12 @@ ghost use Rattle.b67_control.specs.Control.{Fits_pcw};
 ghost use Rattle.b67_control.specs.Display.{levels};
 ghost use Rattle.b67_store.specs.Store.{stack_limit};
 ghost use Rattle.b67_table.specs.Limits.{most_processes};
-ghost use Rattle.b67_table.specs.Look.{seen};
+ghost use Rattle.b67_table.specs.Look.{look_seen};
 ghost use Rattle.b67_table.specs.Private.{frame};
-ghost use Rattle.b67_table.specs.Starting.{place_of, begun, first_display};
+ghost use Rattle.b67_table.specs.Starting.{place_of, process_begun, first_display};
 ghost use Rattle.b67_reach.specs.Answers.{looked};
-ghost use Rattle.b67_going.specs.Paths.{Leads};
-ghost use Rattle.b67_going.specs.Starts.{starting_of, IsGiven, first_registers};
+ghost use Rattle.b67_going.specs.Paths.{TestLeads};
+ghost use Rattle.b67_going.specs.Starts.{starting_of, StartIsGiven, started_first_registers};
 
 use crate::paths::{Needs, broken, on_path};
 use b67_control::{Display, Pcw};
@@ -38,7 +38,7 @@ pub struct Given {
 // The display of a process of a number; an intrinsic can not be started.
 fn first_display<C: Core>(core: &C, number: u16, start: &Given) -> Result<Display, Stop>
     requires { Fits_pcw start.now.procedure }
-    ensures { result ≡ looked (seen (C.Core.stacks core.now) (first_display number (starting_of (C.Core.stacks core.now) start.now))) }
+    ensures { result ≡ looked (look_seen (C.Core.stacks core.now) (first_display number (starting_of (C.Core.stacks core.now) start.now))) }
 {
     if start.procedure.intrinsic {
         return Err(broken());
@@ -75,8 +75,8 @@ fn begun<C: Core>(
     display: Display,
     critical: Option<Place>,
 ) -> Registers
-    requires { IsGiven (C.Core.stacks core.now) start.now }
-    ensures { result ≡ begun number (starting_of (C.Core.stacks core.now) start.now) display critical }
+    requires { StartIsGiven (C.Core.stacks core.now) start.now }
+    ensures { result ≡ process_begun number (starting_of (C.Core.stacks core.now) start.now) display critical }
 {
     Registers {
         stack: number,
@@ -116,10 +116,10 @@ pub fn first_registers<C: Core>(
     started: u32,
     start: &Given,
 ) -> Result<Registers, Stop>
-    requires given { IsGiven (C.Core.stacks core.now) start.now }
+    requires given { StartIsGiven (C.Core.stacks core.now) start.now }
     requires level { regs.now.ll < levels }
     requires most { started ≤ most_processes }
-    ensures leads { Leads (first_registers regs.now started (starting_of (C.Core.stacks core.now) start.now)) (C.Core.stacks core.now) all.now result }
+    ensures leads { TestLeads (started_first_registers regs.now started (starting_of (C.Core.stacks core.now) start.now)) (C.Core.stacks core.now) all.now result }
     ensures number { IfOk result (λ q. q.stack ≡ started + 1) }
     ensures few { OnOk result (started < most_processes) }
 {

@@ -3,9 +3,9 @@
 ghost use Rattle.std.specs.Prelude.{◌≡◌, ◌≤◌, ◌<◌, ◌^◌, unsigned_abs, Ok, Some, IfOk, IfSome};
 ghost use Rattle.b67_control.specs.Display.{levels};
 ghost use Rattle.b67_store.specs.Store.{Stacks};
-ghost use Rattle.b67_table.specs.Arguments.{number_in};
+ghost use Rattle.b67_table.specs.Arguments.{argument_number_in};
 ghost use Rattle.b67_table.specs.GoingTo.{level_in, target_of};
-ghost use Rattle.b67_table.specs.Look.{seen};
+ghost use Rattle.b67_table.specs.Look.{look_seen};
 ghost use Rattle.b67_table.specs.Private.{display_at};
 ghost use Rattle.b67_reach.specs.Answers.{looked};
 ghost use Rattle.b67_going.specs.Targets.{target_in};
@@ -20,7 +20,7 @@ const LAST_SEGMENT: u32 = b67_limits::MOST_PROCEDURES as u32;
 /// A number from 0 to a greatest one.
 pub fn number_in(value: i64, most: u32) -> Option<u32>
     requires { unsigned_abs value < 2 ^ 63 }
-    ensures value { result ≡ number_in value most }
+    ensures value { result ≡ argument_number_in value most }
     ensures bound { IfSome result (λ n. n ≤ most) }
 {
     if 0 <= value && value <= i64::from(most) {
@@ -65,7 +65,7 @@ pub fn target_of(regs: &Registers, level: i64, segment: i64, pointer: i64) -> Re
     requires second { unsigned_abs segment < 2 ^ 63 }
     requires third { unsigned_abs pointer < 2 ^ 63 }
     requires level { regs.now.ll < levels }
-    ensures value { (stacks : Stacks) → result ≡ looked (target_in (seen stacks (target_of regs.now (record { first = level; second = segment; third = pointer })))) }
+    ensures value { (stacks : Stacks) → result ≡ looked (target_in (look_seen stacks (target_of regs.now (record { first = level; second = segment; third = pointer })))) }
     ensures low { IfOk result (λ t. 2 ≤ t.level) }
     ensures high { IfOk result (λ t. t.level ≤ regs.now.ll) }
     ensures frame { IfOk result (λ t. display_at regs.now t.level ≡ Some t.frame) }

@@ -17,23 +17,23 @@ use Rattle.b67_table.specs.Arrays.{Extents, one, two, array_word, array_made, ar
 use Rattle.b67_table.specs.Effect.{Effect}
 use Rattle.b67_table.specs.Effect as effects
 use Rattle.b67_table.specs.Image.{Image, with_rows, with_stacks}
-use Rattle.b67_table.specs.Intrinsics.{Wanted, wanted, arrays, extents}
+use Rattle.b67_table.specs.Intrinsics.{Wanted, intrinsic_wanted, arrays, extents}
 use Rattle.b67_table.specs.Look as look
-use Rattle.b67_table.specs.Look.{Look, seen, valid, ◌>->◌}
+use Rattle.b67_table.specs.Look.{Look, look_seen, valid, ◌>->◌}
 use Rattle.b67_table.specs.Outcome.{gives, limit, limited}
 use Rattle.b67_table.specs.Program.{Program, Change, answer, asked, changed, done, registers, see, ◌>>=◌}
 use Rattle.b67_table.specs.Table.{length_in, stack_length}
 use Rattle.b67_descriptor.specs.declared.DescriptorFault.{DescriptorFault}
 use Rattle.b67_descriptor.specs.declared.DescriptorFault.TheVariants as faults
 use Rattle.b67_descriptor.specs.declared.sizes.Size.{Size}
-use Rattle.b67_descriptor.specs.Sizes.{Sizes, numbers}
+use Rattle.b67_descriptor.specs.Sizes.{Sizes, numbers_of_bounds}
 use Rattle.b67_descriptor.specs.Arrays.{MakesArrays}
 use Rattle.b67_reach.specs.declared.Stop.{Stop}
 use Rattle.b67_reach.specs.declared.Stop.TheVariants.{Interrupt, StackLimit}
-use Rattle.b67_reach.specs.Answers.{Acts, looked, stopped, whole}
+use Rattle.b67_reach.specs.Answers.{ProgramActs, looked, stopped, whole_outcome}
 use Rattle.b67_intrinsics.specs.declared.hindrance.Hindrance.{Hindrance}
 use Rattle.b67_intrinsics.specs.declared.hindrance.Hindrance.TheVariants.{Stopped}
-use Rattle.b67_intrinsics.specs.Called.{called_in, finished_in, mark_below, Leads, MayLead}
+use Rattle.b67_intrinsics.specs.Called.{called_in, finished_in, mark_below, IntrinsicLeads, MayLead}
 use Rattle.b67_intrinsics.specs.Arrays.{as_order, is_order, order_in, stop_for, array_tests, array_tests_in, pushed_on}
 use Rattle.b67_intrinsics.proofs.Pushing.{ends, numbered_set, pushed_is}
 use Rattle.b67_intrinsics.proofs.Trying.{leads_then, leads_not, told_look}
@@ -49,7 +49,7 @@ at_most n h = by (n == 3) (n == 5) refl refl h
     by false false e f h = cc
 
 counted : (st : Stacks) (o : Option ℕ) (bounds : List ℤ) (zs : List ℤ) → drop 1 zs ≡ bounds
-    → looked (seen st (valid o >-> (λ (n : ℕ). look.found (record { count = n; bounds = bounds })))) ≡ order_in zs o
+    → looked (look_seen st (valid o >-> (λ (n : ℕ). look.found (record { count = n; bounds = bounds })))) ≡ order_in zs o
 counted st None bounds zs e = refl
 counted st (Some n) bounds zs e = ap (λ (b : List ℤ). Ok (record { count = n; bounds = b })) (sym e)
 
@@ -58,14 +58,14 @@ some_same a b e = cc
 
 -- ---- what is told
 
-pub sizes_stop : (effect : Effect Extents) (fault : DescriptorFault) → Sizes effect (Err fault) → whole effect ≡ stopped (stop_for fault)
-sizes_stop effect faults.ArraySize e = ap whole e
-sizes_stop effect faults.InvalidOperand e = ap whole e
+pub sizes_stop : (effect : Effect Extents) (fault : DescriptorFault) → Sizes effect (Err fault) → whole_outcome effect ≡ stopped (stop_for fault)
+sizes_stop effect faults.ArraySize e = ap whole_outcome e
+sizes_stop effect faults.InvalidOperand e = ap whole_outcome e
 sizes_stop effect faults.InvalidIndex e = absurd e
 sizes_stop effect faults.CoreFull e = absurd e
 sizes_stop effect faults.NoMemory e = absurd e
 
-pub one_bound : (zs : List ℤ) (a b : ℤ) → length zs ≡ 3 → slice_get zs 1 ≡ Some a → slice_get zs 2 ≡ Some b → numbers ((a, b) ∷ []) ≡ drop 1 zs
+pub one_bound : (zs : List ℤ) (a b : ℤ) → length zs ≡ 3 → slice_get zs 1 ≡ Some a → slice_get zs 2 ≡ Some b → numbers_of_bounds ((a, b) ∷ []) ≡ drop 1 zs
 one_bound [] a b h e f = cc
 one_bound (x ∷ []) a b h e f = cc
 one_bound (x ∷ y ∷ []) a b h e f = cc
@@ -74,7 +74,7 @@ one_bound (x ∷ y ∷ z ∷ []) a b h e f =
 one_bound (x ∷ y ∷ z ∷ v ∷ zs) a b h e f = cc
 
 pub two_bounds : (zs : List ℤ) (a b c d : ℤ) → is_order zs ≡ true → length zs ≢ 3 → slice_get zs 1 ≡ Some a → slice_get zs 2 ≡ Some b → slice_get zs 3 ≡ Some c
-    → slice_get zs 4 ≡ Some d → numbers ((a, b) ∷ (c, d) ∷ []) ≡ drop 1 zs
+    → slice_get zs 4 ≡ Some d → numbers_of_bounds ((a, b) ∷ (c, d) ∷ []) ≡ drop 1 zs
 two_bounds [] a b c d o h e f i j = cc
 two_bounds (x ∷ []) a b c d o h e f i j = cc
 two_bounds (x ∷ y ∷ []) a b c d o h e f i j = cc
@@ -88,10 +88,10 @@ two_bounds (x ∷ y ∷ z ∷ u ∷ v ∷ w ∷ zs) a b c d o h e f i j = absurd
 -- ---- the tests
 
 abbrev look_order : List Word → Look Wanted
-look_order words = wholes words >-> wanted
+look_order words = wholes words >-> intrinsic_wanted
 
-order_seen : (st : Stacks) (words : List Word) (zs : List ℤ) → wholes_in words ≡ Some zs → looked (seen st (look_order words)) ≡ looked (seen st (wanted zs))
-order_seen st words zs e = ap (λ (o : Option (List ℤ)). looked (seen st (valid o >-> wanted))) e
+order_seen : (st : Stacks) (words : List Word) (zs : List ℤ) → wholes_in words ≡ Some zs → looked (look_seen st (look_order words)) ≡ looked (look_seen st (intrinsic_wanted zs))
+order_seen st words zs e = ap (λ (o : Option (List ℤ)). looked (look_seen st (valid o >-> intrinsic_wanted))) e
 
 abbrev Going : Type 0
 Going = ℕ × Extents → Program
@@ -106,48 +106,48 @@ module _ (img : Image) (r : Registers) (m : Mscw) (words : List Word) where
   abbrev chain : Wanted → Going → Program
   chain w next = see (mark_below r m) >>= (λ (lower : Mscw). size w next)
 
-  tests_stop : (stop : Stop) → looked (seen img.stacks (look_order words)) ≡ Err stop → Leads {A = ℕ × Extents} img (array_tests r m words) (Err stop)
+  tests_stop : (stop : Stop) → looked (look_seen img.stacks (look_order words)) ≡ Err stop → IntrinsicLeads {A = ℕ × Extents} img (array_tests r m words) (Err stop)
   tests_stop stop e = leads_not img (see (look_order words)) chain stop (told_look img (look_order words) (Err stop) (sym e))
 
   -- the exit of a question mark
-  pub order_exit : (res : Result (ℕ × Size) Hindrance) (stop : Stop) → IsErrAnd res (λ h. h ≡ Stopped stop) → Leads {A = ℕ × Extents} img (array_tests r m words) (Err stop)
+  pub order_exit : (res : Result (ℕ × Size) Hindrance) (stop : Stop) → IsErrAnd res (λ h. h ≡ Stopped stop) → IntrinsicLeads {A = ℕ × Extents} img (array_tests r m words) (Err stop)
       → MayLead img (array_tests r m words) (as_order res)
   order_exit (Ok a) stop e x = absurd e
   order_exit (Err h) stop e x = subst (λ (k : Hindrance). MayLead {A = ℕ × Extents} img (array_tests r m words) (Err k)) (sym e) x
 
   module _ (zs : List ℤ) (read : wholes_in words ≡ Some zs) where
-    pub not_ordered : looked (seen img.stacks (wanted zs)) ≡ Err (Interrupt InvalidOperand) → Leads {A = ℕ × Extents} img (array_tests r m words) (Err (Interrupt InvalidOperand))
+    pub not_ordered : looked (look_seen img.stacks (intrinsic_wanted zs)) ≡ Err (Interrupt InvalidOperand) → IntrinsicLeads {A = ℕ × Extents} img (array_tests r m words) (Err (Interrupt InvalidOperand))
     not_ordered e = tests_stop (Interrupt InvalidOperand) (order_seen img.stacks words zs read ∙ e)
 
-    module _ (count : ℕ) (ordered : looked (seen img.stacks (wanted zs)) ≡ order_in zs (Some count)) where
+    module _ (count : ℕ) (ordered : looked (look_seen img.stacks (intrinsic_wanted zs)) ≡ order_in zs (Some count)) where
       abbrev asks : Wanted
       asks = record { count = count; bounds = drop 1 zs }
 
-      after_order : (res : Result (ℕ × Extents) Stop) → Leads img (chain asks) res → Leads img (array_tests r m words) res
+      after_order : (res : Result (ℕ × Extents) Stop) → IntrinsicLeads img (chain asks) res → IntrinsicLeads img (array_tests r m words) res
       after_order res x =
           leads_then img (see (look_order words)) chain asks res
           (told_look img (look_order words) (Ok asks) (sym (order_seen img.stacks words zs read ∙ ordered))) x
 
-      pub unchained : (stop : Stop) → ◌≡◌ {A = Result Mscw Stop} (Err stop) (looked (seen img.stacks (mark_below r m))) → Leads {A = ℕ × Extents} img (array_tests r m words) (Err stop)
+      pub unchained : (stop : Stop) → ◌≡◌ {A = Result Mscw Stop} (Err stop) (looked (look_seen img.stacks (mark_below r m))) → IntrinsicLeads {A = ℕ × Extents} img (array_tests r m words) (Err stop)
       unchained stop f =
           after_order (Err stop) (leads_not img (see (mark_below r m)) (λ (lower : Mscw) (next : Going). size asks next) stop (told_look img (mark_below r m) (Err stop) f))
 
-      module _ (lower : Mscw) (chained : Ok lower ≡ looked (seen img.stacks (mark_below r m))) where
-        after_chain : (res : Result (ℕ × Extents) Stop) → Leads img (size asks) res → Leads img (array_tests r m words) res
+      module _ (lower : Mscw) (chained : Ok lower ≡ looked (look_seen img.stacks (mark_below r m))) where
+        after_chain : (res : Result (ℕ × Extents) Stop) → IntrinsicLeads img (size asks) res → IntrinsicLeads img (array_tests r m words) res
         after_chain res x =
             after_order res (leads_then img (see (mark_below r m)) (λ (lower : Mscw) (next : Going). size asks next) lower res (told_look img (mark_below r m) (Ok lower) chained) x)
 
-        pub unsized : (stop : Stop) → whole (asked img (extents (drop 1 zs))) ≡ stopped stop → Leads {A = ℕ × Extents} img (array_tests r m words) (Err stop)
+        pub unsized : (stop : Stop) → whole_outcome (asked img (extents (drop 1 zs))) ≡ stopped stop → IntrinsicLeads {A = ℕ × Extents} img (array_tests r m words) (Err stop)
         unsized stop e = after_chain (Err stop) (leads_not img (extents (drop 1 zs)) (hold asks) stop e)
 
-        module _ (e : Extents) (sized : whole (asked img (extents (drop 1 zs))) ≡ gives e) where
-          after_size : (res : Result (ℕ × Extents) Stop) → Leads img (hold asks e) res → Leads img (array_tests r m words) res
+        module _ (e : Extents) (sized : whole_outcome (asked img (extents (drop 1 zs))) ≡ gives e) where
+          after_size : (res : Result (ℕ × Extents) Stop) → IntrinsicLeads img (hold asks e) res → IntrinsicLeads img (array_tests r m words) res
           after_size res x = after_chain res (leads_then img (extents (drop 1 zs)) (hold asks) e res sized x)
 
-          pub unheld : (stop : Stop) → whole (asked img (if_held count e)) ≡ stopped stop → Leads {A = ℕ × Extents} img (array_tests r m words) (Err stop)
+          pub unheld : (stop : Stop) → whole_outcome (asked img (if_held count e)) ≡ stopped stop → IntrinsicLeads {A = ℕ × Extents} img (array_tests r m words) (Err stop)
           unheld stop f = after_size (Err stop) (leads_not img (if_held count e) (λ (held : Extents) (next : Going). next (count, held)) stop f)
 
-          pub all_tested : whole (asked img (if_held count e)) ≡ gives e → Leads img (array_tests r m words) (Ok (count, e))
+          pub all_tested : whole_outcome (asked img (if_held count e)) ≡ gives e → IntrinsicLeads img (array_tests r m words) (Ok (count, e))
           all_tested f =
               after_size (Ok (count, e)) (leads_then img (if_held count e) (λ (held : Extents) (next : Going). next (count, held)) e (Ok (count, e)) f (λ next. refl))
 
@@ -164,8 +164,8 @@ arrays_is img code next m (Some r) = refl
 
 pub made_then : (p : ℕ) (img new : Image) (m : Mscw) (next : ℕ) (order : ℕ × Extents) (made : List Descriptor) (after : Rows) (regs : Option Registers)
     → MakesArrays order.0 order.1 img.rows after made
-    → Acts {A = Unit {0}} p (finished_in regs m (map descriptor_word made) next) (with_rows img after) new (Ok tt)
-    → Acts {A = Unit {0}} p (making regs m next order) img new (Ok tt)
+    → ProgramActs {A = Unit {0}} p (finished_in regs m (map descriptor_word made) next) (with_rows img after) new (Ok tt)
+    → ProgramActs {A = Unit {0}} p (making regs m next order) img new (Ok tt)
 made_then p img new m next order made after None makes q = record { outcome = q.outcome; stays = tt }
 made_then p img new m next order made after (Some r) makes q = record {
   outcome = ap (λ (i : Image). limited (stack_length p) (effects.gives i)) (makes p img (λ (words : List Word). finished_at r m words next) refl) ∙ q.outcome;
@@ -208,7 +208,7 @@ arrays_go (suc k) e made p img =
 
 -- a stack that would be too long
 pub too_long : (p : ℕ) (img : Image) (m : Mscw) (next : ℕ) (order : ℕ × Extents) (r : Registers) → numbered img.regs p ≡ Some r → nat_le (r.f + order.0) stack_limit ≡ false
-    → Acts {A = Unit {0}} p (making (Some r) m next order) img img (Err StackLimit)
+    → ProgramActs {A = Unit {0}} p (making (Some r) m next order) img img (Err StackLimit)
 too_long p img m next order r here long =
     let go = arrays_go order.0 order.1 [] p img in
     let words = go.0 in

@@ -10,7 +10,7 @@ use Rattle.b67_control.specs.declared.Mscw.{Mscw}
 use Rattle.b67_control.specs.declared.Registers.{Registers}
 use Rattle.b67_segment.specs.declared.code.Code.{Code}
 use Rattle.b67_store.specs.Store.{stack_limit}
-use Rattle.b67_events.specs.Events.{first_happened, took_any}
+use Rattle.b67_events.specs.Events.{first_event_happened, took_any}
 use Rattle.b67_events.specs.declared.TookAny.TheVariants as any
 use Rattle.b67_table.specs.declared.Cell.{Cell}
 use Rattle.b67_table.specs.declared.InterruptKind.TheVariants.{InvalidOperand}
@@ -19,19 +19,19 @@ use Rattle.b67_table.specs.Effect.{Effect}
 use Rattle.b67_table.specs.Image.{Image, woken_number}
 use Rattle.b67_table.specs.Intrinsics.{gone_on, gone_or_waiting, woken_or_not, wait_for_any}
 use Rattle.b67_table.specs.Limits.{most_events}
-use Rattle.b67_table.specs.Look.{seen}
+use Rattle.b67_table.specs.Look.{look_seen}
 use Rattle.b67_table.specs.Outcome.{gives, limit, limited}
 use Rattle.b67_table.specs.Program.{Test, Program, Change, answer, interrupt, fault, ask, asked, see, woken, effect_of, does, ◌>>=◌}
 use Rattle.b67_table.specs.Questions.{told}
 use Rattle.b67_table.specs.References.{cell_place}
 use Rattle.b67_table.specs.Table.{length_in, stack_length}
-use Rattle.b67_table.specs.Writes.{written}
+use Rattle.b67_table.specs.Writes.{write_made}
 use Rattle.b67_table.specs.Writes as writes
 use Rattle.b67_reach.specs.declared.Stop.{Stop}
 use Rattle.b67_reach.specs.declared.Stop.TheVariants.{Interrupt}
-use Rattle.b67_reach.specs.Answers.{looked, whole, stopped, Acts}
+use Rattle.b67_reach.specs.Answers.{looked, whole_outcome, stopped, ProgramActs}
 use Rattle.b67_reach.proofs.Looking.{asked_on, tells_look, acts_stop}
-use Rattle.b67_intrinsics.specs.Called.{arguments, mark_below, called_in, finished_in, Leads, TellsPlace, several_tests, several_tests_in, these}
+use Rattle.b67_intrinsics.specs.Called.{arguments, mark_below, called_in, finished_in, IntrinsicLeads, TellsPlace, several_tests, several_tests_in, these}
 use Rattle.b67_intrinsics.proofs.Calling.{drop_at}
 use Rattle.b67_intrinsics.proofs.Trying.{leads_on, leads_off}
 
@@ -62,7 +62,7 @@ module _ (img : Image) (r : Registers) where
   begins w ws next =
       in_order img (event_of r w) (λ (c : Cell). events_of r ws >>= (λ (places : List Place). answer (cell_place c ∷ places))) next
 
-  one_found : (w : Word) (ws : List Word) (c : Cell) (next : List Place → Program) → whole (asked img (event_of r w)) ≡ gives c
+  one_found : (w : Word) (ws : List Word) (c : Cell) (next : List Place → Program) → whole_outcome (asked img (event_of r w)) ≡ gives c
       → asked img (events_of r (w ∷ ws) >>= next) ≡ asked img (events_of r ws >>= (λ (places : List Place). next (cell_place c ∷ places)))
   unfolding after_one
   one_found w ws c next e =
@@ -105,7 +105,7 @@ module _ (img : Image) (r : Registers) where
     abbrev pub Tests : (List Place → Program) → Program
     Tests next = several_tests r m words next
 
-    pub not_several : several ≡ false → Leads {A = List Place} img Tests (Err (Interrupt InvalidOperand))
+    pub not_several : several ≡ false → IntrinsicLeads {A = List Place} img Tests (Err (Interrupt InvalidOperand))
     not_several e = λ p next. record {
       outcome = ap (λ (b : Bool). limited (stack_length p) (does p (cond b (events_of r words >>= (λ (places : List Place). if_chained r m (next places))) no_such) img)) e;
       stays = refl;
@@ -118,10 +118,10 @@ module _ (img : Image) (r : Registers) where
           ap (λ (b : Bool). asked img (cond b (events_of r words >>= (λ (places : List Place). if_chained r m (next places))) no_such)) some
           ∙ found (λ (places : List Place). if_chained r m (next places))
 
-      pub one_stops : (stop : Stop) → TellsPlace img r (slice_get words n) (Err stop) → Leads {A = List Place} img Tests (Err stop)
+      pub one_stops : (stop : Stop) → TellsPlace img r (slice_get words n) (Err stop) → IntrinsicLeads {A = List Place} img Tests (Err stop)
       one_stops stop tells = by (slice_get words n) refl tells
         where
-          by : (o : Option Word) → slice_get words n ≡ o → TellsPlace img r o (Err stop) → Leads {A = List Place} img Tests (Err stop)
+          by : (o : Option Word) → slice_get words n ≡ o → TellsPlace img r o (Err stop) → IntrinsicLeads {A = List Place} img Tests (Err stop)
           by None here t = absurd t
           by (Some w) here t = λ p next.
               let rest : List Place → Program = λ (rest : List Place). if_chained r m (next (places ++ rest)) in
@@ -140,7 +140,7 @@ module _ (img : Image) (r : Registers) where
             ∙ ap (λ (ws : List Word). asked img (events_of r ws >>= (λ (rest : List Place). if_chained r m (next (places ++ rest))))) (none_left words n all)
             ∙ ap (λ (ps : List Place). asked img (if_chained r m (next ps))) (append-nil places)
 
-        pub chain_stops : (stop : Stop) → ◌≡◌ {A = Result Mscw Stop} (Err stop) (looked (seen img.stacks (mark_below r m))) → Leads {A = List Place} img Tests (Err stop)
+        pub chain_stops : (stop : Stop) → ◌≡◌ {A = Result Mscw Stop} (Err stop) (looked (look_seen img.stacks (mark_below r m))) → IntrinsicLeads {A = List Place} img Tests (Err stop)
         chain_stops stop e = λ p next.
             let q = acts_stop {B = Unit {0}} p (see (mark_below r m)) (λ (lower : Mscw). next places) stop img img
             ((tells_look (mark_below r m) img.stacks img.rows (Err stop) e).told img refl refl) refl in
@@ -149,27 +149,27 @@ module _ (img : Image) (r : Registers) where
               stays = refl;
             }
 
-        pub all_found : (lower : Mscw) → Ok lower ≡ looked (seen img.stacks (mark_below r m)) → Leads img Tests (Ok places)
+        pub all_found : (lower : Mscw) → Ok lower ≡ looked (look_seen img.stacks (mark_below r m)) → IntrinsicLeads img Tests (Ok places)
         all_found lower e = λ next.
             comes_all next
             ∙ asked_on img (see (mark_below r m)) (λ (lower : Mscw). next places) lower ((tells_look (mark_below r m) img.stacks img.rows (Ok lower) e).told img refl refl)
 
 -- a reference that reaches no open event, and one that reaches one
 pub tells_stop_at : (img : Image) (r : Registers) (o : Option Word) (w : Word) (res : Result Place Stop) (stop : Stop) → o ≡ Some w → IsErrAnd res (λ e. e ≡ stop)
-    → whole (asked img (event_of r w)) ≡ stopped stop → TellsPlace img r o res
+    → whole_outcome (asked img (event_of r w)) ≡ stopped stop → TellsPlace img r o res
 tells_stop_at img r o w (Ok at) stop e i k = absurd i
 tells_stop_at img r o w (Err other) stop e i k =
     subst (λ (x : Option Word). TellsPlace img r x (Err other)) (sym e) (k ∙ ap (λ (s : Stop). stopped s) (sym i))
 
-pub tells_place : (img : Image) (r : Registers) (o : Option Word) (w : Word) (c : Cell) → o ≡ Some w → whole (asked img (event_of r w)) ≡ gives c
+pub tells_place : (img : Image) (r : Registers) (o : Option Word) (w : Word) (c : Cell) → o ≡ Some w → whole_outcome (asked img (event_of r w)) ≡ gives c
     → TellsPlace img r o (Ok (cell_place c))
 tells_place img r o w c e k = subst (λ (x : Option Word). TellsPlace img r x (Ok (cell_place c))) (sym e) (c, k, refl)
 
 -- the exit of a question mark
 pub leads_exit : (img : Image) (tests : (List Place → Program) → Program) (res : Result ℕ Stop) (places : List Place) (stop : Stop) → IsErrAnd res (λ e. e ≡ stop)
-    → Leads {A = List Place} img tests (Err stop) → Leads {A = List Place} img tests (these res places)
+    → IntrinsicLeads {A = List Place} img tests (Err stop) → IntrinsicLeads {A = List Place} img tests (these res places)
 leads_exit img tests (Ok n) places stop i x = absurd i
-leads_exit img tests (Err other) places stop i x = subst (λ (s : Stop). Leads {A = List Place} img tests (Err s)) (sym i) x
+leads_exit img tests (Err other) places stop i x = subst (λ (s : Stop). IntrinsicLeads {A = List Place} img tests (Err s)) (sym i) x
 
 -- a place that is put after so many
 take_set : (xs : List Place) (n : ℕ) (x : Place) → n < length xs → take (suc n) (set xs n x) ≡ take n xs ++ x ∷ []
@@ -187,29 +187,29 @@ module _ (code : Code) (next : ℕ) (m : Mscw) (p : ℕ) (img : Image) where
   coming None places = no_such
   coming (Some r) places = woken r.stack (woken_or_not r next m places)
 
-  pub several_stops : (regs : Option Registers) (stop : Stop) (res : Result (Unit {0}) Stop) → Leads {A = List Place} img (several_tests_in regs m img.stacks) (Err stop)
-      → IsErrAnd res (λ e. e ≡ stop) → Acts p (called_in wait_for_any code regs next m) img img res
+  pub several_stops : (regs : Option Registers) (stop : Stop) (res : Result (Unit {0}) Stop) → IntrinsicLeads {A = List Place} img (several_tests_in regs m img.stacks) (Err stop)
+      → IsErrAnd res (λ e. e ≡ stop) → ProgramActs p (called_in wait_for_any code regs next m) img img res
   several_stops regs stop (Ok a) x i = absurd i
-  several_stops None stop (Err other) x i = subst (λ (s : Stop). Acts {A = Unit {0}} p no_such img img (Err s)) (sym i) (x p (λ (places : List Place). no_such))
+  several_stops None stop (Err other) x i = subst (λ (s : Stop). ProgramActs {A = Unit {0}} p no_such img img (Err s)) (sym i) (x p (λ (places : List Place). no_such))
   several_stops (Some r) stop (Err other) x i =
-      subst (λ (s : Stop). Acts {A = Unit {0}} p (called_in wait_for_any code (Some r) next m) img img (Err s)) (sym i)
+      subst (λ (s : Stop). ProgramActs {A = Unit {0}} p (called_in wait_for_any code (Some r) next m) img img (Err s)) (sym i)
       (leads_off p img (called_in wait_for_any code (Some r) next m) (several_tests r m (arguments img.stacks r)) (coming (Some r)) stop refl x)
 
-  pub several_goes : (regs : Option Registers) (places : List Place) (new : Image) → Leads img (several_tests_in regs m img.stacks) (Ok places)
-      → Acts {A = Unit {0}} p (coming regs places) img new (Ok tt) → Acts {A = Unit {0}} p (called_in wait_for_any code regs next m) img new (Ok tt)
+  pub several_goes : (regs : Option Registers) (places : List Place) (new : Image) → IntrinsicLeads img (several_tests_in regs m img.stacks) (Ok places)
+      → ProgramActs {A = Unit {0}} p (coming regs places) img new (Ok tt) → ProgramActs {A = Unit {0}} p (called_in wait_for_any code regs next m) img new (Ok tt)
   several_goes None places new x q = record { outcome = q.outcome; stays = tt }
   several_goes (Some r) places new x q =
       leads_on p img (called_in wait_for_any code (Some r) next m) (several_tests r m (arguments img.stacks r)) (coming (Some r)) places new (Ok tt) refl x q
 
   module _ (r : Registers) (places : List Place) (new : Image) where
     -- a process goes on with a position
-    gone_by : (n : ℕ) (w : Word) (mid : Image) → w ≡ operand (pos n) → Acts {A = Unit {0}} p (finished_in (Some r) m (w ∷ []) next) mid new (Ok tt)
+    gone_by : (n : ℕ) (w : Word) (mid : Image) → w ≡ operand (pos n) → ProgramActs {A = Unit {0}} p (finished_in (Some r) m (w ∷ []) next) mid new (Ok tt)
         → limited (stack_length p) (does p (answer (gone_on r next m n)) mid) ≡ gives new
     gone_by n w mid e q = ap (λ (v : Word). limited (stack_length p) (does p (answer (finished_at r m (v ∷ []) next)) mid)) (sym e) ∙ q.outcome
 
     pub goes_woken : (n : ℕ) (w : Word) (mid : Image) → (n ≡ 0 → ⊥) → n ≡ woken_number img.numbers r.stack → w ≡ operand (pos n)
-        → mid ≡ written p writes.go_on img → Acts {A = Unit {0}} p (finished_in (Some r) m (w ∷ []) next) mid new (Ok tt)
-        → Acts {A = Unit {0}} p (coming (Some r) places) img new (Ok tt)
+        → mid ≡ write_made p writes.go_on img → ProgramActs {A = Unit {0}} p (finished_in (Some r) m (w ∷ []) next) mid new (Ok tt)
+        → ProgramActs {A = Unit {0}} p (coming (Some r) places) img new (Ok tt)
     goes_woken zero w mid some e k i q = absurd (some refl)
     goes_woken (suc n) w mid some e k i q = record {
       outcome = ap (λ (z : ℕ). limited (stack_length p) (does p (woken_or_not r next m places z) img)) (sym e)
@@ -218,24 +218,24 @@ module _ (code : Code) (next : ℕ) (m : Mscw) (p : ℕ) (img : Image) where
     }
 
     module _ (none : 0 ≡ woken_number img.numbers r.stack) where
-      looks : (o : Option ℕ) → first_happened places img.events ≡ o → limited (stack_length p) (does p (coming (Some r) places) img)
+      looks : (o : Option ℕ) → first_event_happened places img.events ≡ o → limited (stack_length p) (does p (coming (Some r) places) img)
           ≡ limited (stack_length p) (does p (gone_or_waiting r next m places o) img)
       looks o e =
           ap (λ (z : ℕ). limited (stack_length p) (does p (woken_or_not r next m places z) img)) (sym none)
           ∙ ap (λ (z : Option ℕ). limited (stack_length p) (does p (gone_or_waiting r next m places z) img)) e
 
-      pub goes_first : (n : ℕ) (w : Word) → first_happened places img.events ≡ Some n → w ≡ operand (pos n)
-          → Acts {A = Unit {0}} p (finished_in (Some r) m (w ∷ []) next) img new (Ok tt) → Acts {A = Unit {0}} p (coming (Some r) places) img new (Ok tt)
+      pub goes_first : (n : ℕ) (w : Word) → first_event_happened places img.events ≡ Some n → w ≡ operand (pos n)
+          → ProgramActs {A = Unit {0}} p (finished_in (Some r) m (w ∷ []) next) img new (Ok tt) → ProgramActs {A = Unit {0}} p (coming (Some r) places) img new (Ok tt)
       goes_first n w e k q = record { outcome = looks (Some n) e ∙ gone_by n w img k q; stays = tt }
 
-      pub waits : numbered img.regs p ≡ Some r → r.s ≤ stack_limit → first_happened places img.events ≡ None → new ≡ written p (writes.wait_any places) img
-          → Acts {A = Unit {0}} p (coming (Some r) places) img new (Ok tt)
+      pub waits : numbered img.regs p ≡ Some r → r.s ≤ stack_limit → first_event_happened places img.events ≡ None → new ≡ write_made p (writes.wait_any places) img
+          → ProgramActs {A = Unit {0}} p (coming (Some r) places) img new (Ok tt)
       waits has room e i =
           let fits : nat_le (stack_length p img) stack_limit ≡ true =
           ap (λ (o : Option Registers). nat_le (length_in o) stack_limit) has ∙ le-leb r.s stack_limit room in
           record {
             outcome = looks None e
-                ∙ cond-true (nat_le (stack_length p img) stack_limit) (gives (written p (writes.wait_any places) img)) limit fits ∙ ap gives (sym i);
+                ∙ cond-true (nat_le (stack_length p img) stack_limit) (gives (write_made p (writes.wait_any places) img)) limit fits ∙ ap gives (sym i);
             stays = tt;
           }
 

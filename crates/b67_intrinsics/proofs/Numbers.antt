@@ -4,12 +4,12 @@ use Rattle.std.proofs.Common.{◌≡◌, refl, sym, ap, subst, ◌∙◌, ℕ, z
 use Rattle.std.specs.Prelude.{IfErr}
 use Rattle.b67_word.specs.Word.{Word, as_whole}
 use Rattle.b67_table.specs.declared.InterruptKind.TheVariants.{InvalidOperand}
-use Rattle.b67_table.specs.Arguments.{joined, wholes_in}
+use Rattle.b67_table.specs.Arguments.{arguments_joined, wholes_in}
 use Rattle.b67_reach.specs.declared.Stop.{Stop}
 use Rattle.b67_reach.specs.declared.Stop.TheVariants.{Interrupt}
 use Rattle.b67_intrinsics.specs.declared.hindrance.Hindrance.{Hindrance}
 use Rattle.b67_intrinsics.specs.declared.hindrance.Hindrance.TheVariants.{Stopped}
-use Rattle.b67_intrinsics.specs.Called.{whole_in, whole_of, WholesFail}
+use Rattle.b67_intrinsics.specs.Called.{whole_in, whole_answer, WholesFail}
 use Rattle.b67_intrinsics.proofs.Calling.{drop_at}
 
 abbrev pub with_rest : List ℤ → Option (List ℤ) → Option (List ℤ)
@@ -27,11 +27,11 @@ read_first words = no_more (wholes_in words)
     no_more None = refl
     no_more (Some zs) = refl
 
-one_read : (zs : List ℤ) (z : ℤ) (o : Option (List ℤ)) → with_rest zs (joined (Some z) o) ≡ with_rest (zs ++ z ∷ []) o
+one_read : (zs : List ℤ) (z : ℤ) (o : Option (List ℤ)) → with_rest zs (arguments_joined (Some z) o) ≡ with_rest (zs ++ z ∷ []) o
 one_read zs z None = refl
 one_read zs z (Some rest) = ap Some (sym (append_assoc zs (z ∷ []) rest))
 
-whole_is : (o : Option ℤ) (z : ℤ) → Ok z ≡ whole_of o → o ≡ Some z
+whole_is : (o : Option ℤ) (z : ℤ) → Ok z ≡ whole_answer o → o ≡ Some z
 whole_is None z e = cc
 whole_is (Some x) z e = cc
 
@@ -43,7 +43,7 @@ read_next words zs z n e read = by (slice_get words n) refl e
     by (Some w) here e =
         let next : suc n ≡ n + 1 = omega arith in
         read ∙ ap (λ (ws : List Word). with_rest zs (wholes_in ws)) (drop_at words n w here)
-        ∙ ap (λ (o : Option ℤ). with_rest zs (joined o (wholes_in (drop (suc n) words)))) (whole_is (as_whole w) z e)
+        ∙ ap (λ (o : Option ℤ). with_rest zs (arguments_joined o (wholes_in (drop (suc n) words)))) (whole_is (as_whole w) z e)
         ∙ one_read zs z (wholes_in (drop (suc n) words)) ∙ ap (λ (k : ℕ). with_rest (zs ++ z ∷ []) (wholes_in (drop k words))) next
 
 no_words_left : (words : List Word) (n : ℕ) → length words ≤ n → drop n words ≡ []

@@ -17,8 +17,8 @@ use Rattle.b67_table.specs.Moves.{pushed}
 use Rattle.b67_table.specs.Outcome.{gives, limit, limited}
 use Rattle.b67_table.specs.Program.{Change, answer, changed, registers, done}
 use Rattle.b67_table.specs.Table.{length_in, stack_length}
-use Rattle.b67_reach.specs.Images.{own}
-use Rattle.b67_reach.specs.Answers.{Performs}
+use Rattle.b67_reach.specs.Images.{own_of_image}
+use Rattle.b67_reach.specs.Answers.{ProgramPerforms}
 use Rattle.b67_intrinsics.specs.Arrays.{pushed_on}
 
 -- ---- one word
@@ -80,7 +80,7 @@ ends r m count pointer = record r { s = r.f + count; f = r.f - m.df; place = poi
 
 pub finished_all : (r : Registers) (m : Mscw) (ws : List Word) (pointer : ℕ) (st new : Stacks) (rows : Rows) → r.f + length ws ≤ stack_limit
     → new ≡ pushed_on (with_cut st r.stack r.f) r.stack ws
-    → Performs {A = Unit {0}} (answer (finished_at r m ws pointer)) (own st rows r) (own new rows (ends r m (length ws) pointer)) (Ok tt)
+    → ProgramPerforms {A = Unit {0}} (answer (finished_at r m ws pointer)) (own_of_image st rows r) (own_of_image new rows (ends r m (length ws) pointer)) (Ok tt)
 finished_all r m ws pointer st new rows room e = record {
   outcome = λ p img s t u.
       let last = ends r m (length ws) pointer in

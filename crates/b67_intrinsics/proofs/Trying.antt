@@ -12,26 +12,26 @@ use Rattle.b67_table.specs.Chains.{place}
 use Rattle.b67_table.specs.Effect.{Effect}
 use Rattle.b67_table.specs.Image.{Image}
 use Rattle.b67_table.specs.Intrinsics.{make_event}
-use Rattle.b67_table.specs.Look.{Look, seen}
+use Rattle.b67_table.specs.Look.{Look, look_seen}
 use Rattle.b67_table.specs.Outcome.{gives, limited}
 use Rattle.b67_table.specs.Program.{Test, Program, Change, asked, answer, effect_of, open_event, see, ◌>>=◌}
 use Rattle.b67_table.specs.Table.{stack_length}
 use Rattle.b67_table.specs.Writes as writes
-use Rattle.b67_table.specs.Writes.{written}
+use Rattle.b67_table.specs.Writes.{write_made}
 use Rattle.b67_reach.specs.declared.Stop.{Stop}
 use Rattle.b67_reach.specs.declared.Stop.TheVariants.{Interrupt}
 use Rattle.b67_table.specs.declared.InterruptKind.TheVariants.{InvalidOperand}
-use Rattle.b67_reach.specs.Answers.{Acts, answered, looked, stopped, whole}
+use Rattle.b67_reach.specs.Answers.{ProgramActs, outcome_answered, looked, stopped, whole_outcome}
 use Rattle.b67_reach.proofs.Looking.{asked_on, tells_look, acts_then, acts_stop}
 use Rattle.b67_intrinsics.specs.declared.hindrance.Hindrance.{Hindrance}
 use Rattle.b67_intrinsics.specs.declared.hindrance.Hindrance.TheVariants.{Stopped, NoMemory}
-use Rattle.b67_intrinsics.specs.Called.{arguments, called_in, finished_in, mark_tests, mark_tests_in, Leads, MayLead, IsLeft, Tries}
+use Rattle.b67_intrinsics.specs.Called.{arguments, called_in, finished_in, mark_tests, mark_tests_in, IntrinsicLeads, MayLead, ImageIsLeft, Tries}
 
 -- ---- tests, and what comes after them
 
 -- a program that begins with some tests goes on where they lead
 pub leads_on : {A : Type 0} (p : ℕ) (img : Image) (program : Program) (tests : (A → Program) → Program) (after : A → Program) (a : A) (new : Image) (res : Result (Unit {0}) Stop)
-    → asked img program ≡ asked img (tests after) → Leads img tests (Ok a) → Acts p (after a) img new res → Acts p program img new res
+    → asked img program ≡ asked img (tests after) → IntrinsicLeads img tests (Ok a) → ProgramActs p (after a) img new res → ProgramActs p program img new res
 leads_on p img program tests after a new res is x q = record {
   outcome = ap (λ (e : Effect Change). limited (stack_length p) (effect_of p img e)) (is ∙ x after) ∙ q.outcome;
   stays = q.stays;
@@ -39,7 +39,7 @@ leads_on p img program tests after a new res is x q = record {
 
 -- or it stops with them
 pub leads_off : {A : Type 0} (p : ℕ) (img : Image) (program : Program) (tests : (A → Program) → Program) (after : A → Program) (stop : Stop)
-    → asked img program ≡ asked img (tests after) → Leads img tests (Err stop) → Acts {A = Unit {0}} p program img img (Err stop)
+    → asked img program ≡ asked img (tests after) → IntrinsicLeads img tests (Err stop) → ProgramActs {A = Unit {0}} p program img img (Err stop)
 leads_off p img program tests after stop is x =
     let q = x p after in
     record {
@@ -49,12 +49,12 @@ leads_off p img program tests after stop is x =
 
 -- the exit of a question mark
 pub tries_off : (p : ℕ) (img : Image) (program : Program) (res : Result (Unit {0}) Hindrance) (stop : Stop) → IsErrAnd res (λ h. h ≡ Stopped stop)
-    → Acts {A = Unit {0}} p program img img (Err stop) → Tries p program img img res
+    → ProgramActs {A = Unit {0}} p program img img (Err stop) → Tries p program img img res
 tries_off p img program (Ok a) stop e x = absurd e
 tries_off p img program (Err h) stop e x = subst (λ (i : Hindrance). Tries p program img img (Err i)) (sym e) x
 
-pub left_alone : (old new : Image) → new ≡ old → IsLeft old new
-left_alone old new e = subst (λ (img : Image). IsLeft old img) (sym e) (record { rows = λ n. refl; others = refl })
+pub left_alone : (old new : Image) → new ≡ old → ImageIsLeft old new
+left_alone old new e = subst (λ (img : Image). ImageIsLeft old img) (sym e) (record { rows = λ n. refl; others = refl })
 
 pub tries_exit : {A : Type 0} (p : ℕ) (img : Image) (program : Program) (tests : (A → Program) → Program) (after : A → Program) (res : Result (Unit {0}) Hindrance) (h : Hindrance)
     → asked img program ≡ asked img (tests after) → MayLead {A = A} img tests (Err h) → IsErrAnd res (λ e. e ≡ h) → Tries p program img img res
@@ -65,22 +65,22 @@ tries_exit p img program tests after (Err h) NoMemory is x i =
 
 -- ---- a test before other tests
 
-pub leads_then : {A B : Type 0} (img : Image) (t : Test A) (rest : A → (B → Program) → Program) (a : A) (res : Result B Stop) → whole (asked img t) ≡ gives a
-    → Leads img (rest a) res → Leads img (λ (next : B → Program). t >>= (λ (x : A). rest x next)) res
+pub leads_then : {A B : Type 0} (img : Image) (t : Test A) (rest : A → (B → Program) → Program) (a : A) (res : Result B Stop) → whole_outcome (asked img t) ≡ gives a
+    → IntrinsicLeads img (rest a) res → IntrinsicLeads img (λ (next : B → Program). t >>= (λ (x : A). rest x next)) res
 leads_then img t rest a (Ok b) e x = λ next. asked_on img t (λ y. rest y next) a e ∙ x next
 leads_then img t rest a (Err stop) e x = λ p next. acts_then p t (λ y. rest y next) a img img (Err stop) e (x p next)
 
-pub leads_not : {A B : Type 0} (img : Image) (t : Test A) (rest : A → (B → Program) → Program) (stop : Stop) → whole (asked img t) ≡ stopped stop
-    → Leads {A = B} img (λ (next : B → Program). t >>= (λ (x : A). rest x next)) (Err stop)
+pub leads_not : {A B : Type 0} (img : Image) (t : Test A) (rest : A → (B → Program) → Program) (stop : Stop) → whole_outcome (asked img t) ≡ stopped stop
+    → IntrinsicLeads {A = B} img (λ (next : B → Program). t >>= (λ (x : A). rest x next)) (Err stop)
 leads_not img t rest stop e = λ p next. acts_stop p t (λ y. rest y next) stop img img e refl
 
-pub told_look : {A : Type 0} (img : Image) (l : Look A) (r : Result A Stop) → r ≡ looked (seen img.stacks l) → whole (asked img (see l)) ≡ answered r
+pub told_look : {A : Type 0} (img : Image) (l : Look A) (r : Result A Stop) → r ≡ looked (look_seen img.stacks l) → whole_outcome (asked img (see l)) ≡ outcome_answered r
 told_look img l r e = (tells_look l img.stacks img.rows r e).told img refl refl
 
 -- ---- EVENT
 
 -- there are arguments
-pub too_many : (img : Image) (r : Registers) (m : Mscw) (words : List Word) → length words ≢ 0 → Leads {A = Place} img (mark_tests r m words) (Err (Interrupt InvalidOperand))
+pub too_many : (img : Image) (r : Registers) (m : Mscw) (words : List Word) → length words ≢ 0 → IntrinsicLeads {A = Place} img (mark_tests r m words) (Err (Interrupt InvalidOperand))
 too_many img r m [] h = absurd (h refl)
 too_many img r m (w ∷ words) h = λ p next. record { outcome = refl; stays = refl }
 
@@ -89,8 +89,8 @@ nothing [] h = refl
 nothing (w ∷ words) h = cc
 
 module _ (img : Image) (r : Registers) (m : Mscw) (words : List Word) (none : length words ≡ 0) where
-  in_none : (res : Result Place Stop) → Leads img (mark_tests r m []) res → Leads img (mark_tests r m words) res
-  in_none res x = subst (λ (ws : List Word). Leads img (mark_tests r m ws) res) (sym (nothing words none)) x
+  in_none : (res : Result Place Stop) → IntrinsicLeads img (mark_tests r m []) res → IntrinsicLeads img (mark_tests r m words) res
+  in_none res x = subst (λ (ws : List Word). IntrinsicLeads img (mark_tests r m ws) res) (sym (nothing words none)) x
 
   abbrev there : Mscw → (Place → Program) → Program
   there lower next = next (place r.stack r.f)
@@ -112,7 +112,7 @@ make_event_is img code next m (Some r) = event_made img code next m r (arguments
 
 -- an event is opened, and then the end
 pub opened_then : (p : ℕ) (img new : Image) (m : Mscw) (next : ℕ) (at : Place) (regs : Option Registers)
-    → Acts {A = Unit {0}} p (finished_in regs m (event_word (record {}) ∷ []) next) (written p (writes.open_event at) img) new (Ok tt)
-    → Acts {A = Unit {0}} p (opening regs m next at) img new (Ok tt)
+    → ProgramActs {A = Unit {0}} p (finished_in regs m (event_word (record {}) ∷ []) next) (write_made p (writes.open_event at) img) new (Ok tt)
+    → ProgramActs {A = Unit {0}} p (opening regs m next at) img new (Ok tt)
 opened_then p img new m next at None q = record { outcome = q.outcome; stays = tt }
 opened_then p img new m next at (Some r) q = record { outcome = q.outcome; stays = tt }

@@ -8,7 +8,7 @@ use Rattle.b67_num.specs.declared.FaultKind.TheVariants.{ArraySize, CoreFull, In
 use Rattle.b67_table.specs.declared.InterruptKind.TheVariants.{InvalidOperand}
 use Rattle.b67_table.specs.Arguments.{no_such, wholes}
 use Rattle.b67_table.specs.Arrays.{Extents, if_held}
-use Rattle.b67_table.specs.Intrinsics.{Wanted, wanted, extents}
+use Rattle.b67_table.specs.Intrinsics.{Wanted, intrinsic_wanted, extents}
 use Rattle.b67_table.specs.Look.{◌>->◌}
 use Rattle.b67_table.specs.Program.{Program, see, ◌>>=◌}
 use Rattle.b67_descriptor.specs.declared.DescriptorFault.{DescriptorFault}
@@ -59,7 +59,7 @@ as_order (Err hindrance) = Err hindrance
 -- the tests of ARRAYS, which go on with how many arrays, and of which extents
 abbrev pub array_tests : Registers → Mscw → List Word → (ℕ × Extents → Program) → Program
 array_tests r m words next =
-    see (wholes words >-> wanted) >>= (λ (w : Wanted). see (mark_below r m) >>= (λ (lower : Mscw).
+    see (wholes words >-> intrinsic_wanted) >>= (λ (w : Wanted). see (mark_below r m) >>= (λ (lower : Mscw).
     extents w.bounds >>= (λ (e : Extents). if_held w.count e >>= (λ (held : Extents). next (w.count, held)))))
 
 -- the same tests in a process
@@ -70,9 +70,9 @@ array_tests_in (Some r) m stacks next = array_tests r m (arguments stacks r) nex
 -- ---- its end
 
 -- the stack of a process has room for so many words from its mark on
-abbrev pub HasRoom : ℕ → Option Registers → Type 0
-HasRoom n None = ⊥
-HasRoom n (Some r) = r.f + n ≤ stack_limit
+abbrev pub StackHasRoom : ℕ → Option Registers → Type 0
+StackHasRoom n None = ⊥
+StackHasRoom n (Some r) = r.f + n ≤ stack_limit
 
 -- the stacks with these words pushed on one, the first one first
 abbrev pub pushed_on : Stacks → ℕ → List Word → Stacks

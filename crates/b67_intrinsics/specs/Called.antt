@@ -12,7 +12,7 @@ use Rattle.b67_store.specs.Store.{Stacks, Rows, words_of, row_at}
 use Rattle.b67_table.specs.declared.InterruptKind.{InterruptKind}
 use Rattle.b67_table.specs.declared.InterruptKind.TheVariants.{InvalidOperand}
 use Rattle.b67_table.specs.Arguments.{IntrinsicRow, Three, no_such, event_of, events_of, wholes_in, if_chained, finished_at}
-use Rattle.b67_table.specs.Chains.{place, broken, mark_at}
+use Rattle.b67_table.specs.Chains.{place, chain_broken, mark_at}
 use Rattle.b67_table.specs.Image.{Image}
 use Rattle.b67_table.specs.Look.{Look}
 use Rattle.b67_table.specs.References.{cell_place}
@@ -23,7 +23,7 @@ use Rattle.b67_table.specs.Outcome.{gives}
 use Rattle.b67_table.specs.Program.{Program, loads, asked, answer, ◌>>=◌}
 use Rattle.b67_reach.specs.declared.Stop.{Stop}
 use Rattle.b67_reach.specs.declared.Stop.TheVariants.{Interrupt}
-use Rattle.b67_reach.specs.Answers.{IsReady, Acts, whole, stopped}
+use Rattle.b67_reach.specs.Answers.{IsReady, ProgramActs, whole_outcome, stopped}
 use Rattle.b67_intrinsics.specs.declared.hindrance.Hindrance.{Hindrance}
 use Rattle.b67_intrinsics.specs.declared.hindrance.Hindrance.TheVariants.{Stopped, NoMemory}
 
@@ -39,13 +39,13 @@ only (w ∷ []) = Ok w
 only ws = Err (Interrupt InvalidOperand)
 
 -- the whole number that a word is read as
-abbrev pub whole_of : Option ℤ → Result ℤ Stop
-whole_of None = Err (Interrupt InvalidOperand)
-whole_of (Some z) = Ok z
+abbrev pub whole_answer : Option ℤ → Result ℤ Stop
+whole_answer None = Err (Interrupt InvalidOperand)
+whole_answer (Some z) = Ok z
 
 abbrev pub whole_in : Option Word → Result ℤ Stop
 whole_in None = Err (Interrupt InvalidOperand)
-whole_in (Some w) = whole_of (as_whole w)
+whole_in (Some w) = whole_answer (as_whole w)
 
 -- three whole numbers as a triple
 abbrev pub as_triple : Result Three InterruptKind → Result (ℤ × ℤ × ℤ) InterruptKind
@@ -59,17 +59,17 @@ WholesFail words NoMemory = Unit {0}
 
 -- the mark below the one at F
 abbrev pub mark_below : Registers → Mscw → Look Mscw
-mark_below r m = if nat_le m.df r.f then mark_at (place r.stack (r.f - m.df)) else broken
+mark_below r m = if nat_le m.df r.f then mark_at (place r.stack (r.f - m.df)) else chain_broken
 
 -- ---- the program
 
 -- the intrinsic's program in a process with these registers, after whose operator the pointer is at `next`, and whose mark at F is `m`
-abbrev pub called : IntrinsicRow → Code → Registers → ℕ → Mscw → Program
-called row code r next m = loads (place r.stack (r.f + 2)) (r.s - (r.f + 2)) (λ (words : List Word). row code r next m words)
+abbrev pub intrinsic_called : IntrinsicRow → Code → Registers → ℕ → Mscw → Program
+intrinsic_called row code r next m = loads (place r.stack (r.f + 2)) (r.s - (r.f + 2)) (λ (words : List Word). row code r next m words)
 
 abbrev pub called_in : IntrinsicRow → Code → Option Registers → ℕ → Mscw → Program
 called_in row code None next m = no_such
-called_in row code (Some r) next m = called row code r next m
+called_in row code (Some r) next m = intrinsic_called row code r next m
 
 -- a process has its mark at F and a procedure's word above it
 abbrev pub IsCalled : Stacks → Option Registers → Type 0
@@ -79,9 +79,9 @@ IsCalled stacks (Some r) = IsReady stacks r × (r.f + 2 ≤ r.s)
 -- ---- tests that lead to a program
 
 -- the tests find a value and go on with it, or they are stopped
-abbrev pub Leads : {A : Type 0} → Image → ((A → Program) → Program) → Result A Stop → Type 0
-Leads {A = A} img tests (Ok a) = (next : A → Program) → asked img (tests next) ≡ asked img (next a)
-Leads {A = A} img tests (Err stop) = (p : ℕ) (next : A → Program) → Acts {A = Unit {0}} p (tests next) img img (Err stop)
+abbrev pub IntrinsicLeads : {A : Type 0} → Image → ((A → Program) → Program) → Result A Stop → Type 0
+IntrinsicLeads {A = A} img tests (Ok a) = (next : A → Program) → asked img (tests next) ≡ asked img (next a)
+IntrinsicLeads {A = A} img tests (Err stop) = (p : ℕ) (next : A → Program) → ProgramActs {A = Unit {0}} p (tests next) img img (Err stop)
 
 -- the tests of an intrinsic whose argument is an event
 abbrev pub event_tests : Registers → Mscw → List Word → (Place → Program) → Program
@@ -92,8 +92,8 @@ event_tests r m (w ∷ v ∷ words) next = no_such
 -- a reference reaches an open event at this place, in a process with these registers, or it is stopped so
 abbrev pub TellsPlace : Image → Registers → Option Word → Result Place Stop → Type 0
 TellsPlace img r None res = ⊥
-TellsPlace img r (Some w) (Ok at) = (c : Cell) × (whole (asked img (event_of r w)) ≡ gives c) × (at ≡ cell_place c)
-TellsPlace img r (Some w) (Err stop) = whole (asked img (event_of r w)) ≡ stopped stop
+TellsPlace img r (Some w) (Ok at) = (c : Cell) × (whole_outcome (asked img (event_of r w)) ≡ gives c) × (at ≡ cell_place c)
+TellsPlace img r (Some w) (Err stop) = whole_outcome (asked img (event_of r w)) ≡ stopped stop
 
 -- the tests of a wait for several events, which go on with the places of all
 abbrev pub several_tests : Registers → Mscw → List Word → (List Place → Program) → Program
@@ -133,16 +133,16 @@ state_after Went state p states = states
 state_after Waits state p states = set_numbered states p state
 
 -- the process that was found, if one was
-abbrev pub listed : Option ℕ → List ℕ
-listed None = []
-listed (Some p) = p ∷ []
+abbrev pub process_listed : Option ℕ → List ℕ
+process_listed None = []
+process_listed (Some p) = p ∷ []
 
 -- ---- intrinsics that make something
 
 -- the tests find a value and go on with it, or they are stopped, or there is no memory
 abbrev pub MayLead : {A : Type 0} → Image → ((A → Program) → Program) → Result A Hindrance → Type 0
-MayLead img tests (Ok a) = Leads img tests (Ok a)
-MayLead {A = A} img tests (Err (Stopped stop)) = Leads {A = A} img tests (Err stop)
+MayLead img tests (Ok a) = IntrinsicLeads img tests (Ok a)
+MayLead {A = A} img tests (Err (Stopped stop)) = IntrinsicLeads {A = A} img tests (Err stop)
 MayLead img tests (Err NoMemory) = Unit {0}
 
 -- the tests of an intrinsic without arguments, which go on with the place of the mark at F
@@ -156,12 +156,12 @@ mark_tests_in None m stacks next = no_such
 mark_tests_in (Some r) m stacks next = mark_tests r m (arguments stacks r) next
 
 -- all is as it was, and at every number the same row is open, or none
-pub record IsLeft (old new : Image) : Type 0 where
+pub record ImageIsLeft (old new : Image) : Type 0 where
   pub rows : (n : ℕ) → row_at new.rows n ≡ row_at old.rows n
   pub others : new ≡ record old { rows = new.rows }
 
 -- the program makes the new image, or the table stops it, and all is as it was; so it is where there is no memory
 abbrev pub Tries : ℕ → Program → Image → Image → Result (Unit {0}) Hindrance → Type 0
-Tries p program old new (Ok u) = Acts {A = Unit {0}} p program old new (Ok u)
-Tries p program old new (Err (Stopped stop)) = Acts {A = Unit {0}} p program old new (Err stop)
-Tries p program old new (Err NoMemory) = IsLeft old new
+Tries p program old new (Ok u) = ProgramActs {A = Unit {0}} p program old new (Ok u)
+Tries p program old new (Err (Stopped stop)) = ProgramActs {A = Unit {0}} p program old new (Err stop)
+Tries p program old new (Err NoMemory) = ImageIsLeft old new

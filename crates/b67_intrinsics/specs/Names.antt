@@ -9,11 +9,11 @@ use Rattle.b67_events.specs.Events.{deed_at}
 use Rattle.b67_ops.specs.declared.intrinsic.Intrinsic.{Intrinsic}
 use Rattle.b67_ops.specs.declared.intrinsic.Intrinsic.TheVariants as names
 use Rattle.b67_table.specs.Image.{Image}
-use Rattle.b67_intrinsics.specs.Called.{Leads, event_tests_in}
+use Rattle.b67_intrinsics.specs.Called.{IntrinsicLeads, event_tests_in}
 
 -- the processes that are released by what is done with the event that is the argument, whoever does it
 abbrev pub Frees : EventDeed → Image → Option Registers → Mscw → List ℕ → Type 0
-Frees x img regs m after = (at : Place) × Leads img (event_tests_in regs m img.stacks) (Ok at) × (after ≡ (deed_at x 0 at img.events).frees)
+Frees x img regs m after = (at : Place) × IntrinsicLeads img (event_tests_in regs m img.stacks) (Ok at) × (after ≡ (deed_at x 0 at img.events).frees)
 
 -- the processes that an intrinsic released, in their order, are those after; where it releases none, they are those before
 abbrev pub Releases : Intrinsic → Image → Option Registers → Mscw → List ℕ → List ℕ → Type 0

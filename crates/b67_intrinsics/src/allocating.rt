@@ -7,14 +7,14 @@ ghost use Rattle.b67_events.specs.Events.{Events};
 ghost use Rattle.b67_store.specs.Store.{Stacks, stack_limit};
 ghost use Rattle.b67_table.specs.Arrays.{if_held};
 ghost use Rattle.b67_table.specs.Image.{Image};
-ghost use Rattle.b67_table.specs.Intrinsics.{arrays, count_in, extents, wanted};
-ghost use Rattle.b67_table.specs.Look.{seen};
+ghost use Rattle.b67_table.specs.Intrinsics.{arrays, count_in, extents, intrinsic_wanted};
+ghost use Rattle.b67_table.specs.Look.{look_seen};
 ghost use Rattle.b67_table.specs.Program.{asked};
 ghost use Rattle.b67_descriptor.specs.Sizes.{IsSize, Sizes, extents_of};
 ghost use Rattle.b67_reach.specs.Images.{image_of};
-ghost use Rattle.b67_reach.specs.Answers.{answered, looked, whole, Acts, IsReady, Tells};
+ghost use Rattle.b67_reach.specs.Answers.{outcome_answered, looked, whole_outcome, ProgramActs, IsReady, TestTells};
 ghost use Rattle.b67_intrinsics.specs.Called.{arguments, called_in, ended, finished_in, IsCalled, IsChained, MayLead, Tries};
-ghost use Rattle.b67_intrinsics.specs.Arrays.{as_extents, as_held, as_order, is_order, order_in, stop_for, array_tests, array_tests_in, HasRoom};
+ghost use Rattle.b67_intrinsics.specs.Arrays.{as_extents, as_held, as_order, is_order, order_in, stop_for, array_tests, array_tests_in, StackHasRoom};
 
 use crate::happening::registers;
 use crate::hindrance::Hindrance;
@@ -68,7 +68,7 @@ fn bounds_at(numbers: &[i64], at: usize) -> (i64, i64)
 
 // How many arrays are wanted, where the numbers are a count and bounds.
 fn order(numbers: &[i64]) -> Option<u32>
-    ensures order { (stacks : Stacks) → looked (seen stacks (wanted numbers.now)) ≡ order_in numbers.now result }
+    ensures order { (stacks : Stacks) → looked (look_seen stacks (intrinsic_wanted numbers.now)) ≡ order_in numbers.now result }
     ensures some { IfSome result (λ count. is_order numbers.now ≡ true) }
 {
     if !is_order(numbers) {
@@ -109,7 +109,7 @@ fn stop_for(fault: DescriptorFault) -> Stop
 // than a store may hold.
 fn sized(numbers: &[i64]) -> Result<Size, Stop>
     requires { is_order numbers.now ≡ true }
-    ensures sizes { (img : Image) → whole (asked img (extents (drop 1 numbers.now))) ≡ answered (as_extents result) }
+    ensures sizes { (img : Image) → whole_outcome (asked img (extents (drop 1 numbers.now))) ≡ outcome_answered (as_extents result) }
     ensures good { IfOk result IsSize }
 {
     match size_in(numbers) {
@@ -122,7 +122,7 @@ fn sized(numbers: &[i64]) -> Result<Size, Stop>
 // more than a store may hold.
 fn held<C: Core>(core: &C, count: u32, size: Size) -> Result<(), Stop>
     requires { IsSize size }
-    ensures { Tells (if_held count (extents_of size)) (C.Core.stacks core.now) (C.Core.rows core.now) (as_held size result) }
+    ensures { TestTells (if_held count (extents_of size)) (C.Core.stacks core.now) (C.Core.rows core.now) (as_held size result) }
 {
     let wanted = u64::from(count) * u64::from(elements(size));
     if wanted <= u64::from(MOST_COUNTED_WORDS) - u64::from(core.counted()) {
@@ -191,9 +191,9 @@ fn end_with_all<C: Core>(
 )
     requires called { IsCalled (C.Core.stacks core.old) (numbered all.old.items process) }
     requires within { IsChained mark.now (numbered all.old.items process) }
-    requires room { HasRoom (length arrays.now) (numbered all.old.items process) }
+    requires room { StackHasRoom (length arrays.now) (numbered all.old.items process) }
     requires fits { All Fits_descriptor arrays.now }
-    ensures acts { (img : Image) → img.stacks ≡ C.Core.stacks core.old → img.rows ≡ C.Core.rows core.old → img.regs ≡ all.old.items → Acts process (finished_in (numbered all.old.items process) mark.now (map descriptor_word arrays.now) place) img (ended (C.Core.stacks core.new) (C.Core.rows core.new) all.new.items img) (Ok result) }
+    ensures acts { (img : Image) → img.stacks ≡ C.Core.stacks core.old → img.rows ≡ C.Core.rows core.old → img.regs ≡ all.old.items → ProgramActs process (finished_in (numbered all.old.items process) mark.now (map descriptor_word arrays.now) place) img (ended (C.Core.stacks core.new) (C.Core.rows core.new) all.new.items img) (Ok result) }
     ensures room { vec_capacity all.old ≤ vec_capacity all.new }
 {
     let regs = &mut all[process as usize - 1];

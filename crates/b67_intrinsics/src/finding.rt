@@ -8,8 +8,8 @@ ghost use Rattle.b67_table.specs.Image.{Image};
 ghost use Rattle.b67_table.specs.Limits.{most_events};
 ghost use Rattle.b67_table.specs.Program.{asked};
 ghost use Rattle.b67_table.specs.References.{cell_place};
-ghost use Rattle.b67_reach.specs.Answers.{whole, answered, IsReady};
-ghost use Rattle.b67_intrinsics.specs.Called.{arguments, Leads, TellsPlace, event_tests, several_tests, these, mark_tests};
+ghost use Rattle.b67_reach.specs.Answers.{whole_outcome, outcome_answered, IsReady};
+ghost use Rattle.b67_intrinsics.specs.Called.{arguments, IntrinsicLeads, TellsPlace, event_tests, several_tests, these, mark_tests};
 
 use crate::marks::{arguments, chained, only_argument};
 use b67_control::{EventWord, Mscw};
@@ -41,7 +41,7 @@ pub fn event_of<C: Core>(
     regs: &Registers,
     word: Word,
 ) -> Result<Cell, Stop>
-    ensures told { (img : Image) → img.stacks ≡ C.Core.stacks core.now → img.events ≡ kernel.now.events → whole (asked img (event_of regs.now word)) ≡ answered result }
+    ensures told { (img : Image) → img.stacks ≡ C.Core.stacks core.now → img.events ≡ kernel.now.events → whole_outcome (asked img (event_of regs.now word)) ≡ outcome_answered result }
     ensures there { IfOk result (λ cell. IsTrue (is_open (cell_place cell) kernel.now.events)) }
     ensures fits { IfOk result (λ cell. cell.frame.at + cell.index < 65536) }
 {
@@ -67,7 +67,7 @@ pub fn find_event<C: Core>(
 ) -> Result<Place, Stop>
     requires ready { IsReady (C.Core.stacks core.now) regs.now }
     requires above { regs.now.f + 2 ≤ regs.now.s }
-    ensures leads { (img : Image) → img.stacks ≡ C.Core.stacks core.now → img.events ≡ kernel.now.events → Leads img (event_tests regs.now mark.now (arguments img.stacks regs.now)) result }
+    ensures leads { (img : Image) → img.stacks ≡ C.Core.stacks core.now → img.events ≡ kernel.now.events → IntrinsicLeads img (event_tests regs.now mark.now (arguments img.stacks regs.now)) result }
     ensures there { IfOk result (λ place. IsTrue (is_open place kernel.now.events)) }
     ensures within { OnOk result (mark.now.df ≤ regs.now.f) }
 {
@@ -85,7 +85,7 @@ pub fn find_event<C: Core>(
 pub fn find_mark<C: Core>(core: &C, regs: &Registers, mark: &Mscw) -> Result<Place, Stop>
     requires ready { IsReady (C.Core.stacks core.now) regs.now }
     requires above { regs.now.f + 2 ≤ regs.now.s }
-    ensures leads { (img : Image) → img.stacks ≡ C.Core.stacks core.now → Leads img (mark_tests regs.now mark.now (arguments img.stacks regs.now)) result }
+    ensures leads { (img : Image) → img.stacks ≡ C.Core.stacks core.now → IntrinsicLeads img (mark_tests regs.now mark.now (arguments img.stacks regs.now)) result }
     ensures within { OnOk result (mark.now.df ≤ regs.now.f) }
 {
     if arguments(core, regs) != 0 {
@@ -146,7 +146,7 @@ pub fn find_events<C: Core>(
     requires ready { IsReady (C.Core.stacks core.now) regs.now }
     requires above { regs.now.f + 2 ≤ regs.now.s }
     requires room { length places.old ≡ most_events }
-    ensures leads { (img : Image) → img.stacks ≡ C.Core.stacks core.now → img.events ≡ kernel.now.events → Leads img (several_tests regs.now mark.now (arguments img.stacks regs.now)) (these result places.new) }
+    ensures leads { (img : Image) → img.stacks ≡ C.Core.stacks core.now → img.events ≡ kernel.now.events → IntrinsicLeads img (several_tests regs.now mark.now (arguments img.stacks regs.now)) (these result places.new) }
     ensures few { IfOk result (λ n. (1 ≤ n) × (n ≤ most_events)) }
     ensures there { IfOk result (λ n. All (λ place. IsTrue (is_open place kernel.now.events)) (take n places.new)) }
     ensures room { length places.new ≡ most_events }

@@ -12,8 +12,8 @@ ghost use Rattle.b67_table.specs.Intrinsics.{on_event, tell_event};
 ghost use Rattle.b67_table.specs.Writes.{able_again};
 ghost use Rattle.b67_reach.specs.Images.{image_of};
 ghost use Rattle.b67_reach.specs.Woken.{HasPlaces, KeepsPlaces};
-ghost use Rattle.b67_reach.specs.Answers.{Acts};
-ghost use Rattle.b67_intrinsics.specs.Called.{listed, state_after, IsCalled, IsChained, called_in, finished_in, ended, Leads, event_tests_in};
+ghost use Rattle.b67_reach.specs.Answers.{ProgramActs};
+ghost use Rattle.b67_intrinsics.specs.Called.{process_listed, state_after, IsCalled, IsChained, called_in, finished_in, ended, IntrinsicLeads, event_tests_in};
 
 use crate::finding::find_event;
 use crate::marks::{finish, finish_with};
@@ -27,7 +27,7 @@ use b67_word::{Place, Word, truth};
 pub fn end<C: Core>(core: &mut C, all: &mut Vec<Registers>, process: u32, mark: &Mscw, place: u16)
     requires called { IsCalled (C.Core.stacks core.old) (numbered all.old.items process) }
     requires within { IsChained mark.now (numbered all.old.items process) }
-    ensures acts { (img : Image) → img.stacks ≡ C.Core.stacks core.old → img.rows ≡ C.Core.rows core.old → img.regs ≡ all.old.items → Acts process (finished_in (numbered all.old.items process) mark.now [] place) img (ended (C.Core.stacks core.new) (C.Core.rows core.new) all.new.items img) (Ok result) }
+    ensures acts { (img : Image) → img.stacks ≡ C.Core.stacks core.old → img.rows ≡ C.Core.rows core.old → img.regs ≡ all.old.items → ProgramActs process (finished_in (numbered all.old.items process) mark.now [] place) img (ended (C.Core.stacks core.new) (C.Core.rows core.new) all.new.items img) (Ok result) }
     ensures room { vec_capacity all.old ≤ vec_capacity all.new }
 {
     let regs = &mut all[process as usize - 1];
@@ -51,7 +51,7 @@ fn find<C: Core>(
     mark: &Mscw,
 ) -> Result<Place, Stop>
     requires { IsCalled (C.Core.stacks core.now) (numbered all.now.items process) }
-    ensures leads { (img : Image) → img.stacks ≡ C.Core.stacks core.now → img.events ≡ kernel.now.events → Leads img (event_tests_in (numbered all.now.items process) mark.now img.stacks) result }
+    ensures leads { (img : Image) → img.stacks ≡ C.Core.stacks core.now → img.events ≡ kernel.now.events → IntrinsicLeads img (event_tests_in (numbered all.now.items process) mark.now img.stacks) result }
     ensures there { IfOk result (λ place. IsTrue (is_open place kernel.now.events)) }
     ensures within { OnOk result (IsChained mark.now (numbered all.now.items process)) }
 {
@@ -68,7 +68,7 @@ pub fn reset<C: Core>(
     next: u16,
 ) -> Result<(), Stop>
     requires { IsCalled (C.Core.stacks core.old) (numbered parts.old.regs.items process) }
-    ensures acts { Acts process (called_in (on_event (acts act.Reset)) parts.old.code (numbered parts.old.regs.items process) next mark.now) (image_of (C.Core.stacks core.old) (C.Core.rows core.old) kernel.old parts.old) (image_of (C.Core.stacks core.new) (C.Core.rows core.new) kernel.new parts.new) result }
+    ensures acts { ProgramActs process (called_in (on_event (acts act.Reset)) parts.old.code (numbered parts.old.regs.items process) next mark.now) (image_of (C.Core.stacks core.old) (C.Core.rows core.old) kernel.old parts.old) (image_of (C.Core.stacks core.new) (C.Core.rows core.new) kernel.new parts.new) result }
     ensures processes { kernel.new.room ≡ kernel.old.room }
     ensures code { parts.new.code ≡ parts.old.code }
     ensures woken { parts.new.woken ≡ parts.old.woken }
@@ -102,7 +102,7 @@ pub fn wait<C: Core>(
     requires process { (1 ≤ process) × (process ≤ kernel.old.room) }
     requires idle { IsFalse (is_waiting process kernel.old.events) }
     requires unlisted { IsFalse (is_listed process kernel.old.lists) }
-    ensures acts { Acts process (called_in (on_event (acts act.Wait)) parts.old.code (numbered parts.old.regs.items process) next mark.now) (image_of (C.Core.stacks core.old) (C.Core.rows core.old) kernel.old parts.old) (image_of (C.Core.stacks core.new) (C.Core.rows core.new) kernel.new parts.new) result }
+    ensures acts { ProgramActs process (called_in (on_event (acts act.Wait)) parts.old.code (numbered parts.old.regs.items process) next mark.now) (image_of (C.Core.stacks core.old) (C.Core.rows core.old) kernel.old parts.old) (image_of (C.Core.stacks core.new) (C.Core.rows core.new) kernel.new parts.new) result }
     ensures processes { kernel.new.room ≡ kernel.old.room }
     ensures code { parts.new.code ≡ parts.old.code }
     ensures woken { parts.new.woken ≡ parts.old.woken }
@@ -132,7 +132,7 @@ pub fn procure<C: Core>(
     requires process { (1 ≤ process) × (process ≤ kernel.old.room) }
     requires idle { IsFalse (is_waiting process kernel.old.events) }
     requires unlisted { IsFalse (is_listed process kernel.old.lists) }
-    ensures acts { Acts process (called_in (on_event (acts act.Procure)) parts.old.code (numbered parts.old.regs.items process) next mark.now) (image_of (C.Core.stacks core.old) (C.Core.rows core.old) kernel.old parts.old) (image_of (C.Core.stacks core.new) (C.Core.rows core.new) kernel.new parts.new) result }
+    ensures acts { ProgramActs process (called_in (on_event (acts act.Procure)) parts.old.code (numbered parts.old.regs.items process) next mark.now) (image_of (C.Core.stacks core.old) (C.Core.rows core.old) kernel.old parts.old) (image_of (C.Core.stacks core.new) (C.Core.rows core.new) kernel.new parts.new) result }
     ensures processes { kernel.new.room ≡ kernel.old.room }
     ensures code { parts.new.code ≡ parts.old.code }
     ensures woken { parts.new.woken ≡ parts.old.woken }
@@ -152,8 +152,8 @@ pub fn procure<C: Core>(
 // The process that was served is the one released, and is able.
 fn wake_one(states: &mut Vec<ProcessState>, woken: &mut Woken, served: Option<u32>)
     requires { HasPlaces 1 woken.old }
-    ensures states { states.new.items ≡ able_again (listed served) states.old.items }
-    ensures woken { woken.new.processes.items ≡ listed served }
+    ensures states { states.new.items ≡ able_again (process_listed served) states.old.items }
+    ensures woken { woken.new.processes.items ≡ process_listed served }
     ensures capacity { KeepsPlaces woken.old woken.new }
 {
     woken.processes.clear();
@@ -176,8 +176,8 @@ pub fn cause<C: Core>(
 ) -> Result<(), Stop>
     requires called { IsCalled (C.Core.stacks core.old) (numbered parts.old.regs.items process) }
     requires room { HasPlaces kernel.old.room parts.old.woken }
-    ensures acts { Acts process (called_in (on_event (acts act.Cause)) parts.old.code (numbered parts.old.regs.items process) next mark.now) (image_of (C.Core.stacks core.old) (C.Core.rows core.old) kernel.old parts.old) (image_of (C.Core.stacks core.new) (C.Core.rows core.new) kernel.new parts.new) result }
-    ensures woken { OnOk result ((at : Place) × Leads (image_of (C.Core.stacks core.old) (C.Core.rows core.old) kernel.old parts.old) (event_tests_in (numbered parts.old.regs.items process) mark.now (C.Core.stacks core.old)) (Ok at) × (parts.new.woken.processes.items ≡ (deed_at (acts act.Cause) process at kernel.old.events).frees)) }
+    ensures acts { ProgramActs process (called_in (on_event (acts act.Cause)) parts.old.code (numbered parts.old.regs.items process) next mark.now) (image_of (C.Core.stacks core.old) (C.Core.rows core.old) kernel.old parts.old) (image_of (C.Core.stacks core.new) (C.Core.rows core.new) kernel.new parts.new) result }
+    ensures woken { OnOk result ((at : Place) × IntrinsicLeads (image_of (C.Core.stacks core.old) (C.Core.rows core.old) kernel.old parts.old) (event_tests_in (numbered parts.old.regs.items process) mark.now (C.Core.stacks core.old)) (Ok at) × (parts.new.woken.processes.items ≡ (deed_at (acts act.Cause) process at kernel.old.events).frees)) }
     ensures capacity { KeepsPlaces parts.old.woken parts.new.woken }
     ensures processes { kernel.new.room ≡ kernel.old.room }
     ensures code { parts.new.code ≡ parts.old.code }
@@ -200,8 +200,8 @@ pub fn cause_and_reset<C: Core>(
 ) -> Result<(), Stop>
     requires called { IsCalled (C.Core.stacks core.old) (numbered parts.old.regs.items process) }
     requires room { HasPlaces kernel.old.room parts.old.woken }
-    ensures acts { Acts process (called_in (on_event (acts act.CauseAndReset)) parts.old.code (numbered parts.old.regs.items process) next mark.now) (image_of (C.Core.stacks core.old) (C.Core.rows core.old) kernel.old parts.old) (image_of (C.Core.stacks core.new) (C.Core.rows core.new) kernel.new parts.new) result }
-    ensures woken { OnOk result ((at : Place) × Leads (image_of (C.Core.stacks core.old) (C.Core.rows core.old) kernel.old parts.old) (event_tests_in (numbered parts.old.regs.items process) mark.now (C.Core.stacks core.old)) (Ok at) × (parts.new.woken.processes.items ≡ (deed_at (acts act.CauseAndReset) process at kernel.old.events).frees)) }
+    ensures acts { ProgramActs process (called_in (on_event (acts act.CauseAndReset)) parts.old.code (numbered parts.old.regs.items process) next mark.now) (image_of (C.Core.stacks core.old) (C.Core.rows core.old) kernel.old parts.old) (image_of (C.Core.stacks core.new) (C.Core.rows core.new) kernel.new parts.new) result }
+    ensures woken { OnOk result ((at : Place) × IntrinsicLeads (image_of (C.Core.stacks core.old) (C.Core.rows core.old) kernel.old parts.old) (event_tests_in (numbered parts.old.regs.items process) mark.now (C.Core.stacks core.old)) (Ok at) × (parts.new.woken.processes.items ≡ (deed_at (acts act.CauseAndReset) process at kernel.old.events).frees)) }
     ensures capacity { KeepsPlaces parts.old.woken parts.new.woken }
     ensures processes { kernel.new.room ≡ kernel.old.room }
     ensures code { parts.new.code ≡ parts.old.code }
@@ -224,8 +224,8 @@ pub fn liberate<C: Core>(
 ) -> Result<(), Stop>
     requires called { IsCalled (C.Core.stacks core.old) (numbered parts.old.regs.items process) }
     requires room { HasPlaces 1 parts.old.woken }
-    ensures acts { Acts process (called_in (on_event (acts act.Liberate)) parts.old.code (numbered parts.old.regs.items process) next mark.now) (image_of (C.Core.stacks core.old) (C.Core.rows core.old) kernel.old parts.old) (image_of (C.Core.stacks core.new) (C.Core.rows core.new) kernel.new parts.new) result }
-    ensures woken { OnOk result ((at : Place) × Leads (image_of (C.Core.stacks core.old) (C.Core.rows core.old) kernel.old parts.old) (event_tests_in (numbered parts.old.regs.items process) mark.now (C.Core.stacks core.old)) (Ok at) × (parts.new.woken.processes.items ≡ (deed_at (acts act.Liberate) process at kernel.old.events).frees)) }
+    ensures acts { ProgramActs process (called_in (on_event (acts act.Liberate)) parts.old.code (numbered parts.old.regs.items process) next mark.now) (image_of (C.Core.stacks core.old) (C.Core.rows core.old) kernel.old parts.old) (image_of (C.Core.stacks core.new) (C.Core.rows core.new) kernel.new parts.new) result }
+    ensures woken { OnOk result ((at : Place) × IntrinsicLeads (image_of (C.Core.stacks core.old) (C.Core.rows core.old) kernel.old parts.old) (event_tests_in (numbered parts.old.regs.items process) mark.now (C.Core.stacks core.old)) (Ok at) × (parts.new.woken.processes.items ≡ (deed_at (acts act.Liberate) process at kernel.old.events).frees)) }
     ensures capacity { KeepsPlaces parts.old.woken parts.new.woken }
     ensures processes { kernel.new.room ≡ kernel.old.room }
     ensures code { parts.new.code ≡ parts.old.code }
@@ -248,7 +248,7 @@ pub fn end_with<C: Core>(
 )
     requires called { IsCalled (C.Core.stacks core.old) (numbered all.old.items process) }
     requires within { IsChained mark.now (numbered all.old.items process) }
-    ensures acts { (img : Image) → img.stacks ≡ C.Core.stacks core.old → img.rows ≡ C.Core.rows core.old → img.regs ≡ all.old.items → Acts process (finished_in (numbered all.old.items process) mark.now (word ∷ []) place) img (ended (C.Core.stacks core.new) (C.Core.rows core.new) all.new.items img) (Ok result) }
+    ensures acts { (img : Image) → img.stacks ≡ C.Core.stacks core.old → img.rows ≡ C.Core.rows core.old → img.regs ≡ all.old.items → ProgramActs process (finished_in (numbered all.old.items process) mark.now (word ∷ []) place) img (ended (C.Core.stacks core.new) (C.Core.rows core.new) all.new.items img) (Ok result) }
     ensures room { vec_capacity all.old ≤ vec_capacity all.new }
 {
     let regs = &mut all[process as usize - 1];
@@ -265,7 +265,7 @@ pub fn happened<C: Core>(
     next: u16,
 ) -> Result<(), Stop>
     requires called { IsCalled (C.Core.stacks core.old) (numbered parts.old.regs.items process) }
-    ensures acts { Acts process (called_in (tell_event test.Happened) parts.old.code (numbered parts.old.regs.items process) next mark.now) (image_of (C.Core.stacks core.old) (C.Core.rows core.old) kernel.now parts.old) (image_of (C.Core.stacks core.new) (C.Core.rows core.new) kernel.now parts.new) result }
+    ensures acts { ProgramActs process (called_in (tell_event test.Happened) parts.old.code (numbered parts.old.regs.items process) next mark.now) (image_of (C.Core.stacks core.old) (C.Core.rows core.old) kernel.now parts.old) (image_of (C.Core.stacks core.new) (C.Core.rows core.new) kernel.now parts.new) result }
     ensures code { parts.new.code ≡ parts.old.code }
     ensures woken { parts.new.woken ≡ parts.old.woken }
 {
@@ -285,7 +285,7 @@ pub fn available<C: Core>(
     next: u16,
 ) -> Result<(), Stop>
     requires called { IsCalled (C.Core.stacks core.old) (numbered parts.old.regs.items process) }
-    ensures acts { Acts process (called_in (tell_event test.Available) parts.old.code (numbered parts.old.regs.items process) next mark.now) (image_of (C.Core.stacks core.old) (C.Core.rows core.old) kernel.now parts.old) (image_of (C.Core.stacks core.new) (C.Core.rows core.new) kernel.now parts.new) result }
+    ensures acts { ProgramActs process (called_in (tell_event test.Available) parts.old.code (numbered parts.old.regs.items process) next mark.now) (image_of (C.Core.stacks core.old) (C.Core.rows core.old) kernel.now parts.old) (image_of (C.Core.stacks core.new) (C.Core.rows core.new) kernel.now parts.new) result }
     ensures code { parts.new.code ≡ parts.old.code }
     ensures woken { parts.new.woken ≡ parts.old.woken }
 {
@@ -305,7 +305,7 @@ pub fn fix<C: Core>(
     next: u16,
 ) -> Result<(), Stop>
     requires called { IsCalled (C.Core.stacks core.old) (numbered parts.old.regs.items process) }
-    ensures acts { Acts process (called_in (tell_event test.Fix) parts.old.code (numbered parts.old.regs.items process) next mark.now) (image_of (C.Core.stacks core.old) (C.Core.rows core.old) kernel.old parts.old) (image_of (C.Core.stacks core.new) (C.Core.rows core.new) kernel.new parts.new) result }
+    ensures acts { ProgramActs process (called_in (tell_event test.Fix) parts.old.code (numbered parts.old.regs.items process) next mark.now) (image_of (C.Core.stacks core.old) (C.Core.rows core.old) kernel.old parts.old) (image_of (C.Core.stacks core.new) (C.Core.rows core.new) kernel.new parts.new) result }
     ensures processes { kernel.new.room ≡ kernel.old.room }
     ensures code { parts.new.code ≡ parts.old.code }
     ensures woken { parts.new.woken ≡ parts.old.woken }

@@ -5,7 +5,7 @@ ghost use Rattle.b67_list.specs.Numbered.{numbered};
 ghost use Rattle.b67_table.specs.Image.{Image};
 ghost use Rattle.b67_table.specs.Intrinsics.{make_event};
 ghost use Rattle.b67_reach.specs.Images.{image_of};
-ghost use Rattle.b67_intrinsics.specs.Called.{IsCalled, IsChained, called_in, Leads, mark_tests_in, Tries};
+ghost use Rattle.b67_intrinsics.specs.Called.{IsCalled, IsChained, called_in, IntrinsicLeads, mark_tests_in, Tries};
 
 use crate::finding::find_mark;
 use crate::happening::{end_with, registers};
@@ -19,7 +19,7 @@ use b67_word::Place;
 // The place of the mark at F of a process, where an event is made.
 fn find<C: Core>(core: &C, all: &Vec<Registers>, process: u32, mark: &Mscw) -> Result<Place, Stop>
     requires { IsCalled (C.Core.stacks core.now) (numbered all.now.items process) }
-    ensures leads { (img : Image) → img.stacks ≡ C.Core.stacks core.now → Leads img (mark_tests_in (numbered all.now.items process) mark.now img.stacks) result }
+    ensures leads { (img : Image) → img.stacks ≡ C.Core.stacks core.now → IntrinsicLeads img (mark_tests_in (numbered all.now.items process) mark.now img.stacks) result }
     ensures within { OnOk result (IsChained mark.now (numbered all.now.items process)) }
 {
     find_mark(core, registers(all, process), mark)

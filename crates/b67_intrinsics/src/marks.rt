@@ -1,14 +1,14 @@
 //! What all intrinsics share: the mark at F, the mark below it, the arguments, and how an intrinsic ends.
 
 ghost use Rattle.std.specs.Prelude.{◌≡◌, ◌+◌, ◌-◌, ◌<◌, ◌≤◌, ℕ, length, Ok, Err, Some, OnOk, IfOk, IfErr, IsSome, All, map, unsigned_abs, slice_get, vec_capacity, [], ◌∷◌, ◌++◌};
-ghost use Rattle.b67_word.specs.Word.{most};
+ghost use Rattle.b67_word.specs.Word.{most_mantissa};
 ghost use Rattle.b67_control.specs.Control.{descriptor_word, Fits_descriptor};
 ghost use Rattle.b67_store.specs.Store.{stack_at, words_of, with_push, with_cut, stack_limit};
 ghost use Rattle.b67_table.specs.Arguments.{finished_at, three, wholes_in};
-ghost use Rattle.b67_table.specs.Look.{seen};
+ghost use Rattle.b67_table.specs.Look.{look_seen};
 ghost use Rattle.b67_table.specs.Program.{answer};
-ghost use Rattle.b67_reach.specs.Images.{own};
-ghost use Rattle.b67_reach.specs.Answers.{looked, IsReady, Performs};
+ghost use Rattle.b67_reach.specs.Images.{own_of_image};
+ghost use Rattle.b67_reach.specs.Answers.{looked, IsReady, ProgramPerforms};
 ghost use Rattle.b67_intrinsics.specs.Arrays.{pushed_on};
 ghost use Rattle.b67_intrinsics.specs.Called.{arguments, only, whole_in, as_triple, mark_below, WholesFail};
 
@@ -49,7 +49,7 @@ pub fn whole_argument<C: Core>(core: &C, regs: &Registers, n: u32) -> Result<i64
     requires ready { IsReady (C.Core.stacks core.now) regs.now }
     requires within { regs.now.f + 2 + n < regs.now.s }
     ensures value { result ≡ whole_in (slice_get (arguments (C.Core.stacks core.now) regs.now) n) }
-    ensures small { IfOk result (λ z. unsigned_abs z ≤ most) }
+    ensures small { IfOk result (λ z. unsigned_abs z ≤ most_mantissa) }
 {
     let place = Place {
         stack: regs.stack,
@@ -65,10 +65,10 @@ pub fn whole_argument<C: Core>(core: &C, regs: &Registers, n: u32) -> Result<i64
 pub fn three_arguments<C: Core>(core: &C, regs: &Registers) -> Result<(i64, i64, i64), Stop>
     requires ready { IsReady (C.Core.stacks core.now) regs.now }
     requires above { regs.now.f + 2 ≤ regs.now.s }
-    ensures value { result ≡ looked (as_triple (seen (C.Core.stacks core.now) (three (arguments (C.Core.stacks core.now) regs.now)))) }
-    ensures first { IfOk result (λ z. unsigned_abs z.0 ≤ most) }
-    ensures second { IfOk result (λ z. unsigned_abs z.1 ≤ most) }
-    ensures third { IfOk result (λ z. unsigned_abs z.2 ≤ most) }
+    ensures value { result ≡ looked (as_triple (look_seen (C.Core.stacks core.now) (three (arguments (C.Core.stacks core.now) regs.now)))) }
+    ensures first { IfOk result (λ z. unsigned_abs z.0 ≤ most_mantissa) }
+    ensures second { IfOk result (λ z. unsigned_abs z.1 ≤ most_mantissa) }
+    ensures third { IfOk result (λ z. unsigned_abs z.2 ≤ most_mantissa) }
 {
     if arguments(core, regs) != 3 {
         return Err(invalid());
@@ -110,7 +110,7 @@ pub fn whole_arguments<C: Core>(
 
 /// The mark below the one at F. BrokenChain comes exactly where no mark stands as far below as that one says.
 pub fn chained<C: Core>(core: &C, regs: &Registers, mark: &Mscw) -> Result<Mscw, Stop>
-    ensures value { result ≡ looked (seen (C.Core.stacks core.now) (mark_below regs.now mark.now)) }
+    ensures value { result ≡ looked (look_seen (C.Core.stacks core.now) (mark_below regs.now mark.now)) }
     ensures within { OnOk result (mark.now.df ≤ regs.now.f) }
 {
     let broken = Stop::Interrupt(InterruptKind::BrokenChain);
@@ -135,7 +135,7 @@ pub fn finish<C: Core>(core: &mut C, regs: &mut Registers, mark: &Mscw, place: u
     requires ready { IsReady (C.Core.stacks core.old) regs.old }
     requires above { regs.old.f + 2 ≤ regs.old.s }
     requires within { mark.now.df ≤ regs.old.f }
-    ensures { Performs (answer (finished_at regs.old mark.now [] place)) (own (C.Core.stacks core.old) (C.Core.rows core.old) regs.old) (own (C.Core.stacks core.new) (C.Core.rows core.new) regs.new) (Ok result) }
+    ensures { ProgramPerforms (answer (finished_at regs.old mark.now [] place)) (own_of_image (C.Core.stacks core.old) (C.Core.rows core.old) regs.old) (own_of_image (C.Core.stacks core.new) (C.Core.rows core.new) regs.new) (Ok result) }
 {
     let length = u32::from(regs.f);
     core.cut(regs.stack, length).unwrap();
@@ -149,7 +149,7 @@ pub fn finish_with<C: Core>(core: &mut C, regs: &mut Registers, mark: &Mscw, wor
     requires ready { IsReady (C.Core.stacks core.old) regs.old }
     requires above { regs.old.f + 2 ≤ regs.old.s }
     requires within { mark.now.df ≤ regs.old.f }
-    ensures { Performs (answer (finished_at regs.old mark.now (word ∷ []) place)) (own (C.Core.stacks core.old) (C.Core.rows core.old) regs.old) (own (C.Core.stacks core.new) (C.Core.rows core.new) regs.new) (Ok result) }
+    ensures { ProgramPerforms (answer (finished_at regs.old mark.now (word ∷ []) place)) (own_of_image (C.Core.stacks core.old) (C.Core.rows core.old) regs.old) (own_of_image (C.Core.stacks core.new) (C.Core.rows core.new) regs.new) (Ok result) }
 {
     let length = u32::from(regs.f);
     core.cut(regs.stack, length).unwrap();
@@ -215,7 +215,7 @@ pub fn finish_with_all<C: Core>(
     requires within { mark.now.df ≤ regs.old.f }
     requires room { regs.old.f + length arrays.now ≤ stack_limit }
     requires fits { All Fits_descriptor arrays.now }
-    ensures { Performs (answer (finished_at regs.old mark.now (map descriptor_word arrays.now) place)) (own (C.Core.stacks core.old) (C.Core.rows core.old) regs.old) (own (C.Core.stacks core.new) (C.Core.rows core.new) regs.new) (Ok result) }
+    ensures { ProgramPerforms (answer (finished_at regs.old mark.now (map descriptor_word arrays.now) place)) (own_of_image (C.Core.stacks core.old) (C.Core.rows core.old) regs.old) (own_of_image (C.Core.stacks core.new) (C.Core.rows core.new) regs.new) (Ok result) }
 {
     let length = u32::from(regs.f);
     cut_to(core, regs.stack, length);

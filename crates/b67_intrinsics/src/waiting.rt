@@ -8,8 +8,8 @@ ghost use Rattle.b67_table.specs.Image.{Image};
 ghost use Rattle.b67_table.specs.Intrinsics.{wait_for_any};
 ghost use Rattle.b67_table.specs.Limits.{most_events};
 ghost use Rattle.b67_reach.specs.Images.{image_of};
-ghost use Rattle.b67_reach.specs.Answers.{Acts};
-ghost use Rattle.b67_intrinsics.specs.Called.{IsCalled, IsChained, called_in, Leads, several_tests_in, these};
+ghost use Rattle.b67_reach.specs.Answers.{ProgramActs};
+ghost use Rattle.b67_intrinsics.specs.Called.{IsCalled, IsChained, called_in, IntrinsicLeads, several_tests_in, these};
 
 use crate::finding::find_events;
 use crate::happening::{end_with, registers};
@@ -31,7 +31,7 @@ fn find<C: Core>(
 ) -> Result<usize, Stop>
     requires called { IsCalled (C.Core.stacks core.now) (numbered all.now.items process) }
     requires room { length places.old ≡ most_events }
-    ensures leads { (img : Image) → img.stacks ≡ C.Core.stacks core.now → img.events ≡ kernel.now.events → Leads img (several_tests_in (numbered all.now.items process) mark.now img.stacks) (these result places.new) }
+    ensures leads { (img : Image) → img.stacks ≡ C.Core.stacks core.now → img.events ≡ kernel.now.events → IntrinsicLeads img (several_tests_in (numbered all.now.items process) mark.now img.stacks) (these result places.new) }
     ensures few { IfOk result (λ n. (1 ≤ n) × (n ≤ most_events)) }
     ensures there { IfOk result (λ n. All (λ place. IsTrue (is_open place kernel.now.events)) (take n places.new)) }
     ensures room { length places.new ≡ most_events }
@@ -62,7 +62,7 @@ pub fn wait_any<C: Core>(
     requires process { (1 ≤ process) × (process ≤ kernel.old.room) }
     requires idle { IsFalse (is_waiting process kernel.old.events) }
     requires unlisted { IsFalse (is_listed process kernel.old.lists) }
-    ensures acts { Acts process (called_in wait_for_any parts.old.code (numbered parts.old.regs.items process) next mark.now) (image_of (C.Core.stacks core.old) (C.Core.rows core.old) kernel.old parts.old) (image_of (C.Core.stacks core.new) (C.Core.rows core.new) kernel.new parts.new) result }
+    ensures acts { ProgramActs process (called_in wait_for_any parts.old.code (numbered parts.old.regs.items process) next mark.now) (image_of (C.Core.stacks core.old) (C.Core.rows core.old) kernel.old parts.old) (image_of (C.Core.stacks core.new) (C.Core.rows core.new) kernel.new parts.new) result }
     ensures processes { kernel.new.room ≡ kernel.old.room }
     ensures code { parts.new.code ≡ parts.old.code }
     ensures woken { parts.new.woken ≡ parts.old.woken }

@@ -28,7 +28,7 @@ not_above ss p some below =
 
 -- ---- in a run without an end one is able
 
-able_unless : (f : Option Failure) (ss : List ProcessState) → some_lives ss ≡ true → ending.end_by f ss ≡ None → some_able ss ≡ true
+able_unless : (f : Option Failure) (ss : List ProcessState) → some_lives ss ≡ true → ending.image_end_by f ss ≡ None → some_able ss ≡ true
 able_unless (Some f) ss lives e = cc
 able_unless None ss lives e = by (some_lives ss) (some_able ss) lives e
   where
@@ -39,7 +39,7 @@ able_unless None ss lives e = by (some_lives ss) (some_able ss) lives e
 
 -- the end of an image with this fault and these states
 end_of : (f : Option Failure) → List ProcessState → Option ending.ImageEnd
-end_of f ss = if ending.has_ended (numbered ss 1) then Some ending.finished else ending.end_by f ss
+end_of f ss = if ending.has_ended (numbered ss 1) then Some ending.finished else ending.image_end_by f ss
 
 able_of : (f : Option Failure) (ss : List ProcessState) → end_of f ss ≡ None → 1 ≤ length ss → some_able ss ≡ true
 unfolding end_of

@@ -3,7 +3,7 @@ use Rattle.std.specs.Prelude.{filter, nat_lt, if◌then◌else◌}
 use Rattle.std.proofs.Common.{◌≡◌, ◌≢◌, refl, ap, ◌∙◌, ℕ, zero, suc, ◌+◌, ◌≤◌, ◌<◌, ◌==◌, Bool, true, false, cond, List, [], ◌∷◌, ◌++◌, length, arith}
 use Rattle.std.proofs.Math.Decide.{ℕ_discrete}
 use Rattle.std.proofs.lemmas.Bool.{eq-eqb, ne_eqb, leb-true}
-use Rattle.b67_action.specs.Able.{times, one_if}
+use Rattle.b67_action.specs.Able.{number_times, one_if}
 
 pub here : (q p : ℕ) → q ≡ p → one_if (q == p) ≡ 1
 here q p e = ap one_if (eq-eqb q p e)
@@ -23,24 +23,24 @@ pub is_one : (b : Bool) → 1 ≤ one_if b → b ≡ true
 is_one true h = refl
 is_one false h = absurd (omega (arith, h))
 
-pub times_both : (q : ℕ) (xs ys : List ℕ) → times q (xs ++ ys) ≡ times q xs + times q ys
+pub times_both : (q : ℕ) (xs ys : List ℕ) → number_times q (xs ++ ys) ≡ number_times q xs + number_times q ys
 times_both q [] ys = omega arith
 times_both q (x ∷ xs) ys = let rest = times_both q xs ys in omega (arith, rest)
 
-pub times_most : (q : ℕ) (xs : List ℕ) → times q xs ≤ length xs
+pub times_most : (q : ℕ) (xs : List ℕ) → number_times q xs ≤ length xs
 times_most q [] = omega arith
 times_most q (x ∷ xs) = let rest = times_most q xs in omega (arith, rest, one_at_most (q == x))
 
 -- ---- what a test keeps
 
-pub none_kept : (f : ℕ → Bool) (xs : List ℕ) → ((q : ℕ) → 1 ≤ times q xs → f q ≡ false) → filter f xs ≡ []
+pub none_kept : (f : ℕ → Bool) (xs : List ℕ) → ((q : ℕ) → 1 ≤ number_times q xs → f q ≡ false) → filter f xs ≡ []
 none_kept f [] h = refl
 none_kept f (x ∷ xs) h =
     let own = here x x refl in
     ap (λ (b : Bool). cond b (x ∷ filter f xs) (filter f xs)) (h x (omega (arith, own)))
     ∙ none_kept f xs (λ q k. h q (omega (arith, k)))
 
-pub all_kept : (f : ℕ → Bool) (xs : List ℕ) → ((q : ℕ) → 1 ≤ times q xs → f q ≡ true) → filter f xs ≡ xs
+pub all_kept : (f : ℕ → Bool) (xs : List ℕ) → ((q : ℕ) → 1 ≤ number_times q xs → f q ≡ true) → filter f xs ≡ xs
 all_kept f [] h = refl
 all_kept f (x ∷ xs) h =
     let own = here x x refl in
@@ -49,7 +49,7 @@ all_kept f (x ∷ xs) h =
 
 -- ---- the process that was started
 
-pub not_newly : (q n m : ℕ) (b : Bool) → nat_lt n m ≡ b → q ≤ n → times q (if b then m ∷ [] else []) ≡ 0
+pub not_newly : (q n m : ℕ) (b : Bool) → nat_lt n m ≡ b → q ≤ n → number_times q (if b then m ∷ [] else []) ≡ 0
 not_newly q n m true e h =
     let none = elsewhere q m (λ s. omega (arith, s, h, leb-true (suc n) m e)) in omega (arith, none)
 not_newly q n m false e h = refl
@@ -88,11 +88,11 @@ total_most : (f : ℕ → ℕ) (n : ℕ) → ((q : ℕ) → f q ≤ 1) → total
 total_most f zero h = omega arith
 total_most f (suc n) h = let rest = total_most f n h in omega (arith, rest, h (suc n))
 
-total_length : (xs : List ℕ) (n : ℕ) → ((q : ℕ) → 1 ≤ times q xs → (1 ≤ q) × (q ≤ n)) → total (λ q. times q xs) n ≡ length xs
+total_length : (xs : List ℕ) (n : ℕ) → ((q : ℕ) → 1 ≤ number_times q xs → (1 ≤ q) × (q ≤ n)) → total (λ q. number_times q xs) n ≡ length xs
 total_length [] zero h = refl
 total_length [] (suc n) h = let rest = total_length [] n (λ q l. absurd (omega (arith, l))) in omega (arith, rest)
 total_length (x ∷ xs) n h =
-    let both = total_both (λ q. one_if (q == x)) (λ q. times q xs) n in
+    let both = total_both (λ q. one_if (q == x)) (λ q. number_times q xs) n in
     let own = here x x refl in
     let is = h x (omega (arith, own)) in
     let one = total_one x n is.0 is.1 in
@@ -100,5 +100,5 @@ total_length (x ∷ xs) n h =
     omega (arith, both, one, rest)
 
 -- there are no more of them than numbers that may stand there
-pub few_of : (xs : List ℕ) (n : ℕ) → ((q : ℕ) → times q xs ≤ 1) → ((q : ℕ) → 1 ≤ times q xs → (1 ≤ q) × (q ≤ n)) → length xs ≤ n
-few_of xs n each within = let all = total_length xs n within in omega (arith, all, total_most (λ q. times q xs) n each)
+pub few_of : (xs : List ℕ) (n : ℕ) → ((q : ℕ) → number_times q xs ≤ 1) → ((q : ℕ) → 1 ≤ number_times q xs → (1 ≤ q) × (q ≤ n)) → length xs ≤ n
+few_of xs n each within = let all = total_length xs n within in omega (arith, all, total_most (λ q. number_times q xs) n each)

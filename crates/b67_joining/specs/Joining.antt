@@ -1,11 +1,11 @@
 -- Who is in the queue of those who wait for a turn, and who joins it.
 use Rattle.std.specs.Prelude.{◌≡◌, ℕ, if◌then◌else◌, Bool, List, [], ◌∷◌, ◌++◌}
 use Rattle.b67_table.specs.Image.{Image}
-use Rattle.b67_action.specs.Able.{times, one_if, able_in, newly}
+use Rattle.b67_action.specs.Able.{number_times, one_if, able_in, newly}
 
 -- each process that is able is in the queue once, and no other is
 abbrev pub IsQueue : Image → List ℕ → Type 0
-IsQueue img queue = (p : ℕ) → times p queue ≡ one_if (able_in img p)
+IsQueue img queue = (p : ℕ) → number_times p queue ≡ one_if (able_in img p)
 
 -- a process, where it is able
 abbrev pub if_able : Bool → ℕ → List ℕ

@@ -4,7 +4,7 @@ use Rattle.algol_tree.specs.Scopes.{Scopes}
 use Rattle.algol_meaning.specs.World.{World}
 use Rattle.algol_meaning.specs.Choice.{Choice, choice}
 use Rattle.algol_meaning.specs.Run.{End, end_of, may_go, after_entry, run_from}
-use Rattle.algol_run.specs.Stepping.{Step, ended, not_able, went, chosen_by, step_by, step_of, told, is_going}
+use Rattle.algol_run.specs.Stepping.{RunStep, ended, not_able, went, chosen_by, step_by, step_of, told_step, is_going}
 use Rattle.algol_run.specs.declared.stepping.Stepped.{Stepped}
 use Rattle.algol_run.specs.declared.stepping.Stepped.TheVariants as stepped
 use Rattle.b67_schedule.specs.declared.Run.{Run}
@@ -26,11 +26,11 @@ run_append sc (p ∷ a) b (Some w) = run_append sc a b (after_entry sc w p)
 -- ---- one step more
 
 -- a step that goes is the entry's
-goes_so : (sc : Scopes) (v after : World) (p : ℕ) (s : Stepped) → told s after ≡ step_of sc v p → is_going s ≡ true → after_entry sc v p ≡ Some after
+goes_so : (sc : Scopes) (v after : World) (p : ℕ) (s : Stepped) → told_step s after ≡ step_of sc v p → is_going s ≡ true → after_entry sc v p ≡ Some after
 unfolding after_entry
 goes_so sc v after p s e going = by s (may_go v p) (choice sc v p) e going
   where
-    world_in : Step → Option World
+    world_in : RunStep → Option World
     world_in not_able = None
     world_in (went c) = Some c.world
     world_in (ended c) = Some c.world
@@ -39,20 +39,20 @@ goes_so sc v after p s e going = by s (may_go v p) (choice sc v p) e going
     chosen None c = refl
     chosen (Some x) c = refl
 
-    given : (t : Stepped) → is_going t ≡ true → world_in (told t after) ≡ Some after
+    given : (t : Stepped) → is_going t ≡ true → world_in (told_step t after) ≡ Some after
     given (stepped.Went a) g = refl
     given (stepped.Ended a) g = refl
     given stepped.NotAble g = cc
 
-    by : (t : Stepped) (may : Bool) (c : Choice) → told t after ≡ step_by may c → is_going t ≡ true → (if may then Some c.world else None) ≡ Some after
+    by : (t : Stepped) (may : Bool) (c : Choice) → told_step t after ≡ step_by may c → is_going t ≡ true → (if may then Some c.world else None) ≡ Some after
     by t true c e g = sym (chosen (end_of c.world) c) ∙ ap world_in (sym e) ∙ given t g
     by t false c e g = let r : None ≡ Some after = ap world_in (sym e) ∙ given t g in r
 
 -- a step that does not go says that the process may not
-pub stays_so : (sc : Scopes) (v after : World) (p : ℕ) (s : Stepped) → told s after ≡ step_of sc v p → is_going s ≡ false → may_go v p ≡ false
+pub stays_so : (sc : Scopes) (v after : World) (p : ℕ) (s : Stepped) → told_step s after ≡ step_of sc v p → is_going s ≡ false → may_go v p ≡ false
 stays_so sc v after p s e stays = by s (may_go v p) (choice sc v p) e stays
   where
-    goes : Step → Bool
+    goes : RunStep → Bool
     goes not_able = false
     goes (went c) = true
     goes (ended c) = true
@@ -61,12 +61,12 @@ stays_so sc v after p s e stays = by s (may_go v p) (choice sc v p) e stays
     chosen None c = refl
     chosen (Some x) c = refl
 
-    given : (t : Stepped) → goes (told t after) ≡ is_going t
+    given : (t : Stepped) → goes (told_step t after) ≡ is_going t
     given (stepped.Went a) = refl
     given (stepped.Ended a) = refl
     given stepped.NotAble = refl
 
-    by : (t : Stepped) (may : Bool) (c : Choice) → told t after ≡ step_by may c → is_going t ≡ false → may ≡ false
+    by : (t : Stepped) (may : Bool) (c : Choice) → told_step t after ≡ step_by may c → is_going t ≡ false → may ≡ false
     by t false c e g = refl
     by t true c e g = let r : true ≡ false = sym (chosen (end_of c.world) c) ∙ ap goes (sym e) ∙ given t ∙ g in r
 
@@ -75,7 +75,7 @@ replicate_more zero p = refl
 replicate_more (suc n) p = let r : suc n + 1 ≡ suc (n + 1) = omega arith in ap (λ (m : ℕ). replicate m p) r ∙ ap (λ (xs : List ℕ). p ∷ xs) (replicate_more n p)
 
 pub went_more :
-    (sc : Scopes) (n p : ℕ) (w v after : World) (s : Stepped) → run_from sc (replicate n p) (Some w) ≡ Some v → told s after ≡ step_of sc v p → is_going s ≡ true
+    (sc : Scopes) (n p : ℕ) (w v after : World) (s : Stepped) → run_from sc (replicate n p) (Some w) ≡ Some v → told_step s after ≡ step_of sc v p → is_going s ≡ true
     → run_from sc (replicate (n + 1) p) (Some w) ≡ Some after
 went_more sc n p w v after s so_far e going =
     ap (λ (h : List ℕ). run_from sc h (Some w)) (replicate_more n p)

@@ -8,7 +8,7 @@ ghost use Rattle.algol_tree.specs.Plain.{PProgram};
 ghost use Rattle.algol_tree.specs.Scopes.{scopes_of};
 ghost use Rattle.algol_meaning.specs.Run.{start};
 ghost use Rattle.algol_paths.specs.Arrays.{lows_at};
-ghost use Rattle.algol_lows.specs.Lows.{under};
+ghost use Rattle.algol_lows.specs.Lows.{lows_found_under};
 ghost use Rattle.algol_cells.specs.SeenScope.{scoped};
 ghost use Rattle.algol_world.specs.SeenWorld.{world_of};
 ghost use Rattle.b67_schedule.specs.Schedules.{entries};
@@ -31,7 +31,7 @@ use std::alloc::{AllocError, Global};
 
 /// The lower bounds of the arrays of an accepted source.
 pub fn lows_of(alloc: Global, checked: &Checked) -> Result<LowsByPlace, AllocError>
-    ensures { IfOk result (λ lows. (spot : token.Spot) → under lows spot ≡ lows_at (blocks_of_program (plain checked.now.program)) spot) }
+    ensures { IfOk result (λ lows. (spot : token.Spot) → lows_found_under lows spot ≡ lows_at (blocks_of_program (plain checked.now.program)) spot) }
 {
     lows_of_program(alloc, &checked.program, &checked.scopes)
 }
@@ -42,7 +42,7 @@ pub fn first<'p>(
     checked: &'p Checked,
     lows: &'p LowsByPlace,
 ) -> Result<World<'p>, AllocError>
-    requires { (spot : token.Spot) → under lows.now spot ≡ lows_at (blocks_of_program (plain checked.now.program)) spot }
+    requires { (spot : token.Spot) → lows_found_under lows.now spot ≡ lows_at (blocks_of_program (plain checked.now.program)) spot }
     ensures scopes { IfOk result (λ w. scoped w.scopes ≡ scopes_of (plain checked.now.program)) }
     ensures begins { IfOk result (λ w. world_of w ≡ start (scopes_of (plain checked.now.program))) }
     ensures beside { IfOk result (λ w. RunsBeside (scoped w.scopes) (start (scopes_of (plain checked.now.program))) (world_of w)) }

@@ -8,7 +8,7 @@ use Rattle.b67_report.specs.declared.EndWords.{EndWords}
 use Rattle.b67_report.specs.declared.EndWords.TheVariants as ends
 use Rattle.b67_segment.specs.declared.code.Code.{Code}
 use Rattle.b67_table.specs.Image.{Image}
-use Rattle.b67_explain.specs.Explaining.{Explains, EndIs, IsOwnEnd, IsLeft}
+use Rattle.b67_explain.specs.Explaining.{Explains, EndIs, IsOwnEnd, ScheduleIsLeft}
 use Rattle.b67_judge.specs.Judging.{EndFits, HasOutput}
 use Rattle.b67_just.specs.Law.{RunsAreJust, ReplaysAreJust}
 
@@ -25,7 +25,7 @@ module _ (tree : PProgram) (code : Code) (world : World) (image : Image) (budget
   own_fits (ends.Differs entry) e own = absurd own
 
   -- .. or that of a given schedule, of which these entries are left
-  left_fits : (end : EndWords) (left : List ℕ) → EndIs tree code world image budget operators end → IsLeft world performed end left → EndFits world performed end
+  left_fits : (end : EndWords) (left : List ℕ) → EndIs tree code world image budget operators end → ScheduleIsLeft world performed end left → EndFits world performed end
   left_fits ends.Finished left e l = e.0
   left_fits (ends.Fault kind process) left e l = e.0
   left_fits ends.AllWaiting left e l = e.0

@@ -20,24 +20,24 @@ use Rattle.b67_table.specs.declared.Reached.{Reached}
 use Rattle.b67_table.specs.Limits.{most_cells, most_processes, most_events}
 use Rattle.b67_table.specs.Private.{frame}
 use Rattle.b67_table.specs.Look.{◌>->◌, valid}
-use Rattle.b67_table.specs.Chains.{place, broken, mark_at, rebuilt}
+use Rattle.b67_table.specs.Chains.{place, chain_broken, mark_at, rebuilt}
 use Rattle.b67_table.specs.References.{cell_place, couple_cell, cell_of, named, reached, popped, popped_two, operand_in, invalid}
 use Rattle.b67_table.specs.Image.{Image}
-use Rattle.b67_table.specs.Questions.{Answer, told}
+use Rattle.b67_table.specs.Questions.{AnswerTo, told}
 use Rattle.b67_table.specs.Questions as questions
-use Rattle.b67_table.specs.Writes.{written}
+use Rattle.b67_table.specs.Writes.{write_made}
 use Rattle.b67_table.specs.Writes as writes
-use Rattle.b67_table.specs.Program.{Test, answer, interrupt, fault, ask, ◌>>=◌, asked, see, Change, done, look_up, write, changed, registers, row_of, close_row, close_events, event_deed, wait_any, go_on, start, Program}
+use Rattle.b67_table.specs.Program.{Test, answer, interrupt, fault, ask, ◌>>=◌, asked, see, Change, done, look_up, write, changed, registers, row_of, close_row, close_events, event_deed, wait_any, go_on, change_start, Program}
 use Rattle.b67_table.specs.Moves.{pushed}
 use Rattle.b67_table.specs.Linkage.{entering, selected, entry, accidental, closed_by, rows_closed, array_closed, arrays_closed, is_critical, if_not_critical, leaving, leave_base, leave_other}
-use Rattle.b67_table.specs.Arrays.{as_indexed, element, index_in, index_or_fault, subscripted, subscripted_element, index, index_and_load, index_mother, Extents, one, two}
+use Rattle.b67_table.specs.Arrays.{as_indexed, element, index_in, index_or_fault, subscripted, subscripted_element, index_program, index_and_load, index_mother, Extents, one, two}
 use Rattle.b67_table.specs.Arrays.{array_word, rows_made, array_made, arrays_made, if_held}
 use Rattle.b67_table.specs.Arguments.{no_such, three, wholes, event_of, events_of, if_chained, finished_at}
 use Rattle.b67_table.specs.GoingTo.{Passed, target_of, passed_by, frames_left, passed_frames, go_to}
-use Rattle.b67_table.specs.Intrinsics.{case_in, case_place, gone_to_case, select, wanted, extents, arrays, write as write_line, make_event, on_event, tell_event, gone_on, gone_or_waiting, woken_or_not, wait_for_any}
+use Rattle.b67_table.specs.Intrinsics.{case_in, case_place, gone_to_case, select, intrinsic_wanted, extents, arrays, write as write_line, make_event, on_event, tell_event, gone_on, gone_or_waiting, woken_or_not, wait_for_any}
 use Rattle.b67_table.specs.Lines.{line_for}
 use Rattle.b67_table.specs.Starting.{starting, first_display, named_frames, frames_with, on_path, start_process}
-use Rattle.b67_table.specs.Rows.{turn_by, turn, value_or_entry, value_call, loaded, load_value, is_passed, load_through, cell_or_entry, evaluate, after_store, store_by, store, is_result, return_value}
+use Rattle.b67_table.specs.Rows.{turn_by, branch_turn, value_or_entry, value_call, loaded, load_value, is_passed, load_through, cell_or_entry, evaluate, after_store, store_by, store, is_result, return_value}
 use Rattle.b67_table.proofs.Keeping.{Gives}
 
 -- ---- changes
@@ -45,7 +45,7 @@ use Rattle.b67_table.proofs.Keeping.{Gives}
 -- a change that does nothing with events that are open, waits for none, ends no process, and starts none
 abbrev pub Calm : Change → Type 0
 Calm done = Unit {0}
-Calm (look_up q more) = (a : Answer q) → Calm (more a)
+Calm (look_up q more) = (a : AnswerTo q) → Calm (more a)
 Calm (write (writes.save place w) next) = Calm next
 Calm (write (writes.cut stack n) next) = Calm next
 Calm (write (writes.push stack w) next) = Calm next
@@ -65,19 +65,19 @@ Calm (write (writes.end_process stack) next) = ⊥
 pub calm_keeps : (p : ℕ) (c : Change) (img : Image) → Calm c → ((changed p c img).states ≡ img.states) × ((changed p c img).started ≡ img.started)
 calm_keeps p done img k = (refl, refl)
 calm_keeps p (look_up q more) img k = calm_keeps p (more (told img q)) img (k (told img q))
-calm_keeps p (write (writes.save place w) next) img k = calm_keeps p next (written p (writes.save place w) img) k
-calm_keeps p (write (writes.cut stack n) next) img k = calm_keeps p next (written p (writes.cut stack n) img) k
-calm_keeps p (write (writes.push stack w) next) img k = calm_keeps p next (written p (writes.push stack w) img) k
-calm_keeps p (write (writes.registers r) next) img k = calm_keeps p next (written p (writes.registers r) img) k
-calm_keeps p (write (writes.open_row n count counted) next) img k = calm_keeps p next (written p (writes.open_row n count counted) img) k
-calm_keeps p (write (writes.write_row n at w) next) img k = calm_keeps p next (written p (writes.write_row n at w) img) k
-calm_keeps p (write (writes.close_row n) next) img k = calm_keeps p next (written p (writes.close_row n) img) k
-calm_keeps p (write (writes.open_event place) next) img k = calm_keeps p next (written p (writes.open_event place) img) k
-calm_keeps p (write (writes.close_events stack at) next) img k = calm_keeps p next (written p (writes.close_events stack at) img) k
+calm_keeps p (write (writes.save place w) next) img k = calm_keeps p next (write_made p (writes.save place w) img) k
+calm_keeps p (write (writes.cut stack n) next) img k = calm_keeps p next (write_made p (writes.cut stack n) img) k
+calm_keeps p (write (writes.push stack w) next) img k = calm_keeps p next (write_made p (writes.push stack w) img) k
+calm_keeps p (write (writes.registers r) next) img k = calm_keeps p next (write_made p (writes.registers r) img) k
+calm_keeps p (write (writes.open_row n count counted) next) img k = calm_keeps p next (write_made p (writes.open_row n count counted) img) k
+calm_keeps p (write (writes.write_row n at w) next) img k = calm_keeps p next (write_made p (writes.write_row n at w) img) k
+calm_keeps p (write (writes.close_row n) next) img k = calm_keeps p next (write_made p (writes.close_row n) img) k
+calm_keeps p (write (writes.open_event place) next) img k = calm_keeps p next (write_made p (writes.open_event place) img) k
+calm_keeps p (write (writes.close_events stack at) next) img k = calm_keeps p next (write_made p (writes.close_events stack at) img) k
 calm_keeps p (write (writes.event_deed x place) next) img k = absurd k
 calm_keeps p (write (writes.wait_any places) next) img k = absurd k
-calm_keeps p (write writes.go_on next) img k = calm_keeps p next (written p writes.go_on img) k
-calm_keeps p (write (writes.line bytes) next) img k = calm_keeps p next (written p (writes.line bytes) img) k
+calm_keeps p (write writes.go_on next) img k = calm_keeps p next (write_made p writes.go_on img) k
+calm_keeps p (write (writes.line bytes) next) img k = calm_keeps p next (write_made p (writes.line bytes) img) k
 calm_keeps p (write (writes.start r words) next) img k = absurd k
 calm_keeps p (write (writes.end_process stack) next) img k = absurd k
 
@@ -88,7 +88,7 @@ abbrev pub Each : (Change → Type 0) → Program → Type 0
 Each P (answer c) = P c
 Each P (interrupt kind) = Unit {0}
 Each P (fault kind) = Unit {0}
-Each P (ask q more) = (a : Answer q) → Each P (more a)
+Each P (ask q more) = (a : AnswerTo q) → Each P (more a)
 
 pub each_asked : (P : Change → Type 0) (img : Image) (t : Program) → Each P t → Gives P (asked img t)
 each_asked P img (answer c) k = k
@@ -203,12 +203,12 @@ module _ (r : Registers) (next : ℕ) where
   turn_calm_by : (kind : BranchKind) (target : ℕ) → Each Calm (turn_by kind target r next)
   turn_calm_by kind target = each_then Calm (see (popped r >-> operand_in)) _ (λ w. tt)
 
-  pub turn_calm : (kind : BranchKind) (target : ℕ) → Each Calm (turn kind target r next)
+  pub turn_calm : (kind : BranchKind) (target : ℕ) → Each Calm (branch_turn kind target r next)
   turn_calm Brun target = tt
   turn_calm Brfl target = turn_calm_by Brfl target
   turn_calm Brtr target = turn_calm_by Brtr target
 
-  pub index_calm : Each Calm (index r next)
+  pub index_calm : Each Calm (index_program r next)
   index_calm =
       each_then Calm (see (subscripted r false)) _ (λ t. each_then Calm (index_or_fault (index_in t.subscript t.array.length)) _ (λ n. tt))
 
@@ -244,7 +244,7 @@ module _ (r : Registers) (next : ℕ) where
 
   module _ (m : Mscw) where
     each_chained : (P : Change → Type 0) (t : Program) → Each P t → Each P (if_chained r m t)
-    each_chained P t k = each_then P (see (cond (nat_le m.df r.f) (mark_at (place r.stack (r.f - m.df))) broken)) _ (λ lower. k)
+    each_chained P t k = each_then P (see (cond (nat_le m.df r.f) (mark_at (place r.stack (r.f - m.df))) chain_broken)) _ (λ lower. k)
 
     pub go_to_calm : (code : Code) (ws : List Word) → Each Calm (go_to code r next m ws)
     go_to_calm code ws =
@@ -276,7 +276,7 @@ module _ (r : Registers) (next : ℕ) where
 
     pub arrays_row_calm : (code : Code) (ws : List Word) → Each Calm (arrays code r next m ws)
     arrays_row_calm code ws =
-        each_then Calm (see (wholes ws >-> wanted)) _ (λ w. each_chained Calm _ (
+        each_then Calm (see (wholes ws >-> intrinsic_wanted)) _ (λ w. each_chained Calm _ (
         each_then Calm (extents w.bounds) _ (λ e. each_then Calm (if_held w.count e) _ (λ held.
         made_calm w.count held [] (λ (made : List Word). finished_at r m made next) (λ made. pushed_calm r.stack made _)))))
 
@@ -317,7 +317,7 @@ module _ (r : Registers) (next : ℕ) where
         by_number places (suc n) = wakes n
 
     -- and of each start of a process
-    pub each_start : (P : Change → Type 0) → ((s : Registers) (ws : List Word) → P (start s ws (finished_at r m [] next))) → (code : Code) (ws : List Word)
+    pub each_start : (P : Change → Type 0) → ((s : Registers) (ws : List Word) → P (change_start s ws (finished_at r m [] next))) → (code : Code) (ws : List Word)
         → Each P (start_process code r next m ws)
     each_start P h code ws =
         each_then P (starting r ws) _ (λ t. each_chained P _ (λ n. each_then P (see (first_display (n + 1) t)) _ (λ display.

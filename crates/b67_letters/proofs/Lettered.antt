@@ -27,17 +27,17 @@ use Rattle.b67_table.specs.Outcome.{Outcome, gives, faults, interrupts, limit}
 use Rattle.b67_table.specs.PrivateRows.{branch}
 use Rattle.b67_table.specs.Chains.{place}
 use Rattle.b67_table.specs.References.{couple_cell, cell_of, reached, popped, popped_two}
-use Rattle.b67_table.specs.Look.{Look, at, ◌>->◌, valid, seen}
+use Rattle.b67_table.specs.Look.{Look, at, ◌>->◌, valid, look_seen}
 use Rattle.b67_table.specs.Program.{asked, effect_of, Program}
 use Rattle.b67_table.specs.Linkage.{entry}
 use Rattle.b67_table.specs.Intrinsics.{intrinsic_row, intrinsic}
-use Rattle.b67_table.specs.Rows.{private_part, acts as acts_by, row, plain_row, turn, enter_procedure, enter_by, level_below, marked, enter}
-use Rattle.b67_table.specs.Runs.{Acts, acts, fails}
+use Rattle.b67_table.specs.Rows.{private_part, acts as acts_by, row, plain_row, branch_turn, enter_procedure, enter_by, level_below, marked, enter}
+use Rattle.b67_table.specs.Runs.{ProcessActs, acts, fails}
 use Rattle.b67_table.specs.Table.{raw, table, plain, stack_length, by_row, by_operator, by_registers, operator_at, class_at, class_by, is_private, is_new, private_at, private_in, private_next}
 use Rattle.b67_table.proofs.Limit.{new_of}
 use Rattle.b67_deeds.specs.declared.Letter.{Letter}
 use Rattle.b67_deeds.specs.declared.Letter.TheVariants.{Index, ElementRead, Pass, Enter, Leave, Turn, Fault}
-use Rattle.b67_letters.specs.Letters.{told_by, value_letter, place_letter, loaded_letter, stored_letter, left_letter, letter_of, intrinsic_letter, called_letter, called_by, called, plain_letter, operator_letter, fetched_letter, registers_letter, letter_by, letter}
+use Rattle.b67_letters.specs.Letters.{told_by, value_letter, place_letter, loaded_letter, stored_letter, left_letter, letter_of, intrinsic_letter, called_letter, called_by, control_called, plain_letter, operator_letter, fetched_letter, registers_letter, letter_by, letter}
 use Rattle.b67_letters.specs.Laws.{ActionsHaveLetters}
 use Rattle.b67_letters.proofs.Looks.{then_seen}
 use Rattle.b67_letters.proofs.Seen.{Goes, goes}
@@ -54,7 +54,7 @@ module _ (code : Code) (img after : Image) (p : ℕ) (r : Registers) (next : ℕ
   Comes t = effect_of p img (asked img t) ≡ effects.gives after
 
   -- what is found first decides
-  told : {A : Type 0} (look : Look A) (f : A → Program) (kind : A → Option Letter) → ((a : A) → Has (kind a)) → Goes p img after look f → Has (told_by kind (seen img.stacks look))
+  told : {A : Type 0} (look : Look A) (f : A → Program) (kind : A → Option Letter) → ((a : A) → Has (kind a)) → Goes p img after look f → Has (told_by kind (look_seen img.stacks look))
   told look f kind h g = ((h g.value).0, ap (told_by kind) g.is ∙ (h g.value).1)
 
   -- ---- ENTR
@@ -77,15 +77,15 @@ module _ (code : Code) (img after : Image) (p : ℕ) (r : Registers) (next : ℕ
   abbrev above_mark : Look Word
   above_mark = at (place r.stack (r.f + 1)) (λ (w : Option Word). valid w)
 
-  found_has : (above : Word) → seen img.stacks above_mark ≡ Ok above → (o : Option Cell) → cell_of r above ≡ o → (pcw : Pcw) → seen img.stacks (called_by above o) ≡ Ok pcw
-      → Has (called_letter img r.stack pcw) → Has (told_by (called_letter img r.stack) (seen img.stacks (called r)))
+  found_has : (above : Word) → look_seen img.stacks above_mark ≡ Ok above → (o : Option Cell) → cell_of r above ≡ o → (pcw : Pcw) → look_seen img.stacks (called_by above o) ≡ Ok pcw
+      → Has (called_letter img r.stack pcw) → Has (told_by (called_letter img r.stack) (look_seen img.stacks (control_called r)))
   found_has above is o c pcw v h =
-      let here : seen img.stacks (called r) ≡ Ok pcw =
-      then_seen img.stacks above_mark above (λ (a : Word). called_by a (cell_of r a)) is ∙ ap (λ (x : Option Cell). seen img.stacks (called_by above x)) c ∙ v in
+      let here : look_seen img.stacks (control_called r) ≡ Ok pcw =
+      then_seen img.stacks above_mark above (λ (a : Word). called_by a (cell_of r a)) is ∙ ap (λ (x : Option Cell). look_seen img.stacks (called_by above x)) c ∙ v in
       (h.0, ap (told_by (called_letter img r.stack)) here ∙ h.1)
 
-  by_cell : (m : Mscw) (above : Word) → seen img.stacks above_mark ≡ Ok above → (o : Option Cell) → cell_of r above ≡ o → Comes (enter_by code r next m above o)
-      → Has (told_by (called_letter img r.stack) (seen img.stacks (called r)))
+  by_cell : (m : Mscw) (above : Word) → look_seen img.stacks above_mark ≡ Ok above → (o : Option Cell) → cell_of r above ≡ o → Comes (enter_by code r next m above o)
+      → Has (told_by (called_letter img r.stack) (look_seen img.stacks (control_called r)))
   by_cell m above is None c e =
       let g = goes p img after (valid (as_pcw above)) (λ (pcw : Pcw). enter_procedure code r next m pcw (level_below r pcw.level)) e in
       found_has above is None c g.value g.is (callee_has m g.value (level_below r g.value.level) g.comes)
@@ -95,7 +95,7 @@ module _ (code : Code) (img after : Image) (p : ℕ) (r : Registers) (next : ℕ
       found_has above is (Some x) c k.value (then_seen img.stacks (reached (Some x)) g.value (λ (u : Reached). valid (as_pcw u.word)) g.is ∙ k.is)
       (callee_has m k.value (Some g.value.cell.frame) k.comes)
 
-  enter_has : Comes (enter code r next) → Has (told_by (called_letter img r.stack) (seen img.stacks (called r)))
+  enter_has : Comes (enter code r next) → Has (told_by (called_letter img r.stack) (look_seen img.stacks (control_called r)))
   enter_has e =
       let g = goes p img after (marked r) _ e in
       let k = goes p img after above_mark (λ (above : Word). enter_by code r next g.value above (cell_of r above)) g.comes in
@@ -145,7 +145,7 @@ module _ (code : Code) (img after : Image) (p : ℕ) (r : Registers) (next : ℕ
   plain_has kinds.Load n e = told (popped r) _ loaded_letter (λ x. (_, refl)) (goes p img after (popped r) _ e)
   plain_has kinds.Noop n e = private_only n
 
-  branch_has : (kind : BranchKind) (target : ℕ) (b : Bool) → is_private (class_by (if b then private_part (branch kind target) else acts_by (turn kind target))) ≡ false
+  branch_has : (kind : BranchKind) (target : ℕ) (b : Bool) → is_private (class_by (if b then private_part (branch kind target) else acts_by (branch_turn kind target))) ≡ false
       → Has (if b then None else Some Turn)
   branch_has kind target true n = private_only n
   branch_has kind target false n = (Turn, refl)
@@ -185,7 +185,7 @@ module _ (code : Code) (img after : Image) (p : ℕ) where
       only true e = e
       only false e = refl
 
-has_letter : (code : Code) (img : Image) (p : ℕ) (after : Image) → Acts code p img after → Has (letter code img p)
+has_letter : (code : Code) (img : Image) (p : ℕ) (after : Image) → ProcessActs code p img after → Has (letter code img p)
 has_letter code img p after (acts np t) = acts_has code img after p np t
 has_letter code img p after (fails kind t) = (Fault, ap (λ (o : Outcome Image). letter_by o (registers_letter code img (numbered img.regs p))) t)
 
@@ -234,7 +234,7 @@ module _ (img : Image) (r : Registers) where
   plain_none kinds.Load n = action_only n
   plain_none kinds.Noop n = refl
 
-  branch_none : (kind : BranchKind) (target : ℕ) (b : Bool) → is_private (class_by (if b then private_part (branch kind target) else acts_by (turn kind target))) ≡ true
+  branch_none : (kind : BranchKind) (target : ℕ) (b : Bool) → is_private (class_by (if b then private_part (branch kind target) else acts_by (branch_turn kind target))) ≡ true
       → (if b then None else Some Turn) ≡ None
   branch_none kind target true n = refl
   branch_none kind target false n = action_only n

@@ -28,17 +28,17 @@ use Rattle.b67_table.specs.Private.{frame}
 use Rattle.b67_table.specs.PrivateRows.{branch}
 use Rattle.b67_table.specs.Chains.{place}
 use Rattle.b67_table.specs.References.{cell_of, reached}
-use Rattle.b67_table.specs.Look.{Look, at, valid, seen}
+use Rattle.b67_table.specs.Look.{Look, at, valid, look_seen}
 use Rattle.b67_table.specs.Questions.{told}
 use Rattle.b67_table.specs.Questions as questions
-use Rattle.b67_table.specs.Writes.{written}
+use Rattle.b67_table.specs.Writes.{write_made}
 use Rattle.b67_table.specs.Writes as writes
 use Rattle.b67_table.specs.Program.{asked, Change, done, look_up, write, registers, close_events, end_process, go_on, Program}
 use Rattle.b67_table.specs.Linkage.{entry, caused_by, leave_base, leave_other, frame_cells}
 use Rattle.b67_table.specs.Arguments.{finished_at}
 use Rattle.b67_table.specs.Intrinsics.{tell_event, gone_on, row_of_intrinsic, intrinsic_row, intrinsic}
-use Rattle.b67_table.specs.Arrays.{index, index_and_load, index_mother}
-use Rattle.b67_table.specs.Rows.{private_part, row, plain_row, acts, turn, value_call, load_value, load_through, evaluate, store, enter_procedure, enter_by, level_below, marked, enter, exit, return_value}
+use Rattle.b67_table.specs.Arrays.{index_program, index_and_load, index_mother}
+use Rattle.b67_table.specs.Rows.{private_part, row, plain_row, acts, branch_turn, value_call, load_value, load_through, evaluate, store, enter_procedure, enter_by, level_below, marked, enter, exit, return_value}
 use Rattle.b67_table.specs.Table.{table, operator_at}
 use Rattle.b67_table.proofs.Keeping.{Gives}
 use Rattle.b67_deeds.specs.declared.EventAct.TheVariants as act
@@ -49,7 +49,7 @@ use Rattle.b67_deeds.specs.Deeds as deeds
 use Rattle.b67_events.specs.Events.{state_at}
 use Rattle.b67_deeds.specs.declared.Letter.{Letter}
 use Rattle.b67_deeds.specs.declared.Letter.TheVariants.{Enter, Leave, End, Cause, CauseAndReset, Liberate}
-use Rattle.b67_letters.specs.Letters.{told_by, letter_of, intrinsic_letter, called_letter, called_by, called, plain_letter, operator_letter, fetched_letter, registers_letter, letter_by, letter}
+use Rattle.b67_letters.specs.Letters.{told_by, letter_of, intrinsic_letter, called_letter, called_by, control_called, plain_letter, operator_letter, fetched_letter, registers_letter, letter_by, letter}
 use Rattle.b67_letters.specs.Releases.{change_releases, effect_releases, row_releases, fetched_releases, registers_releases, released_by, releases}
 use Rattle.b67_letters.specs.Laws.{may_release, FewOperatorsRelease}
 use Rattle.b67_letters.proofs.Looks.{then_seen}
@@ -65,19 +65,19 @@ Mute p c = (img : Image) → change_releases p c img ≡ []
 pub calm_mute : (p : ℕ) (c : Change) → Calm c → Mute p c
 calm_mute p done k img = refl
 calm_mute p (look_up q more) k img = calm_mute p (more (told img q)) (k (told img q)) img
-calm_mute p (write (writes.save place w) next) k img = calm_mute p next k (written p (writes.save place w) img)
-calm_mute p (write (writes.cut stack n) next) k img = calm_mute p next k (written p (writes.cut stack n) img)
-calm_mute p (write (writes.push stack w) next) k img = calm_mute p next k (written p (writes.push stack w) img)
-calm_mute p (write (writes.registers r) next) k img = calm_mute p next k (written p (writes.registers r) img)
-calm_mute p (write (writes.open_row n count counted) next) k img = calm_mute p next k (written p (writes.open_row n count counted) img)
-calm_mute p (write (writes.write_row n j w) next) k img = calm_mute p next k (written p (writes.write_row n j w) img)
-calm_mute p (write (writes.close_row n) next) k img = calm_mute p next k (written p (writes.close_row n) img)
-calm_mute p (write (writes.open_event place) next) k img = calm_mute p next k (written p (writes.open_event place) img)
-calm_mute p (write (writes.close_events stack j) next) k img = calm_mute p next k (written p (writes.close_events stack j) img)
+calm_mute p (write (writes.save place w) next) k img = calm_mute p next k (write_made p (writes.save place w) img)
+calm_mute p (write (writes.cut stack n) next) k img = calm_mute p next k (write_made p (writes.cut stack n) img)
+calm_mute p (write (writes.push stack w) next) k img = calm_mute p next k (write_made p (writes.push stack w) img)
+calm_mute p (write (writes.registers r) next) k img = calm_mute p next k (write_made p (writes.registers r) img)
+calm_mute p (write (writes.open_row n count counted) next) k img = calm_mute p next k (write_made p (writes.open_row n count counted) img)
+calm_mute p (write (writes.write_row n j w) next) k img = calm_mute p next k (write_made p (writes.write_row n j w) img)
+calm_mute p (write (writes.close_row n) next) k img = calm_mute p next k (write_made p (writes.close_row n) img)
+calm_mute p (write (writes.open_event place) next) k img = calm_mute p next k (write_made p (writes.open_event place) img)
+calm_mute p (write (writes.close_events stack j) next) k img = calm_mute p next k (write_made p (writes.close_events stack j) img)
 calm_mute p (write (writes.event_deed x place) next) k img = absurd k
 calm_mute p (write (writes.wait_any places) next) k img = absurd k
-calm_mute p (write writes.go_on next) k img = calm_mute p next k (written p writes.go_on img)
-calm_mute p (write (writes.line bytes) next) k img = calm_mute p next k (written p (writes.line bytes) img)
+calm_mute p (write writes.go_on next) k img = calm_mute p next k (write_made p writes.go_on img)
+calm_mute p (write (writes.line bytes) next) k img = calm_mute p next k (write_made p (writes.line bytes) img)
 calm_mute p (write (writes.start r words) next) k img = absurd k
 calm_mute p (write (writes.end_process stack) next) k img = absurd k
 
@@ -111,7 +111,7 @@ module _ (code : Code) (img : Image) (p : ℕ) (l : Letter) (r : Registers) (har
   base_mute : (cells : List Word) → r.task ≡ None → Each (Mute p) (leave_base r cells next)
   base_mute cells idle =
       each_critical (Mute p) r.stack (0 ∷ []) _
-      (arrays_have (Mute p) (λ n more j i. j (written p (writes.close_row n) i)) (λ n more j i. j (told i (questions.row n)) i) cells
+      (arrays_have (Mute p) (λ n more j i. j (write_made p (writes.close_row n) i)) (λ n more j i. j (told i (questions.row n)) i) cells
       (close_events r.stack 0 (registers (record r { place = next }) (caused_by r.task (end_process r.stack done))))
       (λ i. ap (λ (t : Option Place). change_releases p (close_events r.stack 0 (registers (record r { place = next }) (caused_by t (end_process r.stack done)))) i) idle))
 
@@ -139,8 +139,8 @@ module _ (code : Code) (img : Image) (p : ℕ) (l : Letter) (r : Registers) (har
     told_mute : (x : EventTest) → ((e : EventState) → (deeds.deed (deeds.tests x) p e).frees ≡ []) → (ws : List Word) → Each (Mute p) (tell_event x code r next m ws)
     told_mute x none ws =
         each_tell r next m (Mute p) x (λ at told i.
-        ap (λ ps. ps ++ change_releases p (finished_at r m (truth told ∷ []) next) (written p (writes.event_deed (deeds.tests x) at) i)) (none (state_at at i.events))
-        ∙ calm_mute p (finished_at r m (truth told ∷ []) next) tt (written p (writes.event_deed (deeds.tests x) at) i))
+        ap (λ ps. ps ++ change_releases p (finished_at r m (truth told ∷ []) next) (write_made p (writes.event_deed (deeds.tests x) at) i)) (none (state_at at i.events))
+        ∙ calm_mute p (finished_at r m (truth told ∷ []) next) tt (write_made p (writes.event_deed (deeds.tests x) at) i))
         code ws
 
     name_mute : (name : Intrinsic) → Some (letter_of woken name) ≡ Some l → (ws : List Word) → Each (Mute p) (row_of_intrinsic name code r next m ws)
@@ -148,13 +148,13 @@ module _ (code : Code) (img : Image) (p : ℕ) (l : Letter) (r : Registers) (har
     name_mute names.Select e ws = calmly names.Select ws (select_calm r next m code ws)
     name_mute names.Arrays e ws = calmly names.Arrays ws (arrays_row_calm r next m code ws)
     name_mute names.Event e ws = calmly names.Event ws (event_calm r next m code ws)
-    name_mute names.Start e ws = each_start r next m (Mute p) (λ s words i. finish_mute (written p (writes.start s words) i)) code ws
+    name_mute names.Start e ws = each_start r next m (Mute p) (λ s words i. finish_mute (write_made p (writes.start s words) i)) code ws
     name_mute names.Write e ws = calmly names.Write ws (write_calm r next m code ws)
-    name_mute names.Wait e ws = each_event r next m (Mute p) (deeds.acts act.Wait) (λ x i. finish_mute (written p (writes.event_deed (deeds.acts act.Wait) x) i)) code ws
+    name_mute names.Wait e ws = each_event r next m (Mute p) (deeds.acts act.Wait) (λ x i. finish_mute (write_made p (writes.event_deed (deeds.acts act.Wait) x) i)) code ws
     name_mute names.Cause e ws = harm l Cause r refl (λ same idle. cc) e harmless
-    name_mute names.Reset e ws = each_event r next m (Mute p) (deeds.acts act.Reset) (λ x i. finish_mute (written p (writes.event_deed (deeds.acts act.Reset) x) i)) code ws
+    name_mute names.Reset e ws = each_event r next m (Mute p) (deeds.acts act.Reset) (λ x i. finish_mute (write_made p (writes.event_deed (deeds.acts act.Reset) x) i)) code ws
     name_mute names.Happened e ws = told_mute test.Happened (λ e. refl) ws
-    name_mute names.Procure e ws = each_event r next m (Mute p) (deeds.acts act.Procure) (λ x i. finish_mute (written p (writes.event_deed (deeds.acts act.Procure) x) i)) code ws
+    name_mute names.Procure e ws = each_event r next m (Mute p) (deeds.acts act.Procure) (λ x i. finish_mute (write_made p (writes.event_deed (deeds.acts act.Procure) x) i)) code ws
     name_mute names.Liberate e ws = harm l Liberate r refl (λ same idle. cc) e harmless
     name_mute names.WaitAny e ws =
         each_several r next m (Mute p) (λ n. calm_mute p (gone_on r next m n) tt) (λ n. calm_mute p (go_on (gone_on r next m (suc n))) tt) (λ places i. refl) code ws
@@ -177,15 +177,15 @@ module _ (code : Code) (img : Image) (p : ℕ) (l : Letter) (r : Registers) (har
   abbrev above_mark : Look Word
   above_mark = at (place r.stack (r.f + 1)) (λ (w : Option Word). valid w)
 
-  module _ (e : told_by (called_letter img r.stack) (seen img.stacks (called r)) ≡ Some l) where
-    same : (above : Word) → seen img.stacks above_mark ≡ Ok above → (o : Option Cell) → cell_of r above ≡ o → (pcw : Pcw) → seen img.stacks (called_by above o) ≡ Ok pcw
+  module _ (e : told_by (called_letter img r.stack) (look_seen img.stacks (control_called r)) ≡ Some l) where
+    same : (above : Word) → look_seen img.stacks above_mark ≡ Ok above → (o : Option Cell) → cell_of r above ≡ o → (pcw : Pcw) → look_seen img.stacks (called_by above o) ≡ Ok pcw
         → called_letter img r.stack pcw ≡ Some l
     same above is o c pcw v =
-        let here : seen img.stacks (called r) ≡ Ok pcw =
-        then_seen img.stacks above_mark above (λ (a : Word). called_by a (cell_of r a)) is ∙ ap (λ (x : Option Cell). seen img.stacks (called_by above x)) c ∙ v in
+        let here : look_seen img.stacks (control_called r) ≡ Ok pcw =
+        then_seen img.stacks above_mark above (λ (a : Word). called_by a (cell_of r a)) is ∙ ap (λ (x : Option Cell). look_seen img.stacks (called_by above x)) c ∙ v in
         sym (ap (told_by (called_letter img r.stack)) here) ∙ e
 
-    by_cell : (m : Mscw) (above : Word) → seen img.stacks above_mark ≡ Ok above → (o : Option Cell) → cell_of r above ≡ o → Gives (Mute p) (asked img (enter_by code r next m above o))
+    by_cell : (m : Mscw) (above : Word) → look_seen img.stacks above_mark ≡ Ok above → (o : Option Cell) → cell_of r above ≡ o → Gives (Mute p) (asked img (enter_by code r next m above o))
     by_cell m above is None c = gives_seen img (Mute p) (valid (as_pcw above)) _ (λ pcw v. callee_mute m pcw (level_below r pcw.level) (same above is None c pcw v))
     by_cell m above is (Some x) c =
         gives_seen img (Mute p) (reached (Some x)) _ (λ v s. gives_seen img (Mute p) (valid (as_pcw v.word)) _ (λ pcw t.
@@ -217,7 +217,7 @@ module _ (code : Code) (img : Image) (p : ℕ) (l : Letter) (r : Registers) (har
   plain_mute kinds.Leqv e = refl
   plain_mute kinds.Exit e = mute_given p img (asked img (exit r next)) (each_asked (Mute p) img (exit r next) (exit_mute (nat_eq (frame r) 0) e))
   plain_mute kinds.Nxln e = by_calm (index_mother r next) (index_mother_calm r next)
-  plain_mute kinds.Indx e = by_calm (index r next) (index_calm r next)
+  plain_mute kinds.Indx e = by_calm (index_program r next) (index_calm r next)
   plain_mute kinds.Retn e = by_calm (return_value r next) (return_calm r next)
   plain_mute kinds.Entr e = mute_given p img (asked img (enter code r next)) (enter_mute e)
   plain_mute kinds.Eval e = by_calm (evaluate r next) (evaluate_calm r next)
@@ -236,9 +236,9 @@ module _ (code : Code) (img : Image) (p : ℕ) (l : Letter) (r : Registers) (har
   plain_mute kinds.Load e = by_calm (load_value r next) (load_calm r next)
   plain_mute kinds.Noop e = refl
 
-  branch_mute : (kind : BranchKind) (target : ℕ) (b : Bool) → row_releases (if b then private_part (branch kind target) else acts (turn kind target)) code img p r next ≡ []
+  branch_mute : (kind : BranchKind) (target : ℕ) (b : Bool) → row_releases (if b then private_part (branch kind target) else acts (branch_turn kind target)) code img p r next ≡ []
   branch_mute kind target true = refl
-  branch_mute kind target false = by_calm (turn kind target r next) (turn_calm r next kind target)
+  branch_mute kind target false = by_calm (branch_turn kind target r next) (turn_calm r next kind target)
 
   pub operator_mute : (op : Operator) → operator_letter op img r ≡ Some l → row_releases (row op r.place) code img p r next ≡ []
   unfolding row

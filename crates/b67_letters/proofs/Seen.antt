@@ -4,7 +4,7 @@ use Rattle.b67_store.specs.Store.{word_at, words_of}
 use Rattle.b67_table.specs.declared.InterruptKind.{InterruptKind}
 use Rattle.b67_table.specs.Effect.{gives}
 use Rattle.b67_table.specs.Image.{Image}
-use Rattle.b67_table.specs.Look.{Look, found, stops, at, several, seen}
+use Rattle.b67_table.specs.Look.{Look, found, stops, at, several, look_seen}
 use Rattle.b67_table.specs.Program.{◌>>=◌, see, asked, effect_of, Program, Change}
 use Rattle.b67_table.proofs.Finding.{Found, see_then}
 use Rattle.b67_table.proofs.Keeping.{Gives}
@@ -14,14 +14,14 @@ found_self (Ok a) = refl
 found_self (Err kind) = tt
 
 -- where all changes are such after what is found, they are such
-pub gives_seen : {A : Type 0} (img : Image) (P : Change → Type 0) (l : Look A) (f : A → Program) → ((a : A) → seen img.stacks l ≡ Ok a → Gives P (asked img (f a)))
+pub gives_seen : {A : Type 0} (img : Image) (P : Change → Type 0) (l : Look A) (f : A → Program) → ((a : A) → look_seen img.stacks l ≡ Ok a → Gives P (asked img (f a)))
     → Gives P (asked img (see l >>= f))
-gives_seen {A} img P l f k = see_then img (λ (a : A). seen img.stacks l ≡ Ok a) P l f (found_self (seen img.stacks l)) k
+gives_seen {A} img P l f k = see_then img (λ (a : A). look_seen img.stacks l ≡ Ok a) P l f (found_self (look_seen img.stacks l)) k
 
 -- where the program comes to a new image, something is found, and it comes to it from there
 pub record Goes {A : Type 0} (p : ℕ) (img after : Image) (l : Look A) (f : A → Program) : Type 0 where
   pub value : A
-  pub is : seen img.stacks l ≡ Ok value
+  pub is : look_seen img.stacks l ≡ Ok value
   pub comes : effect_of p img (asked img (f value)) ≡ gives after
 
 pub goes : {A : Type 0} (p : ℕ) (img after : Image) (l : Look A) (f : A → Program) → effect_of p img (asked img (see l >>= f)) ≡ gives after → Goes p img after l f

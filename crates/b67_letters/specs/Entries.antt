@@ -5,7 +5,7 @@ use Rattle.b67_table.specs.Image.{Image}
 use Rattle.b67_table.specs.Runs.{Runs, begin, entry}
 use Rattle.b67_deeds.specs.declared.Letter.{Letter}
 use Rattle.b67_letters.specs.Letters.{letter}
-use Rattle.b67_letters.specs.Releases.{releases, starts}
+use Rattle.b67_letters.specs.Releases.{releases, operator_starts}
 
 -- the letter of each entry, by the operator that performed it
 abbrev pub letters : {code : Code} {h counts : List ℕ} {img : Image} → Runs code h counts img → List (Option Letter)
@@ -20,4 +20,4 @@ all_released {code} (entry {p = p} runs e) = releases code e.quiet p ∷ all_rel
 -- whom each entry started
 abbrev pub all_started : {code : Code} {h counts : List ℕ} {img : Image} → Runs code h counts img → List (Option ℕ)
 all_started begin = []
-all_started {code} (entry {p = p} runs e) = starts code e.quiet p ∷ all_started runs
+all_started {code} (entry {p = p} runs e) = operator_starts code e.quiet p ∷ all_started runs

@@ -4,7 +4,7 @@ use Rattle.b67_list.specs.Numbered.{numbered}
 use Rattle.b67_control.specs.declared.Registers.{Registers}
 use Rattle.b67_segment.specs.declared.code.Code.{Code}
 use Rattle.b67_table.specs.Image.{Image}
-use Rattle.b67_table.specs.Runs.{Acts}
+use Rattle.b67_table.specs.Runs.{ProcessActs}
 use Rattle.b67_table.specs.Table.{plain}
 use Rattle.b67_deeds.specs.declared.Letter.{Letter}
 use Rattle.b67_deeds.specs.declared.Letter.TheVariants.{End, Cause, CauseAndReset, Liberate}
@@ -13,7 +13,7 @@ use Rattle.b67_letters.specs.Releases.{releases}
 
 -- the operator of each entry has a letter, and no plain operator has one
 pub record ActionsHaveLetters : Type 0 where
-  pub acts : (code : Code) (img after : Image) (p : ℕ) → Acts code p img after → (l : Letter) × (letter code img p ≡ Some l)
+  pub acts : (code : Code) (img after : Image) (p : ℕ) → ProcessActs code p img after → (l : Letter) × (letter code img p ≡ Some l)
   pub plains : (code : Code) (img : Image) (p : ℕ) → plain code img p ≡ true → letter code img p ≡ None
 
 -- an action of this letter may make others able

@@ -20,7 +20,7 @@ use Rattle.b67_table.specs.declared.InterruptKind.{InterruptKind}
 use Rattle.b67_table.specs.Arrays.{as_indexed}
 use Rattle.b67_table.specs.Chains.{place}
 use Rattle.b67_table.specs.Image.{Image, woken_number}
-use Rattle.b67_table.specs.Look.{Look, at, ◌>->◌, valid, seen}
+use Rattle.b67_table.specs.Look.{Look, at, ◌>->◌, valid, look_seen}
 use Rattle.b67_table.specs.Names.{intrinsic_numbered}
 use Rattle.b67_table.specs.Outcome.{Outcome, gives, faults, interrupts, limit}
 use Rattle.b67_table.specs.Private.{frame}
@@ -105,8 +105,8 @@ called_by w None = valid (as_pcw w)
 called_by w (Some c) = reached (Some c) >-> (λ (v : Reached). valid (as_pcw v.word))
 
 -- the control word above the mark at F, or the one that the word there reaches
-abbrev pub called : Registers → Look Pcw
-called r = at (place r.stack (r.f + 1)) (λ (w : Option Word). valid w) >-> (λ (above : Word). called_by above (cell_of r above))
+abbrev pub control_called : Registers → Look Pcw
+control_called r = at (place r.stack (r.f + 1)) (λ (w : Option Word). valid w) >-> (λ (above : Word). called_by above (cell_of r above))
 
 -- ---- operators
 
@@ -115,18 +115,18 @@ plain_letter kinds.Lodt img r = Some Pass
 plain_letter kinds.Nxlv img r = Some ElementRead
 plain_letter kinds.Nxln img r = Some Index
 plain_letter kinds.Indx img r = Some Index
-plain_letter kinds.Load img r = told_by loaded_letter (seen img.stacks (popped r))
-plain_letter kinds.Eval img r = told_by place_letter (seen img.stacks (popped r >-> (λ (x : Word). reached (cell_of r x))))
-plain_letter kinds.Stod img r = told_by stored_letter (seen img.stacks (popped_two r))
-plain_letter kinds.Ston img r = told_by stored_letter (seen img.stacks (popped_two r))
-plain_letter kinds.Entr img r = told_by (called_letter img r.stack) (seen img.stacks (called r))
+plain_letter kinds.Load img r = told_by loaded_letter (look_seen img.stacks (popped r))
+plain_letter kinds.Eval img r = told_by place_letter (look_seen img.stacks (popped r >-> (λ (x : Word). reached (cell_of r x))))
+plain_letter kinds.Stod img r = told_by stored_letter (look_seen img.stacks (popped_two r))
+plain_letter kinds.Ston img r = told_by stored_letter (look_seen img.stacks (popped_two r))
+plain_letter kinds.Entr img r = told_by (called_letter img r.stack) (look_seen img.stacks (control_called r))
 plain_letter kinds.Exit img r = Some (left_letter (frame r))
 plain_letter kinds.Retn img r = Some Leave
 plain_letter _ img r = None
 
 -- the letter of an operator of a process with these registers: a private one has none
 abbrev pub operator_letter : Operator → Image → Registers → Option Letter
-operator_letter (ops.Valc couple) img r = told_by value_letter (seen img.stacks (reached (couple_cell r couple.level couple.index)))
+operator_letter (ops.Valc couple) img r = told_by value_letter (look_seen img.stacks (reached (couple_cell r couple.level couple.index)))
 operator_letter (ops.Branch kind target) img r = if nat_lt r.place target then None else Some Turn
 operator_letter (ops.Plain kind) img r = plain_letter kind img r
 operator_letter _ img r = None

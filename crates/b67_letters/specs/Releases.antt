@@ -12,9 +12,9 @@ use Rattle.b67_table.specs.Image.{Image}
 use Rattle.b67_table.specs.Outcome.{Outcome, gives, faults, interrupts, limit}
 use Rattle.b67_table.specs.Program.{Change, done, look_up, write, asked}
 use Rattle.b67_table.specs.Questions.{told}
-use Rattle.b67_table.specs.Rows.{Row, private_part, action, row}
+use Rattle.b67_table.specs.Rows.{TableRow, private_part, action, row}
 use Rattle.b67_table.specs.Table.{table, operator_at}
-use Rattle.b67_table.specs.Writes.{Write, written}
+use Rattle.b67_table.specs.Writes.{Write, write_made}
 use Rattle.b67_table.specs.Writes as writes
 
 -- ---- whom it releases
@@ -27,14 +27,14 @@ write_releases p _ img = []
 abbrev pub change_releases : ℕ → Change → Image → List ℕ
 change_releases p done img = []
 change_releases p (look_up q more) img = change_releases p (more (told img q)) img
-change_releases p (write w next) img = write_releases p w img ++ change_releases p next (written p w img)
+change_releases p (write w next) img = write_releases p w img ++ change_releases p next (write_made p w img)
 
 abbrev pub effect_releases : ℕ → Image → Effect Change → List ℕ
 effect_releases p img (effects.gives change) = change_releases p change img
 effect_releases p img (effects.faults kind) = []
 effect_releases p img (effects.interrupts kind) = []
 
-abbrev pub row_releases : Row → Code → Image → ℕ → Registers → ℕ → List ℕ
+abbrev pub row_releases : TableRow → Code → Image → ℕ → Registers → ℕ → List ℕ
 row_releases (private_part change) code img p r next = []
 row_releases (action program) code img p r next = effect_releases p img (asked img (program code r next))
 
@@ -70,5 +70,5 @@ started_by img (interrupts kind) = None
 started_by img limit = None
 
 -- The process that the next operator of a process starts, where it starts one.
-abbrev pub starts : Code → Image → ℕ → Option ℕ
-starts code img p = started_by img (table code img p)
+abbrev pub operator_starts : Code → Image → ℕ → Option ℕ
+operator_starts code img p = started_by img (table code img p)

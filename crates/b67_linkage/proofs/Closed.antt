@@ -7,7 +7,7 @@ use Rattle.b67_control.specs.declared.Descriptor.{Descriptor}
 use Rattle.b67_control.specs.Control.{as_descriptor}
 use Rattle.b67_store.specs.Store.{Row, Rows, closed_at, row_words, row_words_or}
 use Rattle.b67_store.proofs.StoreLaws.{changed_others}
-use Rattle.b67_linkage.specs.Closing.{without, without_row, without_rows, without_array, without_arrays}
+use Rattle.b67_linkage.specs.Closing.{rows_without_word, without_row, without_rows, without_array, without_arrays}
 
 -- ---- the words of a list one after another
 
@@ -44,7 +44,7 @@ closed_twice (x ∷ rows) (suc n) = ap (λ (z : Rows). x ∷ z) (closed_twice ro
 
 -- ---- a mother's row is closed before or after the rows that its words describe
 
-without_swap : (d : Option Descriptor) (rows : Rows) (a : ℕ) → closed_at (without without_row d rows) a ≡ without without_row d (closed_at rows a)
+without_swap : (d : Option Descriptor) (rows : Rows) (a : ℕ) → closed_at (rows_without_word without_row d rows) a ≡ rows_without_word without_row d (closed_at rows a)
 without_swap None rows a = refl
 without_swap (Some d) rows a = by_copy d.copy
   where
@@ -55,29 +55,29 @@ without_swap (Some d) rows a = by_copy d.copy
 rows_swap : (words : List Word) (rows : Rows) (a : ℕ) → closed_at (without_rows words rows) a ≡ without_rows words (closed_at rows a)
 rows_swap [] rows a = refl
 rows_swap (w ∷ words) rows a =
-    rows_swap words (without without_row (as_descriptor w) rows) a ∙ ap (λ (z : Rows). without_rows words z) (without_swap (as_descriptor w) rows a)
+    rows_swap words (rows_without_word without_row (as_descriptor w) rows) a ∙ ap (λ (z : Rows). without_rows words z) (without_swap (as_descriptor w) rows a)
 
 -- rows that agree once a mother's is closed agree after the rows of words are closed too
 pub rows_alike : (words : List Word) (r q : Rows) (a : ℕ) → closed_at r a ≡ closed_at q a → closed_at (without_rows words r) a ≡ closed_at (without_rows words q) a
 rows_alike words r q a e = rows_swap words r a ∙ ap (λ (z : Rows). without_rows words z) e ∙ sym (rows_swap words q a)
 
 -- the rows of words in another order
-two_swap : (o p : Option Descriptor) (rows : Rows) → without without_row p (without without_row o rows) ≡ without without_row o (without without_row p rows)
+two_swap : (o p : Option Descriptor) (rows : Rows) → rows_without_word without_row p (rows_without_word without_row o rows) ≡ rows_without_word without_row o (rows_without_word without_row p rows)
 two_swap None p rows = refl
 two_swap (Some d) p rows = by_copy d.copy
   where
-    by_copy : (b : Bool) → without without_row p (cond b rows (closed_at rows d.address)) ≡ cond b (without without_row p rows) (closed_at (without without_row p rows) d.address)
+    by_copy : (b : Bool) → rows_without_word without_row p (cond b rows (closed_at rows d.address)) ≡ cond b (rows_without_word without_row p rows) (closed_at (rows_without_word without_row p rows) d.address)
     by_copy true = refl
     by_copy false = sym (without_swap p rows d.address)
 
-rows_later : (words : List Word) (o : Option Descriptor) (rows : Rows) → without_rows words (without without_row o rows) ≡ without without_row o (without_rows words rows)
+rows_later : (words : List Word) (o : Option Descriptor) (rows : Rows) → without_rows words (rows_without_word without_row o rows) ≡ rows_without_word without_row o (without_rows words rows)
 rows_later [] o rows = refl
 rows_later (w ∷ words) o rows =
-    ap (λ (z : Rows). without_rows words z) (two_swap o (as_descriptor w) rows) ∙ rows_later words o (without without_row (as_descriptor w) rows)
+    ap (λ (z : Rows). without_rows words z) (two_swap o (as_descriptor w) rows) ∙ rows_later words o (rows_without_word without_row (as_descriptor w) rows)
 
-rows_push : (words : List Word) (w : Word) (rows : Rows) → without_rows (words ++ w ∷ []) rows ≡ without without_row (as_descriptor w) (without_rows words rows)
+rows_push : (words : List Word) (w : Word) (rows : Rows) → without_rows (words ++ w ∷ []) rows ≡ rows_without_word without_row (as_descriptor w) (without_rows words rows)
 rows_push [] w rows = refl
-rows_push (x ∷ words) w rows = rows_push words w (without without_row (as_descriptor x) rows)
+rows_push (x ∷ words) w rows = rows_push words w (rows_without_word without_row (as_descriptor x) rows)
 
 take_at : {X : Type 0} (xs : List X) (n : ℕ) (x : X) → slice_get xs n ≡ Some x → take (n + 1) xs ≡ take n xs ++ x ∷ []
 take_at [] n x e = cc
@@ -96,10 +96,10 @@ no_place (y ∷ xs) (suc n) e = omega (arith, no_place xs n e)
 
 -- one word of a mother's row, the last before those that went
 pub next_daughter : (words : List Word) (at before : ℕ) (w : Word) (old new : Rows) (a : ℕ) → slice_get words at ≡ Some w → before ≡ at + 1
-    → closed_at new a ≡ closed_at (without without_row (as_descriptor w) old) a
+    → closed_at new a ≡ closed_at (rows_without_word without_row (as_descriptor w) old) a
     → closed_at (without_rows (take at words) new) a ≡ closed_at (without_rows (take before words) old) a
 next_daughter words at before w old new a e f c =
-    rows_alike (take at words) new (without without_row (as_descriptor w) old) a c
+    rows_alike (take at words) new (rows_without_word without_row (as_descriptor w) old) a c
     ∙ ap (λ (z : Rows). closed_at z a) (rows_later (take at words) (as_descriptor w) old ∙ sym (rows_push (take at words) w old))
     ∙ ap (λ (z : List Word). closed_at (without_rows z old) a) (sym (take_at words at w e) ∙ ap (λ (k : ℕ). take k words) (sym f))
 
@@ -109,7 +109,7 @@ words_stay rows n k h = ap row_words_or (changed_others rows n k None h)
 
 -- ---- the cells of a frame
 
-pub next_cell : (words : List Word) (at most : ℕ) (w : Word) (old new : Rows) → 1 ≤ most → slice_get words at ≡ Some w → new ≡ without without_array (as_descriptor w) old
+pub next_cell : (words : List Word) (at most : ℕ) (w : Word) (old new : Rows) → 1 ≤ most → slice_get words at ≡ Some w → new ≡ rows_without_word without_array (as_descriptor w) old
     → without_arrays (take (most - 1) (drop (at + 1) words)) new ≡ without_arrays (take most (drop at words)) old
 next_cell words at most w old new h e c =
     let j_is : most ≡ suc (most - 1) = omega (arith, h) in
@@ -121,8 +121,8 @@ no_cell words at most old e = ap (λ (z : List Word). without_arrays (take most 
 
 -- a word of a mother's row that describes that row itself
 pub own_daughter : (rows : Rows) (o : Option Descriptor) (d : Descriptor) (a : ℕ) → o ≡ Some d → d.copy ≡ false → d.address ≡ a
-    → closed_at rows a ≡ closed_at (without without_row o rows) a
+    → closed_at rows a ≡ closed_at (rows_without_word without_row o rows) a
 own_daughter rows o d a o_is c e =
-    sym (ap (λ (x : Option Descriptor). closed_at (without without_row x rows) a) o_is
+    sym (ap (λ (x : Option Descriptor). closed_at (rows_without_word without_row x rows) a) o_is
     ∙ ap (λ (b : Bool). closed_at (cond b rows (closed_at rows d.address)) a) c
     ∙ ap (λ (k : ℕ). closed_at (closed_at rows k) a) e ∙ closed_twice rows a)

@@ -7,12 +7,12 @@ use Rattle.b67_store.specs.Store.{Row, Rows, closed_at, row_at, row_words, row_w
 use Rattle.b67_table.specs.Image.{Image, with_rows}
 use Rattle.b67_table.specs.Program.{Change, changed, close_row, row_of}
 use Rattle.b67_table.specs.Linkage.{closed_by, rows_closed, array_closed, arrays_closed}
-use Rattle.b67_linkage.specs.Closing.{without, without_row, without_rows, without_array, without_arrays}
+use Rattle.b67_linkage.specs.Closing.{rows_without_word, without_row, without_rows, without_array, without_arrays}
 use Rattle.b67_linkage.specs.Laws.{ClosesAsTheTable}
 
 module _ (p : ℕ) where
   one_row : (o : Option Descriptor) (next : Change) (img : Image)
-      → changed p (closed_by o (λ d more. close_row d.address more) next) img ≡ changed p next (with_rows img (without without_row o img.rows))
+      → changed p (closed_by o (λ d more. close_row d.address more) next) img ≡ changed p next (with_rows img (rows_without_word without_row o img.rows))
   one_row None next img = refl
   one_row (Some d) next img = by_copy d.copy
     where
@@ -23,7 +23,7 @@ module _ (p : ℕ) where
   some_rows : (words : List Word) (next : Change) (img : Image) → changed p (rows_closed words next) img ≡ changed p next (with_rows img (without_rows words img.rows))
   some_rows [] next img = refl
   some_rows (w ∷ words) next img =
-      one_row (as_descriptor w) (rows_closed words next) img ∙ some_rows words next (with_rows img (without without_row (as_descriptor w) img.rows))
+      one_row (as_descriptor w) (rows_closed words next) img ∙ some_rows words next (with_rows img (rows_without_word without_row (as_descriptor w) img.rows))
 
   one_array : (d : Descriptor) (next : Change) (img : Image) → changed p (array_closed d next) img ≡ changed p next (with_rows img (without_array d img.rows))
   one_array d next img = by_mother d.mother
@@ -34,7 +34,7 @@ module _ (p : ℕ) where
       by_mother false = refl
 
   cell_array : (o : Option Descriptor) (next : Change) (img : Image)
-      → changed p (closed_by o array_closed next) img ≡ changed p next (with_rows img (without without_array o img.rows))
+      → changed p (closed_by o array_closed next) img ≡ changed p next (with_rows img (rows_without_word without_array o img.rows))
   cell_array None next img = refl
   cell_array (Some d) next img = by_copy d.copy
     where
@@ -45,7 +45,7 @@ module _ (p : ℕ) where
   pub all_arrays : (words : List Word) (next : Change) (img : Image) → changed p (arrays_closed words next) img ≡ changed p next (with_rows img (without_arrays words img.rows))
   all_arrays [] next img = refl
   all_arrays (w ∷ words) next img =
-      cell_array (as_descriptor w) (arrays_closed words next) img ∙ all_arrays words next (with_rows img (without without_array (as_descriptor w) img.rows))
+      cell_array (as_descriptor w) (arrays_closed words next) img ∙ all_arrays words next (with_rows img (rows_without_word without_array (as_descriptor w) img.rows))
 
 pub closes_as_the_table : ClosesAsTheTable
 closes_as_the_table p cells next img = all_arrays p cells next img

@@ -17,32 +17,32 @@ use Rattle.b67_table.specs.Effect.{Effect}
 use Rattle.b67_table.specs.Effect as effects
 use Rattle.b67_table.specs.Outcome.{Outcome, limited, gives, limit}
 use Rattle.b67_table.specs.Limits.{most_cells}
-use Rattle.b67_table.specs.Look.{Look, found, seen, ◌>->◌}
+use Rattle.b67_table.specs.Look.{Look, found, look_seen, ◌>->◌}
 use Rattle.b67_table.specs.Chains.{place}
 use Rattle.b67_table.specs.Linkage.{entering, entered, entered_mark, control_word}
 use Rattle.b67_table.specs.Rows.{marked}
 use Rattle.b67_display.proofs.Linking.{after, seen_then}
 use Rattle.b67_linkage.specs.declared.LinkFault.{LinkFault}
 use Rattle.b67_linkage.specs.declared.LinkFault.TheVariants.{InvalidOperand, StackUnderflow, StackLimit, BrokenChain}
-use Rattle.b67_linkage.specs.Held.{Held, held, Finds, refused}
-use Rattle.b67_linkage.specs.Entering.{after_look, Opening, opening, opened, enters, cells_above}
+use Rattle.b67_linkage.specs.Held.{HeldCore, held, LookFinds, refused}
+use Rattle.b67_linkage.specs.Entering.{after_look, Opening, opening, frame_opened, enters, cells_above}
 
-abbrev pub outcome_of : Effect Held → Outcome Held
-outcome_of e = limited (λ (h : Held). h.regs.s) e
+abbrev pub outcome_of : Effect HeldCore → Outcome HeldCore
+outcome_of e = limited (λ (h : HeldCore). h.regs.s) e
 
 -- what stays within the limit is given
-pub within : (h : Held) → h.regs.s ≤ stack_limit → outcome_of (effects.gives h) ≡ gives h
+pub within : (h : HeldCore) → h.regs.s ≤ stack_limit → outcome_of (effects.gives h) ≡ gives h
 within h low = ap (λ (b : Bool). cond b (gives h) limit) (le-leb h.regs.s stack_limit low)
 
 -- what stops a look refuses the call
-pub refused_as : {A : Type 0} (look : Result A InterruptKind) (after : A → Held) (fault : LinkFault) → Finds look (Err fault)
+pub refused_as : {A : Type 0} (look : Result A InterruptKind) (after : A → HeldCore) (fault : LinkFault) → LookFinds look (Err fault)
     → outcome_of (after_look look after) ≡ refused fault
 refused_as look next InvalidOperand e = ap (λ x. outcome_of (after_look x next)) e
 refused_as look next StackUnderflow e = ap (λ x. outcome_of (after_look x next)) e
 refused_as look next BrokenChain e = ap (λ x. outcome_of (after_look x next)) e
 refused_as look next StackLimit e = absurd e
 
-module _ (h : Held) (pcw : Pcw) (home : Place) (cells : ℕ) (m : Mscw) where
+module _ (h : HeldCore) (pcw : Pcw) (home : Place) (cells : ℕ) (m : Mscw) where
   abbrev look_in : Look Entry
   look_in = entering h.regs h.regs.place (nat_le cells most_cells) h.regs.f pcw (Some home)
 
@@ -55,27 +55,27 @@ module _ (h : Held) (pcw : Pcw) (home : Place) (cells : ℕ) (m : Mscw) where
   abbrev by_mark : Mscw → Look Opening
   by_mark k = entering h.regs h.regs.place (nat_le (cells_above h.regs) most_cells) h.regs.f pcw (Some home) >-> (λ (e : Entry). found (record { df = k.df; entry = e }))
 
-  opening_is : cells ≡ cells_above h.regs → seen h.stacks (marked h.regs) ≡ Ok m
-      → seen h.stacks (opening h.regs pcw home) ≡ after (seen h.stacks look_in) opening_by
+  opening_is : cells ≡ cells_above h.regs → look_seen h.stacks (marked h.regs) ≡ Ok m
+      → look_seen h.stacks (opening h.regs pcw home) ≡ after (look_seen h.stacks look_in) opening_by
   opening_is c e =
       seen_then h.stacks (marked h.regs) by_mark
-      ∙ ap (λ (r : Result Mscw InterruptKind). after r (λ (k : Mscw). seen h.stacks (by_mark k))) e
-      ∙ ap (λ (n : ℕ). seen h.stacks (entering h.regs h.regs.place (nat_le n most_cells) h.regs.f pcw (Some home) >-> opened_by)) (sym c)
+      ∙ ap (λ (r : Result Mscw InterruptKind). after r (λ (k : Mscw). look_seen h.stacks (by_mark k))) e
+      ∙ ap (λ (n : ℕ). look_seen h.stacks (entering h.regs h.regs.place (nat_le n most_cells) h.regs.f pcw (Some home) >-> opened_by)) (sym c)
       ∙ seen_then h.stacks look_in opened_by
 
-  found_no_entry : (look : Result Entry InterruptKind) (fault : LinkFault) → Finds look (Err fault)
-      → Finds (after look opening_by) (Err fault)
+  found_no_entry : (look : Result Entry InterruptKind) (fault : LinkFault) → LookFinds look (Err fault)
+      → LookFinds (after look opening_by) (Err fault)
   found_no_entry look InvalidOperand e = ap (λ (r : Result Entry InterruptKind). after r opening_by) e
   found_no_entry look StackUnderflow e = ap (λ (r : Result Entry InterruptKind). after r opening_by) e
   found_no_entry look BrokenChain e = ap (λ (r : Result Entry InterruptKind). after r opening_by) e
   found_no_entry look StackLimit e = e
 
-  pub no_entry : (fault : LinkFault) → cells ≡ cells_above h.regs → seen h.stacks (marked h.regs) ≡ Ok m → Finds (seen h.stacks look_in) (Err fault)
+  pub no_entry : (fault : LinkFault) → cells ≡ cells_above h.regs → look_seen h.stacks (marked h.regs) ≡ Ok m → LookFinds (look_seen h.stacks look_in) (Err fault)
       → outcome_of (enters h pcw home) ≡ refused fault
   no_entry fault c e f =
-      ap (λ (r : Result Opening InterruptKind). outcome_of (after_look r (opened h pcw))) (opening_is c e)
-      ∙ refused_as (after (seen h.stacks look_in) opening_by) (opened h pcw) fault
-      (found_no_entry (seen h.stacks look_in) fault f)
+      ap (λ (r : Result Opening InterruptKind). outcome_of (after_look r (frame_opened h pcw))) (opening_is c e)
+      ∙ refused_as (after (look_seen h.stacks look_in) opening_by) (frame_opened h pcw) fault
+      (found_no_entry (look_seen h.stacks look_in) fault f)
 
   abbrev marked_stacks : Place → Stacks
   marked_stacks p = with_word h.stacks (place h.regs.stack h.regs.f) (entered_mark p m.df)
@@ -84,7 +84,7 @@ module _ (h : Held) (pcw : Pcw) (home : Place) (cells : ℕ) (m : Mscw) where
   entered_stacks p = with_word (marked_stacks p) (place h.regs.stack (h.regs.f + 1)) (control_word h.regs h.regs.place pcw.level)
 
   pub one_entry : (e : Entry) (once twice : Stacks) (rows : Rows) (w : Word) (r : Registers) → h.regs.s ≤ stack_limit → cells ≡ cells_above h.regs
-      → seen h.stacks (marked h.regs) ≡ Ok m → seen h.stacks look_in ≡ Ok e → e.home ≡ home
+      → look_seen h.stacks (marked h.regs) ≡ Ok m → look_seen h.stacks look_in ≡ Ok e → e.home ≡ home
       → once ≡ marked_stacks home → w ≡ control_word h.regs h.regs.place pcw.level
       → twice ≡ with_word once (place h.regs.stack (h.regs.f + 1)) w → rows ≡ h.rows
       → r ≡ entered h.regs h.regs.s h.regs.f pcw e cells
@@ -95,9 +95,9 @@ module _ (h : Held) (pcw : Pcw) (home : Place) (cells : ℕ) (m : Mscw) where
       ∙ ap (λ (z : Word). with_word once (place h.regs.stack (h.regs.f + 1)) z) (sym w_is) ∙ sym t in
       let q_is : entered h.regs h.regs.s h.regs.f pcw e (cells_above h.regs) ≡ r =
       ap (λ (n : ℕ). entered h.regs h.regs.s h.regs.f pcw e n) (sym c) ∙ sym q in
-      ap (λ (x : Result Opening InterruptKind). outcome_of (after_look x (opened h pcw)))
+      ap (λ (x : Result Opening InterruptKind). outcome_of (after_look x (frame_opened h pcw)))
       (opening_is c k ∙ ap (λ (x : Result Entry InterruptKind). after x opening_by) f)
-      ∙ within (opened h pcw (record { df = m.df; entry = e })) low
+      ∙ within (frame_opened h pcw (record { df = m.df; entry = e })) low
       ∙ ap (λ (z : Stacks). gives (held z h.rows (entered h.regs h.regs.s h.regs.f pcw e (cells_above h.regs)))) t_is
       ∙ ap (λ (z : Rows). gives (held twice z (entered h.regs h.regs.s h.regs.f pcw e (cells_above h.regs)))) (sym r_is)
       ∙ ap (λ (z : Registers). gives (held twice rows z)) q_is

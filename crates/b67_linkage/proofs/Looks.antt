@@ -12,7 +12,7 @@ use Rattle.b67_table.specs.declared.Entry.{Entry}
 use Rattle.b67_table.specs.declared.InterruptKind.{InterruptKind}
 use Rattle.b67_table.specs.declared.InterruptKind.TheVariants.{BadCode}
 use Rattle.b67_table.specs.Limits.{end_of_code}
-use Rattle.b67_table.specs.Look.{Look, found, stops, seen, ◌>->◌, read_as}
+use Rattle.b67_table.specs.Look.{Look, found, stops, look_seen, ◌>->◌, read_as}
 use Rattle.b67_table.specs.Chains.{place, linked}
 use Rattle.b67_table.specs.References.{invalid}
 use Rattle.b67_table.specs.Linkage.{entering, is_home, if_fits, if_home}
@@ -25,12 +25,12 @@ module _ (st : Stacks) (r : Registers) (fits : Bool) (mark : ℕ) (pcw : Pcw) (h
 
   pub entering_is : nat_lt r.place end_of_code ≡ true → fits ≡ true
       → is_home (read_as as_rcw (word_at st (place home.stack (home.at + 1)))) pcw.level ≡ true
-      → seen st (entering r r.place fits mark pcw (Some home))
-      ≡ after (seen st (linked (place r.stack mark) home pcw.level)) (λ (display : List (Option Place)). Ok (record { home = home; display = display }))
+      → look_seen st (entering r r.place fits mark pcw (Some home))
+      ≡ after (look_seen st (linked (place r.stack mark) home pcw.level)) (λ (display : List (Option Place)). Ok (record { home = home; display = display }))
   entering_is low fit homely =
-      ap (λ (b : Bool). seen st (cond b (if_fits fits (if_home (Some home) pcw.level rest)) (stops BadCode))) low
-      ∙ ap (λ (b : Bool). seen st (cond b (if_home (Some home) pcw.level rest) invalid)) fit
-      ∙ ap (λ (b : Bool). seen st (cond b (rest home) invalid)) homely
+      ap (λ (b : Bool). look_seen st (cond b (if_fits fits (if_home (Some home) pcw.level rest)) (stops BadCode))) low
+      ∙ ap (λ (b : Bool). look_seen st (cond b (if_home (Some home) pcw.level rest) invalid)) fit
+      ∙ ap (λ (b : Bool). look_seen st (cond b (rest home) invalid)) homely
       ∙ seen_then st (linked (place r.stack mark) home pcw.level) (λ (display : List (Option Place)). found (record { home = home; display = display }))
 
 pub is_low : (place : ℕ) → place < end_of_code → nat_lt place end_of_code ≡ true

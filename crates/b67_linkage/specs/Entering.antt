@@ -11,20 +11,20 @@ use Rattle.b67_table.specs.declared.InterruptKind.TheVariants.{InvalidOperand}
 use Rattle.b67_table.specs.declared.Entry.{Entry}
 use Rattle.b67_table.specs.Effect.{Effect, gives, interrupts}
 use Rattle.b67_table.specs.Limits.{most_cells, end_of_code}
-use Rattle.b67_table.specs.Look.{Look, found, seen, ◌>->◌}
+use Rattle.b67_table.specs.Look.{Look, found, look_seen, ◌>->◌}
 use Rattle.b67_table.specs.Chains.{place}
 use Rattle.b67_table.specs.PrivateRows.{open_mark}
 use Rattle.b67_table.specs.Linkage.{entering, entered, entered_mark, control_word, selected}
 use Rattle.b67_table.specs.Rows.{marked}
-use Rattle.b67_linkage.specs.Held.{Held, held}
+use Rattle.b67_linkage.specs.Held.{HeldCore, held}
 
 -- what a look at the stacks found, turned into an effect
-abbrev pub after_look : {A : Type 0} → Result A InterruptKind → (A → Held) → Effect Held
+abbrev pub after_look : {A : Type 0} → Result A InterruptKind → (A → HeldCore) → Effect HeldCore
 after_look (Ok a) after = gives (after a)
 after_look (Err kind) after = interrupts kind
 
 -- a mark is pushed, and F names it
-abbrev pub marking : Held → Effect Held
+abbrev pub marking : HeldCore → Effect HeldCore
 marking h =
     if nat_lt h.regs.f h.regs.s
     then gives (held (with_push h.stacks h.regs.stack (open_mark (h.regs.s - h.regs.f))) h.rows (record h.regs { s = h.regs.s + 1; f = h.regs.s }))
@@ -46,11 +46,11 @@ opening r pcw home =
     found (record { df = m.df; entry = e })))
 
 -- the mark is entered and linked to its home, and the control word above it says where its caller goes on
-abbrev pub opened : Held → Pcw → Opening → Held
-opened h pcw o =
+abbrev pub frame_opened : HeldCore → Pcw → Opening → HeldCore
+frame_opened h pcw o =
     let r = h.regs in
     held (with_word (with_word h.stacks (place r.stack r.f) (entered_mark o.entry.home o.df)) (place r.stack (r.f + 1)) (control_word r r.place pcw.level))
     h.rows (entered r r.s r.f pcw o.entry (cells_above r))
 
-abbrev pub enters : Held → Pcw → Place → Effect Held
-enters h pcw home = after_look (seen h.stacks (opening h.regs pcw home)) (opened h pcw)
+abbrev pub enters : HeldCore → Pcw → Place → Effect HeldCore
+enters h pcw home = after_look (look_seen h.stacks (opening h.regs pcw home)) (frame_opened h pcw)

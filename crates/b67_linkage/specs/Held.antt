@@ -19,12 +19,12 @@ use Rattle.b67_linkage.specs.declared.LinkFault.{LinkFault}
 use Rattle.b67_linkage.specs.declared.LinkFault.TheVariants.{InvalidOperand, StackUnderflow, StackLimit, BrokenChain}
 
 -- stacks and rows of a core, and the registers of a process
-pub record Held : Type 0 where
+pub record HeldCore : Type 0 where
   pub stacks : Stacks
   pub rows : Rows
   pub regs : Registers
 
-abbrev pub held : Stacks → Rows → Registers → Held
+abbrev pub held : Stacks → Rows → Registers → HeldCore
 held stacks rows r = record { stacks = stacks; rows = rows; regs = r }
 
 -- the process's stack is open, S is its length, the frame lies in it, and the floor is no higher than S; each open stack can be named by
@@ -50,14 +50,14 @@ refused StackLimit = outcomes.limit
 
 -- A call does an effect, by its answer: what is there after it is what the effect gives, or it is refused as the effect is. The limit of
 -- the stack comes last.
-abbrev pub Does : {A : Type 0} → Effect Held → Result A LinkFault → Held → Type 0
-Does effect (Ok a) after = limited (λ (h : Held). h.regs.s) effect ≡ outcomes.gives after
-Does effect (Err fault) after = limited (λ (h : Held). h.regs.s) effect ≡ refused fault
+abbrev pub Does : {A : Type 0} → Effect HeldCore → Result A LinkFault → HeldCore → Type 0
+Does effect (Ok a) after = limited (λ (h : HeldCore). h.regs.s) effect ≡ outcomes.gives after
+Does effect (Err fault) after = limited (λ (h : HeldCore). h.regs.s) effect ≡ refused fault
 
 -- a look at the stacks finds what a call answers, or is stopped by the interrupt of the call's refusal
-abbrev pub Finds : {A : Type 0} → Result A InterruptKind → Result A LinkFault → Type 0
-Finds look (Ok a) = look ≡ Ok a
-Finds look (Err InvalidOperand) = look ≡ Err interrupts.InvalidOperand
-Finds look (Err StackUnderflow) = look ≡ Err interrupts.StackUnderflow
-Finds look (Err BrokenChain) = look ≡ Err interrupts.BrokenChain
-Finds look (Err StackLimit) = ⊥
+abbrev pub LookFinds : {A : Type 0} → Result A InterruptKind → Result A LinkFault → Type 0
+LookFinds look (Ok a) = look ≡ Ok a
+LookFinds look (Err InvalidOperand) = look ≡ Err interrupts.InvalidOperand
+LookFinds look (Err StackUnderflow) = look ≡ Err interrupts.StackUnderflow
+LookFinds look (Err BrokenChain) = look ≡ Err interrupts.BrokenChain
+LookFinds look (Err StackLimit) = ⊥

@@ -2,7 +2,7 @@
 ghost use Rattle.std.specs.Prelude.{◌≡◌, ◌≢◌, ◌+◌, ◌≤◌, ◌^◌, length};
 ghost use Rattle.b67_control.specs.Control.{as_descriptor};
 ghost use Rattle.b67_store.specs.Store.{words_of, row_words, closed_at};
-ghost use Rattle.b67_linkage.specs.Closing.{without, without_row, without_rows, without_array, without_arrays, cells_in, AreShort};
+ghost use Rattle.b67_linkage.specs.Closing.{rows_without_word, without_row, without_rows, without_array, without_arrays, cells_in_frame, AreShort};
 
 use crate::words::close_row;
 use b67_control::Descriptor;
@@ -13,7 +13,7 @@ use b67_word::{Place, Word};
 // after this one can still be read.
 fn close_daughter<C: Core>(core: &mut C, mother: u32, word: Word)
     requires { AreShort (C.Core.rows core.old) }
-    ensures rows { closed_at (C.Core.rows core.new) mother ≡ closed_at (without without_row (as_descriptor word) (C.Core.rows core.old)) mother }
+    ensures rows { closed_at (C.Core.rows core.new) mother ≡ closed_at (rows_without_word without_row (as_descriptor word) (C.Core.rows core.old)) mother }
     ensures mother { row_words (C.Core.rows core.new) mother ≡ row_words (C.Core.rows core.old) mother }
     ensures short { AreShort (C.Core.rows core.new) }
     ensures stacks { C.Core.stacks core.new ≡ C.Core.stacks core.old }
@@ -66,7 +66,7 @@ fn row_length<C: Core>(core: &C, row: u32) -> u32
 // Closes the rows that a word in a cell describes.
 fn close_cell<C: Core>(core: &mut C, word: Word)
     requires { AreShort (C.Core.rows core.old) }
-    ensures rows { C.Core.rows core.new ≡ without without_array (as_descriptor word) (C.Core.rows core.old) }
+    ensures rows { C.Core.rows core.new ≡ rows_without_word without_array (as_descriptor word) (C.Core.rows core.old) }
     ensures short { AreShort (C.Core.rows core.new) }
     ensures stacks { C.Core.stacks core.new ≡ C.Core.stacks core.old }
 {
@@ -87,7 +87,7 @@ fn close_cell<C: Core>(core: &mut C, word: Word)
 pub fn close_arrays<C: Core>(core: &mut C, frame: Place, cells: u16)
     requires cells { frame.at + 2 + cells ≤ 2 ^ 16 }
     requires short { AreShort (C.Core.rows core.old) }
-    ensures rows { C.Core.rows core.new ≡ without_arrays (cells_in (words_of (C.Core.stacks core.old) frame.stack) frame.at cells) (C.Core.rows core.old) }
+    ensures rows { C.Core.rows core.new ≡ without_arrays (cells_in_frame (words_of (C.Core.stacks core.old) frame.stack) frame.at cells) (C.Core.rows core.old) }
     ensures short { AreShort (C.Core.rows core.new) }
     ensures stacks { C.Core.stacks core.new ≡ C.Core.stacks core.old }
 {

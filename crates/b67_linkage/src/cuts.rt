@@ -2,9 +2,9 @@
 ghost use Rattle.std.specs.Prelude.{◌≡◌, ◌+◌, ◌<◌, ◌≤◌, ◌^◌, IfOk, IsOk, OnErr, Ok, Some};
 ghost use Rattle.b67_control.specs.Display.{levels};
 ghost use Rattle.b67_store.specs.Store.{words_of};
-ghost use Rattle.b67_table.specs.Look.{seen};
+ghost use Rattle.b67_table.specs.Look.{look_seen};
 ghost use Rattle.b67_table.specs.Private.{display_at, at_or};
-ghost use Rattle.b67_display.specs.Found.{shown};
+ghost use Rattle.b67_display.specs.Found.{chain_shown};
 ghost use Rattle.b67_linkage.specs.Held.{held, IsLinked, Does};
 ghost use Rattle.b67_linkage.specs.Closing.{AreShort};
 ghost use Rattle.b67_linkage.specs.Leaving.{frame_at, cuts, target_cells, target_rows};
@@ -20,7 +20,7 @@ use b67_word::Place;
 
 // How many cells the frame at the target has, which is met on the way down from a frame with so many cells.
 fn target_cells<C: Core>(core: &C, from: Place, cells: u16, target: u16) -> Result<u16, BrokenChain>
-    ensures value { shown result ≡ seen (C.Core.stacks core.now) (target_cells from cells target) }
+    ensures value { chain_shown result ≡ look_seen (C.Core.stacks core.now) (target_cells from cells target) }
     ensures within { IfOk result (λ n. target + 2 + n ≤ from.at + 2 + cells) }
 {
     let mut at = from.at;
@@ -52,8 +52,8 @@ fn target_cells<C: Core>(core: &C, from: Place, cells: u16, target: u16) -> Resu
 fn close_frames<C: Core>(core: &mut C, from: Place, cells: u16, target: u16)
     requires cells { from.at + 2 + cells ≤ 2 ^ 16 }
     requires short { AreShort (C.Core.rows core.old) }
-    requires met { IsOk (seen (C.Core.stacks core.old) (target_cells from cells target)) }
-    ensures rows { seen (C.Core.stacks core.old) (target_rows (words_of (C.Core.stacks core.old) from.stack) (C.Core.rows core.old) from cells target) ≡ Ok (C.Core.rows core.new) }
+    requires met { IsOk (look_seen (C.Core.stacks core.old) (target_cells from cells target)) }
+    ensures rows { look_seen (C.Core.stacks core.old) (target_rows (words_of (C.Core.stacks core.old) from.stack) (C.Core.rows core.old) from cells target) ≡ Ok (C.Core.rows core.new) }
     ensures stacks { C.Core.stacks core.new ≡ C.Core.stacks core.old }
 {
     let mut at = from.at;

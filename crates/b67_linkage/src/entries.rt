@@ -7,9 +7,9 @@ ghost use Rattle.b67_table.specs.Chains.{place};
 ghost use Rattle.b67_table.specs.Linkage.{entering, entered, entered_mark, control_word, is_home};
 ghost use Rattle.b67_store.specs.Store.{word_at, with_word};
 ghost use Rattle.b67_control.specs.Display.{levels};
-ghost use Rattle.b67_table.specs.Look.{seen, read_as};
+ghost use Rattle.b67_table.specs.Look.{look_seen, read_as};
 ghost use Rattle.b67_table.specs.Rows.{marked};
-ghost use Rattle.b67_linkage.specs.Held.{held, IsLinked, Does, Finds};
+ghost use Rattle.b67_linkage.specs.Held.{held, IsLinked, Does, LookFinds};
 ghost use Rattle.b67_linkage.specs.Entering.{marking, enters, cells_above};
 
 use crate::LinkFault;
@@ -56,7 +56,7 @@ fn lies_above(f: u16, floor: u32, s: u32) -> bool
 /// The mark at F, where it lies in the private part, is not entered and has a word above it.
 pub fn marked<C: Core>(core: &C, regs: &Registers) -> Result<Mscw, LinkFault>
     requires { IsLinked (C.Core.stacks core.now) (C.Core.rows core.now) regs.now }
-    ensures value { Finds (seen (C.Core.stacks core.now) (marked regs.now)) result }
+    ensures value { LookFinds (look_seen (C.Core.stacks core.now) (marked regs.now)) result }
     ensures fits { IfOk result Fits_mscw }
     ensures above { OnOk result (regs.now.f + 2 ≤ regs.now.s) }
 {
@@ -96,7 +96,7 @@ pub fn entering<C: Core>(
 ) -> Result<Entry, LinkFault>
     requires place { regs.now.place < end_of_code }
     requires procedure { Fits_pcw pcw.now }
-    ensures value { Finds (seen (C.Core.stacks core.now) (entering regs.now regs.now.place fits mark pcw.now (Some home))) result }
+    ensures value { LookFinds (look_seen (C.Core.stacks core.now) (entering regs.now regs.now.place fits mark pcw.now (Some home))) result }
     ensures home { IfOk result (λ e. e.home ≡ home) }
 {
     if !fits || !is_home(core, home, pcw.level) {

@@ -2,11 +2,11 @@
 ghost use Rattle.std.specs.Prelude.{◌≡◌, ◌+◌, ◌≤◌, nat_eq, IfOk, OnErr, []};
 ghost use Rattle.b67_control.specs.Control.{Fits_rcw};
 ghost use Rattle.b67_table.specs.Chains.{entered_below, left_to};
-ghost use Rattle.b67_table.specs.Linkage.{leaving, left};
-ghost use Rattle.b67_table.specs.Look.{seen};
+ghost use Rattle.b67_table.specs.Linkage.{leaving, registers_left};
+ghost use Rattle.b67_table.specs.Look.{look_seen};
 ghost use Rattle.b67_table.specs.Private.{frame};
 ghost use Rattle.b67_table.specs.Rows.{is_result};
-ghost use Rattle.b67_display.specs.Found.{shown};
+ghost use Rattle.b67_display.specs.Found.{chain_shown};
 ghost use Rattle.b67_linkage.specs.Held.{held, IsLinked, Does};
 ghost use Rattle.b67_linkage.specs.Leaving.{exits, returns, frame_left, base_left};
 
@@ -22,7 +22,7 @@ use b67_word::{Place, Word};
 /// The displacement of the first entered mark at a displacement of a stack or below, along the distances in the marks. An
 /// error comes exactly where the chain does not go down to one.
 pub fn entered_below<C: Core>(core: &C, stack: u16, start: u16) -> Result<u16, BrokenChain>
-    ensures { shown result ≡ seen (C.Core.stacks core.now) (entered_below stack start) }
+    ensures { chain_shown result ≡ look_seen (C.Core.stacks core.now) (entered_below stack start) }
 {
     let mut here = start;
     let mut steps = u32::from(start) + 1;
@@ -50,7 +50,7 @@ pub fn entered_below<C: Core>(core: &C, stack: u16, start: u16) -> Result<u16, B
 /// no mark with a control word above it stands there, or the chain below does not lead to an entered mark that has one, or
 /// the cells of the frame there do not end at the place or below.
 pub fn left_to<C: Core>(core: &C, frame: Place) -> Result<Below, BrokenChain>
-    ensures value { shown result ≡ seen (C.Core.stacks core.now) (left_to frame) }
+    ensures value { chain_shown result ≡ look_seen (C.Core.stacks core.now) (left_to frame) }
     ensures fits { IfOk result (λ b. Fits_rcw b.control) }
     ensures apart { IfOk result (λ b. b.frame + 2 + b.control.caller_cells ≤ frame.at) }
 {
@@ -85,7 +85,7 @@ pub fn left_to<C: Core>(core: &C, frame: Place) -> Result<Below, BrokenChain>
 /// What leaving the frame at a place finds, which is no base frame. An error comes exactly where [`left_to`] has one, or
 /// the display of the frame below can not be rebuilt.
 pub fn leaving<C: Core>(core: &C, frame: Place) -> Result<Leaving, BrokenChain>
-    ensures value { shown result ≡ seen (C.Core.stacks core.now) (leaving frame) }
+    ensures value { chain_shown result ≡ look_seen (C.Core.stacks core.now) (leaving frame) }
     ensures fits { IfOk result (λ l. Fits_rcw l.below.control) }
 {
     let below = match left_to(core, frame) {
@@ -105,7 +105,7 @@ pub fn leaving<C: Core>(core: &C, frame: Place) -> Result<Leaving, BrokenChain>
 // The registers are those of the frame below one at f that was left.
 fn go_out(regs: &mut Registers, f: u16, leaving: &Leaving)
     requires { Fits_rcw leaving.now.below.control }
-    ensures { regs.new ≡ left regs.old f f leaving.now }
+    ensures { regs.new ≡ registers_left regs.old f f leaving.now }
 {
     let control = &leaving.below.control;
     regs.s = u32::from(f);

@@ -6,8 +6,8 @@ ghost use Rattle.b67_control.specs.Control.{Fits_pcw, Fits_rcw};
 ghost use Rattle.b67_control.specs.Display.{levels};
 ghost use Rattle.b67_table.specs.Chains.{place};
 ghost use Rattle.b67_table.specs.Limits.{end_of_code};
-ghost use Rattle.b67_table.specs.Linkage.{entering, entered, leaving, left};
-ghost use Rattle.b67_table.specs.Look.{seen};
+ghost use Rattle.b67_table.specs.Linkage.{entering, entered, leaving, registers_left};
+ghost use Rattle.b67_table.specs.Look.{look_seen};
 ghost use Rattle.b67_display.specs.Shown.{IsShown};
 ghost use Rattle.b67_linkage.specs.Held.{held, IsLinked};
 ghost use Rattle.b67_linkage.specs.Leaving.{frame_left};
@@ -36,7 +36,7 @@ pub fn enters_shown<C: Core>(
     requires place { next < end_of_code }
     requires procedure { Fits_pcw pcw.now }
     requires shown { IsShown regs.now.ll regs.now.display }
-    ensures { result ≡ true → seen (C.Core.stacks core.now) (entering regs.now next true mark pcw.now (Some home)) ≡ Ok (entry_shown regs.now mark pcw.now home) }
+    ensures { result ≡ true → look_seen (C.Core.stacks core.now) (entering regs.now next true mark pcw.now (Some home)) ≡ Ok (entry_shown regs.now mark pcw.now home) }
 {
     is_home(core, home, pcw.level) && links_as(core, &regs.display, home, pcw.level)
 }
@@ -67,7 +67,7 @@ pub fn go_in_shown(regs: &mut Registers, s: u32, mark: u16, pcw: &Pcw, cells: u1
 pub fn below_shown<C: Core>(core: &C, regs: &Registers, frame: Place) -> Option<Below>
     requires stack { frame.stack ≡ regs.now.stack }
     requires shown { IsShown regs.now.ll regs.now.display }
-    ensures value { IfSome result (λ b. seen (C.Core.stacks core.now) (leaving frame) ≡ Ok (leaving_shown regs.now b)) }
+    ensures value { IfSome result (λ b. look_seen (C.Core.stacks core.now) (leaving frame) ≡ Ok (leaving_shown regs.now b)) }
     ensures fits { IfSome result (λ b. Fits_rcw b.control) }
 {
     let Ok(below) = left_to(core, frame) else {
@@ -100,7 +100,7 @@ fn go_out_shown(regs: &mut Registers, f: u16, below: &Below)
     requires fits { Fits_rcw below.now.control }
     requires level { regs.old.ll < levels }
     requires shown { IsShown regs.old.ll regs.old.display }
-    ensures { regs.new ≡ left regs.old f f (leaving_shown regs.old below.now) }
+    ensures { regs.new ≡ registers_left regs.old f f (leaving_shown regs.old below.now) }
 {
     let control = &below.control;
     let lower = Place {

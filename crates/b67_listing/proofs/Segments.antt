@@ -2,11 +2,11 @@
 use Rattle.std.proofs.Common.{◌≡◌, ℕ, ◌+◌, ◌<◌, List, [], ◌∷◌, ◌++◌, length, get_or, take, sym, ap, subst, arith, ◌∙◌, append_assoc}
 use Rattle.std.proofs.lemmas.List.{append-nil, take_more, length-take-le}
 use Rattle.b67_segment.specs.declared.code.Segment.{Segment}
-use Rattle.b67_listing.specs.Operators.{Placed}
+use Rattle.b67_listing.specs.Operators.{ListedOperator}
 use Rattle.b67_listing.specs.Listings.{IsSegment, SegmentsText, none, more, segment_lines, AddsSegment, AddsSegments}
 
 -- segments and one more after them
-SegmentsText-push : (number : ℕ) (segments : List Segment) (lines : List (List ℕ)) (last : Segment) (operators : List Placed) → SegmentsText number segments lines → IsSegment last operators →
+SegmentsText-push : (number : ℕ) (segments : List Segment) (lines : List (List ℕ)) (last : Segment) (operators : List ListedOperator) → SegmentsText number segments lines → IsSegment last operators →
     SegmentsText number (segments ++ last ∷ []) (lines ++ segment_lines (number + length segments) last operators)
 SegmentsText-push number _ _ last operators (none n) is =
     let same : number ≡ number + 0 = omega arith in

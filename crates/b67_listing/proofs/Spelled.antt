@@ -3,7 +3,7 @@ use Rattle.std.proofs.Common.{arith, ◌≡◌, ℕ, ◌+◌, ◌≤◌, ◌==�
 use Rattle.std.proofs.lemmas.Bool.{ne_eqb}
 use Rattle.std.proofs.lemmas.Bool.Decides.{nat_tests}
 use Rattle.std.specs.Prelude.{Some, None}
-use Rattle.b67_ops.specs.Spelling.{spelling, Stands}
+use Rattle.b67_ops.specs.Spelling.{spelling, OperatorStands}
 use Rattle.b67_ops.proofs.Laws.{Stands-appended, Stands-kept, Stands-within}
 use Rattle.b67_segment.specs.declared.TheConstants.{MOST_SEGMENT_WORDS}
 use Rattle.b67_segment.specs.declared.code.Mark.{Mark}
@@ -11,11 +11,11 @@ use Rattle.b67_segment.specs.declared.code.Segment.{Segment}
 use Rattle.b67_segment.specs.Operators as building
 use Rattle.b67_segment.specs.Syllables.{syllables, Spells}
 use Rattle.b67_segment.proofs.Fetches.{length-syllables}
-use Rattle.b67_listing.specs.Operators.{Placed}
+use Rattle.b67_listing.specs.Operators.{ListedOperator}
 use Rattle.b67_listing.specs.Listings.{StandInOrder, marks_of, IsSegment, HasOperators}
 
 -- the operators with their places, from this one on
-abbrev places : ℕ → List building.Placed → List Placed
+abbrev places : ℕ → List building.Placed → List ListedOperator
 places at [] = []
 places at (p ∷ ps) = record { place = at; level = p.level; operator = p.operator } ∷ places (at + length (spelling at p.level p.operator)) ps
 
@@ -27,8 +27,8 @@ in_order bytes front (p ∷ ps) fit whole =
     let rest = building.text (at + length sp) ps in
     let joined : bytes ≡ (front ++ sp) ++ rest = whole ∙ sym (append_assoc front sp rest) in
     let place : length (front ++ sp) ≡ at + length sp = length-append front sp in
-    let kept : Stands ((front ++ sp) ++ rest) at p.level p.operator (at + length sp) = Stands-kept rest (Stands-appended front p.level p.operator fit.0.fits) in
-    let stands : Stands bytes at p.level p.operator (at + length sp) = subst (λ xs. Stands xs at p.level p.operator (at + length sp)) (sym joined) kept in
+    let kept : OperatorStands ((front ++ sp) ++ rest) at p.level p.operator (at + length sp) = Stands-kept rest (Stands-appended front p.level p.operator fit.0.fits) in
+    let stands : OperatorStands bytes at p.level p.operator (at + length sp) = subst (λ xs. OperatorStands xs at p.level p.operator (at + length sp)) (sym joined) kept in
     let later : StandInOrder bytes (length (front ++ sp)) (places (length (front ++ sp)) ps) =
     in_order bytes (front ++ sp) ps fit.1 (joined ∙ ap (λ k. (front ++ sp) ++ building.text k ps) (sym place)) in
     (refl, fit.0.outer, fit.0.known, (at + length sp, stands, subst (λ k. StandInOrder bytes k (places k ps)) place later))

@@ -5,7 +5,7 @@ use Rattle.std.specs.Fmt.{decimal}
 use Rattle.b67_segment.specs.declared.TheConstants.{MOST_SEGMENT_WORDS}
 use Rattle.b67_ops.specs.declared.TheConstants.{OUTER_LEVEL, MOST_LEVEL}
 use Rattle.b67_ops.specs.declared.Operator.{Operator}
-use Rattle.b67_ops.specs.Spelling.{Stands}
+use Rattle.b67_ops.specs.Spelling.{OperatorStands}
 use Rattle.b67_segment.specs.declared.code.Mark.{Mark}
 use Rattle.b67_segment.specs.declared.code.Segment.{Segment}
 use Rattle.b67_segment.specs.declared.code.Phrase.{Phrase}
@@ -13,27 +13,27 @@ use Rattle.b67_segment.specs.declared.code.Phrase.TheVariants.{Text, Number, Bla
 use Rattle.b67_segment.specs.declared.code.Format.{Format}
 use Rattle.b67_segment.specs.declared.code.Code.{Code}
 use Rattle.b67_segment.specs.Syllables.{syllables}
-use Rattle.b67_listing.specs.Operators.{Placed, operator_line}
+use Rattle.b67_listing.specs.Operators.{ListedOperator, operator_line}
 use Rattle.b67_listing.specs.Formats.{format_lines}
 
 -- operators stand one after another, each at its place and at a level from the outer block's to the deepest, from this place on to the end of the syllables
-abbrev pub StandInOrder : List ℕ → ℕ → List Placed → Type 0
+abbrev pub StandInOrder : List ℕ → ℕ → List ListedOperator → Type 0
 StandInOrder bytes at [] = at ≡ length bytes
 StandInOrder bytes at (first ∷ more) =
-    (first.place ≡ at) × (OUTER_LEVEL ≤ first.level) × (first.level ≤ MOST_LEVEL) × ((next : ℕ) × Stands bytes at first.level first.operator next × StandInOrder bytes next more)
+    (first.place ≡ at) × (OUTER_LEVEL ≤ first.level) × (first.level ≤ MOST_LEVEL) × ((next : ℕ) × OperatorStands bytes at first.level first.operator next × StandInOrder bytes next more)
 
 -- an operator stands at this place and this level
 abbrev pub HasOperator : List ℕ → ℕ → ℕ → Type 0
-HasOperator bytes at level = (op : Operator) × (next : ℕ) × Stands bytes at level op next
+HasOperator bytes at level = (op : Operator) × (next : ℕ) × OperatorStands bytes at level op next
 
 -- the marks of operators that follow one of this level: one at each where the level changes
-abbrev pub marks_of : ℕ → List Placed → List Mark
+abbrev pub marks_of : ℕ → List ListedOperator → List Mark
 marks_of before [] = []
 marks_of before (first ∷ more) =
     if first.level == before then marks_of first.level more else record { place = first.place; level = first.level } ∷ marks_of first.level more
 
 -- the segment has a word, and at most as many as a segment may have, of 48 bits; these operators fill it, and its marks are theirs, the first one at place 0
-pub record IsSegment (segment : Segment) (operators : List Placed) : Type 0 where
+pub record IsSegment (segment : Segment) (operators : List ListedOperator) : Type 0 where
   pub some : 1 ≤ length segment.words
   pub few : length segment.words ≤ MOST_SEGMENT_WORDS
   pub words : All (λ (word : ℕ). word < 2 ^ 48) segment.words
@@ -42,7 +42,7 @@ pub record IsSegment (segment : Segment) (operators : List Placed) : Type 0 wher
 
 -- operators fill the segment
 abbrev pub HasOperators : Segment → Type 0
-HasOperators segment = (operators : List Placed) × IsSegment segment operators
+HasOperators segment = (operators : List ListedOperator) × IsSegment segment operators
 
 abbrev pub AreListable : List Segment → Type 0
 AreListable segments = All HasOperators segments
@@ -63,13 +63,13 @@ abbrev pub segment_line : ℕ → ℕ → List ℕ
 segment_line number words = codes "SEGMENT " ++ decimal number ++ (codes " " ++ decimal words)
 
 -- a segment with its number and its operators
-abbrev pub segment_lines : ℕ → Segment → List Placed → List (List ℕ)
+abbrev pub segment_lines : ℕ → Segment → List ListedOperator → List (List ℕ)
 segment_lines number segment operators = segment_line number (length segment.words) ∷ map operator_line operators
 
 -- these are the lines of the segments, which are numbered from the given number on
 pub data SegmentsText : ℕ → List Segment → List (List ℕ) → Type 0 where
   none : (number : ℕ) → SegmentsText number [] []
-  more : (number : ℕ) (segment : Segment) (operators : List Placed) (segments : List Segment) (lines : List (List ℕ)) →
+  more : (number : ℕ) (segment : Segment) (operators : List ListedOperator) (segments : List Segment) (lines : List (List ℕ)) →
       IsSegment segment operators → SegmentsText (number + 1) segments lines →
       SegmentsText number (segment ∷ segments) (segment_lines number segment operators ++ lines)
 
@@ -88,12 +88,12 @@ pub record AddsSegments (number : ℕ) (segments : List Segment) (old new : List
 -- the line of the operator at this place and level is added to others, and next is the place after it
 pub record AddsOperator (bytes : List ℕ) (at level : ℕ) (old new : List (List ℕ)) (next : ℕ) : Type 0 where
   pub operator : Operator
-  pub stands : Stands bytes at level operator next
+  pub stands : OperatorStands bytes at level operator next
   pub added : new ≡ old ++ operator_line record { place = at; level = level; operator = operator } ∷ []
 
 -- the lines of a segment are added to others
 pub record AddsSegment (number : ℕ) (segment : Segment) (old new : List (List ℕ)) : Type 0 where
-  pub operators : List Placed
+  pub operators : List ListedOperator
   pub segment_is : IsSegment segment operators
   pub added : new ≡ old ++ segment_lines number segment operators
 

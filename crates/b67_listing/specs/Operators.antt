@@ -9,7 +9,7 @@ use Rattle.b67_ops.specs.Spelling.{kind_of, spelling}
 use Rattle.b67_listing.specs.Digits.{last_digits, hexadecimal}
 
 -- an operator at its place in a segment and its level
-pub record Placed : Type 0 where
+pub record ListedOperator : Type 0 where
   pub place : ℕ
   pub level : ℕ
   pub operator : Operator
@@ -42,7 +42,7 @@ abbrev pub operator_text : Operator → List ℕ
 operator_text operator = name_of (kind_of operator) ++ operand_text operator
 
 -- the place, the level, the syllables, and the operator
-abbrev pub operator_line : Placed → List ℕ
+abbrev pub operator_line : ListedOperator → List ℕ
 operator_line placed =
     last_digits 10 5 placed.place ++ codes " " ++ last_digits 10 2 placed.level ++ codes " "
     ++ hexadecimal (spelling placed.place placed.level placed.operator) ++ codes " " ++ operator_text placed.operator

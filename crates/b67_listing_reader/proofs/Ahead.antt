@@ -12,10 +12,10 @@ use Rattle.b67_segment.specs.declared.code.Format.{Format}
 use Rattle.b67_segment.specs.declared.code.Code.{Code}
 use Rattle.b67_segment.specs.Syllables.{syllables}
 use Rattle.b67_segment.proofs.Fetches.{length-syllables}
-use Rattle.b67_listing.specs.Operators.{Placed, operator_line}
+use Rattle.b67_listing.specs.Operators.{ListedOperator, operator_line}
 use Rattle.b67_listing.specs.Formats.{format_line, format_lines}
 use Rattle.b67_listing.specs.Listings.{IsSegment, marks_of, IsListable, SegmentsText, none, more, segment_line, segment_lines, ListingText}
-use Rattle.b67_listing_reader.specs.Reading.{CanStand, width, AreInOrder, operator_lines, IsFormat}
+use Rattle.b67_listing_reader.specs.Reading.{OperatorCanStand, width, AreInOrder, operator_lines, IsFormat}
 use Rattle.b67_listing_reader.proofs.Orders.{code_text, filled, order-grows, width-some}
 use Rattle.b67_listing_reader.proofs.Words.{one_words}
 use Rattle.b67_listing_reader.proofs.Lines.{one_operator}
@@ -30,19 +30,19 @@ tail_of e = ap (λ (ls : List (List ℕ)). drop 1 ls) e
 
 -- an operator goes on at a place, and its line is the first of these
 pub record GoesOn (mid end : ℕ) (rest : List (List ℕ)) : Type 0 where
-  pub placed : Placed
+  pub placed : ListedOperator
   pub more : List (List ℕ)
-  pub stands : CanStand mid placed
+  pub stands : OperatorCanStand mid placed
   pub within : mid + width placed ≤ end
   pub rest_is : rest ≡ operator_line placed ∷ more
 
 -- operators that end farther have one more
-pub next_operator : (at : ℕ) (ps : List Placed) (mid : ℕ) (qs : List Placed) (end : ℕ) (x b : List (List ℕ)) → AreInOrder at ps mid → AreInOrder at qs end → mid < end →
+pub next_operator : (at : ℕ) (ps : List ListedOperator) (mid : ℕ) (qs : List ListedOperator) (end : ℕ) (x b : List (List ℕ)) → AreInOrder at ps mid → AreInOrder at qs end → mid < end →
     operator_lines ps ++ x ≡ operator_lines qs ++ b → GoesOn mid end x
 next_operator at [] mid [] end x b h g less e = absurd (omega arith)
 next_operator at [] mid (q ∷ qs) end x b h g less e =
     let grows = order-grows (at + width q) qs end g.1 in
-    record { placed = q; more = operator_lines qs ++ b; stands = subst (λ k. CanStand k q) h g.0; within = omega arith; rest_is = e }
+    record { placed = q; more = operator_lines qs ++ b; stands = subst (λ k. OperatorCanStand k q) h g.0; within = omega arith; rest_is = e }
 next_operator at (p ∷ ps) mid [] end x b h g less e =
     let grows = order-grows (at + width p) ps mid h.1 in
     let some = width-some p in
@@ -51,14 +51,14 @@ next_operator at (p ∷ ps) mid (q ∷ qs) end x b h g less e =
     let heads : operator_line p ≡ operator_line q = head_of e in
     let tails : operator_lines ps ++ x ≡ operator_lines qs ++ b = tail_of e in
     let same : p ≡ q = one_operator at p q h.0 g.0 heads in
-    next_operator (at + width p) ps mid qs end x b h.1 (subst (λ (r : Placed). AreInOrder (at + width r) qs end) (sym same) g.1) less tails
+    next_operator (at + width p) ps mid qs end x b h.1 (subst (λ (r : ListedOperator). AreInOrder (at + width r) qs end) (sym same) g.1) less tails
 
 -- operators that end at one place are the same
-pub record Alike (ps qs : List Placed) (x b : List (List ℕ)) : Type 0 where
+pub record Alike (ps qs : List ListedOperator) (x b : List (List ℕ)) : Type 0 where
   pub operators : ps ≡ qs
   pub rests : x ≡ b
 
-pub same_operators : (at : ℕ) (ps qs : List Placed) (end : ℕ) (x b : List (List ℕ)) → AreInOrder at ps end → AreInOrder at qs end →
+pub same_operators : (at : ℕ) (ps qs : List ListedOperator) (end : ℕ) (x b : List (List ℕ)) → AreInOrder at ps end → AreInOrder at qs end →
     operator_lines ps ++ x ≡ operator_lines qs ++ b → Alike ps qs x b
 same_operators at [] [] end x b h g e = record { operators = refl; rests = e }
 same_operators at [] (q ∷ qs) end x b h g e =
@@ -73,20 +73,20 @@ same_operators at (p ∷ ps) (q ∷ qs) end x b h g e =
     let heads : operator_line p ≡ operator_line q = head_of e in
     let tails : operator_lines ps ++ x ≡ operator_lines qs ++ b = tail_of e in
     let same : p ≡ q = one_operator at p q h.0 g.0 heads in
-    let rest = same_operators (at + width p) ps qs end x b h.1 (subst (λ (r : Placed). AreInOrder (at + width r) qs end) (sym same) g.1) tails in
+    let rest = same_operators (at + width p) ps qs end x b h.1 (subst (λ (r : ListedOperator). AreInOrder (at + width r) qs end) (sym same) g.1) tails in
     record { operators = ap (λ r. r ∷ ps) same ∙ ap (λ rs. q ∷ rs) rest.operators; rests = rest.rests }
 
 -- the operators of a segment fill its words
-pub record Body (segment : Segment) (operators : List Placed) : Type 0 where
+pub record Body (segment : Segment) (operators : List ListedOperator) : Type 0 where
   pub order : AreInOrder 0 operators (6 * length segment.words)
   pub text : syllables segment.words ≡ code_text operators
 
-pub body : (segment : Segment) (operators : List Placed) → IsSegment segment operators → Body segment operators
+pub body : (segment : Segment) (operators : List ListedOperator) → IsSegment segment operators → Body segment operators
 body segment operators is =
     let whole = filled (syllables segment.words) 0 operators is.filled in
     record { order = subst (λ k. AreInOrder 0 operators k) (length-syllables segment.words) whole.order; text = whole.text }
 
-one_segment : (segment other : Segment) (ps qs : List Placed) → IsSegment segment ps → IsSegment other qs → ps ≡ qs → segment ≡ other
+one_segment : (segment other : Segment) (ps qs : List ListedOperator) → IsSegment segment ps → IsSegment other qs → ps ≡ qs → segment ≡ other
 one_segment segment other ps qs is also same =
     let a = body segment ps is in
     let b = body other qs also in
@@ -140,7 +140,7 @@ pub record Both (segment other : Segment) (ls ms x b : List (List ℕ)) : Type 0
   pub segments : segment ≡ other
   pub rests : ls ++ x ≡ ms ++ b
 
-both : (n : ℕ) (segment other : Segment) (ops qs : List Placed) (ls ms x b : List (List ℕ)) → IsSegment segment ops → IsSegment other qs →
+both : (n : ℕ) (segment other : Segment) (ops qs : List ListedOperator) (ls ms x b : List (List ℕ)) → IsSegment segment ops → IsSegment other qs →
     (segment_lines n segment ops ++ ls) ++ x ≡ (segment_lines n other qs ++ ms) ++ b → Both segment other ls ms x b
 both n segment other ops qs ls ms x b first second e =
     let heads : segment_line n (length segment.words) ≡ segment_line n (length other.words) = head_of e in
@@ -153,7 +153,7 @@ both n segment other ops qs ls ms x b first second e =
     let alike = same_operators 0 ops qs (6 * length segment.words) (ls ++ x) (ms ++ b) one.order (subst (λ k. AreInOrder 0 qs (6 * k)) (sym count) two.order) joined in
     record { segments = one_segment segment other ops qs first second alike.operators; rests = alike.rests }
 
-ahead_by : (n : ℕ) (segment : Segment) (ops : List Placed) (segments : List Segment) (ls : List (List ℕ)) (m : ℕ) (others : List Segment) (ms x b : List (List ℕ)) → m ≡ n →
+ahead_by : (n : ℕ) (segment : Segment) (ops : List ListedOperator) (segments : List Segment) (ls : List (List ℕ)) (m : ℕ) (others : List Segment) (ms x b : List (List ℕ)) → m ≡ n →
     IsSegment segment ops → SegmentsText m others ms → HasNoHead b → (segment_lines n segment ops ++ ls) ++ x ≡ ms ++ b →
     ((others : List Segment) (ms : List (List ℕ)) → SegmentsText (n + 1) others ms → ls ++ x ≡ ms ++ b → Ahead (n + 1) segments others x b) → Ahead n (segment ∷ segments) others x b
 ahead_by n segment ops segments ls _ _ _ x b same first (none m) headless e on = absurd (headless n (length segment.words) ((operator_lines ops ++ ls) ++ x) (sym e))

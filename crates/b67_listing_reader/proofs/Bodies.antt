@@ -2,16 +2,16 @@
 use Rattle.std.proofs.Common.{◌≡◌, ℕ, zero, suc, ◌+◌, ◌-◌, ◌*◌, ◌<◌, ◌≤◌, ⊎_elim, List, [], ◌∷◌, ◌++◌, length, get_or, take, drop, replicate, refl, sym, ap, subst, arith, ◌∙◌, append_assoc, length-append, length-drop}
 use Rattle.std.proofs.lemmas.Bool.{cases_lt}
 use Rattle.std.proofs.lemmas.List.{append-nil, map-append, take-append-drop, drop-drop, drop_at, take_at, take_all, take-append-le, drop-append-le, drop_more, length-map, length-take}
-use Rattle.b67_text.specs.Texts.{Stands}
+use Rattle.b67_text.specs.Texts.{PartStands}
 use Rattle.b67_segment.specs.declared.TheConstants.{MOST_SEGMENT_WORDS}
 use Rattle.b67_segment.specs.declared.code.Segment.{Segment}
 use Rattle.b67_segment.specs.Operators as building
 use Rattle.b67_segment.specs.Syllables.{syllables}
 use Rattle.b67_segment.proofs.Fetches.{length-syllables}
-use Rattle.b67_listing.specs.Operators.{Placed, operator_line}
+use Rattle.b67_listing.specs.Operators.{ListedOperator, operator_line}
 use Rattle.b67_listing.specs.Listings.{IsSegment}
 use Rattle.b67_listing_reader.specs.declared.operators.Told.{Told}
-use Rattle.b67_listing_reader.specs.Reading.{CanStand, width, AreInOrder, IsWordCount, operator_lines, TellsNone, TellsOne, told_at, Tells, TellEach, IsNoOperator, TellSoFar, TellsOperators, AreOperators, IsRelisted, ReadsBody, StopsInBody}
+use Rattle.b67_listing_reader.specs.Reading.{OperatorCanStand, width, AreInOrder, IsWordCount, operator_lines, TellsNone, TellsOne, told_at, LinesTell, TellEach, IsNoOperator, TellSoFar, TellsOperators, AreOperators, IsRelisted, ReadsBody, StopsInBody}
 use Rattle.b67_listing_reader.proofs.Orders.{code_text, order-push, order-grows, length-code, width-some, filled}
 use Rattle.b67_listing_reader.proofs.Built.{bare, size_is, front_of}
 
@@ -28,7 +28,7 @@ tell_none lines at most operators inside none = record {
   inside = inside;
 }
 
-tell_push : (lines : List (List ℕ)) (ps : List Placed) (line : List ℕ) (rest : List (List ℕ)) (p : Placed) → TellEach lines ps → drop (length ps) lines ≡ line ∷ rest → TellsOne line p → TellEach lines (ps ++ p ∷ [])
+tell_push : (lines : List (List ℕ)) (ps : List ListedOperator) (line : List ℕ) (rest : List (List ℕ)) (p : ListedOperator) → TellEach lines ps → drop (length ps) lines ≡ line ∷ rest → TellsOne line p → TellEach lines (ps ++ p ∷ [])
 tell_push [] [] line rest p each here one = let f : [] ≡ line ∷ rest = here in cc
 tell_push (l ∷ lines) [] line rest p each here one =
     let f : l ∷ lines ≡ line ∷ rest = here in
@@ -39,7 +39,7 @@ tell_push (l ∷ lines) (q ∷ ps) line rest p each here one = (each.0, tell_pus
 
 -- one more operator
 pub tell_more : (lines : List (List ℕ)) (at most : ℕ) (operators more : List building.Placed) (next : ℕ) (line : List ℕ) (place : ℕ) (told : Told) → TellSoFar lines at most operators next →
-    next < length lines → drop next lines ≡ line ∷ drop (next + 1) lines → place ≡ building.size operators → Tells line place told → place + told.width ≤ most →
+    next < length lines → drop next lines ≡ line ∷ drop (next + 1) lines → place ≡ building.size operators → LinesTell line place told → place + told.width ≤ most →
     more ≡ operators ++ record { level = told.level; operator = told.operator } ∷ [] → TellSoFar lines at most more (next + 1)
 tell_more lines at most operators more next line place told t inside here place_is tells fits are =
     let p = told_at place told in
@@ -52,7 +52,7 @@ tell_more lines at most operators more next line place told t inside here place_
       placed = ps ++ p ∷ [];
       operators_are = are ∙ ap (λ us. us ++ bare p ∷ []) t.operators_are ∙ sym (map-append bare ps (p ∷ []));
       end = t.end + width p;
-      order = order-push 0 ps t.end p t.order (subst (λ k. CanStand k p) (sym end) one.stands);
+      order = order-push 0 ps t.end p t.order (subst (λ k. OperatorCanStand k p) (sym end) one.stands);
       within = omega arith;
       told = tell_push (drop at lines) ps line (drop (next + 1) lines) p t.told mine one;
       next_is = omega (arith, t.next_is, length-append ps (p ∷ []));
@@ -67,7 +67,7 @@ line_at lines next line item inside same is = drop_more lines next item inside �
 pub tells_no_more : (line : List ℕ) (place most : ℕ) → TellsNone line place → IsNoOperator line place most
 tells_no_more line place most none p can fits e = none p can e
 
-pub tells_too_much : (line : List ℕ) (place most : ℕ) (told : Told) → Tells line place told → (place + told.width ≤ most → ⊥) → IsNoOperator line place most
+pub tells_too_much : (line : List ℕ) (place most : ℕ) (told : Told) → LinesTell line place told → (place + told.width ≤ most → ⊥) → IsNoOperator line place most
 tells_too_much line place most told tells long p can fits e =
     let same : p ≡ told_at place told = tells.1.only p can e in
     let wide : told.width ≡ width p = tells.0 ∙ ap width (sym same) in
@@ -103,33 +103,33 @@ are_operators lines at most next operators t other few =
     }
 
 -- an operator in the midst of others
-record Mid (ps : List Placed) (count : ℕ) : Type 0 where
-  front : List Placed
-  one : Placed
-  back : List Placed
+record Mid (ps : List ListedOperator) (count : ℕ) : Type 0 where
+  front : List ListedOperator
+  one : ListedOperator
+  back : List ListedOperator
   are : ps ≡ front ++ one ∷ back
   long : length front ≡ count
 
-mid_of : (ps : List Placed) (count : ℕ) → count < length ps → Mid ps count
+mid_of : (ps : List ListedOperator) (count : ℕ) → count < length ps → Mid ps count
 mid_of [] count less = absurd (omega arith)
 mid_of (p ∷ ps) zero less = record { front = []; one = p; back = ps; are = refl; long = refl }
 mid_of (p ∷ ps) (suc count) less =
     let rest = mid_of ps count (omega arith) in
     record { front = p ∷ rest.front; one = rest.one; back = rest.back; are = ap (λ qs. p ∷ qs) rest.are; long = ap suc rest.long }
 
-record Middle (at : ℕ) (front : List Placed) (one : Placed) (end : ℕ) : Type 0 where
+record Middle (at : ℕ) (front : List ListedOperator) (one : ListedOperator) (end : ℕ) : Type 0 where
   mid : ℕ
   order : AreInOrder at front mid
-  can : CanStand mid one
+  can : OperatorCanStand mid one
   within : mid + width one ≤ end
 
-middle : (at : ℕ) (front : List Placed) (one : Placed) (back : List Placed) (end : ℕ) → AreInOrder at (front ++ one ∷ back) end → Middle at front one end
+middle : (at : ℕ) (front : List ListedOperator) (one : ListedOperator) (back : List ListedOperator) (end : ℕ) → AreInOrder at (front ++ one ∷ back) end → Middle at front one end
 middle at [] one back end h = record { mid = at; order = refl; can = h.0; within = order-grows (at + width one) back end h.1 }
 middle at (p ∷ front) one back end h =
     let rest = middle (at + width p) front one back end h.1 in
     record { mid = rest.mid; order = (h.0, rest.order); can = rest.can; within = rest.within }
 
-told_mid : (lines : List (List ℕ)) (front : List Placed) (one : Placed) (back : List Placed) (line : List ℕ) (rest : List (List ℕ)) → TellEach lines (front ++ one ∷ back) → drop (length front) lines ≡ line ∷ rest → TellsOne line one
+told_mid : (lines : List (List ℕ)) (front : List ListedOperator) (one : ListedOperator) (back : List ListedOperator) (line : List ℕ) (rest : List (List ℕ)) → TellEach lines (front ++ one ∷ back) → drop (length front) lines ≡ line ∷ rest → TellsOne line one
 told_mid [] [] one back line rest each here = absurd each
 told_mid (l ∷ lines) [] one back line rest each here =
     let f : l ∷ lines ≡ line ∷ rest = here in
@@ -139,12 +139,12 @@ told_mid [] (p ∷ front) one back line rest each here = absurd each
 told_mid (l ∷ lines) (p ∷ front) one back line rest each here = told_mid lines front one back line rest each.1 here
 
 -- the lines of the operators before one, among those of all
-lines_mid : (front : List Placed) (one : Placed) (back more : List Placed) → operator_lines ((front ++ one ∷ back) ++ more) ≡ operator_lines front ++ operator_line one ∷ operator_lines (back ++ more)
+lines_mid : (front : List ListedOperator) (one : ListedOperator) (back more : List ListedOperator) → operator_lines ((front ++ one ∷ back) ++ more) ≡ operator_lines front ++ operator_line one ∷ operator_lines (back ++ more)
 lines_mid front one back more =
     ap operator_lines (append_assoc front (one ∷ back) more) ∙ map-append operator_line front (one ∷ (back ++ more))
 
 -- the first lines from a place on stand there
-stand_first : (part lines : List (List ℕ)) (at count : ℕ) → at + count ≤ length lines → take count (drop at lines) ≡ part → Stands part lines at (at + count)
+stand_first : (part lines : List (List ℕ)) (at count : ℕ) → at + count ≤ length lines → take count (drop at lines) ≡ part → PartStands part lines at (at + count)
 stand_first part lines at count inside e =
     let whole : take count (drop at lines) ++ drop count (drop at lines) ≡ drop at lines = take-append-drop count (drop at lines) in
     let long : length part + length (drop count (drop at lines)) ≡ length (drop at lines) = sym (length-append part (drop count (drop at lines))) ∙ ap length (ap (λ p. p ++ drop count (drop at lines)) (sym e) ∙ whole) in
@@ -171,8 +171,8 @@ part_of part lines at next up inside is =
     }
 
 -- the operators of a segment that is listed again begin with those that were told
-record Begun (operators : List building.Placed) (all ps : List Placed) : Type 0 where
-  more : List Placed
+record Begun (operators : List building.Placed) (all ps : List ListedOperator) : Type 0 where
+  more : List ListedOperator
   all_are : all ≡ ps ++ more
   count : length more ≡ building.missing (building.size operators)
 
@@ -221,11 +221,11 @@ body_read lines part at words next operators segment same t r up is full past =
       operators = ps;
       segment_is = subst (λ qs. IsSegment segment qs) all r.segment_is;
       words_are = omega (arith, size, end, length-syllables segment.words);
-      stands = subst (λ k. Stands (operator_lines ps) lines at k) counted (stand_first (operator_lines ps) lines at count (omega (arith, f.inside)) lines_are);
+      stands = subst (λ k. PartStands (operator_lines ps) lines at k) counted (stand_first (operator_lines ps) lines at count (omega (arith, f.inside)) lines_are);
     }
 
 -- the operators that were told end before it does
-stops_behind : (lines : List (List ℕ)) (at words next : ℕ) (operators : List building.Placed) (t : TellsOperators lines at (6 * words) operators next) → Stands (operator_lines t.front.placed) lines at next →
+stops_behind : (lines : List (List ℕ)) (at words next : ℕ) (operators : List building.Placed) (t : TellsOperators lines at (6 * words) operators next) → PartStands (operator_lines t.front.placed) lines at next →
     t.front.end < 6 * words → StopsInBody words lines at next
 stops_behind lines at words next operators t stands left = record {
   operators = t.front.placed;
@@ -248,7 +248,7 @@ body_none lines at words next line operators t count same is =
     let lines_are : [] ≡ operator_lines f.placed = ap operator_lines (sym none) in (
       omega arith,
       subst (λ k. StopsInBody words lines at k) back
-          (stops_behind lines at words next operators t (subst (λ ls. Stands ls lines at next) lines_are record { within = f.inside; next_is = omega arith; part_is = ap (λ k. drop k lines) (sym same) }) (omega arith)),
+          (stops_behind lines at words next operators t (subst (λ ls. PartStands ls lines at next) lines_are record { within = f.inside; next_is = omega arith; part_is = ap (λ k. drop k lines) (sym same) }) (omega arith)),
     )
 
 first_of : (part tail : List (List ℕ)) (same : ℕ) (line : List ℕ) (rest : List (List ℕ)) → same < length part → drop same (part ++ tail) ≡ line ∷ rest → drop same part ≡ line ∷ drop (same + 1) part
@@ -285,7 +285,7 @@ stops_within lines part at words next operators segment same t r p less =
       stops = λ line rest e q can fits is.
           let here : drop same (drop at lines) ≡ line ∷ rest = drop-drop same at lines ∙ e in
           let one = told_mid (drop at lines) m.front m.one m.back line rest (subst (λ qs. TellEach (drop at lines) qs) m.are f.told) (ap (λ k. drop k (drop at lines)) m.long ∙ here) in
-          let mine : q ≡ m.one = one.only q (subst (λ k. CanStand k q) (sym s.can.place_is) can) is in
+          let mine : q ≡ m.one = one.only q (subst (λ k. OperatorCanStand k q) (sym s.can.place_is) can) is in
           r.same_are.differ line (operator_line m.one) (drop (same + 1) part) (operator_lines (m.back ++ b.more))
           (first_of part (drop next lines) same line rest short (ap (drop same) p.whole ∙ here)) (ap (drop same) all ∙ drop_at (operator_lines m.front) after same long) (is ∙ ap operator_line mine);
     }
@@ -308,7 +308,7 @@ stops_full lines part at words next operators segment same t r p past left =
     let lines_are : take same (drop at lines) ≡ operator_lines ps =
     ap (take same) (sym p.whole) ∙ take-append-le same part (drop next lines) inside ∙ r.same_are.alike ∙ ap (take same) all ∙ take_at (operator_lines ps) (operator_lines b.more) same long in
     subst (λ k. StopsInBody words lines at k) (sym all_same)
-    (stops_behind lines at words next operators t (subst (λ k. Stands (operator_lines ps) lines at k) all_same (stand_first (operator_lines ps) lines at same (omega (arith, f.inside)) lines_are)) less)
+    (stops_behind lines at words next operators t (subst (λ k. PartStands (operator_lines ps) lines at k) all_same (stand_first (operator_lines ps) lines at same (omega (arith, f.inside)) lines_are)) less)
 
 -- a segment is not read
 pub body_stops : (lines part : List (List ℕ)) (at words next line : ℕ) (operators : List building.Placed) (segment : Segment) (same : ℕ) → TellsOperators lines at (6 * words) operators next →

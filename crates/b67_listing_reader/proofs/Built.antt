@@ -14,16 +14,16 @@ use Rattle.b67_segment.specs.Building.{Builds}
 use Rattle.b67_segment.specs.Syllables.{syllables, Spells}
 use Rattle.b67_segment.proofs.Fetches.{length-syllables}
 use Rattle.b67_segment.proofs.Parsing.{operators_of-built}
-use Rattle.b67_listing.specs.Operators.{Placed}
+use Rattle.b67_listing.specs.Operators.{ListedOperator}
 use Rattle.b67_listing.specs.Listings.{marks_of, IsSegment}
 use Rattle.b67_listing_reader.specs.Reading.{width, AreInOrder, unplaced}
 use Rattle.b67_listing_reader.proofs.Orders.{spelled, code_text, mark_of, width-some, order-grows, order-append, length-code, fills, filled, noops, noops-order}
 
 -- one without its place
-abbrev pub bare : Placed → building.Placed
+abbrev pub bare : ListedOperator → building.Placed
 bare p = record { level = p.level; operator = p.operator }
 
-pub text_is : (at : ℕ) (ps : List Placed) (end : ℕ) → AreInOrder at ps end → building.text at (unplaced ps) ≡ code_text ps
+pub text_is : (at : ℕ) (ps : List ListedOperator) (end : ℕ) → AreInOrder at ps end → building.text at (unplaced ps) ≡ code_text ps
 text_is at [] end h = refl
 text_is at (p ∷ ps) end h =
     let place = h.0.place_is in
@@ -31,15 +31,15 @@ text_is at (p ∷ ps) end h =
     ∙ ap (λ k. spelled p ++ building.text (k + width p) (unplaced ps)) place
     ∙ ap (λ t. spelled p ++ t) (text_is (at + width p) ps end h.1)
 
-pub size_is : (ps : List Placed) (end : ℕ) → AreInOrder 0 ps end → building.size (unplaced ps) ≡ end
+pub size_is : (ps : List ListedOperator) (end : ℕ) → AreInOrder 0 ps end → building.size (unplaced ps) ≡ end
 size_is ps end h = omega (arith, ap length (text_is 0 ps end h), length-code 0 ps end h)
 
-are_fit : (at : ℕ) (ps : List Placed) (end : ℕ) → AreInOrder at ps end → building.AreFit (unplaced ps)
+are_fit : (at : ℕ) (ps : List ListedOperator) (end : ℕ) → AreInOrder at ps end → building.AreFit (unplaced ps)
 are_fit at [] end h = tt
 are_fit at (p ∷ ps) end h = (record { outer = h.0.least; known = h.0.most; fits = h.0.fits }, are_fit (at + width p) ps end h.1)
 
 -- the marks of the two are the same
-mark_step : (at before : ℕ) (p : Placed) (rest other : List Mark) (b : Bool) → eqb p.level before ≡ b → p.place ≡ at → rest ≡ other →
+mark_step : (at before : ℕ) (p : ListedOperator) (rest other : List Mark) (b : Bool) → eqb p.level before ≡ b → p.place ≡ at → rest ≡ other →
     cond (eqb before p.level) rest (record { place = at; level = p.level } ∷ rest) ≡ cond (eqb p.level before) other (mark_of p ∷ other)
 mark_step at before p rest other true e place same =
     let levels = eqb-true p.level before e in
@@ -51,24 +51,24 @@ mark_step at before p rest other false e place same =
     ∙ ap (λ k. let m : Mark = record { place = k; level = p.level } in m ∷ rest) (sym place) ∙ ap (λ ms. mark_of p ∷ ms) same
     ∙ sym (cond-false (eqb p.level before) other (mark_of p ∷ other) e)
 
-marks_are : (at before : ℕ) (ps : List Placed) (end : ℕ) → AreInOrder at ps end → building.marks_after at (Some before) (unplaced ps) ≡ marks_of before ps
+marks_are : (at before : ℕ) (ps : List ListedOperator) (end : ℕ) → AreInOrder at ps end → building.marks_after at (Some before) (unplaced ps) ≡ marks_of before ps
 marks_are at before [] end h = refl
 marks_are at before (p ∷ ps) end h =
     mark_step at before p (building.marks_after (at + length (spelling at p.level p.operator)) (Some p.level) (unplaced ps)) (marks_of p.level ps) (eqb p.level before) refl h.0.place_is
     (ap (λ k. building.marks_after (at + length (spelling k p.level p.operator)) (Some p.level) (unplaced ps)) (sym h.0.place_is) ∙ marks_are (at + width p) p.level ps end h.1)
 
-none_before : (at : ℕ) (ps : List Placed) (end : ℕ) → AreInOrder at ps end → building.marks_after at None (unplaced ps) ≡ building.marks_after at (Some 0) (unplaced ps)
+none_before : (at : ℕ) (ps : List ListedOperator) (end : ℕ) → AreInOrder at ps end → building.marks_after at None (unplaced ps) ≡ building.marks_after at (Some 0) (unplaced ps)
 none_before at [] end h = refl
 none_before at (p ∷ ps) end h =
     let rest = building.marks_after (at + length (spelling at p.level p.operator)) (Some p.level) (unplaced ps) in
     let least = h.0.least in
     sym (cond-false (eqb 0 p.level) rest (record { place = at; level = p.level } ∷ rest) (ne_eqb 0 p.level (λ e. omega arith)))
 
-marked : (ps : List Placed) (end : ℕ) → AreInOrder 0 ps end → building.marks_of (unplaced ps) ≡ marks_of 0 ps
+marked : (ps : List ListedOperator) (end : ℕ) → AreInOrder 0 ps end → building.marks_of (unplaced ps) ≡ marks_of 0 ps
 marked ps end h = none_before 0 ps end h ∙ marks_are 0 0 ps end h
 
 -- a segment of operators is built of them
-pub builds : (segment : Segment) (ps : List Placed) → IsSegment segment ps → Builds (unplaced ps) (syllables segment.words) segment.marks
+pub builds : (segment : Segment) (ps : List ListedOperator) → IsSegment segment ps → Builds (unplaced ps) (syllables segment.words) segment.marks
 builds segment ps is =
     let bytes = syllables segment.words in
     let whole = filled bytes 0 ps is.filled in
@@ -81,7 +81,7 @@ builds segment ps is =
     }
 
 -- and what is built of operators is a segment of them
-pub built_segment : (segment : Segment) (ps : List Placed) (end : ℕ) → AreInOrder 0 ps end → Spells (unplaced ps) segment → 1 ≤ length segment.words → length segment.words ≤ MOST_SEGMENT_WORDS →
+pub built_segment : (segment : Segment) (ps : List ListedOperator) (end : ℕ) → AreInOrder 0 ps end → Spells (unplaced ps) segment → 1 ≤ length segment.words → length segment.words ≤ MOST_SEGMENT_WORDS →
     IsSegment segment ps
 built_segment segment ps end h spells some few =
     let bytes = syllables segment.words in
@@ -96,7 +96,7 @@ built_segment segment ps end h spells some few =
     }
 
 -- the operators of a segment are those that it spells
-pub spelled_ones : (segment : Segment) (us : List building.Placed) (ps : List Placed) → Spells us segment → IsSegment segment ps → unplaced ps ≡ us
+pub spelled_ones : (segment : Segment) (us : List building.Placed) (ps : List ListedOperator) → Spells us segment → IsSegment segment ps → unplaced ps ≡ us
 spelled_ones segment us ps spells is =
     let few = is.few in
     let one : Builds us (syllables segment.words) segment.marks =
@@ -104,12 +104,12 @@ spelled_ones segment us ps spells is =
     sym (operators_of-built (builds segment ps is)) ∙ operators_of-built one
 
 -- operators in order that begin with others, but for their places, begin with these
-pub record Front (all ps : List Placed) (us : List building.Placed) : Type 0 where
-  pub more : List Placed
+pub record Front (all ps : List ListedOperator) (us : List building.Placed) : Type 0 where
+  pub more : List ListedOperator
   pub all_are : all ≡ ps ++ more
   pub more_are : unplaced more ≡ us
 
-pub front_of : (at : ℕ) (all ps : List Placed) (end stop : ℕ) (us : List building.Placed) → AreInOrder at all end → AreInOrder at ps stop → unplaced all ≡ unplaced ps ++ us → Front all ps us
+pub front_of : (at : ℕ) (all ps : List ListedOperator) (end stop : ℕ) (us : List building.Placed) → AreInOrder at all end → AreInOrder at ps stop → unplaced all ≡ unplaced ps ++ us → Front all ps us
 front_of at all [] end stop us h g e = record { more = all; all_are = refl; more_are = e }
 front_of at [] (p ∷ ps) end stop us h g e = let f : [] ≡ bare p ∷ (unplaced ps ++ us) = e in cc
 front_of at (a ∷ all) (p ∷ ps) end stop us h g e =
@@ -117,9 +117,9 @@ front_of at (a ∷ all) (p ∷ ps) end stop us h g e =
     let heads : bare a ≡ bare p = cc in
     let tails : unplaced all ≡ unplaced ps ++ us = cc in
     let places : a.place ≡ p.place = h.0.place_is ∙ sym g.0.place_is in
-    let same : a ≡ p = ap (λ (b : building.Placed). let r : Placed = record { place = a.place; level = b.level; operator = b.operator } in r) heads
-    ∙ ap (λ k. let r : Placed = record { place = k; level = p.level; operator = p.operator } in r) places in
-    let rest = front_of (at + width a) all ps end stop us h.1 (subst (λ (r : Placed). AreInOrder (at + width r) ps stop) (sym same) g.1) tails in
+    let same : a ≡ p = ap (λ (b : building.Placed). let r : ListedOperator = record { place = a.place; level = b.level; operator = b.operator } in r) heads
+    ∙ ap (λ k. let r : ListedOperator = record { place = k; level = p.level; operator = p.operator } in r) places in
+    let rest = front_of (at + width a) all ps end stop us h.1 (subst (λ (r : ListedOperator). AreInOrder (at + width r) ps stop) (sym same) g.1) tails in
     record { more = rest.more; all_are = ap (λ r. r ∷ all) same ∙ ap (λ rs. p ∷ rs) rest.all_are; more_are = rest.more_are }
 
 noops-bare : (level count at : ℕ) → unplaced (noops level count at) ≡ replicate count (record { level = level; operator = Plain Noop })
@@ -133,21 +133,21 @@ record HasLevel (found : Option ℕ) : Type 0 where
   least : OUTER_LEVEL ≤ level
   most : level ≤ MOST_LEVEL
 
-last_in : (before at : ℕ) (ps : List Placed) (end : ℕ) → AreInOrder at ps end → OUTER_LEVEL ≤ before → before ≤ MOST_LEVEL → HasLevel (building.last_level (Some before) (unplaced ps))
+last_in : (before at : ℕ) (ps : List ListedOperator) (end : ℕ) → AreInOrder at ps end → OUTER_LEVEL ≤ before → before ≤ MOST_LEVEL → HasLevel (building.last_level (Some before) (unplaced ps))
 last_in before at [] end h least most = record { level = before; is = refl; least = least; most = most }
 last_in before at (p ∷ ps) end h least most = last_in p.level (at + width p) ps end h.1 h.0.least h.0.most
 
-last_some : (ps : List Placed) (end : ℕ) → AreInOrder 0 ps end → 1 ≤ length ps → HasLevel (building.last_level None (unplaced ps))
+last_some : (ps : List ListedOperator) (end : ℕ) → AreInOrder 0 ps end → 1 ≤ length ps → HasLevel (building.last_level None (unplaced ps))
 last_some [] end h some = absurd (omega arith)
 last_some (p ∷ ps) end h some = last_in p.level (0 + width p) ps end h.1 h.0.least h.0.most
 
 -- operators, and the NOOPs that fill the last word
-pub record WithNoops (ps : List Placed) (end : ℕ) : Type 0 where
-  pub all : List Placed
+pub record WithNoops (ps : List ListedOperator) (end : ℕ) : Type 0 where
+  pub all : List ListedOperator
   pub order : AreInOrder 0 all (end + building.missing end)
   pub all_are : unplaced all ≡ building.filled (unplaced ps)
 
-pub with_noops : (ps : List Placed) (end : ℕ) → AreInOrder 0 ps end → 1 ≤ length ps → WithNoops ps end
+pub with_noops : (ps : List ListedOperator) (end : ℕ) → AreInOrder 0 ps end → 1 ≤ length ps → WithNoops ps end
 with_noops ps end h some =
     let last = last_some ps end h some in
     let count = building.missing end in
@@ -160,7 +160,7 @@ with_noops ps end h some =
           ∙ ap (λ n. replicate (building.missing n) (record { level = unwrap_or (building.last_level None (unplaced ps)) 0; operator = Plain Noop })) (sym (size_is ps end h)));
     }
 
-pub order-some : (ps : List Placed) (end : ℕ) → AreInOrder 0 ps end → 1 ≤ length ps → 1 ≤ end
+pub order-some : (ps : List ListedOperator) (end : ℕ) → AreInOrder 0 ps end → 1 ≤ length ps → 1 ≤ end
 order-some [] end h some = absurd (omega arith)
 order-some (p ∷ ps) end h some =
     let grows = order-grows (0 + width p) ps end h.1 in

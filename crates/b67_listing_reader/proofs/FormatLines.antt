@@ -3,7 +3,7 @@ use Rattle.std.proofs.Common.{◌≡◌, ℕ, ◌+◌, ◌-◌, ◌<◌, ◌≤�
 use Rattle.std.specs.List.{All, enumerate_from}
 use Rattle.std.proofs.lemmas.List.{append-nil, drop_all}
 use Rattle.std.proofs.lemmas.List.Elements.{All-nil, All-push}
-use Rattle.b67_text.specs.Texts.{Stands}
+use Rattle.b67_text.specs.Texts.{PartStands}
 use Rattle.b67_segment.specs.declared.code.Format.{Format}
 use Rattle.b67_listing.specs.Formats.{format_line, format_lines}
 use Rattle.b67_listing_reader.specs.Reading.{IsFormat, IsNoFormat, ReadsFormats, StopsInFormats}
@@ -19,8 +19,8 @@ lines-push number (f ∷ fs) last =
     ap (λ ls. format_line (number, f) ∷ ls) (lines-push (number + 1) fs last ∙ ap (λ k. map format_line (enumerate_from (number + 1) fs) ++ format_line (k, last) ∷ []) same)
 
 -- one more line of what stands there
-one_more : (part lines : List (List ℕ)) (at next : ℕ) (line : List ℕ) → Stands part lines at next → next < length lines → drop next lines ≡ line ∷ drop (next + 1) lines →
-    Stands (part ++ line ∷ []) lines at (next + 1)
+one_more : (part lines : List (List ℕ)) (at next : ℕ) (line : List ℕ) → PartStands part lines at next → next < length lines → drop next lines ≡ line ∷ drop (next + 1) lines →
+    PartStands (part ++ line ∷ []) lines at (next + 1)
 one_more part lines at next line s inside here = record {
   within = omega arith;
   next_is = omega (arith, s.next_is, length-append part (line ∷ []));
@@ -30,7 +30,7 @@ one_more part lines at next line s inside here = record {
 -- these formats are read
 pub record FormatsSoFar (lines : List (List ℕ)) (at next : ℕ) (formats : List Format) : Type 0 where
   pub each : All IsFormat formats
-  pub stands : Stands (format_lines formats) lines at next
+  pub stands : PartStands (format_lines formats) lines at next
 
 pub formats_none : (lines : List (List ℕ)) (at : ℕ) (formats : List Format) → at ≤ length lines → formats ≡ [] → FormatsSoFar lines at at formats
 formats_none lines at formats inside is = subst (λ fs. FormatsSoFar lines at at fs) (sym is) record {
@@ -53,7 +53,7 @@ formats_more lines at next number formats line format s same inside here is =
     let line_is : line ≡ format_line (0 + length formats, format) = is.1 ∙ ap (λ k. format_line (k, format)) place in
     record {
       each = All-push IsFormat formats format s.each is.0;
-      stands = subst (λ ls. Stands ls lines at (next + 1)) (ap (λ l. format_lines formats ++ l ∷ []) line_is ∙ sym (lines-push 0 formats format))
+      stands = subst (λ ls. PartStands ls lines at (next + 1)) (ap (λ l. format_lines formats ++ l ∷ []) line_is ∙ sym (lines-push 0 formats format))
           (one_more (format_lines formats) lines at next line s.stands inside here);
     }
 

@@ -4,8 +4,8 @@ use Rattle.std.specs.Fmt.{decimal}
 use Rattle.std.specs.List.{All}
 use Rattle.std.proofs.lemmas.List.{append-nil, append_cancel_left, append_cancel_right, drop_all}
 use Rattle.b67_text.specs.declared.number.Numbers.{Numbers}
-use Rattle.b67_text.specs.Texts.{StopsAt, Stands}
-use Rattle.b67_text.specs.Numerals.{IsDigit, IsIn, IsField}
+use Rattle.b67_text.specs.Texts.{StopsAt, PartStands}
+use Rattle.b67_text.specs.Numerals.{IsDigit, NumberIsIn, IsField}
 use Rattle.b67_text.proofs.Fronts.{fields_alike}
 use Rattle.b67_segment.specs.declared.code.Phrase.{Phrase}
 use Rattle.b67_segment.specs.declared.code.Format.{Format}
@@ -21,12 +21,12 @@ counts = record { least = 1; most = 8192; except = None }
 pub not_stopped : (Is : List ℕ → Type 0) (items part rest : List ℕ) (end : ℕ) → StopsAt Is items 0 end → Is part → part ++ rest ≡ items → ⊥
 not_stopped Is items part rest end s is e = s.none.none part rest is e
 
-is_count : (words : ℕ) → IsWordCount words → IsIn counts words
+is_count : (words : ℕ) → IsWordCount words → NumberIsIn counts words
 is_count words w =
     let few = w.few in
     record { fits = omega arith; least = w.some; most = few; other = λ e. cc }
 
-pub count_is : (words : ℕ) → IsIn counts words → IsWordCount words
+pub count_is : (words : ℕ) → NumberIsIn counts words → IsWordCount words
 count_is words i = record { some = i.least; few = i.most }
 
 no_digit_end : IsDigit 10 → ⊥
@@ -39,7 +39,7 @@ count_stops digits ended end is s words w e =
     not_stopped (IsField counts 10) ended (decimal words ++ 10 ∷ []) [] end s (record { number = words; is_in = is_count words w; text_is = refl }) whole
 
 -- and to their end
-pub count_ends : (digits ended : List ℕ) (count next : ℕ) → ended ≡ digits ++ 10 ∷ [] → IsIn counts count → Stands (decimal count ++ 10 ∷ []) ended 0 next →
+pub count_ends : (digits ended : List ℕ) (count next : ℕ) → ended ≡ digits ++ 10 ∷ [] → NumberIsIn counts count → PartStands (decimal count ++ 10 ∷ []) ended 0 next →
     (next ≡ length ended → ⊥) → (words : ℕ) → IsWordCount words → digits ≡ decimal words → ⊥
 count_ends digits ended count next is i s other words w e =
     let few = w.few in
@@ -50,7 +50,7 @@ count_ends digits ended count next is i s other words w e =
     let within = s.within in
     other (omega (arith, length-drop next ended))
 
-pub count_read : (digits ended : List ℕ) (count next : ℕ) → ended ≡ digits ++ 10 ∷ [] → next ≡ length ended → Stands (decimal count ++ 10 ∷ []) ended 0 next → digits ≡ decimal count
+pub count_read : (digits ended : List ℕ) (count next : ℕ) → ended ≡ digits ++ 10 ∷ [] → next ≡ length ended → PartStands (decimal count ++ 10 ∷ []) ended 0 next → digits ≡ decimal count
 count_read digits ended count next is whole s =
     let past : drop next ended ≡ [] = drop_all next ended (omega arith) in
     append_cancel_right digits (decimal count) (10 ∷ []) (sym is ∙ s.part_is ∙ ap (λ t. (decimal count ++ 10 ∷ []) ++ t) past ∙ append-nil (decimal count ++ 10 ∷ []))
@@ -67,10 +67,10 @@ pub no_head : (n : ℕ) (line : List ℕ) (end : ℕ) → StopsAt (λ text. text
 no_head n line end s words w e =
     not_stopped (λ text. text ≡ segment_head n) line (segment_head n) (decimal words) end s refl (sym (e ∙ segment_headed n words))
 
-pub head_read : (n : ℕ) (line : List ℕ) (at words : ℕ) → Stands (segment_head n) line 0 at → drop at line ≡ decimal words → line ≡ segment_line n words
+pub head_read : (n : ℕ) (line : List ℕ) (at words : ℕ) → PartStands (segment_head n) line 0 at → drop at line ≡ decimal words → line ≡ segment_line n words
 head_read n line at words s e = s.part_is ∙ ap (λ t. segment_head n ++ t) e ∙ sym (segment_headed n words)
 
-pub head_ends : (n : ℕ) (line : List ℕ) (at : ℕ) → Stands (segment_head n) line 0 at → ((words : ℕ) → IsWordCount words → drop at line ≡ decimal words → ⊥) → IsNoHead line n
+pub head_ends : (n : ℕ) (line : List ℕ) (at : ℕ) → PartStands (segment_head n) line 0 at → ((words : ℕ) → IsWordCount words → drop at line ≡ decimal words → ⊥) → IsNoHead line n
 head_ends n line at s none_is words w e =
     none_is words w (append_cancel_left (segment_head n) (drop at line) (decimal words) (sym s.part_is ∙ e ∙ segment_headed n words))
 
@@ -78,10 +78,10 @@ pub no_format_head : (n : ℕ) (line : List ℕ) (end : ℕ) → StopsAt (λ tex
 no_format_head n line end s format is e =
     not_stopped (λ text. text ≡ format_head n) line (format_head n) (phrases_text format.phrases ++ codes ">") end s refl (sym (e ∙ headed n format))
 
-pub format_read : (n : ℕ) (line : List ℕ) (at : ℕ) (format : Format) → Stands (format_head n) line 0 at → drop at line ≡ phrases_text format.phrases ++ codes ">" → line ≡ format_line (n, format)
+pub format_read : (n : ℕ) (line : List ℕ) (at : ℕ) (format : Format) → PartStands (format_head n) line 0 at → drop at line ≡ phrases_text format.phrases ++ codes ">" → line ≡ format_line (n, format)
 format_read n line at format s e = s.part_is ∙ ap (λ t. format_head n ++ t) e ∙ sym (headed n format)
 
-pub format_ends : (n : ℕ) (line : List ℕ) (at : ℕ) → Stands (format_head n) line 0 at →
+pub format_ends : (n : ℕ) (line : List ℕ) (at : ℕ) → PartStands (format_head n) line 0 at →
     ((phrases : List Phrase) → All IsPhrase phrases → drop at line ≡ phrases_text phrases ++ codes ">" → ⊥) → IsNoFormat line n
 format_ends n line at s never format is e =
     never format.phrases is (append_cancel_left (format_head n) (drop at line) (phrases_text format.phrases ++ codes ">") (sym s.part_is ∙ e ∙ headed n format))

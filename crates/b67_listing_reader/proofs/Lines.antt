@@ -15,8 +15,8 @@ use Rattle.b67_ops.specs.Spelling.{spelling, Fits, filling}
 use Rattle.b67_ops.proofs.Laws.{length-spelling, spelling-prefix, HasSpelling-from_fits}
 use Rattle.b67_ops.proofs.Reading.{IsBytes}
 use Rattle.b67_listing.specs.Digits.{hexadecimal}
-use Rattle.b67_listing.specs.Operators.{Placed, operator_line, operator_text}
-use Rattle.b67_listing_reader.specs.Reading.{CanStand, width, AreInOrder, two_digits, level_part, hex_value, with_syllable, syllables_in}
+use Rattle.b67_listing.specs.Operators.{ListedOperator, operator_line, operator_text}
+use Rattle.b67_listing_reader.specs.Reading.{OperatorCanStand, width, AreInOrder, two_digits, level_part, hex_value, with_syllable, syllables_in}
 use Rattle.b67_listing_reader.proofs.Orders.{spelled, code_text}
 
 -- bytes, one by one
@@ -73,7 +73,7 @@ spelling-bytes at level (Branch kind place) fits = more_bytes (code_of (kinds.Br
 spelling-bytes at level (Plain kind) fits = one (code_of (kinds.Plain kind)) (code-byte (kinds.Plain kind))
 
 -- and so are those of operators in order
-pub code-bytes : (at : ℕ) (ps : List Placed) (end : ℕ) → AreInOrder at ps end → AreBytes (code_text ps)
+pub code-bytes : (at : ℕ) (ps : List ListedOperator) (end : ℕ) → AreInOrder at ps end → AreBytes (code_text ps)
 code-bytes at [] end h = no_bytes
 code-bytes at (p ∷ ps) end h = AreBytes-append (spelled p) (code_text ps) (spelling-bytes p.place p.level p.operator h.0.fits) (code-bytes (at + width p) ps end h.1)
 
@@ -129,7 +129,7 @@ syllables_back (suc most) _ rest (more_bytes b bs small are) long =
     ∙ ap (λ xs. b ∷ xs) (syllables_back most bs rest are (omega arith))
 
 -- what stands after the level in the line of an operator
-abbrev pub line_tail : Placed → List ℕ
+abbrev pub line_tail : ListedOperator → List ℕ
 line_tail p = hexadecimal (spelled p) ++ 32 ∷ operator_text p.operator
 
 in_range : (n : ℕ) (rest : List ℕ) → OUTER_LEVEL ≤ n → n ≤ MOST_LEVEL →
@@ -146,7 +146,7 @@ digits_level level q =
     omega arith
 
 -- the level is read from the line of an operator
-pub level_back : (p : Placed) → OUTER_LEVEL ≤ p.level → p.level ≤ MOST_LEVEL → level_part (operator_line p) ≡ Some (p.level, line_tail p)
+pub level_back : (p : ListedOperator) → OUTER_LEVEL ≤ p.level → p.level ≤ MOST_LEVEL → level_part (operator_line p) ≡ Some (p.level, line_tail p)
 level_back p least most =
     let tens = digit_glyph true (p.level / 10 % 10) in
     let units = digit_glyph true (p.level % 10) in
@@ -154,11 +154,11 @@ level_back p least most =
     (append_assoc (hexadecimal (spelled p)) (codes " ") (operator_text p.operator))
     ∙ ap (λ n. cond (leb OUTER_LEVEL n && leb n MOST_LEVEL) (Some (n, line_tail p)) None) (digits_level p.level most) ∙ in_range p.level (line_tail p) least most
 
-pub text_back : (p : Placed) → Fits p.level p.operator → syllables_in 12 (line_tail p) ≡ spelled p
+pub text_back : (p : ListedOperator) → Fits p.level p.operator → syllables_in 12 (line_tail p) ≡ spelled p
 text_back p fits = syllables_back 12 (spelled p) (operator_text p.operator) (spelling-bytes p.place p.level p.operator fits) (length-spelling p.place p.level p.operator).1
 
 -- two operators at a place have different lines
-pub one_operator : (at : ℕ) (p q : Placed) → CanStand at p → CanStand at q → operator_line p ≡ operator_line q → p ≡ q
+pub one_operator : (at : ℕ) (p q : ListedOperator) → OperatorCanStand at p → OperatorCanStand at q → operator_line p ≡ operator_line q → p ≡ q
 one_operator at p q a b e =
     let lines : ◌≡◌ {A = Option (ℕ × List ℕ)} (Some (p.level, line_tail p)) (Some (q.level, line_tail q)) = sym (level_back p a.least a.most) ∙ ap level_part e ∙ level_back q b.least b.most in
     let pairs : ◌≡◌ {A = ℕ × List ℕ} (p.level, line_tail p) (q.level, line_tail q) = cc in
@@ -172,9 +172,9 @@ one_operator at p q a b e =
     let ops : p.operator ≡ q.operator =
     spelling-prefix p.place p.level p.operator q.operator [] [] (HasSpelling-from_fits p.level p.operator a.most a.fits) (HasSpelling-from_fits p.level q.operator a.most fits)
     (ap (λ xs. xs ++ []) here) in
-    ap (λ k. let r : Placed = record { place = k; level = p.level; operator = p.operator } in r) places
-    ∙ ap (λ l. let r : Placed = record { place = q.place; level = l; operator = p.operator } in r) levels
-    ∙ ap (λ o. let r : Placed = record { place = q.place; level = q.level; operator = o } in r) ops
+    ap (λ k. let r : ListedOperator = record { place = k; level = p.level; operator = p.operator } in r) places
+    ∙ ap (λ l. let r : ListedOperator = record { place = q.place; level = l; operator = p.operator } in r) levels
+    ∙ ap (λ o. let r : ListedOperator = record { place = q.place; level = q.level; operator = o } in r) ops
 
 -- the syllable of two digits before others
 pub syllable_more : (most : ℕ) (text : List ℕ) (high low : ℕ) (old middle new : List ℕ) → (most ≡ 0 → ⊥) → 2 ≤ length text → Some high ≡ hex_value (get_or text 0 0) → Some low ≡ hex_value (get_or text 1 0) →

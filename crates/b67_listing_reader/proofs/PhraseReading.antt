@@ -5,7 +5,7 @@ use Rattle.std.proofs.lemmas.Bool.{ne_eqb}
 use Rattle.std.proofs.lemmas.Grind.{flat_map-append}
 use Rattle.std.proofs.lemmas.List.{append-nil, drop-drop, drop_at, drop_all}
 use Rattle.std.proofs.lemmas.List.Elements.{All-nil, All-push, All-head, All-tail}
-use Rattle.b67_text.specs.Texts.{Stands, HasByte}
+use Rattle.b67_text.specs.Texts.{PartStands, HasByte}
 use Rattle.b67_text.proofs.Fronts.{at_byte}
 use Rattle.b67_segment.specs.declared.code.Phrase.{Phrase}
 use Rattle.b67_listing.specs.Formats.{phrase_text, phrases_text}
@@ -42,7 +42,7 @@ phrases_start text at done inside is = subst (λ ds. PhrasesSoFar text at at ds)
 
 -- what stands at a place when a list begins so there
 pub record StandsFrom (part items tail : List ℕ) (at : ℕ) : Type 0 where
-  pub stands : Stands part items at (at + length part)
+  pub stands : PartStands part items at (at + length part)
   pub tail_is : drop (at + length part) items ≡ tail
 
 pub stands_from : (part items tail : List ℕ) (at : ℕ) → at ≤ length items → drop at items ≡ part ++ tail → StandsFrom part items tail at

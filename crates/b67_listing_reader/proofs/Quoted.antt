@@ -4,7 +4,7 @@ use Rattle.std.specs.List.{All}
 use Rattle.std.proofs.lemmas.Option.{slice_get_within}
 use Rattle.std.proofs.lemmas.List.{append-nil, drop_all, drop_more}
 use Rattle.std.proofs.lemmas.List.Elements.{All-nil, All-push, All-head, All-tail}
-use Rattle.b67_text.specs.Texts.{Stands, HasByte}
+use Rattle.b67_text.specs.Texts.{PartStands, HasByte}
 use Rattle.b67_text.proofs.Fronts.{at_byte, byte_at, stands_more, stands_none}
 use Rattle.b67_segment.specs.declared.code.Phrase.{Phrase}
 use Rattle.b67_segment.specs.declared.code.Phrase.TheVariants.{Text, Number, Blanks}
@@ -21,7 +21,7 @@ byte_here text at other inside = byte_at text at (get_or text at other) (drop (a
 pub record QuotedSoFar (text : List ℕ) (at end : ℕ) : Type 0 where
   pub quoted : List ℕ
   pub bytes : All IsTextByte quoted
-  pub stands : Stands quoted text at end
+  pub stands : PartStands quoted text at end
 
 pub quoted_none : (text : List ℕ) (at : ℕ) → at ≤ length text → QuotedSoFar text at at
 quoted_none text at inside = record { quoted = []; bytes = All-nil IsTextByte; stands = stands_none text at inside }
@@ -128,7 +128,7 @@ phrase_text_read text at (Text quoted) next here r =
       quoted,
       next - 1,
       (
-        record { bytes = r.is_phrase; stands = subst (λ k. Stands quoted text (at + 1) k) place s.stands; quote = byte_at text (next - 1) 34 (drop next text) tail },
+        record { bytes = r.is_phrase; stands = subst (λ k. PartStands quoted text (at + 1) k) place s.stands; quote = byte_at text (next - 1) 34 (drop next text) tail },
         subst (λ k. IsEnded (drop k text)) (sym behind) r.ended,
       ),
     )

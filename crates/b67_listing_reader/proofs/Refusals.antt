@@ -11,7 +11,7 @@ use Rattle.b67_segment.specs.declared.code.Segment.{Segment}
 use Rattle.b67_segment.specs.declared.code.Format.{Format}
 use Rattle.b67_segment.specs.Syllables.{syllables}
 use Rattle.b67_segment.proofs.Fetches.{length-syllables}
-use Rattle.b67_listing.specs.Operators.{Placed, operator_line}
+use Rattle.b67_listing.specs.Operators.{ListedOperator, operator_line}
 use Rattle.b67_listing.specs.Formats.{format_line, format_lines}
 use Rattle.b67_listing.specs.Listings.{IsSegment, HasOperators, AreListable, SegmentsText, none, more, segment_line, segment_lines, marks_of}
 use Rattle.b67_listing_reader.specs.Reading.{AreInOrder, IsWordCount, operator_lines, IsFormat, IsNoOperator, IsNoHead, IsNoFormat}
@@ -69,13 +69,13 @@ is_listing segments formats lines listed are = record {
 }
 
 -- operators that leave a part of a segment can be followed by others that fill it
-pub record Whole (words : ℕ) (ops : List Placed) : Type 0 where
+pub record Whole (words : ℕ) (ops : List ListedOperator) : Type 0 where
   pub segment : Segment
-  pub after : List Placed
+  pub after : List ListedOperator
   pub count : length segment.words ≡ words
   pub is : IsSegment segment (ops ++ after)
 
-pub whole : (words : ℕ) (ops : List Placed) (end : ℕ) → IsWordCount words → AreInOrder 0 ops end → end < 6 * words → Whole words ops
+pub whole : (words : ℕ) (ops : List ListedOperator) (end : ℕ) → IsWordCount words → AreInOrder 0 ops end → end < 6 * words → Whole words ops
 whole words ops end count order left =
     let after = noops OUTER_LEVEL (6 * words - end) end in
     let all = ops ++ after in
@@ -100,10 +100,10 @@ whole words ops end count order left =
     }
 
 -- the lines of a segment that is not whole
-abbrev pub part_lines : ℕ → ℕ → List Placed → List (List ℕ)
+abbrev pub part_lines : ℕ → ℕ → List ListedOperator → List (List ℕ)
 part_lines number words ops = segment_line number words ∷ operator_lines ops
 
-part_by : (segments : List Segment) (words : ℕ) (ops : List Placed) (end : ℕ) (x b : List (List ℕ)) → HasNoHead b → IsWordCount words → AreInOrder 0 ops end → end < 6 * words →
+part_by : (segments : List Segment) (words : ℕ) (ops : List ListedOperator) (end : ℕ) (x b : List (List ℕ)) → HasNoHead b → IsWordCount words → AreInOrder 0 ops end → end < 6 * words →
     (later : List Segment) (ls : List (List ℕ)) → SegmentsText (0 + length segments) later ls → part_lines (length segments) words ops ++ x ≡ ls ++ b → GoesOn end (6 * words) x
 part_by segments words ops end x b never count order left _ _ (none n) rest = absurd (never (length segments) words (operator_lines ops ++ x) (sym rest))
 part_by segments words ops end x b never count order left _ _ (more n segment qs later ls first after) rest =
@@ -115,7 +115,7 @@ part_by segments words ops end x b never count order left _ _ (more n segment qs
     next_operator 0 ops end qs (6 * words) x (ls ++ b) order (subst (λ k. AreInOrder 0 qs (6 * k)) (sym same) whole.order) left (tails ∙ append_assoc (operator_lines qs) ls b)
 
 -- what goes on a listing after a part of a segment begins with an operator
-part_goes_on : (segments : List Segment) (front : List (List ℕ)) (words : ℕ) (ops : List Placed) (end : ℕ) (x : List (List ℕ)) → SegmentsText 0 segments front →
+part_goes_on : (segments : List Segment) (front : List (List ℕ)) (words : ℕ) (ops : List ListedOperator) (end : ℕ) (x : List (List ℕ)) → SegmentsText 0 segments front →
     IsWordCount words → AreInOrder 0 ops end → end < 6 * words → IsListing ((front ++ part_lines (length segments) words ops) ++ x) → GoesOn end (6 * words) x
 part_goes_on segments front words ops end x listed count order left is =
     let found = ahead 0 segments is.code.segments front is.listed.segments (part_lines (length segments) words ops ++ x) (format_lines is.code.formats)
@@ -127,7 +127,7 @@ pub record InPart (lines : List (List ℕ)) (count : ℕ) : Type 0 where
   pub segments : List Segment
   pub front : List (List ℕ)
   pub words : ℕ
-  pub ops : List Placed
+  pub ops : List ListedOperator
   pub end : ℕ
   pub listed : SegmentsText 0 segments front
   pub word_count : IsWordCount words

@@ -2,11 +2,11 @@
 use Rattle.std.proofs.Common.{◌≡◌, ℕ, ◌+◌, List, [], ◌∷◌, ◌++◌, length, sym, ap, subst, arith, ◌∙◌, append_assoc}
 use Rattle.std.proofs.lemmas.List.{append-nil}
 use Rattle.b67_segment.specs.declared.code.Segment.{Segment}
-use Rattle.b67_listing.specs.Operators.{Placed}
+use Rattle.b67_listing.specs.Operators.{ListedOperator}
 use Rattle.b67_listing.specs.Listings.{IsSegment, SegmentsText, none, more, segment_lines}
 
 -- segments and one more after them
-pub SegmentsText-push : (number : ℕ) (segments : List Segment) (lines : List (List ℕ)) (last : Segment) (operators : List Placed) → SegmentsText number segments lines → IsSegment last operators →
+pub SegmentsText-push : (number : ℕ) (segments : List Segment) (lines : List (List ℕ)) (last : Segment) (operators : List ListedOperator) → SegmentsText number segments lines → IsSegment last operators →
     SegmentsText number (segments ++ last ∷ []) (lines ++ segment_lines (number + length segments) last operators)
 SegmentsText-push number _ _ last operators (none n) is =
     let same : number ≡ number + 0 = omega arith in
@@ -22,11 +22,11 @@ SegmentsText-push number _ _ last operators (more n segment ops segments lines f
 -- the lines of one segment
 pub record OneListed (segment : Segment) (lines : List (List ℕ)) : Type 0 where
   pub number : ℕ
-  pub operators : List Placed
+  pub operators : List ListedOperator
   pub segment_is : IsSegment segment operators
   pub are : lines ≡ segment_lines number segment operators
 
-one_by : (n number : ℕ) (segment other : Segment) (ops : List Placed) (segments : List Segment) (lines : List (List ℕ)) → SegmentsText n segments lines → segments ≡ [] → segment ≡ other →
+one_by : (n number : ℕ) (segment other : Segment) (ops : List ListedOperator) (segments : List Segment) (lines : List (List ℕ)) → SegmentsText n segments lines → segments ≡ [] → segment ≡ other →
     IsSegment segment ops → OneListed other (segment_lines number segment ops ++ lines)
 one_by _ number segment other ops _ _ (none n) past same is =
     record { number = number; operators = ops; segment_is = subst (λ s. IsSegment s ops) same is; are = append-nil (segment_lines number segment ops) ∙ ap (λ s. segment_lines number s ops) same }

@@ -6,11 +6,11 @@ use Rattle.b67_ops.specs.declared.Operator.{Operator}
 use Rattle.b67_ops.specs.declared.Operator.TheVariants.{Valc, Namc, Lt8, Lt16, Lt48, Mpcw, Branch, Plain}
 use Rattle.b67_ops.specs.declared.table.OperatorKind.TheVariants as kinds
 use Rattle.b67_ops.specs.Codes.{code_of}
-use Rattle.b67_ops.specs.Spelling.{spelling, Fits, filling, Stands}
+use Rattle.b67_ops.specs.Spelling.{spelling, Fits, filling, OperatorStands}
 use Rattle.b67_ops.proofs.Laws.{Stands-appended, Stands-unique}
-use Rattle.b67_listing.specs.Operators.{Placed, operator_line}
+use Rattle.b67_listing.specs.Operators.{ListedOperator, operator_line}
 use Rattle.b67_listing_reader.specs.declared.operators.Told.{Told}
-use Rattle.b67_listing_reader.specs.Reading.{CanStand, width, level_part, syllables_in, TellsNone, Tells}
+use Rattle.b67_listing_reader.specs.Reading.{OperatorCanStand, width, level_part, syllables_in, TellsNone, LinesTell}
 use Rattle.b67_listing_reader.proofs.Lines.{line_tail, level_back, text_back}
 
 -- places that are filled alike spell alike
@@ -34,11 +34,11 @@ here old at level op before =
     spelled_alike (length old) at level op same
 
 -- an operator whose line this is, where these are its level and what stands after it, and its syllables are added to others
-record Known (new : List ℕ) (old : List ℕ) (level : ℕ) (p : Placed) : Type 0 where
+record Known (new : List ℕ) (old : List ℕ) (level : ℕ) (p : ListedOperator) : Type 0 where
   level_is : p.level ≡ level
-  stands : Stands new (length old) level p.operator (length new)
+  stands : OperatorStands new (length old) level p.operator (length new)
 
-known : (line old new text : List ℕ) (level at : ℕ) (p : Placed) → IsBefore old at → level_part line ≡ Some (level, text) → new ≡ old ++ syllables_in 12 text → CanStand at p → line ≡ operator_line p →
+known : (line old new text : List ℕ) (level at : ℕ) (p : ListedOperator) → IsBefore old at → level_part line ≡ Some (level, text) → new ≡ old ++ syllables_in 12 text → OperatorCanStand at p → line ≡ operator_line p →
     Known new old level p
 known line old new text level at p before found added can e =
     let both : ◌≡◌ {A = Option (ℕ × List ℕ)} (Some (level, text)) (Some (p.level, line_tail p)) = sym found ∙ ap level_part e ∙ level_back p can.least can.most in
@@ -52,7 +52,7 @@ known line old new text level at p before found added can e =
     let appended = Stands-appended old level p.operator (subst (λ l. Fits l p.operator) levels can.fits) in
     record {
       level_is = levels;
-      stands = subst (λ k. Stands new (length old) level p.operator k) (sym long) (subst (λ bs. Stands bs (length old) level p.operator (length old + length (spelling (length old) level p.operator))) (sym new_is) appended);
+      stands = subst (λ k. OperatorStands new (length old) level p.operator k) (sym long) (subst (λ bs. OperatorStands bs (length old) level p.operator (length old + length (spelling (length old) level p.operator))) (sym new_is) appended);
     }
 
 -- a line with no level is that of none
@@ -63,33 +63,33 @@ no_level line at none p can e =
 
 -- syllables that are no operator's
 pub no_syllables : (line old new text : List ℕ) (level at : ℕ) → IsBefore old at → level_part line ≡ Some (level, text) → new ≡ old ++ syllables_in 12 text →
-    ((op : Operator) (next : ℕ) → Stands new (length old) level op next → ⊥) → TellsNone line at
+    ((op : Operator) (next : ℕ) → OperatorStands new (length old) level op next → ⊥) → TellsNone line at
 no_syllables line old new text level at before found added none p can e =
     none p.operator (length new) (known line old new text level at p before found added can e).stands
 
 -- an operator that ends elsewhere
 pub no_end : (line old new text : List ℕ) (level at : ℕ) (op : Operator) (next : ℕ) → IsBefore old at → level ≤ MOST_LEVEL → level_part line ≡ Some (level, text) → new ≡ old ++ syllables_in 12 text →
-    Stands new (length old) level op next → (next ≡ length new → ⊥) → TellsNone line at
+    OperatorStands new (length old) level op next → (next ≡ length new → ⊥) → TellsNone line at
 no_end line old new text level at op next before small found added stands other p can e =
     other (Stands-unique small stands (known line old new text level at p before found added can e).stands).1
 
 -- and one that is told
 pub tells : (line old new text : List ℕ) (level at : ℕ) (op : Operator) (next : ℕ) (told : Told) → IsBefore old at → OUTER_LEVEL ≤ level → level ≤ MOST_LEVEL →
-    level_part line ≡ Some (level, text) → new ≡ old ++ syllables_in 12 text → Stands new (length old) level op next → next ≡ length new →
-    told ≡ record { level = level; operator = op; width = next - length old } → Tells line at told
+    level_part line ≡ Some (level, text) → new ≡ old ++ syllables_in 12 text → OperatorStands new (length old) level op next → next ≡ length new →
+    told ≡ record { level = level; operator = op; width = next - length old } → LinesTell line at told
 tells line old new text level at op next told before least small found added stands ends is =
-    let p : Placed = record { place = at; level = level; operator = op } in
+    let p : ListedOperator = record { place = at; level = level; operator = op } in
     let size = stands.next_is in
     let wide : next - length old ≡ width p = omega (arith, ap length (here old at level op before)) in
-    subst (λ (t : Told). Tells line at t) (sym is) (
+    subst (λ (t : Told). LinesTell line at t) (sym is) (
       wide,
       record {
         stands = record { place_is = refl; least = least; most = small; fits = stands.fits };
         only = λ other can e.
             let k = known line old new text level at other before found added can e in
             let one = Stands-unique small stands k.stands in
-            ap (λ n. let r : Placed = record { place = n; level = other.level; operator = other.operator } in r) can.place_is
-            ∙ ap (λ l. let r : Placed = record { place = at; level = l; operator = other.operator } in r) k.level_is
-            ∙ ap (λ o. let r : Placed = record { place = at; level = level; operator = o } in r) (sym one.0);
+            ap (λ n. let r : ListedOperator = record { place = n; level = other.level; operator = other.operator } in r) can.place_is
+            ∙ ap (λ l. let r : ListedOperator = record { place = at; level = l; operator = other.operator } in r) k.level_is
+            ∙ ap (λ o. let r : ListedOperator = record { place = at; level = level; operator = o } in r) (sym one.0);
       },
     )

@@ -2,7 +2,7 @@
 use Rattle.std.proofs.Common.{◌≡◌, ℕ, ◌+◌, ◌-◌, ◌<◌, List, [], ◌∷◌, ◌++◌, length, take, drop, refl, sym, ap, subst, arith, ◌∙◌}
 use Rattle.std.proofs.Math.Seq.{take-add}
 use Rattle.std.proofs.lemmas.List.{take_at, take-append-drop}
-use Rattle.b67_text.specs.Texts.{Stands}
+use Rattle.b67_text.specs.Texts.{PartStands}
 use Rattle.b67_segment.specs.declared.code.Segment.{Segment}
 use Rattle.b67_segment.specs.declared.code.Format.{Format}
 use Rattle.b67_segment.specs.declared.code.Code.{Code}
@@ -10,19 +10,19 @@ use Rattle.b67_listing_reader.specs.declared.refusal.ReadListing.{ReadListing}
 use Rattle.b67_listing_reader.specs.declared.refusal.ReadListing.TheVariants.{BadListing, NoMemory}
 use Rattle.b67_listing.specs.Formats.{format_lines}
 use Rattle.b67_listing.specs.Listings.{IsListable, SegmentsText, segment_line, segment_lines, ListingText}
-use Rattle.b67_listing_reader.specs.Codes.{Refuses}
+use Rattle.b67_listing_reader.specs.Codes.{ListingRefuses}
 use Rattle.b67_listing_reader.specs.Reading.{operator_lines, RefusesBody, RefusesFormats, ReadsBody, ReadsSegments, ReadsFormats, IsWordCount, IsNoHead}
 use Rattle.b67_listing_reader.proofs.Segments.{SegmentsText-push}
 use Rattle.b67_listing_reader.proofs.Refusals.{part_refused, behind_refused, are_listable}
 
 -- the items before a place, and what stands there
-pub taken : {A : Type 0} (part items : List A) (at next : ℕ) → Stands part items at next → take next items ≡ take at items ++ part
+pub taken : {A : Type 0} (part items : List A) (at next : ℕ) → PartStands part items at next → take next items ≡ take at items ++ part
 taken part items at next s =
     ap (λ n. take n items) s.next_is ∙ take-add at (length part) items ∙ ap (λ t. take at items ++ t) (ap (take (length part)) s.part_is ∙ take_at part (drop next items) (length part) refl)
 
 -- a head line and what stands after it
-pub behind_head : (line : List ℕ) (part lines : List (List ℕ)) (at next : ℕ) → at < length lines → drop at lines ≡ line ∷ drop (at + 1) lines → Stands part lines (at + 1) next →
-    Stands (line ∷ part) lines at next
+pub behind_head : (line : List ℕ) (part lines : List (List ℕ)) (at next : ℕ) → at < length lines → drop at lines ≡ line ∷ drop (at + 1) lines → PartStands part lines (at + 1) next →
+    PartStands (line ∷ part) lines at next
 behind_head line part lines at next inside here s =
     record { within = s.within; next_is = omega (arith, s.next_is); part_is = here ∙ ap (λ t. line ∷ t) s.part_is }
 
@@ -46,7 +46,7 @@ segment_more segments lines at next words segment before inside here r =
 
 -- a refusal in a segment
 pub body_refused : (e : ReadListing) (segments : List Segment) (lines : List (List ℕ)) (at words : ℕ) → SegmentsText 0 segments (take at lines) → at < length lines → IsWordCount words →
-    drop at lines ≡ segment_line (length segments) words ∷ drop (at + 1) lines → RefusesBody e words lines (at + 1) → Refuses e lines
+    drop at lines ≡ segment_line (length segments) words ∷ drop (at + 1) lines → RefusesBody e words lines (at + 1) → ListingRefuses e lines
 body_refused NoMemory segments lines at words before inside count here r = tt
 body_refused (BadListing line) segments lines at words before inside count here r =
     let s = r.1 in
@@ -70,14 +70,14 @@ body_refused (BadListing line) segments lines at words before inside count here 
 
 -- where the lines of formats begin, no further segment does
 first_ends : (segments : List Segment) (lines : List (List ℕ)) (at next : ℕ) (formats : List Format) (line : List ℕ) (rest : List (List ℕ)) → ReadsSegments lines segments at →
-    Stands (format_lines formats) lines at next → drop next lines ≡ line ∷ rest → formats ≡ [] → IsNoHead line (length segments)
+    PartStands (format_lines formats) lines at next → drop next lines ≡ line ∷ rest → formats ≡ [] → IsNoHead line (length segments)
 first_ends segments lines at next formats line rest r s e none =
     let long : length (format_lines formats) ≡ 0 = ap (λ fs. length (format_lines fs)) none in
     let same : at ≡ next = omega (arith, s.next_is) in
     r.ended line rest (ap (λ k. drop k lines) same ∙ e)
 
 -- a refusal in the formats
-pub formats_refused : (e : ReadListing) (segments : List Segment) (lines : List (List ℕ)) (at : ℕ) → ReadsSegments lines segments at → RefusesFormats e lines at → Refuses e lines
+pub formats_refused : (e : ReadListing) (segments : List Segment) (lines : List (List ℕ)) (at : ℕ) → ReadsSegments lines segments at → RefusesFormats e lines at → ListingRefuses e lines
 formats_refused NoMemory segments lines at r f = tt
 formats_refused (BadListing line) segments lines at r f =
     let s = f.1 in (
@@ -112,6 +112,6 @@ code_read segments read formats others lines at same alike r f =
     code_of read others lines at (subst (λ ss. ReadsSegments lines ss at) (sym same) r) (subst (λ fs. ReadsFormats lines at fs) (sym alike) f)
 
 -- a listing is not refused
-pub not_refused : (e : ReadListing) (code : Code) (lines : List (List ℕ)) → Refuses e lines → IsListable code → ListingText code lines → e ≡ NoMemory
+pub not_refused : (e : ReadListing) (code : Code) (lines : List (List ℕ)) → ListingRefuses e lines → IsListable code → ListingText code lines → e ≡ NoMemory
 not_refused NoMemory code lines r is listed = refl
 not_refused (BadListing line) code lines r is listed = absurd (r.1.none (record { code = code; listable = is; listed = listed }))

@@ -2,9 +2,9 @@
 use Rattle.std.proofs.Common.{◌≡◌, ℕ, suc, ◌+◌, ◌-◌, ◌^◌, ◌<◌, ⊎_elim, inr, Option, Some, None, MatchOption, List, [], ◌∷◌, ◌++◌, length, drop, refl, sym, ap, arith, ◌∙◌, append_assoc, length-append}
 use Rattle.std.specs.Fmt.{decimal}
 use Rattle.std.proofs.lemmas.List.{drop-drop, drop_at}
-use Rattle.b67_text.specs.Texts.{StopsAt, Stands}
+use Rattle.b67_text.specs.Texts.{StopsAt, PartStands}
 use Rattle.b67_text.specs.declared.number.Numbers.{Numbers}
-use Rattle.b67_text.specs.Numerals.{IsDigit, IsIn, IsField}
+use Rattle.b67_text.specs.Numerals.{IsDigit, NumberIsIn, IsField}
 use Rattle.b67_text.proofs.Fronts.{at_byte, byte_at}
 use Rattle.b67_listing_reader.specs.Reading.{EndsPhrase, ReadsWidth, HasNoWidth, HasWidthBefore}
 
@@ -12,10 +12,10 @@ use Rattle.b67_listing_reader.specs.Reading.{EndsPhrase, ReadsWidth, HasNoWidth,
 abbrev pub widths : Numbers
 widths = record { least = 0; most = 0xffffffff; except = None }
 
-pub is_width : (width : ℕ) → width < 2 ^ 32 → IsIn widths width
+pub is_width : (width : ℕ) → width < 2 ^ 32 → NumberIsIn widths width
 is_width width small = record { fits = omega arith; least = omega arith; most = omega arith; other = λ e. cc }
 
-pub some_width : (n : ℕ) × IsIn widths n
+pub some_width : (n : ℕ) × NumberIsIn widths n
 some_width = (0, is_width 0 (omega arith))
 
 -- what ends a phrase is no digit
@@ -26,7 +26,7 @@ pub no_width : (text : List ℕ) (at end stop : ℕ) → StopsAt (IsField widths
 no_width text at end stop s width rest small e =
     s.none.none (decimal width ++ end ∷ []) rest (record { number = width; is_in = is_width width small; text_is = refl }) (append_assoc (decimal width) (end ∷ []) rest ∙ sym e)
 
-pub width_found : (text : List ℕ) (at end width next : ℕ) → IsIn widths width → Stands (decimal width ++ end ∷ []) text at next → HasWidthBefore text at end width (next - 1)
+pub width_found : (text : List ℕ) (at end width next : ℕ) → NumberIsIn widths width → PartStands (decimal width ++ end ∷ []) text at next → HasWidthBefore text at end width (next - 1)
 width_found text at end width next is s =
     let long = s.next_is in
     let most = is.most in

@@ -13,6 +13,6 @@ pub record IsListing (lines : List (List ℕ)) : Type 0 where
   pub listed : ListingText code lines
 
 -- a refusal of lines as a listing: at the first line, counted from 1, through which no listing has them, or for want of memory
-abbrev pub Refuses : ReadListing → List (List ℕ) → Type 0
-Refuses (BadListing line) lines = (1 ≤ line) × IsRefused IsListing lines (line - 1)
-Refuses NoMemory lines = Unit {0}
+abbrev pub ListingRefuses : ReadListing → List (List ℕ) → Type 0
+ListingRefuses (BadListing line) lines = (1 ≤ line) × IsRefused IsListing lines (line - 1)
+ListingRefuses NoMemory lines = Unit {0}

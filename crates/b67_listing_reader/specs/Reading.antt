@@ -4,13 +4,13 @@ use Rattle.std.specs.List.{All}
 use Rattle.std.specs.Fmt.{decimal}
 use Rattle.b67_ops.specs.declared.TheConstants.{OUTER_LEVEL, MOST_LEVEL}
 use Rattle.b67_ops.specs.Spelling.{spelling, Fits}
-use Rattle.b67_text.specs.Texts.{Stands, HasByte}
+use Rattle.b67_text.specs.Texts.{PartStands, HasByte}
 use Rattle.b67_segment.specs.declared.code.Segment.{Segment}
 use Rattle.b67_segment.specs.declared.code.Phrase.{Phrase}
 use Rattle.b67_segment.specs.declared.code.Format.{Format}
 use Rattle.b67_segment.specs.declared.TheConstants.{MOST_SEGMENT_WORDS}
 use Rattle.b67_segment.specs.Operators as building
-use Rattle.b67_listing.specs.Operators.{Placed, operator_line}
+use Rattle.b67_listing.specs.Operators.{ListedOperator, operator_line}
 use Rattle.b67_listing.specs.Formats.{phrase_text, format_line, format_lines}
 use Rattle.b67_listing.specs.Listings.{IsPhrase, IsSegment, SegmentsText, segment_line}
 use Rattle.b67_listing_reader.specs.declared.refusal.ReadListing.{ReadListing}
@@ -18,23 +18,23 @@ use Rattle.b67_listing_reader.specs.declared.refusal.ReadListing.TheVariants.{Ba
 use Rattle.b67_listing_reader.specs.declared.operators.Told.{Told}
 
 -- an operator that can stand at this place: it fits its level, which is from the outer block's to the deepest
-pub record CanStand (at : ℕ) (placed : Placed) : Type 0 where
+pub record OperatorCanStand (at : ℕ) (placed : ListedOperator) : Type 0 where
   pub place_is : placed.place ≡ at
   pub least : OUTER_LEVEL ≤ placed.level
   pub most : placed.level ≤ MOST_LEVEL
   pub fits : Fits placed.level placed.operator
 
 -- how many syllables an operator is
-abbrev pub width : Placed → ℕ
+abbrev pub width : ListedOperator → ℕ
 width placed = length (spelling placed.place placed.level placed.operator)
 
 -- operators stand one after another, each at its place, from one place on to another
-abbrev pub AreInOrder : ℕ → List Placed → ℕ → Type 0
+abbrev pub AreInOrder : ℕ → List ListedOperator → ℕ → Type 0
 AreInOrder at [] end = at ≡ end
-AreInOrder at (first ∷ more) end = CanStand at first × AreInOrder (at + width first) more end
+AreInOrder at (first ∷ more) end = OperatorCanStand at first × AreInOrder (at + width first) more end
 
 -- the lines of operators
-abbrev pub operator_lines : List Placed → List (List ℕ)
+abbrev pub operator_lines : List ListedOperator → List (List ℕ)
 operator_lines ps = map operator_line ps
 
 -- how many words a segment can have
@@ -91,38 +91,38 @@ pub record IsEnded (rest : List ℕ) : Type 0 where
   pub rest_is : rest ≡ byte ∷ more
 
 -- the operators as a builder has them, without their places
-abbrev pub unplaced : List Placed → List building.Placed
-unplaced ps = map (λ (p : Placed). record { level = p.level; operator = p.operator }) ps
+abbrev pub unplaced : List ListedOperator → List building.Placed
+unplaced ps = map (λ (p : ListedOperator). record { level = p.level; operator = p.operator }) ps
 
 -- the line is that of no operator at this place
 abbrev pub TellsNone : List ℕ → ℕ → Type 0
-TellsNone line at = (placed : Placed) → CanStand at placed → line ≡ operator_line placed → ⊥
+TellsNone line at = (placed : ListedOperator) → OperatorCanStand at placed → line ≡ operator_line placed → ⊥
 
 -- if the line is that of an operator at the place of this one, it is that of this one
-pub record TellsOne (line : List ℕ) (placed : Placed) : Type 0 where
-  pub stands : CanStand placed.place placed
-  pub only : (other : Placed) → CanStand placed.place other → line ≡ operator_line other → other ≡ placed
+pub record TellsOne (line : List ℕ) (placed : ListedOperator) : Type 0 where
+  pub stands : OperatorCanStand placed.place placed
+  pub only : (other : ListedOperator) → OperatorCanStand placed.place other → line ≡ operator_line other → other ≡ placed
 
 -- what was told at a place
-abbrev pub told_at : ℕ → Told → Placed
+abbrev pub told_at : ℕ → Told → ListedOperator
 told_at at told = record { place = at; level = told.level; operator = told.operator }
 
-abbrev pub Tells : List ℕ → ℕ → Told → Type 0
-Tells line at told = (told.width ≡ width (told_at at told)) × TellsOne line (told_at at told)
+abbrev pub LinesTell : List ℕ → ℕ → Told → Type 0
+LinesTell line at told = (told.width ≡ width (told_at at told)) × TellsOne line (told_at at told)
 
 -- the first of the lines tell these operators
-abbrev pub TellEach : List (List ℕ) → List Placed → Type 0
+abbrev pub TellEach : List (List ℕ) → List ListedOperator → Type 0
 TellEach lines [] = Unit {0}
 TellEach [] (p ∷ ps) = ⊥
 TellEach (line ∷ lines) (p ∷ ps) = TellsOne line p × TellEach lines ps
 
 -- the line is that of no operator that stands at this place and ends before the other
 abbrev pub IsNoOperator : List ℕ → ℕ → ℕ → Type 0
-IsNoOperator line at most = (placed : Placed) → CanStand at placed → at + width placed ≤ most → line ≡ operator_line placed → ⊥
+IsNoOperator line at most = (placed : ListedOperator) → OperatorCanStand at placed → at + width placed ≤ most → line ≡ operator_line placed → ⊥
 
 -- the lines from one place to another tell these operators, of no more than so many syllables
 pub record TellSoFar (lines : List (List ℕ)) (at most : ℕ) (operators : List building.Placed) (next : ℕ) : Type 0 where
-  pub placed : List Placed
+  pub placed : List ListedOperator
   pub operators_are : operators ≡ unplaced placed
   pub end : ℕ
   pub order : AreInOrder 0 placed end
@@ -138,7 +138,7 @@ pub record TellsOperators (lines : List (List ℕ)) (at most : ℕ) (operators :
 
 -- some operators that stand one after another from the start of a segment, and are no more than fit into one
 pub record AreOperators (operators : List building.Placed) : Type 0 where
-  pub placed : List Placed
+  pub placed : List ListedOperator
   pub operators_are : operators ≡ unplaced placed
   pub end : ℕ
   pub order : AreInOrder 0 placed end
@@ -155,25 +155,25 @@ pub record IsFirstOther (lines others : List (List ℕ)) (same : ℕ) : Type 0 w
 
 -- the segment of operators and of what fills its last word, and how many of the lines are those of its operators
 pub record IsRelisted (operators : List building.Placed) (lines : List (List ℕ)) (segment : Segment) (same : ℕ) : Type 0 where
-  pub all : List Placed
+  pub all : List ListedOperator
   pub segment_is : IsSegment segment all
   pub all_are : unplaced all ≡ building.filled operators
   pub same_are : IsFirstOther lines (operator_lines all) same
 
 -- a segment of so many words, whose operators' lines stand at a place among lines
 pub record ReadsBody (words : ℕ) (lines : List (List ℕ)) (at : ℕ) (segment : Segment) (next : ℕ) : Type 0 where
-  pub operators : List Placed
+  pub operators : List ListedOperator
   pub segment_is : IsSegment segment operators
   pub words_are : length segment.words ≡ words
-  pub stands : Stands (operator_lines operators) lines at next
+  pub stands : PartStands (operator_lines operators) lines at next
 
 -- operators' lines stand at a place among lines, they leave a part of so many words, and the line after them is that of no operator that could go on
 pub record StopsInBody (words : ℕ) (lines : List (List ℕ)) (at next : ℕ) : Type 0 where
-  pub operators : List Placed
+  pub operators : List ListedOperator
   pub end : ℕ
   pub order : AreInOrder 0 operators end
   pub left : end < 6 * words
-  pub stands : Stands (operator_lines operators) lines at next
+  pub stands : PartStands (operator_lines operators) lines at next
   pub stops : (line : List ℕ) (rest : List (List ℕ)) → drop next lines ≡ line ∷ rest → IsNoOperator line end (6 * words)
 
 abbrev pub RefusesBody : ReadListing → ℕ → List (List ℕ) → ℕ → Type 0
@@ -183,19 +183,19 @@ RefusesBody NoMemory words lines at = Unit {0}
 -- a phrase and what ends it stand at a place
 pub record ReadsPhrase (text : List ℕ) (at : ℕ) (phrase : Phrase) (next : ℕ) : Type 0 where
   pub is_phrase : IsPhrase phrase
-  pub stands : Stands (phrase_text phrase) text at next
+  pub stands : PartStands (phrase_text phrase) text at next
   pub ended : IsEnded (drop next text)
 
 -- a number of 32 bits and what ends it stand at a place
 pub record ReadsWidth (text : List ℕ) (at width next : ℕ) : Type 0 where
   pub fits : width < 2 ^ 32
-  pub stands : Stands (decimal width) text at next
+  pub stands : PartStands (decimal width) text at next
   pub ended : IsEnded (drop next text)
 
 -- a number of 32 bits stands at a place, and this byte after it
 pub record HasWidthBefore (text : List ℕ) (at end width next : ℕ) : Type 0 where
   pub fits : width < 2 ^ 32
-  pub stands : Stands (decimal width) text at next
+  pub stands : PartStands (decimal width) text at next
   pub ended : HasByte end text next
 
 -- no number of 32 bits stands at a place before this byte
@@ -205,7 +205,7 @@ HasNoWidth text at end = (width : ℕ) (rest : List ℕ) → width < 2 ^ 32 → 
 -- bytes of texts and a quote after them stand at a place, the quote at the other
 pub record ReadsQuoted (text : List ℕ) (at : ℕ) (quoted : List ℕ) (end : ℕ) : Type 0 where
   pub bytes : All IsTextByte quoted
-  pub stands : Stands quoted text at end
+  pub stands : PartStands quoted text at end
   pub quote : HasByte 34 text end
 
 -- and after the quote stands what ends a phrase
@@ -235,7 +235,7 @@ pub record ReadsFormats (lines : List (List ℕ)) (at : ℕ) (formats : List For
 pub record StopsInFormats (lines : List (List ℕ)) (at next : ℕ) : Type 0 where
   pub formats : List Format
   pub are : All IsFormat formats
-  pub stands : Stands (format_lines formats) lines at next
+  pub stands : PartStands (format_lines formats) lines at next
   pub line : List ℕ
   pub rest : List (List ℕ)
   pub line_is : drop next lines ≡ line ∷ rest

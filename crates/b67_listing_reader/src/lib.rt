@@ -15,7 +15,7 @@ mod refusal;
 ghost use Rattle.std.specs.Prelude.{◌≡◌, ℕ, ◌-◌, ◌<◌, ◌≤◌, ◌^◌, List, length, IfOk, IfErr, MatchResult};
 ghost use Rattle.b67_segment.specs.declared.code.Code.{Code};
 ghost use Rattle.b67_listing.specs.Listings.{IsListable, ListingText};
-ghost use Rattle.b67_listing_reader.specs.Codes.{Refuses};
+ghost use Rattle.b67_listing_reader.specs.Codes.{ListingRefuses};
 ghost use Rattle.b67_listing_reader.specs.Reading.{ReadsSegments, ReadsFormats, RefusesFormats};
 
 use crate::body::read_body;
@@ -33,7 +33,7 @@ pub fn read_listing(alloc: Global, lines: &[Line]) -> Result<Code, ReadListing>
     ensures read { IfOk result (λ code. IsListable code × ListingText code lines.now) }
     ensures again { (code : Code) → IsListable code → ListingText code lines.now →
         MatchResult result (λ found. found ≡ code) (λ e. e ≡ ReadListing.NoMemory) }
-    ensures refused { IfErr result (λ e. Refuses e lines.now) }
+    ensures refused { IfErr result (λ e. ListingRefuses e lines.now) }
 {
     let (segments, at) = read_segments(alloc, lines)?;
     let formats = read_formats(alloc, lines, at)?;
@@ -47,7 +47,7 @@ pub fn read_listing(alloc: Global, lines: &[Line]) -> Result<Code, ReadListing>
 fn read_segments(alloc: Global, lines: &[Line]) -> Result<(Vec<Segment>, usize), ReadListing>
     requires { length lines.now < 2 ^ 32 - 1 }
     ensures read { IfOk result (λ found. ReadsSegments lines.now found.0.items found.1) }
-    ensures refused { IfErr result (λ e. Refuses e lines.now) }
+    ensures refused { IfErr result (λ e. ListingRefuses e lines.now) }
 {
     let mut segments = Vec::new(alloc);
     let mut at = 0;

@@ -3,7 +3,7 @@
 ghost use Rattle.std.specs.Prelude.{◌≡◌, ◌*◌, ◌<◌, ◌≤◌, ◌++◌, [], length, Some, None, MatchOption, IfSome, IfOk, OnOk};
 ghost use Rattle.b67_ops.specs.declared.TheConstants.{OUTER_LEVEL, MOST_LEVEL};
 ghost use Rattle.b67_segment.specs.declared.TheConstants.{MOST_SEGMENT_WORDS};
-ghost use Rattle.b67_listing_reader.specs.Reading.{two_digits, level_part, hex_value, syllables_in, TellsNone, Tells, TellsOperators};
+ghost use Rattle.b67_listing_reader.specs.Reading.{two_digits, level_part, hex_value, syllables_in, TellsNone, LinesTell, TellsOperators};
 
 use b67_list::Line;
 use b67_ops::{MOST_LEVEL, OUTER_LEVEL, Operator, decode};
@@ -51,7 +51,7 @@ pub fn read_operators(
 /// What a line tells of the operator whose line it is, where one at this place has it: of its level and its syllables
 /// only. Where the rest of the line is another, it is that of none.
 fn read_operator(alloc: Global, line: &[u8], place: u16) -> Result<Option<Told>, AllocError>
-    ensures tells { IfOk result (λ told. MatchOption told (TellsNone line.now place) (λ told. Tells line.now place told)) }
+    ensures tells { IfOk result (λ told. MatchOption told (TellsNone line.now place) (λ told. LinesTell line.now place told)) }
     ensures short { IfOk result (λ told. IfSome told (λ told. told.width ≤ 12)) }
 {
     let Some((level, digits)) = level_part(line) else {

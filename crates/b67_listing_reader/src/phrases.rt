@@ -3,7 +3,7 @@
 ghost use Rattle.std.specs.Prelude.{◌≡◌, ℕ, ◌+◌, ◌<◌, ◌≤◌, ◌^◌, List, ◌∷◌, ◌++◌, length, drop, codes, ◌⊎◌, ◌↔◌, true, false, IsTrue, MatchOption, IfOk};
 ghost use Rattle.std.specs.List.{All};
 ghost use Rattle.std.specs.Fmt.{decimal};
-ghost use Rattle.b67_text.specs.Texts.{Stands, HasByte};
+ghost use Rattle.b67_text.specs.Texts.{PartStands, HasByte};
 ghost use Rattle.b67_segment.specs.declared.code.Phrase.{Phrase};
 ghost use Rattle.b67_segment.specs.declared.code.Phrase.TheVariants.{Text};
 ghost use Rattle.b67_segment.specs.declared.code.Format.{Format};

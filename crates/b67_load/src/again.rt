@@ -5,7 +5,7 @@ ghost use Rattle.b67_table.specs.Beginning.{first_image, first_registers};
 ghost use Rattle.b67_table.specs.Valid.{IsValid};
 ghost use Rattle.b67_reach.specs.Images.{image_of};
 ghost use Rattle.b67_reach.specs.Woken.{KeepsPlaces};
-ghost use Rattle.b67_action.specs.Done.{HasRoom};
+ghost use Rattle.b67_action.specs.Done.{KernelHasRoom};
 
 use crate::opening::open_with;
 use crate::words::{base_words, first_registers};
@@ -53,10 +53,10 @@ pub fn load_again<C: Again>(
     parts: &mut Parts,
 ) -> Result<(), AllocError>
     requires valid { IsValid parts.old.code (image_of (C.Core.stacks core.old) (C.Core.rows core.old) kernel.old parts.old) }
-    requires room { HasRoom kernel.old parts.old }
+    requires room { KernelHasRoom kernel.old parts.old }
     ensures image { OnOk result (image_of (C.Core.stacks core.new) (C.Core.rows core.new) kernel.new parts.new ≡ first_image) }
     ensures valid { IsValid parts.new.code (image_of (C.Core.stacks core.new) (C.Core.rows core.new) kernel.new parts.new) }
-    ensures room { HasRoom kernel.new parts.new }
+    ensures room { KernelHasRoom kernel.new parts.new }
     ensures code { parts.new.code ≡ parts.old.code }
 {
     kernel.clear();

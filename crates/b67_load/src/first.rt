@@ -4,7 +4,7 @@ ghost use Rattle.b67_store.specs.Store.{opened_at};
 ghost use Rattle.b67_table.specs.declared.ProcessState.TheVariants.{Able};
 ghost use Rattle.b67_table.specs.Beginning.{base_frame, first_registers, system_stack};
 ghost use Rattle.b67_reach.specs.Images.{image_of};
-ghost use Rattle.b67_action.specs.Done.{HasRoom};
+ghost use Rattle.b67_action.specs.Done.{KernelHasRoom};
 ghost use Rattle.b67_load.specs.Closed.{NoneOpen, first_on};
 
 use crate::opening::open_with;
@@ -25,7 +25,7 @@ fn parts_of(alloc: Global, code: Code) -> Result<(Kernel, Parts), AllocError>
     ensures numbers { IfOk result (λ made. made.1.numbers.items ≡ 0 ∷ []) }
     ensures output { IfOk result (λ made. made.1.output.items ≡ []) }
     ensures started { IfOk result (λ made. made.1.started ≡ 1) }
-    ensures room { IfOk result (λ made. HasRoom made.0 made.1) }
+    ensures room { IfOk result (λ made. KernelHasRoom made.0 made.1) }
     ensures code { IfOk result (λ made. made.1.code ≡ code) }
 {
     let kernel = Kernel::with_room(alloc, MOST_PROCESSES)?;
@@ -72,7 +72,7 @@ pub fn load<C: Core>(alloc: Global, core: &mut C, code: Code) -> Result<(Kernel,
     requires stacks { NoneOpen (C.Core.stacks core.old) }
     requires rows { NoneOpen (C.Core.rows core.old) }
     ensures image { IfOk result (λ made. image_of (C.Core.stacks core.new) (C.Core.rows core.new) made.0 made.1 ≡ first_on (C.Core.stacks core.old) (C.Core.rows core.old)) }
-    ensures room { IfOk result (λ made. HasRoom made.0 made.1) }
+    ensures room { IfOk result (λ made. KernelHasRoom made.0 made.1) }
     ensures code { IfOk result (λ made. made.1.code ≡ code) }
     ensures no_stack { OnErr result (NoneOpen (C.Core.stacks core.new)) }
     ensures same_rows { OnErr result (C.Core.rows core.new ≡ C.Core.rows core.old) }

@@ -13,23 +13,23 @@ use Rattle.b67_action.specs.declared.done.Done.TheVariants.{Went}
 use Rattle.b67_machine.specs.declared.entries.Entered.{Entered}
 use Rattle.b67_machine.specs.declared.entry.Performed.{Performed}
 use Rattle.b67_machine.specs.declared.replay.Replayed.{Replayed}
-use Rattle.b67_machine.specs.Entries.{Enters, stay, go, PerformsEntries}
-use Rattle.b67_machine.specs.Kept.{Kept}
+use Rattle.b67_machine.specs.Entries.{EntriesFollow, stay, go, PerformsEntries}
+use Rattle.b67_machine.specs.Kept.{MachineModel}
 use Rattle.b67_machine.specs.Reads.{machine_end}
 use Rattle.b67_machine.specs.Replaying.{Between, Advances, StopsBefore, within_entry}
-use Rattle.b67_machine.specs.Stepping.{Performs, Follows}
+use Rattle.b67_machine.specs.Stepping.{MachinePerforms, MachineFollows}
 use Rattle.b67_machine.proofs.Entering.{Comes, FollowsOn, HasState, comes, performed_state, ends_within, goes_through, last_noted, done_within, number_within}
 use Rattle.b67_machine.proofs.Agreeing.{noted_length}
 use Rattle.b67_machine.proofs.Following.{more_of_run, ends_in_run}
 use Rattle.b67_machine.proofs.Noting.{first_noted}
 
 -- these entries are performed, and a process is able in a run without an end
-pub record IsNext (code : Code) (done : List ℕ) (noted : List Letter) (spent p : ℕ) (m : Kept) : Type 0 where
+pub record IsNext (code : Code) (done : List ℕ) (noted : List Letter) (spent p : ℕ) (m : MachineModel) : Type 0 where
   pub between : Between code done noted spent m
   pub going : machine_end m ≡ None
   pub able : is_able (numbered m.image.states p) ≡ true
 
-next_is : (code : Code) (p : ℕ) (m : Kept) (a b : List ℕ) (x y : List Letter) (s t : ℕ) → a ≡ b → x ≡ y → s ≡ t → IsNext code a x s p m → IsNext code b y t p m
+next_is : (code : Code) (p : ℕ) (m : MachineModel) (a b : List ℕ) (x y : List Letter) (s t : ℕ) → a ≡ b → x ≡ y → s ≡ t → IsNext code a x s p m → IsNext code b y t p m
 next_is code p m a b x y s t e g f h =
     subst (λ (xs : List ℕ). IsNext code xs y t p m) e (subst (λ (ls : List Letter). IsNext code a ls t p m) g (subst (λ (k : ℕ). IsNext code a x k p m) f h))
 
@@ -37,9 +37,9 @@ next_is code p m a b x y s t e g f h =
 pub one_letter : (a b : Letter) (o : Option Letter) → o ≡ Some a → o ≡ Some b → a ≡ b
 one_letter a b o e f = cc
 
-module _ (code : Code) (budget : ℕ) (done : List ℕ) (noted : List Letter) (spent p : ℕ) (sound : Sound code) (m : Kept) (start : IsNext code done noted spent p m) where
+module _ (code : Code) (budget : ℕ) (done : List ℕ) (noted : List Letter) (spent p : ℕ) (sound : Sound code) (m : MachineModel) (start : IsNext code done noted spent p m) where
   -- after entries that go on
-  goes_by : (ls : List Letter) (k : ℕ) (a : Kept) → Enters p (budget - spent) m ls k a → IsNext code (done ++ replicate (length ls) p) (noted ++ ls) (spent + k) p a
+  goes_by : (ls : List Letter) (k : ℕ) (a : MachineModel) → EntriesFollow p (budget - spent) m ls k a → IsNext code (done ++ replicate (length ls) p) (noted ++ ls) (spent + k) p a
   goes_by ls k a stay = next_is code p m done (done ++ []) noted (noted ++ []) spent (spent + 0) (sym (append-nil done)) (sym (append-nil noted)) (omega arith) start
   goes_by ls k c (go {b = b} {ls = is} {l = named} {m = j} {k = l} enters more) =
       let s = goes_by is j b enters in
@@ -47,7 +47,7 @@ module _ (code : Code) (budget : ℕ) (done : List ℕ) (noted : List Letter) (s
       let left : budget - spent - j ≡ budget - (spent + j) = omega arith in
       let performed : Performed = record { plain = l; done = Some Went } in
       let x = comes code budget (done ++ replicate (length is) p) (noted ++ is) (spent + j) b p performed c sound s.between s.going s.able (omega (arith, few))
-      (subst (λ (most : ℕ). Performs b p most performed c) left more.performs) in
+      (subst (λ (most : ℕ). MachinePerforms b p most performed c) left more.performs) in
       let size : length (is ++ named ∷ []) ≡ length is + 1 = length-append is (named ∷ []) in
       next_is code p c ((done ++ replicate (length is) p) ++ p ∷ []) (done ++ replicate (length (is ++ named ∷ [])) p) ((noted ++ is) ++ x.l ∷ []) (noted ++ (is ++ named ∷ []))
       (spent + j + l + 1) (spent + (j + (l + 1)))
@@ -56,7 +56,7 @@ module _ (code : Code) (budget : ℕ) (done : List ℕ) (noted : List Letter) (s
       (omega arith)
       (record { between = x.between; going = more.ends; able = more.still })
 
-  module _ (entered : Entered) (all : List Letter) (new : Kept) (less : spent < budget) (h : PerformsEntries m p (budget - spent) entered all new) where
+  module _ (entered : Entered) (all : List Letter) (new : MachineModel) (less : spent < budget) (h : PerformsEntries m p (budget - spent) entered all new) where
     abbrev pub passed : List ℕ
     passed = done ++ replicate entered.entries p
 
@@ -73,10 +73,10 @@ module _ (code : Code) (budget : ℕ) (done : List ℕ) (noted : List Letter) (s
     pub operators_less : spent + entered.operators < budget
     operators_less = omega (arith, less, h.less (omega (arith, less)))
 
-    performs : Performs h.between p (budget - (spent + entered.operators)) entered.last new
+    performs : MachinePerforms h.between p (budget - (spent + entered.operators)) entered.last new
     performs =
         let left : budget - spent - entered.operators ≡ budget - (spent + entered.operators) = omega arith in
-        subst (λ (most : ℕ). Performs h.between p most entered.last new) left h.performs
+        subst (λ (most : ℕ). MachinePerforms h.between p most entered.last new) left h.performs
 
     last_comes : Comes code budget passed (noted ++ first) (spent + (entered.operators + entered.last.plain)) p new entered.last.done
     last_comes =
@@ -98,7 +98,7 @@ module _ (code : Code) (budget : ℕ) (done : List ℕ) (noted : List Letter) (s
     pub plain_few : spent + (entered.operators + entered.last.plain) ≤ budget
     plain_few = omega (arith, operators_less, most_by entered.last.done performs.then)
       where
-        most_by : (o : Option Done) → Follows performs.between p entered.last.plain (budget - (spent + entered.operators)) o new
+        most_by : (o : Option Done) → MachineFollows performs.between p entered.last.plain (budget - (spent + entered.operators)) o new
             → entered.last.plain ≤ budget - (spent + entered.operators)
         most_by None f = omega (arith, f.0)
         most_by (Some d) f = omega (arith, f.0)
@@ -123,7 +123,7 @@ module _ (code : Code) (budget : ℕ) (done : List ℕ) (noted : List Letter) (s
 -- ---- entries that are performed at once
 
 -- what is known of entries of a process, so many at the most, whose letters are noted in the first part of a list
-pub record AtOnce (code : Code) (budget : ℕ) (done : List ℕ) (noted : List Letter) (spent p : ℕ) (entered : Entered) (part rest : List Letter) (new : Kept) (times : ℕ) : Type 0 where
+pub record AtOnce (code : Code) (budget : ℕ) (done : List ℕ) (noted : List Letter) (spent p : ℕ) (entered : Entered) (part rest : List Letter) (new : MachineModel) (times : ℕ) : Type 0 where
   -- the last one is within them
   pub fits : entered.entries < times
   pub first : take entered.entries (part ++ rest) ≡ take entered.entries part
@@ -140,8 +140,8 @@ pub record AtOnce (code : Code) (budget : ℕ) (done : List ℕ) (noted : List L
       → FollowsOn code budget (done ++ replicate entered.entries p) (noted ++ take entered.entries part) (spent + (entered.operators + entered.last.plain)) p new
   pub last : within_entry entered.last.done ≡ None → slice_get part entered.entries ≡ new.letter
 
-pub at_once : (code : Code) (budget : ℕ) (done : List ℕ) (noted : List Letter) (spent p : ℕ) → Sound code → (m : Kept) → Between code done noted spent m → StopsBefore m p budget spent (length done + 1) None
-    → (entered : Entered) (part rest : List Letter) (new : Kept) → PerformsEntries m p (budget - spent) entered part new → IsValid new.code new.image → (times most : ℕ) → length part ≡ most → most ≤ times
+pub at_once : (code : Code) (budget : ℕ) (done : List ℕ) (noted : List Letter) (spent p : ℕ) → Sound code → (m : MachineModel) → Between code done noted spent m → StopsBefore m p budget spent (length done + 1) None
+    → (entered : Entered) (part rest : List Letter) (new : MachineModel) → PerformsEntries m p (budget - spent) entered part new → IsValid new.code new.image → (times most : ℕ) → length part ≡ most → most ≤ times
     → AtOnce code budget done noted spent p entered part rest new times
 at_once code budget done noted spent p sound m between before entered part rest new h valid times most size few =
     let start : IsNext code done noted spent p m = record { between = between; going = before.0; able = before.2 } in

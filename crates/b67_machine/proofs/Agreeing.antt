@@ -11,8 +11,8 @@ use Rattle.b67_action.specs.declared.done.Done.{Done}
 use Rattle.b67_action.specs.declared.done.Done.TheVariants as dones
 use Rattle.b67_machine.specs.declared.replay.Replayed.{Replayed}
 use Rattle.b67_machine.specs.declared.replay.Replayed.TheVariants as replayed
-use Rattle.b67_machine.specs.Kept.{Kept}
-use Rattle.b67_machine.specs.Replaying.{NoneDiffers, AgreeBy, AgreeAs, GoOnAs, first_of, rest_of, Compares, Between, Agrees, StopsBefore, EndsAfter, within_entry}
+use Rattle.b67_machine.specs.Kept.{MachineModel}
+use Rattle.b67_machine.specs.Replaying.{NoneDiffers, AgreeBy, AgreeAs, GoOnAs, first_of, rest_of, Compares, Between, LettersAgree, StopsBefore, EndsAfter, within_entry}
 
 -- ---- as many letters as entries
 
@@ -20,7 +20,7 @@ letters_long : {code : Code} {history counts : List ℕ} {img : Image} (r : Runs
 letters_long begin = refl
 letters_long (entry before e) = ap suc (letters_long before)
 
-pub noted_length : (code : Code) (done : List ℕ) (noted : List Letter) (spent : ℕ) (m : Kept) → Between code done noted spent m → length noted ≡ length done
+pub noted_length : (code : Code) (done : List ℕ) (noted : List Letter) (spent : ℕ) (m : MachineModel) → Between code done noted spent m → length noted ≡ length done
 noted_length code done noted spent m b =
     omega (arith, letters_long b.runs, ap length b.letters_are, length-map (reverse noted) (λ (l : Letter). Some l), length-reverse noted, ap length b.order, length-reverse b.history)
 
@@ -35,12 +35,12 @@ agree_by replayed.NoMemory h given done more e = (more, e)
 agree_by (replayed.Differs n) h given done more e = absurd h
 
 -- where the letters after those of before are none, whatever comes
-pub agrees_here : (answer : Replayed) → NoneDiffers answer → (given : Option (List Letter)) (before : List Letter) → Agrees given before before (Some answer)
+pub agrees_here : (answer : Replayed) → NoneDiffers answer → (given : Option (List Letter)) (before : List Letter) → LettersAgree given before before (Some answer)
 agrees_here answer h None before = λ more. h
 agrees_here answer h (Some given) before = λ more. agree_by answer h (before ++ given ++ more) before (given ++ more) (append_assoc before given more)
 
 -- what stops before an entry, or after all entries, is no letter
-pub stops_by : (m : Kept) (p budget spent number : ℕ) (answer : Replayed) → StopsBefore m p budget spent number (Some answer) → NoneDiffers answer
+pub stops_by : (m : MachineModel) (p budget spent number : ℕ) (answer : Replayed) → StopsBefore m p budget spent number (Some answer) → NoneDiffers answer
 stops_by m p budget spent number replayed.Ended s = tt
 stops_by m p budget spent number replayed.Ran s = tt
 stops_by m p budget spent number (replayed.Illegal n) s = tt
@@ -64,7 +64,7 @@ within_by (Some dones.Waits) (replayed.Differs n) e = cc
 within_by (Some dones.Ended) (replayed.Differs n) e = cc
 within_by (Some (dones.Fault kind)) (replayed.Differs n) e = cc
 
-pub ends_by : (m : Kept) (budget spent : ℕ) (answer : Replayed) → EndsAfter m budget spent answer → NoneDiffers answer
+pub ends_by : (m : MachineModel) (budget spent : ℕ) (answer : Replayed) → EndsAfter m budget spent answer → NoneDiffers answer
 ends_by m budget spent replayed.Ended s = tt
 ends_by m budget spent replayed.Ran s = tt
 ends_by m budget spent (replayed.Illegal n) s = tt
@@ -84,10 +84,10 @@ none_before firsts n most one less size = none_of firsts (omega (arith, one, les
 
 -- the replay ends within the last of them
 pub agrees_within : (answer : Replayed) → NoneDiffers answer → (given : Option (List Letter)) (before firsts : List Letter) (n most : ℕ) → IfSome given (λ ls. most ≡ 1) → n < most
-    → length firsts ≡ n → Agrees given before (before ++ firsts) (Some answer)
+    → length firsts ≡ n → LettersAgree given before (before ++ firsts) (Some answer)
 agrees_within answer h None before firsts n most one less size = λ more. h
 agrees_within answer h (Some given) before firsts n most one less size =
-    subst (λ (ls : List Letter). Agrees (Some given) before ls (Some answer))
+    subst (λ (ls : List Letter). LettersAgree (Some given) before ls (Some answer))
     (sym (append-nil before) ∙ ap (λ (ls : List Letter). before ++ ls) (sym (none_before firsts n most one less size)))
     (agrees_here answer h (Some given) before)
 
@@ -125,7 +125,7 @@ other_is (g ∷ given) l some h = (g, given, refl, λ (e : l ≡ g). h (ap (λ (
 -- the letter of the only one is another than the given one
 pub differs_as : (given : Option (List Letter)) (before firsts : List Letter) (l found : Letter) (n most number : ℕ) → IfSome given (λ ls. most ≡ 1) → IfSome given (λ ls. 1 ≤ length ls)
     → n < most → length firsts ≡ n → (n ≡ 0 → found ≡ l) → Compares given found true → number ≡ length ((before ++ firsts) ++ l ∷ [])
-    → Agrees given before ((before ++ firsts) ++ l ∷ []) (Some (replayed.Differs number))
+    → LettersAgree given before ((before ++ firsts) ++ l ∷ []) (Some (replayed.Differs number))
 differs_as None before firsts l found n most number one some less size here other count = cc
 differs_as (Some given) before firsts l found n most number one some less size here other count = λ more.
     let none : n ≡ 0 = omega (arith, one, less) in
@@ -149,7 +149,7 @@ parted before given n = append_assoc before (take n given) (drop n given) ∙ ap
 
 -- after the first of them, the rest
 pub agrees_after : (given : Option (List Letter)) (n : ℕ) (before mid noted : List Letter) (answer : Replayed) → GoOnAs (first_of n given) before mid
-    → Agrees (rest_of n given) mid noted (Some answer) → Agrees given before noted (Some answer)
+    → LettersAgree (rest_of n given) mid noted (Some answer) → LettersAgree given before noted (Some answer)
 agrees_after None n before mid noted answer e h = h
 agrees_after (Some given) n before mid noted answer e h = λ more.
     subst (λ (ls : List Letter). AgreeAs answer (Some ls) noted)
@@ -170,8 +170,8 @@ goes_after (Some given) n m before mid noted e f =
     ∙ ap (λ (ls : List Letter). before ++ ls) (sym (take_two given n m))
 
 -- what ends a replay within the first of them ends it
-pub agrees_first : (given : Option (List Letter)) (n : ℕ) (before noted : List Letter) (answer : Replayed) → Agrees (first_of n given) before noted (Some answer)
-    → Agrees given before noted (Some answer)
+pub agrees_first : (given : Option (List Letter)) (n : ℕ) (before noted : List Letter) (answer : Replayed) → LettersAgree (first_of n given) before noted (Some answer)
+    → LettersAgree given before noted (Some answer)
 agrees_first None n before noted answer h = h
 agrees_first (Some given) n before noted answer h = λ more.
     subst (λ (ls : List Letter). AgreeAs answer (Some ls) noted)
@@ -219,7 +219,7 @@ pub goes_whole : (given : Option (List Letter)) (n : ℕ) (before noted : List L
 goes_whole None n before noted h e = tt
 goes_whole (Some given) n before noted h e = e ∙ ap (λ (ls : List Letter). before ++ ls) (take_all n given (omega (arith, h)))
 
-pub agrees_whole : (answer : Replayed) (given : Option (List Letter)) (noted : List Letter) → Agrees given [] noted (Some answer) → AgreeAs answer given noted
+pub agrees_whole : (answer : Replayed) (given : Option (List Letter)) (noted : List Letter) → LettersAgree given [] noted (Some answer) → AgreeAs answer given noted
 agrees_whole answer None noted h = h []
 agrees_whole answer (Some given) noted h = subst (λ (ls : List Letter). AgreeAs answer (Some ls) noted) (append-nil given) (h [])
 

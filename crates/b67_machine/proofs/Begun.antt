@@ -2,7 +2,7 @@
 use Rattle.std.specs.Prelude.{slice_get, replicate}
 use Rattle.std.proofs.Common.{◌≡◌, refl, ℕ, zero, suc, []}
 use Rattle.b67_segment.specs.declared.code.Code.{Code}
-use Rattle.b67_machine.specs.Kept.{or_none, counted}
+use Rattle.b67_machine.specs.Kept.{or_none, operators_counted}
 use Rattle.b67_machine.specs.Tables.{AreTables}
 
 zero_at : (n k : ℕ) → or_none (slice_get (replicate n 0) k) ≡ 0
@@ -10,7 +10,7 @@ zero_at zero k = refl
 zero_at (suc n) zero = refl
 zero_at (suc n) (suc k) = zero_at n k
 
-pub none_counted : (n p : ℕ) → counted (replicate n 0) p ≡ 0
+pub none_counted : (n p : ℕ) → operators_counted (replicate n 0) p ≡ 0
 none_counted n zero = refl
 none_counted n (suc k) = zero_at n k
 

@@ -8,7 +8,7 @@ use Rattle.b67_word.specs.declared.Place.{Place}
 use Rattle.b67_word.specs.Word.{Word, operand}
 use Rattle.b67_control.specs.declared.Registers.{Registers}
 use Rattle.b67_control.specs.Display.{place_at}
-use Rattle.b67_machine.specs.Parts.{number_word, place_word, first_registers, last_registers, register_list, FirstDiffer}
+use Rattle.b67_machine.specs.Parts.{number_word, place_word, registers_before_display, last_registers, register_list, FirstDiffer}
 
 -- ---- lists that are equal so far
 
@@ -94,7 +94,7 @@ place_back (Some p) (Some q) h k e =
     let at : p.at ≡ q.at = omega (arith, n, h, k) in
     ap (λ (s : ℕ). Some (record { stack = s; at = p.at })) stack ∙ ap (λ (t : ℕ). Some (record { stack = q.stack; at = t })) at
 
-pub registers_back : (r q : Registers) → first_registers r ≡ first_registers q → r.display ≡ q.display → last_registers r ≡ last_registers q
+pub registers_back : (r q : Registers) → registers_before_display r ≡ registers_before_display q → r.display ≡ q.display → last_registers r ≡ last_registers q
     → IfSome r.task (λ p. p.at < 2 ^ 16) → IfSome q.task (λ p. p.at < 2 ^ 16) → IfSome r.critical (λ p. p.at < 2 ^ 16) → IfSome q.critical (λ p. p.at < 2 ^ 16) → r ≡ q
 registers_back r q e d f rt qt rc qc =
     let stack : number_word r.stack ≡ number_word q.stack = cc in
@@ -149,19 +149,19 @@ pub registers_length : (r : Registers) → length r.display ≡ 32 → length (r
 registers_length r e = omega (arith, e, length-map r.display place_word, length-append (map place_word r.display) (last_registers r))
 
 -- displays that differ, after registers that are the same
-pub differ_in_display : (r q : Registers) (i n : ℕ) (x y : Word) → first_registers r ≡ first_registers q → n ≡ 4 + i
+pub differ_in_display : (r q : Registers) (i n : ℕ) (x y : Word) → registers_before_display r ≡ registers_before_display q → n ≡ 4 + i
     → FirstDiffer (map place_word r.display) (map place_word q.display) i x y → FirstDiffer (register_list r) (register_list q) n x y
 differ_in_display r q i n x y e f d =
-    after_same (first_registers r) (first_registers q) (map place_word r.display ++ last_registers r) (map place_word q.display ++ last_registers q) i n x y e f
+    after_same (registers_before_display r) (registers_before_display q) (map place_word r.display ++ last_registers r) (map place_word q.display ++ last_registers q) i n x y e f
     (with_more (map place_word r.display) (map place_word q.display) (last_registers r) (last_registers q) i x y d)
 
 -- registers that differ after displays that are the same
-pub differ_in_last : (r q : Registers) (i n : ℕ) (x y : Word) → first_registers r ≡ first_registers q → r.display ≡ q.display → length r.display ≡ 32 → n ≡ 36 + i
+pub differ_in_last : (r q : Registers) (i n : ℕ) (x y : Word) → registers_before_display r ≡ registers_before_display q → r.display ≡ q.display → length r.display ≡ 32 → n ≡ 36 + i
     → FirstDiffer (last_registers r) (last_registers q) i x y → FirstDiffer (register_list r) (register_list q) n x y
 differ_in_last r q i n x y e d l f h =
     let here : n ≡ 4 + (32 + i) = omega (arith, f) in
     let there : 32 + i ≡ length (map place_word r.display) + i = omega (arith, l, length-map r.display place_word) in
-    after_same (first_registers r) (first_registers q) (map place_word r.display ++ last_registers r) (map place_word q.display ++ last_registers q) (32 + i) n x y e here
+    after_same (registers_before_display r) (registers_before_display q) (map place_word r.display ++ last_registers r) (map place_word q.display ++ last_registers q) (32 + i) n x y e here
     (after_same (map place_word r.display) (map place_word q.display) (last_registers r) (last_registers q) i (32 + i) x y (ap (map place_word) d) there h)
 
 -- ---- the words on top of a stack

@@ -11,24 +11,24 @@ use Rattle.b67_table.specs.Ending.{ImageEnd, finished, faulted, all_waiting, has
 use Rattle.b67_table.specs.Ending as ending
 use Rattle.b67_machine.specs.declared.reads.End.{End}
 use Rattle.b67_machine.specs.declared.reads.End.TheVariants as ends
-use Rattle.b67_machine.specs.Kept.{Kept}
+use Rattle.b67_machine.specs.Kept.{MachineModel}
 use Rattle.b67_machine.specs.declared.Failure.{Failure as Failed}
 use Rattle.b67_machine.specs.Machines.{failure}
-use Rattle.b67_machine.specs.Reads.{is_able_state, lives, shown_end, limit_end, end_by, machine_end, ended_by}
+use Rattle.b67_machine.specs.Reads.{is_able_state, lives, shown_end, limit_end, machine_end_by, machine_end, ended_by}
 
 limit_none : (o : Option ℕ) (regs : List Registers) → limit_end o regs ≡ None → o ≡ None
 limit_none None regs e = refl
 limit_none (Some p) regs e = cc
 
-by_none : (o : Option ImageEnd) (m : Kept) → end_by o m ≡ None → (o ≡ None) × (m.limit ≡ None)
+by_none : (o : Option ImageEnd) (m : MachineModel) → machine_end_by o m ≡ None → (o ≡ None) × (m.limit ≡ None)
 by_none None m e = (refl, limit_none m.limit m.image.regs e)
 by_none (Some x) m e = cc
 
-fault_none : (f : Option Failure) (ss : List ProcessState) → ending.end_by f ss ≡ None → f ≡ None
+fault_none : (f : Option Failure) (ss : List ProcessState) → ending.image_end_by f ss ≡ None → f ≡ None
 fault_none None ss e = refl
 fault_none (Some f) ss e = cc
 
-not_ended : (b : Bool) (f : Option Failure) (ss : List ProcessState) → (if b then Some finished else ending.end_by f ss) ≡ None → f ≡ None
+not_ended : (b : Bool) (f : Option Failure) (ss : List ProcessState) → (if b then Some finished else ending.image_end_by f ss) ≡ None → f ≡ None
 not_ended true f ss e = cc
 not_ended false f ss e = fault_none f ss e
 
@@ -37,12 +37,12 @@ unfolding image_end
 no_fault img e = not_ended (has_ended (numbered img.states 1)) img.fault img.states e
 
 -- a machine without an end has neither a fault nor come to the stack limit
-pub record GoesOn (m : Kept) : Type 0 where
+pub record GoesOn (m : MachineModel) : Type 0 where
   pub end : image_end m.image ≡ None
   pub fault : m.image.fault ≡ None
   pub limit : m.limit ≡ None
 
-pub goes_on : (m : Kept) → machine_end m ≡ None → GoesOn m
+pub goes_on : (m : MachineModel) → machine_end m ≡ None → GoesOn m
 goes_on m e =
     let k = by_none (image_end m.image) m e in
     record { end = k.0; fault = no_fault m.image k.0; limit = k.1 }
@@ -51,11 +51,11 @@ goes_on m e =
 pub same_end : (a b : Image) → b.states ≡ a.states → b.fault ≡ a.fault → image_end b ≡ image_end a
 unfolding image_end
 same_end a b s f =
-    ap (λ (ss : List ProcessState). if has_ended (numbered ss 1) then Some finished else ending.end_by b.fault ss) s
-    ∙ ap (λ (o : Option Failure). if has_ended (numbered a.states 1) then Some finished else ending.end_by o a.states) f
+    ap (λ (ss : List ProcessState). if has_ended (numbered ss 1) then Some finished else ending.image_end_by b.fault ss) s
+    ∙ ap (λ (o : Option Failure). if has_ended (numbered a.states 1) then Some finished else ending.image_end_by o a.states) f
 
-pub no_end : (m : Kept) → image_end m.image ≡ None → m.limit ≡ None → machine_end m ≡ None
-no_end m e l = ap (λ (o : Option ImageEnd). end_by o m) e ∙ ap (λ (o : Option ℕ). limit_end o m.image.regs) l
+pub no_end : (m : MachineModel) → image_end m.image ≡ None → m.limit ≡ None → machine_end m ≡ None
+no_end m e l = ap (λ (o : Option ImageEnd). machine_end_by o m) e ∙ ap (λ (o : Option ℕ). limit_end o m.image.regs) l
 
 -- ---- the states
 
@@ -82,7 +82,7 @@ waiting true = refl
 waiting false = refl
 
 by_parts : (b : Bool) (f : Option Failed) (ss : List ProcessState)
-    → shown_end (if b then Some finished else ending.end_by (failure f) ss) ≡ ended_by b f (list_any is_able_state ss) (list_any lives ss)
+    → shown_end (if b then Some finished else ending.image_end_by (failure f) ss) ≡ ended_by b f (list_any is_able_state ss) (list_any lives ss)
 by_parts true f ss = refl
 by_parts false (Some f) ss = refl
 by_parts false None ss =
@@ -94,19 +94,19 @@ pub end_is : (img : Image) (f : Option Failed) → img.fault ≡ failure f
     → shown_end (image_end img) ≡ ended_by (has_ended (numbered img.states 1)) f (list_any is_able_state img.states) (list_any lives img.states)
 unfolding image_end
 end_is img f e =
-    ap (λ (o : Option Failure). shown_end (if has_ended (numbered img.states 1) then Some finished else ending.end_by o img.states)) e
+    ap (λ (o : Option Failure). shown_end (if has_ended (numbered img.states 1) then Some finished else ending.image_end_by o img.states)) e
     ∙ by_parts (has_ended (numbered img.states 1)) f img.states
 
-pub end_some : (m : Kept) (o : Option ImageEnd) (e : End) → shown_end o ≡ Some e → Some e ≡ end_by o m
+pub end_some : (m : MachineModel) (o : Option ImageEnd) (e : End) → shown_end o ≡ Some e → Some e ≡ machine_end_by o m
 end_some m None e h = cc
 end_some m (Some x) e h = sym h
 
-pub end_none : (m : Kept) (o : Option ImageEnd) → shown_end o ≡ None → limit_end m.limit m.image.regs ≡ end_by o m
+pub end_none : (m : MachineModel) (o : Option ImageEnd) → shown_end o ≡ None → limit_end m.limit m.image.regs ≡ machine_end_by o m
 end_none m None h = refl
 end_none m (Some x) h = cc
 
 -- the end by what is found out of an image
-pub ended_by_found : (m : Kept) (f : Option Failed) (seen : List ProcessState) (a b d : Bool) (r : Option End) → m.image.fault ≡ failure f → seen ≡ m.image.states
+pub ended_by_found : (m : MachineModel) (f : Option Failed) (seen : List ProcessState) (a b d : Bool) (r : Option End) → m.image.fault ≡ failure f → seen ≡ m.image.states
     → a ≡ has_ended (numbered seen 1) → b ≡ list_any is_able_state seen → d ≡ list_any lives seen → r ≡ ended_by a f b d → shown_end (image_end m.image) ≡ r
 ended_by_found m f seen a b d r e s i j k l =
     end_is m.image f e

@@ -23,18 +23,18 @@ use Rattle.b67_table.specs.Sound.{Sound}
 use Rattle.b67_table.specs.Table.{table, plain}
 use Rattle.b67_table.specs.Valid.{IsValid, waits}
 use Rattle.b67_table.proofs.Lists.{numbered_within}
-use Rattle.b67_intrinsics.specs.Called.{IsLeft}
+use Rattle.b67_intrinsics.specs.Called.{ImageIsLeft}
 use Rattle.b67_action.specs.declared.done.Done.{Done}
 use Rattle.b67_action.specs.declared.done.Done.TheVariants as dones
 use Rattle.b67_action.specs.Done.{MakesNext}
 use Rattle.b67_machine.specs.declared.replay.Replayed.{Replayed}
 use Rattle.b67_machine.specs.declared.replay.Replayed.TheVariants as replayed
 use Rattle.b67_machine.specs.declared.entry.Performed.{Performed}
-use Rattle.b67_machine.specs.Kept.{Kept, Counts, counted}
+use Rattle.b67_machine.specs.Kept.{MachineModel, Counts, operators_counted}
 use Rattle.b67_machine.specs.Letters.{or_before, lettered}
 use Rattle.b67_machine.specs.Reads.{machine_end}
-use Rattle.b67_machine.specs.Stepping.{operators_in, limit_of, lacks, Acts, StepsBy, Follows, Goes, Performs}
-use Rattle.b67_machine.specs.Replaying.{tails_of, tail_of, Answers, Stands, is_lacking, ReplaysEntries, Between, Advances, StopsBefore, within_entry}
+use Rattle.b67_machine.specs.Stepping.{operators_in, limit_of, lacks, MachineActs, StepsBy, MachineFollows, MachineGoes, MachinePerforms}
+use Rattle.b67_machine.specs.Replaying.{tails_of, tail_of, ReplayAnswers, MachineStands, is_lacking, ReplaysEntries, Between, Advances, StopsBefore, within_entry}
 use Rattle.b67_machine.proofs.Ends.{goes_on, same_end, no_end}
 use Rattle.b67_machine.proofs.Tailing.{tail_of_next, no_tail}
 
@@ -44,14 +44,14 @@ pub one_of_able : (ss : List ProcessState) (p : ℕ) → is_able (numbered ss p)
 one_of_able ss zero e = cc
 one_of_able ss (suc k) e = omega arith
 
-counts_by : (b : Bool) (before after : List ℕ) (p n q : ℕ) → Counts before p n after → nat_eq q p ≡ b → counted after q ≡ counted before q + (if b then n else 0)
+counts_by : (b : Bool) (before after : List ℕ) (p n q : ℕ) → Counts before p n after → nat_eq q p ≡ b → operators_counted after q ≡ operators_counted before q + (if b then n else 0)
 counts_by true before after p n q c e =
-    subst (λ (k : ℕ). counted after k ≡ counted before k + n) (sym (eqb-true q p e)) c.own
+    subst (λ (k : ℕ). operators_counted after k ≡ operators_counted before k + n) (sym (eqb-true q p e)) c.own
 counts_by false before after p n q c e =
-    let same : counted after q ≡ counted before q = c.others q (λ (s : q ≡ p). true≢false (sym (eq-eqb q p s) ∙ e)) in
+    let same : operators_counted after q ≡ operators_counted before q = c.others q (λ (s : q ≡ p). true≢false (sym (eq-eqb q p s) ∙ e)) in
     omega (arith, same)
 
-counts_more : (before after : List ℕ) (p n q : ℕ) → Counts before p n after → counted after q ≡ counted before q + (if nat_eq q p then n else 0)
+counts_more : (before after : List ℕ) (p n q : ℕ) → Counts before p n after → operators_counted after q ≡ operators_counted before q + (if nat_eq q p then n else 0)
 counts_more before after p n q c = counts_by (nat_eq q p) before after p n q c refl
 
 counts_two : (b : Bool) (n x y z c : ℕ) → x ≡ y + (if b then 1 else 0) → y ≡ z + (if b then n else 0) → z ≡ c → x ≡ (if b then n + 1 else 0) + c
@@ -62,8 +62,8 @@ counts_none : (b : Bool) (x y : ℕ) → x ≡ y + (if b then 0 else 0) → x �
 counts_none true x y e = omega (arith, e)
 counts_none false x y e = omega (arith, e)
 
-same_counts : (before after : List ℕ) (p q : ℕ) → Counts before p 0 after → counted after q ≡ counted before q
-same_counts before after p q c = counts_none (nat_eq q p) (counted after q) (counted before q) (counts_more before after p 0 q c)
+same_counts : (before after : List ℕ) (p q : ℕ) → Counts before p 0 after → operators_counted after q ≡ operators_counted before q
+same_counts before after p q c = counts_none (nat_eq q p) (operators_counted after q) (operators_counted before q) (counts_more before after p 0 q c)
 
 -- each entry has an operator at least
 history_within : (code : Code) (h numbers : List ℕ) (img : Image) → Runs code h numbers img → length h ≤ sum numbers
@@ -71,7 +71,7 @@ history_within code h numbers img begin = omega arith
 history_within code h numbers img (entry {h = g} {counts = ns} {a = a} {n = n} before e) =
     omega (arith, history_within code g ns a before, sum_by-cons (λ (x : ℕ). x) (n + 1) ns)
 
-pub done_within : (code : Code) (done : List ℕ) (noted : List Letter) (spent : ℕ) (m : Kept) → Between code done noted spent m → length done ≤ spent
+pub done_within : (code : Code) (done : List ℕ) (noted : List Letter) (spent : ℕ) (m : MachineModel) → Between code done noted spent m → length done ≤ spent
 done_within code done noted spent m b =
     omega (arith, ap length b.order, length-reverse b.history, history_within code b.history b.numbers m.image b.runs, b.spends)
 
@@ -89,7 +89,7 @@ abbrev pub HasState : ℕ → Image → Type 0
 HasState p img = (x : ProcessState) × (numbered img.states p ≡ Some x)
 
 -- the entry is performed, with the letter that the machine has after it
-pub record FollowsOn (code : Code) (budget : ℕ) (done : List ℕ) (noted : List Letter) (spent p : ℕ) (new : Kept) : Type 0 where
+pub record FollowsOn (code : Code) (budget : ℕ) (done : List ℕ) (noted : List Letter) (spent p : ℕ) (new : MachineModel) : Type 0 where
   pub l : Letter
   pub letter : new.letter ≡ Some l
   pub between : Between code (done ++ p ∷ []) (noted ++ l ∷ []) (spent + 1) new
@@ -97,7 +97,7 @@ pub record FollowsOn (code : Code) (budget : ℕ) (done : List ℕ) (noted : Lis
   pub state : HasState p new.image
 
 -- what an entry comes to
-abbrev pub Comes : Code → ℕ → List ℕ → List Letter → ℕ → ℕ → Kept → Option Done → Type 0
+abbrev pub Comes : Code → ℕ → List ℕ → List Letter → ℕ → ℕ → MachineModel → Option Done → Type 0
 Comes code budget done noted spent p new None = Advances code budget done (p ∷ []) spent done noted new (Some replayed.BudgetSpent)
 Comes code budget done noted spent p new (Some dones.StackLimit) = Advances code budget done (p ∷ []) spent done noted new (Some replayed.Ended)
 Comes code budget done noted spent p new (Some dones.NoMemory) = Advances code budget done (p ∷ []) spent done noted new (Some replayed.NoMemory)
@@ -112,8 +112,8 @@ state_waits : (o : Option ProcessState) → waits o ≡ true → (x : ProcessSta
 state_waits None e = cc
 state_waits (Some x) e = (x, refl)
 
-module _ (code : Code) (budget : ℕ) (done : List ℕ) (noted : List Letter) (spent : ℕ) (m : Kept) (b : Between code done noted spent m) (p : ℕ) (going : machine_end m ≡ None)
-    (able : is_able (numbered m.image.states p) ≡ true) (n : ℕ) (quiet : Kept) (goes : Goes m p n quiet) where
+module _ (code : Code) (budget : ℕ) (done : List ℕ) (noted : List Letter) (spent : ℕ) (m : MachineModel) (b : Between code done noted spent m) (p : ℕ) (going : machine_end m ≡ None)
+    (able : is_able (numbered m.image.states p) ≡ true) (n : ℕ) (quiet : MachineModel) (goes : MachineGoes m p n quiet) where
   quiet_end : image_end quiet.image ≡ None
   quiet_end = same_end m.image quiet.image goes.states goes.fault ∙ (goes_on m going).end
 
@@ -124,13 +124,13 @@ module _ (code : Code) (budget : ℕ) (done : List ℕ) (noted : List Letter) (s
   may_then = may_by quiet.image p quiet_end able_then
 
   same_code : quiet.code ≡ code
-  same_code = ap (λ (k : Kept). k.code) goes.others ∙ b.same
+  same_code = ap (λ (k : MachineModel). k.code) goes.others ∙ b.same
 
   none_lacked : quiet.lacked ≡ false
-  none_lacked = ap (λ (k : Kept). k.lacked) goes.others ∙ b.lacked
+  none_lacked = ap (λ (k : MachineModel). k.lacked) goes.others ∙ b.lacked
 
   no_limit : quiet.limit ≡ None
-  no_limit = ap (λ (k : Kept). k.limit) goes.others ∙ b.limit
+  no_limit = ap (λ (k : MachineModel). k.limit) goes.others ∙ b.limit
 
   plains : Plains code p m.image n quiet.image
   plains = subst (λ (c : Code). Plains c p m.image n quiet.image) b.same goes.performed
@@ -139,8 +139,8 @@ module _ (code : Code) (budget : ℕ) (done : List ℕ) (noted : List Letter) (s
   tails more = tail_of_next code p n more m.image quiet.image (one_of_able m.image.states p able) plains
 
   -- it ends within the entry
-  stopped : (new : Kept) (answer : Replayed) (more : List ℕ) → Stands (is_lacking answer) quiet.image new.image → ((q : ℕ) → counted new.counts q ≡ counted quiet.counts q) → spent + n ≤ budget
-      → Answers code budget (sum b.numbers + n) done (p ∷ more) n quiet.image new answer → new.lacked ≡ is_lacking answer → new.code ≡ code
+  stopped : (new : MachineModel) (answer : Replayed) (more : List ℕ) → MachineStands (is_lacking answer) quiet.image new.image → ((q : ℕ) → operators_counted new.counts q ≡ operators_counted quiet.counts q) → spent + n ≤ budget
+      → ReplayAnswers code budget (sum b.numbers + n) done (p ∷ more) n quiet.image new answer → new.lacked ≡ is_lacking answer → new.code ≡ code
       → ReplaysEntries code ((done ++ p ∷ []) ++ more) budget done noted new answer
   stopped new answer more stands counts within answers lacked same = record {
     left = p ∷ more;
@@ -157,26 +157,26 @@ module _ (code : Code) (budget : ℕ) (done : List ℕ) (noted : List Letter) (s
     same = same;
   }
 
-  at_budget : (new : Kept) → spent < budget → n ≡ budget - spent → new ≡ quiet → Advances code budget done (p ∷ []) (spent + n) done noted new (Some replayed.BudgetSpent)
+  at_budget : (new : MachineModel) → spent < budget → n ≡ budget - spent → new ≡ quiet → Advances code budget done (p ∷ []) (spent + n) done noted new (Some replayed.BudgetSpent)
   at_budget new less all same = λ more.
-      stopped new replayed.BudgetSpent more (ap (λ (k : Kept). k.image) same) (λ q. ap (λ (k : Kept). counted k.counts q) same) (omega (arith, all, less))
-      (quiet_end, omega (arith, b.spends, all, less), inr may_then, ap (λ (k : Kept). k.limit) same ∙ no_limit)
-      (ap (λ (k : Kept). k.lacked) same ∙ none_lacked) (ap (λ (k : Kept). k.code) same ∙ same_code)
+      stopped new replayed.BudgetSpent more (ap (λ (k : MachineModel). k.image) same) (λ q. ap (λ (k : MachineModel). operators_counted k.counts q) same) (omega (arith, all, less))
+      (quiet_end, omega (arith, b.spends, all, less), inr may_then, ap (λ (k : MachineModel). k.limit) same ∙ no_limit)
+      (ap (λ (k : MachineModel). k.lacked) same ∙ none_lacked) (ap (λ (k : MachineModel). k.code) same ∙ same_code)
 
-  at_limit : (new : Kept) → n < budget - spent → Acts quiet p dones.StackLimit new → Advances code budget done (p ∷ []) (spent + n) done noted new (Some replayed.Ended)
+  at_limit : (new : MachineModel) → n < budget - spent → MachineActs quiet p dones.StackLimit new → Advances code budget done (p ∷ []) (spent + n) done noted new (Some replayed.Ended)
   at_limit new less a = λ more.
       stopped new replayed.Ended more (a.image ∙ a.came.1) (λ q. same_counts quiet.counts new.counts p q a.counts) (omega (arith, less))
       (inr (omega (arith, b.spends, less), may_then, (subst (λ (c : Code). table c quiet.image p ≡ limit) same_code a.came.0, a.limit)))
       a.lacked (a.code ∙ same_code)
 
-  without_memory : (new : Kept) → n < budget - spent → Acts quiet p dones.NoMemory new → Advances code budget done (p ∷ []) (spent + n) done noted new (Some replayed.NoMemory)
+  without_memory : (new : MachineModel) → n < budget - spent → MachineActs quiet p dones.NoMemory new → Advances code budget done (p ∷ []) (spent + n) done noted new (Some replayed.NoMemory)
   without_memory new less a = λ more.
-      stopped new replayed.NoMemory more (subst (IsLeft quiet.image) (sym a.image) a.came.1) (λ q. same_counts quiet.counts new.counts p q a.counts) (omega (arith, less))
+      stopped new replayed.NoMemory more (subst (ImageIsLeft quiet.image) (sym a.image) a.came.1) (λ q. same_counts quiet.counts new.counts p q a.counts) (omega (arith, less))
       (omega (arith, b.spends, less), may_then, subst (λ (c : Code). MakesNext c quiet.image p) same_code a.came.0, a.limit)
       a.lacked (a.code ∙ same_code)
 
   -- the action is performed
-  next : (d : Done) (new : Kept) → Acts quiet p d new → operators_in d ≡ 1 → limit_of p d ≡ None → lacks d ≡ false → runs.Acts code p quiet.image new.image
+  next : (d : Done) (new : MachineModel) → MachineActs quiet p d new → operators_in d ≡ 1 → limit_of p d ≡ None → lacks d ≡ false → runs.ProcessActs code p quiet.image new.image
       → (l : Letter) → letter code quiet.image p ≡ Some l → Between code (done ++ p ∷ []) (noted ++ l ∷ []) (spent + n + 1) new
   next d new a one none lack action l named =
       let counts : Counts quiet.counts p 1 new.counts = subst (λ (k : ℕ). Counts quiet.counts p k new.counts) one a.counts in
@@ -188,7 +188,7 @@ module _ (code : Code) (budget : ℕ) (done : List ℕ) (noted : List Letter) (s
         letters_are = ap (λ (o : Option Letter). o ∷ letters b.runs) named ∙ ap (λ (os : List (Option Letter)). Some l ∷ os) b.letters_are
             ∙ ap (λ (ls : List Letter). map Some ls) (sym (reverse-append noted (l ∷ [])));
         spends = omega (arith, b.spends, sum_by-cons (λ (x : ℕ). x) (n + 1) b.numbers);
-        counts = λ q. counts_two (nat_eq q p) n (counted new.counts q) (counted quiet.counts q) (counted m.counts q) (count_of q b.history b.numbers)
+        counts = λ q. counts_two (nat_eq q p) n (operators_counted new.counts q) (operators_counted quiet.counts q) (operators_counted m.counts q) (count_of q b.history b.numbers)
             (counts_more quiet.counts new.counts p 1 q counts) (counts_more m.counts quiet.counts p n q goes.counts) (b.counts q);
         limit = a.limit ∙ none;
         lacked = a.lacked ∙ lack;
@@ -196,7 +196,7 @@ module _ (code : Code) (budget : ℕ) (done : List ℕ) (noted : List Letter) (s
       }
 
   -- and is followed with its letter
-  on : (d : Done) (new : Kept) → n < budget - spent → Acts quiet p d new → operators_in d ≡ 1 → limit_of p d ≡ None → lacks d ≡ false → runs.Acts code p quiet.image new.image
+  on : (d : Done) (new : MachineModel) → n < budget - spent → MachineActs quiet p d new → operators_in d ≡ 1 → limit_of p d ≡ None → lacks d ≡ false → runs.ProcessActs code p quiet.image new.image
       → HasState p new.image → FollowsOn code budget done noted (spent + n) p new
   on d new less a one none lack action state =
       let k = actions_have_letters.acts code quiet.image new.image p action in
@@ -212,14 +212,14 @@ module _ (code : Code) (budget : ℕ) (done : List ℕ) (noted : List Letter) (s
         state = state;
       }
 
-  gives_next : (new acted : Image) → plain quiet.code quiet.image p ≡ false → table quiet.code quiet.image p ≡ gives acted → new ≡ acted → runs.Acts code p quiet.image new
+  gives_next : (new acted : Image) → plain quiet.code quiet.image p ≡ false → table quiet.code quiet.image p ≡ gives acted → new ≡ acted → runs.ProcessActs code p quiet.image new
   gives_next new acted e t same =
-      subst (λ (c : Code). runs.Acts c p quiet.image new) same_code (subst (λ (x : Image). runs.Acts quiet.code p quiet.image x) (sym same) (acts e t))
+      subst (λ (c : Code). runs.ProcessActs c p quiet.image new) same_code (subst (λ (x : Image). runs.ProcessActs quiet.code p quiet.image x) (sym same) (acts e t))
 
-  fails_next : (new acted : Image) (kind : FaultKind) → table quiet.code quiet.image p ≡ faults kind → acted ≡ quiet.image → new ≡ failed acted p kind → runs.Acts code p quiet.image new
+  fails_next : (new acted : Image) (kind : FaultKind) → table quiet.code quiet.image p ≡ faults kind → acted ≡ quiet.image → new ≡ failed acted p kind → runs.ProcessActs code p quiet.image new
   fails_next new acted kind t left same =
-      subst (λ (c : Code). runs.Acts c p quiet.image new) same_code
-      (subst (λ (x : Image). runs.Acts quiet.code p quiet.image x) (sym (same ∙ ap (λ (x : Image). failed x p kind) left)) (fails kind t))
+      subst (λ (c : Code). runs.ProcessActs c p quiet.image new) same_code
+      (subst (λ (x : Image). runs.ProcessActs quiet.code p quiet.image x) (sym (same ∙ ap (λ (x : Image). failed x p kind) left)) (fails kind t))
 
   state_then : (new acted : Image) → new ≡ acted → (x : ProcessState) × (numbered acted.states p ≡ Some x) → HasState p new
   state_then new acted same k = (k.0, ap (λ (i : Image). numbered i.states p) same ∙ k.1)
@@ -229,7 +229,7 @@ module _ (code : Code) (budget : ℕ) (done : List ℕ) (noted : List Letter) (s
       let k = state_of (numbered quiet.image.states p) able_then in (k.0, ap (λ (ss : List ProcessState). numbered ss p) same ∙ k.1)
 
   -- the process is there still
-  state_by : (d : Done) (new : Kept) → Acts quiet p d new → HasState p new.image
+  state_by : (d : Done) (new : MachineModel) → MachineActs quiet p d new → HasState p new.image
   unfolding failed
   state_by dones.Went new a = state_then new.image a.acted a.image (state_of (numbered a.acted.states p) a.came.1)
   state_by dones.Waits new a = state_then new.image a.acted a.image (state_waits (numbered a.acted.states p) a.came.1)
@@ -239,11 +239,11 @@ module _ (code : Code) (budget : ℕ) (done : List ℕ) (noted : List Letter) (s
   state_by dones.StackLimit new a = state_stays new.image (ap (λ (i : Image). i.states) (a.image ∙ a.came.1))
   state_by dones.NoMemory new a = state_stays new.image (ap (λ (i : Image). i.states) a.image ∙ ap (λ (i : Image). i.states) a.came.1.others)
 
-  state_after : (o : Option Done) (new : Kept) → Follows quiet p n (budget - spent) o new → HasState p new.image
-  state_after None new f = state_stays new.image (ap (λ (k : Kept). k.image.states) f.1)
+  state_after : (o : Option Done) (new : MachineModel) → MachineFollows quiet p n (budget - spent) o new → HasState p new.image
+  state_after None new f = state_stays new.image (ap (λ (k : MachineModel). k.image.states) f.1)
   state_after (Some d) new f = state_by d new (subst (λ (x : Bool). StepsBy x quiet p d new) none_lacked f.2)
 
-  comes_by : Sound code → (d : Done) (new : Kept) → n < budget - spent → plain quiet.code quiet.image p ≡ false → Acts quiet p d new → Comes code budget done noted (spent + n) p new (Some d)
+  comes_by : Sound code → (d : Done) (new : MachineModel) → n < budget - spent → plain quiet.code quiet.image p ≡ false → MachineActs quiet p d new → Comes code budget done noted (spent + n) p new (Some d)
   unfolding failed
   comes_by sound dones.Went new less e a = on dones.Went new less a refl refl refl (gives_next new.image a.acted e a.came.0 a.image) (state_by dones.Went new a)
   comes_by sound dones.Waits new less e a = on dones.Waits new less a refl refl refl (gives_next new.image a.acted e a.came.0 a.image) (state_by dones.Waits new a)
@@ -256,21 +256,21 @@ module _ (code : Code) (budget : ℕ) (done : List ℕ) (noted : List Letter) (s
   comes_by sound dones.StackLimit new less e a = at_limit new less a
   comes_by sound dones.NoMemory new less e a = without_memory new less a
 
-  comes_then : Sound code → (o : Option Done) (new : Kept) → spent < budget → Follows quiet p n (budget - spent) o new → Comes code budget done noted (spent + n) p new o
+  comes_then : Sound code → (o : Option Done) (new : MachineModel) → spent < budget → MachineFollows quiet p n (budget - spent) o new → Comes code budget done noted (spent + n) p new o
   comes_then sound None new less f = at_budget new less f.0 f.1
   comes_then sound (Some d) new less f = comes_by sound d new f.0 f.1 (subst (λ (x : Bool). StepsBy x quiet p d new) none_lacked f.2)
 
-pub comes : (code : Code) (budget : ℕ) (done : List ℕ) (noted : List Letter) (spent : ℕ) (m : Kept) (p : ℕ) (performed : Performed) (new : Kept) → Sound code → Between code done noted spent m → machine_end m ≡ None
-    → is_able (numbered m.image.states p) ≡ true → spent < budget → Performs m p (budget - spent) performed new → Comes code budget done noted (spent + performed.plain) p new performed.done
+pub comes : (code : Code) (budget : ℕ) (done : List ℕ) (noted : List Letter) (spent : ℕ) (m : MachineModel) (p : ℕ) (performed : Performed) (new : MachineModel) → Sound code → Between code done noted spent m → machine_end m ≡ None
+    → is_able (numbered m.image.states p) ≡ true → spent < budget → MachinePerforms m p (budget - spent) performed new → Comes code budget done noted (spent + performed.plain) p new performed.done
 comes code budget done noted spent m p performed new sound b going able less k =
     comes_then code budget done noted spent m b p going able performed.plain k.between k.plains sound performed.done new less k.then
 
-pub performed_state : (code : Code) (budget : ℕ) (done : List ℕ) (noted : List Letter) (spent : ℕ) (m : Kept) (p : ℕ) (performed : Performed) (new : Kept) → Between code done noted spent m → machine_end m ≡ None
-    → is_able (numbered m.image.states p) ≡ true → Performs m p (budget - spent) performed new → HasState p new.image
+pub performed_state : (code : Code) (budget : ℕ) (done : List ℕ) (noted : List Letter) (spent : ℕ) (m : MachineModel) (p : ℕ) (performed : Performed) (new : MachineModel) → Between code done noted spent m → machine_end m ≡ None
+    → is_able (numbered m.image.states p) ≡ true → MachinePerforms m p (budget - spent) performed new → HasState p new.image
 performed_state code budget done noted spent m p performed new b going able k = state_after code budget done noted spent m b p going able performed.plain k.between k.plains performed.done new k.then
 
 -- the replay ends within the entry
-pub ends_within : (code : Code) (budget : ℕ) (done : List ℕ) (noted : List Letter) (spent p : ℕ) (new : Kept) (o : Option Done) (answer : Replayed) → within_entry o ≡ Some answer
+pub ends_within : (code : Code) (budget : ℕ) (done : List ℕ) (noted : List Letter) (spent p : ℕ) (new : MachineModel) (o : Option Done) (answer : Replayed) → within_entry o ≡ Some answer
     → Comes code budget done noted spent p new o → Advances code budget done (p ∷ []) spent done noted new (Some answer)
 ends_within code budget done noted spent p new None answer e k = subst (λ (x : Option Replayed). Advances code budget done (p ∷ []) spent done noted new x) e k
 ends_within code budget done noted spent p new (Some dones.StackLimit) answer e k = subst (λ (x : Option Replayed). Advances code budget done (p ∷ []) spent done noted new x) e k
@@ -282,7 +282,7 @@ ends_within code budget done noted spent p new (Some dones.Ended) answer e k = c
 ends_within code budget done noted spent p new (Some (dones.Fault kind)) answer e k = cc
 
 -- or the entry is performed
-pub goes_through : (code : Code) (budget : ℕ) (done : List ℕ) (noted : List Letter) (spent p : ℕ) (new : Kept) (o : Option Done) → within_entry o ≡ None → Comes code budget done noted spent p new o
+pub goes_through : (code : Code) (budget : ℕ) (done : List ℕ) (noted : List Letter) (spent p : ℕ) (new : MachineModel) (o : Option Done) → within_entry o ≡ None → Comes code budget done noted spent p new o
     → FollowsOn code budget done noted spent p new
 goes_through code budget done noted spent p new None e k = cc
 goes_through code budget done noted spent p new (Some dones.StackLimit) e k = cc
@@ -294,7 +294,7 @@ goes_through code budget done noted spent p new (Some dones.Ended) e k = k
 goes_through code budget done noted spent p new (Some (dones.Fault kind)) e k = k
 
 -- where the entry is performed, its operator is counted
-pub last_noted : (code : Code) (budget : ℕ) (done : List ℕ) (noted : List Letter) (spent p : ℕ) (new : Kept) (o : Option Done) (P : Type 0) → within_entry o ≡ None
+pub last_noted : (code : Code) (budget : ℕ) (done : List ℕ) (noted : List Letter) (spent p : ℕ) (new : MachineModel) (o : Option Done) (P : Type 0) → within_entry o ≡ None
     → Comes code budget done noted spent p new o → IfSome o (λ d. operators_in d ≡ 1 → P) → P
 last_noted code budget done noted spent p new None P e k h = cc
 last_noted code budget done noted spent p new (Some dones.StackLimit) P e k h = cc
@@ -321,7 +321,7 @@ count_most p (q ∷ h) [] = omega arith
 count_most p (q ∷ h) (n ∷ numbers) =
     omega (arith, part (nat_eq p q) n (count_of p h numbers) (sum numbers) (count_most p h numbers), sum_by-cons (λ (x : ℕ). x) n numbers)
 
-pub counted_within : (code : Code) (done : List ℕ) (noted : List Letter) (spent : ℕ) (m : Kept) (p : ℕ) → Between code done noted spent m → counted m.counts p ≤ spent
+pub counted_within : (code : Code) (done : List ℕ) (noted : List Letter) (spent : ℕ) (m : MachineModel) (p : ℕ) → Between code done noted spent m → operators_counted m.counts p ≤ spent
 counted_within code done noted spent m p b = omega (arith, b.counts p, count_most p b.history b.numbers, b.spends)
 
 may_not : (o : Option ImageEnd) (able : Bool) → o ≢ None → ending.goes_on o able ≡ false
@@ -336,9 +336,9 @@ illegal_by_state : (img : Image) (p : ℕ) → image_end img ≡ None → is_abl
 unfolding may_act
 illegal_by_state img p e h = ap (λ (o : Option ImageEnd). ending.goes_on o (is_able (numbered img.states p))) e ∙ h
 
-module _ (code : Code) (budget : ℕ) (done : List ℕ) (noted : List Letter) (spent : ℕ) (m : Kept) (b : Between code done noted spent m) (p : ℕ) (within : spent ≤ budget) where
+module _ (code : Code) (budget : ℕ) (done : List ℕ) (noted : List Letter) (spent : ℕ) (m : MachineModel) (b : Between code done noted spent m) (p : ℕ) (within : spent ≤ budget) where
   -- nothing of the entry is performed
-  held : (answer : Replayed) (more : List ℕ) → is_lacking answer ≡ false → Answers code budget (sum b.numbers + 0) done (p ∷ more) 0 m.image m answer
+  held : (answer : Replayed) (more : List ℕ) → is_lacking answer ≡ false → ReplayAnswers code budget (sum b.numbers + 0) done (p ∷ more) 0 m.image m answer
       → ReplaysEntries code ((done ++ p ∷ []) ++ more) budget done noted m answer
   held answer more lacking answers = record {
     left = p ∷ more;
@@ -347,8 +347,8 @@ module _ (code : Code) (budget : ℕ) (done : List ℕ) (noted : List Letter) (s
     image = m.image;
     run = record { history = b.history; counts = b.numbers; before_tails = m.image; order = b.order; runs = b.runs; after = no_tail code (p ∷ more) m.image };
     letters_are = b.letters_are;
-    stands = subst (λ (x : Bool). Stands x m.image m.image) (sym lacking) refl;
-    counts = λ q. counts_none_more (nat_eq q p) (counted m.counts q) (count_of q b.history b.numbers) (b.counts q);
+    stands = subst (λ (x : Bool). MachineStands x m.image m.image) (sym lacking) refl;
+    counts = λ q. counts_none_more (nat_eq q p) (operators_counted m.counts q) (count_of q b.history b.numbers) (b.counts q);
     within = omega (arith, b.spends, within);
     answers = answers;
     lacked = b.lacked ∙ sym lacking;

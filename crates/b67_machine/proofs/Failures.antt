@@ -15,10 +15,10 @@ use Rattle.b67_action.specs.Done.{Came, is_performed}
 use Rattle.b67_action.proofs.Able.{able_same}
 use Rattle.b67_letters.specs.Letters.{letter}
 use Rattle.b67_machine.specs.Letters.{lettered}
-use Rattle.b67_machine.specs.Kept.{Kept, Counts}
+use Rattle.b67_machine.specs.Kept.{MachineModel, Counts}
 use Rattle.b67_machine.specs.declared.Failure.{Failure}
 use Rattle.b67_machine.specs.Machines.{failure, with_failure}
-use Rattle.b67_machine.specs.Stepping.{image_after, failure_of, operators_in, limit_of, lacks, released_where, started_where, Acts}
+use Rattle.b67_machine.specs.Stepping.{image_after, failure_of, operators_in, limit_of, lacks, released_where, started_where, MachineActs}
 
 pub none_kept : (f : Option Failure) → failure f ≡ None → f ≡ None
 none_kept None e = refl
@@ -83,10 +83,10 @@ able_with code old acted new p StackLimit released x i r k e = cc
 able_with code old acted new p NoMemory released x i r k e = cc
 
 -- what is kept of an operator, and the image that its action left
-pub acts_by : (old new : Kept) (code : Code) (img acted : Image) (p : ℕ) (done : Done) → old.code ≡ code → old.image ≡ img → acted.fault ≡ None → Came code img p done acted
+pub acts_by : (old new : MachineModel) (code : Code) (img acted : Image) (p : ℕ) (done : Done) → old.code ≡ code → old.image ≡ img → acted.fault ≡ None → Came code img p done acted
     → new.image ≡ with_failure acted (failure_of p done) → Counts old.counts p (operators_in done) new.counts → new.released ≡ released_where (is_performed done) code img p
     → (is_performed done ≡ true → AbleAfter img acted p new.released) → new.limit ≡ limit_of p done → new.lacked ≡ lacks done
-    → new.letter ≡ lettered (operators_in done) (letter code img p) old.letter → new.code ≡ code → Acts old p done new
+    → new.letter ≡ lettered (operators_in done) (letter code img p) old.letter → new.code ≡ code → MachineActs old p done new
 acts_by old new code img acted p done c i f came image counts released able limit lacked named same = record {
   acted = acted;
   came = subst (λ (k : Code). Came k old.image p done acted) (sym c) (subst (λ (x : Image). Came code x p done acted) (sym i) came);

@@ -9,8 +9,8 @@ use Rattle.b67_letters.specs.Entries.{letters}
 use Rattle.b67_machine.specs.declared.replay.Replayed.{Replayed}
 use Rattle.b67_machine.specs.declared.replay.Replayed.TheVariants as replayed
 use Rattle.b67_machine.specs.Beginning.{IsFresh}
-use Rattle.b67_machine.specs.Kept.{Kept, counted}
-use Rattle.b67_machine.specs.Replaying.{tail_of, Answers, Stands, is_lacking, ReplaysEntries, Between, EndsAfter}
+use Rattle.b67_machine.specs.Kept.{MachineModel, operators_counted}
+use Rattle.b67_machine.specs.Replaying.{tail_of, ReplayAnswers, MachineStands, is_lacking, ReplaysEntries, Between, EndsAfter}
 use Rattle.b67_machine.proofs.Ends.{goes_on, no_end}
 use Rattle.b67_machine.proofs.Tailing.{no_tail}
 
@@ -18,10 +18,10 @@ no_letters : {code : Code} {history counts : List ℕ} {img : Image} (r : Runs c
 no_letters begin e = refl
 no_letters (entry {p = p} r e) h = cc
 
-first : (m : Kept) → IsFresh m → Runs m.code [] [] m.image
+first : (m : MachineModel) → IsFresh m → Runs m.code [] [] m.image
 first m f = subst (λ (x : Image). Runs m.code [] [] x) (sym f.image) begin
 
-pub begins : (m : Kept) → IsFresh m → Between m.code [] [] 0 m
+pub begins : (m : MachineModel) → IsFresh m → Between m.code [] [] 0 m
 begins m f = record {
   history = [];
   numbers = [];
@@ -35,8 +35,8 @@ begins m f = record {
   same = refl;
 }
 
-module _ (code : Code) (budget : ℕ) (done : List ℕ) (noted : List Letter) (spent : ℕ) (m : Kept) (b : Between code done noted spent m) (within : spent ≤ budget) where
-  whole : (answer : Replayed) → is_lacking answer ≡ false → Answers code budget (sum b.numbers + 0) done [] 0 m.image m answer → ReplaysEntries code done budget done noted m answer
+module _ (code : Code) (budget : ℕ) (done : List ℕ) (noted : List Letter) (spent : ℕ) (m : MachineModel) (b : Between code done noted spent m) (within : spent ≤ budget) where
+  whole : (answer : Replayed) → is_lacking answer ≡ false → ReplayAnswers code budget (sum b.numbers + 0) done [] 0 m.image m answer → ReplaysEntries code done budget done noted m answer
   whole answer lacking answers = record {
     left = [];
     tail = 0;
@@ -44,7 +44,7 @@ module _ (code : Code) (budget : ℕ) (done : List ℕ) (noted : List Letter) (s
     image = m.image;
     run = record { history = b.history; counts = b.numbers; before_tails = m.image; order = b.order; runs = b.runs; after = no_tail code [] m.image };
     letters_are = b.letters_are;
-    stands = subst (λ (x : Bool). Stands x m.image m.image) (sym lacking) refl;
+    stands = subst (λ (x : Bool). MachineStands x m.image m.image) (sym lacking) refl;
     counts = λ q. b.counts q ∙ sym (add-zero (count_of q b.history b.numbers));
     within = omega (arith, b.spends, within);
     answers = answers;
@@ -81,6 +81,6 @@ module _ (code : Code) (budget : ℕ) (done : List ℕ) (noted : List Letter) (s
       none_by true x y f = omega (arith, f)
       none_by false x y f = omega (arith, f)
 
-      none_more : (q : ℕ) (left : List ℕ) → counted m.counts q ≡ count_of q b.history b.numbers + tail_of left 0 q
+      none_more : (q : ℕ) (left : List ℕ) → operators_counted m.counts q ≡ count_of q b.history b.numbers + tail_of left 0 q
       none_more q [] = omega (arith, b.counts q)
-      none_more q (p ∷ left) = none_by (nat_eq q p) (counted m.counts q) (count_of q b.history b.numbers) (b.counts q)
+      none_more q (p ∷ left) = none_by (nat_eq q p) (operators_counted m.counts q) (count_of q b.history b.numbers) (b.counts q)

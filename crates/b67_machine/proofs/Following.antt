@@ -7,7 +7,7 @@ use Rattle.b67_segment.specs.declared.code.Code.{Code}
 use Rattle.b67_schedule.specs.declared.Run.{Run}
 use Rattle.b67_schedule.specs.Schedules.{entries}
 use Rattle.b67_machine.specs.declared.replay.Replayed.{Replayed}
-use Rattle.b67_machine.specs.Kept.{Kept}
+use Rattle.b67_machine.specs.Kept.{MachineModel}
 use Rattle.b67_machine.specs.Replaying.{ReplaysEntries}
 
 abbrev of_run : Run → List ℕ
@@ -58,7 +58,7 @@ module _ (code : Code) (budget : ℕ) (runs : List Run) (i : ℕ) (d : Run) (les
   room_next before room now e more (inl h) = inl (omega (arith, next_within before e, h, more))
 
   -- the replay has ended within a run
-  pub ends_in : (its : Code) → its ≡ code → (before done : List ℕ) (noted : List Letter) (new : Kept) (answer : Replayed) → before ≡ entries (take i runs)
+  pub ends_in : (its : Code) → its ≡ code → (before done : List ℕ) (noted : List Letter) (new : MachineModel) (answer : Replayed) → before ≡ entries (take i runs)
       → ((more : List ℕ) → ReplaysEntries its (before ++ of_run (get_or runs i d) ++ more) budget done noted new answer) → ReplaysEntries code (entries runs) budget done noted new answer
   ends_in its same before done noted new answer e h =
       subst (λ (given : List ℕ). ReplaysEntries code given budget done noted new answer)
@@ -76,7 +76,7 @@ more_of_run start before p n k t here e =
 
 -- the replay has ended at one of the first of them
 pub ends_in_run : (code : Code) (budget : ℕ) (start : List ℕ) (p first total : ℕ) → first ≤ total → (before : List ℕ) → before ≡ start ++ replicate first p → (its : Code) → its ≡ code
-    → (done : List ℕ) (noted : List Letter) (new : Kept) (answer : Replayed) → ((more : List ℕ) → ReplaysEntries its (before ++ more) budget done noted new answer)
+    → (done : List ℕ) (noted : List Letter) (new : MachineModel) (answer : Replayed) → ((more : List ℕ) → ReplaysEntries its (before ++ more) budget done noted new answer)
     → (more : List ℕ) → ReplaysEntries code (start ++ replicate total p ++ more) budget done noted new answer
 ends_in_run code budget start p first total few before here its same done noted new answer h more =
     let rest : List ℕ = replicate (total - first) p in

@@ -13,15 +13,15 @@ use Rattle.b67_table.specs.Valid.{IsValid}
 use Rattle.b67_table.proofs.FirstValid.{valid_stands}
 use Rattle.b67_private.specs.Parts.{PlainParts, is_plain, is_new, stay, go}
 use Rattle.b67_private.proofs.Own.{operators_are_own}
-use Rattle.b67_machine.specs.Kept.{Kept, Counts}
+use Rattle.b67_machine.specs.Kept.{MachineModel, Counts}
 use Rattle.b67_machine.specs.Reads.{machine_end}
-use Rattle.b67_machine.specs.Stepping.{IsStretched, Goes}
+use Rattle.b67_machine.specs.Stepping.{IsStretched, MachineGoes}
 use Rattle.b67_machine.proofs.Ends.{goes_on, same_end, no_end}
 use Rattle.b67_machine.proofs.Plainly.{plains_keep}
 
 -- ---- a stretch
 
-pub kept_is : (old new : Kept) → new.code ≡ old.code → new.released ≡ old.released → new.limit ≡ old.limit → new.lacked ≡ old.lacked → new.letter ≡ old.letter
+pub kept_is : (old new : MachineModel) → new.code ≡ old.code → new.released ≡ old.released → new.limit ≡ old.limit → new.lacked ≡ old.lacked → new.letter ≡ old.letter
     → new ≡ record old { image = new.image; counts = new.counts }
 kept_is old new c r l k n =
     ap (λ (x : Code). record new { code = x }) c
@@ -30,8 +30,8 @@ kept_is old new c r l k n =
     ∙ ap (λ (x : Bool). record new { code = old.code; released = old.released; limit = old.limit; lacked = x }) k
     ∙ ap (λ (x : Option Letter). record new { code = old.code; released = old.released; limit = old.limit; lacked = old.lacked; letter = x }) n
 
-pub goes_live : (old new : Kept) (code : Code) (img : Image) (p n most : ℕ) → old.code ≡ code → old.image ≡ img → IsValid code img → is_live (numbered img.states p) ≡ true
-    → IsStretched code p n most img new.image → Counts old.counts p n new.counts → new ≡ record old { image = new.image; counts = new.counts } → Goes old p n new
+pub goes_live : (old new : MachineModel) (code : Code) (img : Image) (p n most : ℕ) → old.code ≡ code → old.image ≡ img → IsValid code img → is_live (numbered img.states p) ≡ true
+    → IsStretched code p n most img new.image → Counts old.counts p n new.counts → new ≡ record old { image = new.image; counts = new.counts } → MachineGoes old p n new
 goes_live old new code img p n most c i v live s counts others =
     let k = plains_keep code p img new.image n v live s.performed in
     record {
@@ -45,10 +45,10 @@ goes_live old new code img p n most c i v live s counts others =
 
 -- ---- between a stretch and its action
 
-pub still_goes : (old new : Kept) (p n : ℕ) → machine_end old ≡ None → Goes old p n new → machine_end new ≡ None
+pub still_goes : (old new : MachineModel) (p n : ℕ) → machine_end old ≡ None → MachineGoes old p n new → machine_end new ≡ None
 still_goes old new p n e k =
     let on = goes_on old e in
-    no_end new (same_end old.image new.image k.states k.fault ∙ on.end) (ap (λ (m : Kept). m.limit) k.others ∙ on.limit)
+    no_end new (same_end old.image new.image k.states k.fault ∙ on.end) (ap (λ (m : MachineModel). m.limit) k.others ∙ on.limit)
 
 -- ---- one operator
 

@@ -20,16 +20,16 @@ use Rattle.b67_table.specs.Outcome as outcomes
 use Rattle.b67_table.specs.Private.{floor}
 use Rattle.b67_table.specs.Program.{Change, done, look_up, write, changed, asked, effect_of}
 use Rattle.b67_table.specs.Questions.{told}
-use Rattle.b67_table.specs.Rows.{Row, private_part, action, row}
+use Rattle.b67_table.specs.Rows.{TableRow, private_part, action, row}
 use Rattle.b67_table.specs.Table.{table, raw, by_row, by_operator, by_registers, operator_at}
-use Rattle.b67_table.specs.Writes.{Write, written}
+use Rattle.b67_table.specs.Writes.{Write, write_made}
 use Rattle.b67_table.specs.Writes as writes
 use Rattle.b67_table.proofs.Limit.{limit_comes_last}
 use Rattle.b67_table.proofs.States.{changed_passes}
 use Rattle.b67_action.specs.declared.done.Done.TheVariants.{Went}
-use Rattle.b67_machine.specs.Kept.{Kept}
+use Rattle.b67_machine.specs.Kept.{MachineModel}
 use Rattle.b67_machine.specs.Reads.{machine_end}
-use Rattle.b67_machine.specs.Stepping.{Acts}
+use Rattle.b67_machine.specs.Stepping.{MachineActs}
 use Rattle.b67_machine.proofs.Ends.{goes_on, no_end}
 
 -- ---- what an operator of a process leaves: no other process has ended, and no fault is kept
@@ -41,7 +41,7 @@ record Lasts (p : ℕ) (old new : Image) : Type 0 where
   others : (q : ℕ) → p ≢ q → going (numbered old.states q) ≡ true → going (numbered new.states q) ≡ true
   fault : new.fault ≡ old.fault
 
-fault_written : (p : ℕ) (w : Write) (img : Image) → (written p w img).fault ≡ img.fault
+fault_written : (p : ℕ) (w : Write) (img : Image) → (write_made p w img).fault ≡ img.fault
 fault_written p (writes.save place w) img = refl
 fault_written p (writes.cut stack count) img = refl
 fault_written p (writes.push stack w) img = refl
@@ -61,7 +61,7 @@ fault_written p (writes.end_process stack) img = refl
 fault_changed : (p : ℕ) (c : Change) (img : Image) → (changed p c img).fault ≡ img.fault
 fault_changed p done img = refl
 fault_changed p (look_up q more) img = fault_changed p (more (told img q)) img
-fault_changed p (write w next) img = fault_changed p next (written p w img) ∙ fault_written p w img
+fault_changed p (write w next) img = fault_changed p next (write_made p w img) ∙ fault_written p w img
 
 module _ (code : Code) (p : ℕ) (old new : Image) where
   by_change : (e : Effect Change) → effect_of p old e ≡ gives new → Lasts p old new
@@ -78,7 +78,7 @@ module _ (code : Code) (p : ℕ) (old new : Image) where
   by_part base (faults kind) i = cc
   by_part base (interrupts kind) i = cc
 
-  by_rows : (w : Row) (r : Registers) (next : ℕ) → by_row w code old p r next ≡ gives new → Lasts p old new
+  by_rows : (w : TableRow) (r : Registers) (next : ℕ) → by_row w code old p r next ≡ gives new → Lasts p old new
   by_rows (private_part change) r next i = by_part (floor r) (change next (private_of old r)) i
   by_rows (action program) r next i = by_change (asked old (program code r next)) i
 
@@ -124,7 +124,7 @@ some_is_able : (ss : List ProcessState) (p : ℕ) → is_able (numbered ss p) �
 some_is_able ss zero e = cc
 some_is_able ss (suc k) e = able_at ss k e
 
-first_goes : (b : Bool) (f : Option Failure) (ss : List ProcessState) → (if b then Some finished else ending.end_by f ss) ≡ None → not b ≡ true
+first_goes : (b : Bool) (f : Option Failure) (ss : List ProcessState) → (if b then Some finished else ending.image_end_by f ss) ≡ None → not b ≡ true
 first_goes true f ss e = cc
 first_goes false f ss e = refl
 
@@ -132,7 +132,7 @@ first_of : (img : Image) → image_end img ≡ None → going (numbered img.stat
 unfolding image_end
 first_of img e = first_goes (has_ended (numbered img.states 1)) img.fault img.states e
 
-none_by : (b : Bool) (f : Option Failure) (ss : List ProcessState) → not b ≡ true → f ≡ None → some_able ss ≡ true → (if b then Some finished else ending.end_by f ss) ≡ None
+none_by : (b : Bool) (f : Option Failure) (ss : List ProcessState) → not b ≡ true → f ≡ None → some_able ss ≡ true → (if b then Some finished else ending.image_end_by f ss) ≡ None
 none_by true f ss n e a = cc
 none_by false (Some f) ss n e a = cc
 none_by false None ss n e a = ap (λ (x : Bool). if some_lives ss && not x then Some all_waiting else None) a ∙ not_both (some_lives ss)
@@ -145,7 +145,7 @@ none_of : (img : Image) (p : ℕ) → going (numbered img.states 1) ≡ true →
 unfolding image_end
 none_of img p first fault able = none_by (has_ended (numbered img.states 1)) img.fault img.states first fault (some_is_able img.states p able)
 
-pub went_goes : (old new : Kept) (p : ℕ) → machine_end old ≡ None → Acts old p Went new → machine_end new ≡ None
+pub went_goes : (old new : MachineModel) (p : ℕ) → machine_end old ≡ None → MachineActs old p Went new → machine_end new ≡ None
 went_goes old new p going_on acts =
     let on = goes_on old going_on in
     let k = lasts old.code p old.image acts.acted acts.came.0 in

@@ -18,7 +18,7 @@ use Rattle.b67_table.specs.Valid.{IsFrame, IsProcess, AreRows, IsValid, is_no_mo
 use Rattle.b67_table.proofs.FirstValid.{first_is_valid}
 use Rattle.b67_load.specs.Closed.{NoneOpen, first_on}
 use Rattle.b67_machine.specs.Beginning.{IsUntried, IsFresh}
-use Rattle.b67_machine.specs.Kept.{Kept}
+use Rattle.b67_machine.specs.Kept.{MachineModel}
 
 -- ---- where lists are empty
 
@@ -29,7 +29,7 @@ first_on_none : (stacks : Stacks) (rows : Rows) → stacks ≡ [] → rows ≡ [
 unfolding first_image
 first_on_none stacks rows e f = ap (λ (z : Stacks). first_on z rows) e ∙ ap (λ (z : Rows). first_on [] z) f
 
-pub fresh_on : (stacks : Stacks) (rows : Rows) {m : Kept} → stacks ≡ [] → rows ≡ [] → IsUntried (first_on stacks rows) m → IsFresh m
+pub fresh_on : (stacks : Stacks) (rows : Rows) {m : MachineModel} → stacks ≡ [] → rows ≡ [] → IsUntried (first_on stacks rows) m → IsFresh m
 fresh_on stacks rows {m} e f u = subst (λ (x : Image). IsUntried x m) (first_on_none stacks rows e f) u
 
 -- ---- stacks: at each number the first image's

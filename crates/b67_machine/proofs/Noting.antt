@@ -13,19 +13,19 @@ use Rattle.b67_letters.proofs.Lettered.{actions_have_letters}
 use Rattle.b67_action.specs.declared.done.Done.{Done}
 use Rattle.b67_action.specs.declared.done.Done.TheVariants.{Went, Waits, Ended, Fault, Interrupt, StackLimit, NoMemory}
 use Rattle.b67_machine.specs.declared.entry.Performed.{Performed}
-use Rattle.b67_machine.specs.Kept.{Kept}
+use Rattle.b67_machine.specs.Kept.{MachineModel}
 use Rattle.b67_machine.specs.Letters.{or_before, last_or}
-use Rattle.b67_machine.specs.Stepping.{operators_in, Acts, Steps, StepsBy, Follows, Performs}
+use Rattle.b67_machine.specs.Stepping.{operators_in, MachineActs, Steps, StepsBy, MachineFollows, MachinePerforms}
 
 -- ---- the machine's letter after an action
 
 -- an action's letter is the machine's
-pub record IsNamed (old : Kept) (p : ℕ) (new : Kept) : Type 0 where
+pub record IsNamed (old : MachineModel) (p : ℕ) (new : MachineModel) : Type 0 where
   pub l : Letter
   pub is : letter old.code old.image p ≡ Some l
   pub kept : new.letter ≡ Some l
 
-pub acts_named : (old new : Kept) (p : ℕ) (done : Done) → Acts old p done new → plain old.code old.image p ≡ false → operators_in done ≡ 1 → IsNamed old p new
+pub acts_named : (old new : MachineModel) (p : ℕ) (done : Done) → MachineActs old p done new → plain old.code old.image p ≡ false → operators_in done ≡ 1 → IsNamed old p new
 acts_named old new p Went x n e =
     let k = actions_have_letters.acts old.code old.image x.acted p (runs.acts n x.came.0) in
     record { l = k.0; is = k.1; kept = x.letter_is ∙ ap (λ (o : Option Letter). or_before o old.letter) k.1 }
@@ -42,7 +42,7 @@ acts_named old new p (Interrupt kind) x n e = cc
 acts_named old new p StackLimit x n e = cc
 acts_named old new p NoMemory x n e = cc
 
-pub steps_named : (old new : Kept) (p : ℕ) (done : Done) → Steps old p done new → plain old.code old.image p ≡ false → operators_in done ≡ 1 → IsNamed old p new
+pub steps_named : (old new : MachineModel) (p : ℕ) (done : Done) → Steps old p done new → plain old.code old.image p ≡ false → operators_in done ≡ 1 → IsNamed old p new
 steps_named old new p done steps n e = by old.lacked steps
   where
     none : (d : Done) → operators_in d ≡ 1 → d ≡ NoMemory → ⊥
@@ -52,22 +52,22 @@ steps_named old new p done steps n e = by old.lacked steps
     by true s = absurd (none done e s.0)
     by false s = acts_named old new p done s n e
 
-pub follows_named : (between new : Kept) (p n most : ℕ) (o : Option Done) → Follows between p n most o new → IfSome o (λ done. operators_in done ≡ 1 → IsNamed between p new)
+pub follows_named : (between new : MachineModel) (p n most : ℕ) (o : Option Done) → MachineFollows between p n most o new → IfSome o (λ done. operators_in done ≡ 1 → IsNamed between p new)
 follows_named between new p n most None h = tt
 follows_named between new p n most (Some done) h = λ e. steps_named between new p done h.2 h.1 e
 
 -- a machine that lacked memory counts nothing, and nothing is performed where no operator is allowed
-pub none_counted : (old new : Kept) (p most : ℕ) (f : Performed) (noted : List Letter) → Performs old p most f new → (old.lacked ≡ true) ⊎ (most ≡ 0)
+pub none_counted : (old new : MachineModel) (p most : ℕ) (f : Performed) (noted : List Letter) → MachinePerforms old p most f new → (old.lacked ≡ true) ⊎ (most ≡ 0)
     → IfSome f.done (λ done. operators_in done ≡ 1 → slice_get noted 0 ≡ new.letter)
 none_counted old new p most f noted h test = by f.done h.then test
   where
     none : (d : Done) → operators_in d ≡ 1 → d ≡ NoMemory → ⊥
     none d k i = absurd (omega (arith, k, ap operators_in i))
 
-    by : (o : Option Done) → Follows h.between p f.plain most o new → (old.lacked ≡ true) ⊎ (most ≡ 0) → IfSome o (λ done. operators_in done ≡ 1 → slice_get noted 0 ≡ new.letter)
+    by : (o : Option Done) → MachineFollows h.between p f.plain most o new → (old.lacked ≡ true) ⊎ (most ≡ 0) → IfSome o (λ done. operators_in done ≡ 1 → slice_get noted 0 ≡ new.letter)
     by None x t = tt
     by (Some done) x (inl lacked) =
-        let here : h.between.lacked ≡ true = ap (λ (k : Kept). k.lacked) h.plains.others ∙ lacked in
+        let here : h.between.lacked ≡ true = ap (λ (k : MachineModel). k.lacked) h.plains.others ∙ lacked in
         λ one. absurd (none done one (subst (λ (z : Bool). StepsBy z h.between p done new) here x.2).0)
     by (Some done) x (inr no_room) = λ one. absurd (omega (arith, x.0, no_room))
 
@@ -78,12 +78,12 @@ written_is : (place : Letter) (o : Option Letter) (l : Letter) → o ≡ Some l 
 written_is place o l e h = subst (λ (x : Option Letter). IfSome x (λ k. place ≡ k)) e h
 
 -- the letter of the last entry is noted in its place
-pub noted_last : (letters : List Letter) (n : ℕ) (place : Letter) (told : Option Letter) (old : Kept) (p : ℕ) (new : Kept) → n < length letters → told ≡ new.letter
+pub noted_last : (letters : List Letter) (n : ℕ) (place : Letter) (told : Option Letter) (old : MachineModel) (p : ℕ) (new : MachineModel) → n < length letters → told ≡ new.letter
     → IfSome told (λ k. place ≡ k) → IsNamed old p new → slice_get (set letters n place) n ≡ new.letter
 noted_last letters n place told old p new less e written named =
     get_set letters n place less ∙ ap (λ (l : Letter). Some l) (written_is place told named.l (e ∙ named.kept) written) ∙ sym named.kept
 
-pub noted_if : (letters : List Letter) (n : ℕ) (place : Letter) (told : Option Letter) (old : Kept) (p : ℕ) (new : Kept) (o : Option Done) → n < length letters → told ≡ new.letter
+pub noted_if : (letters : List Letter) (n : ℕ) (place : Letter) (told : Option Letter) (old : MachineModel) (p : ℕ) (new : MachineModel) (o : Option Done) → n < length letters → told ≡ new.letter
     → IfSome told (λ k. place ≡ k) → IfSome o (λ done. operators_in done ≡ 1 → IsNamed old p new)
     → IfSome o (λ done. operators_in done ≡ 1 → slice_get (set letters n place) n ≡ new.letter)
 noted_if letters n place told old p new None less e written named = tt

@@ -11,7 +11,7 @@ use Rattle.b67_store.specs.Store.{Stacks, Rows, words_of, with_stack, stack_limi
 use Rattle.b67_table.specs.declared.Private.{Private}
 use Rattle.b67_table.specs.Image.{Image, with_private, private_of, is_live}
 use Rattle.b67_table.specs.Private.{floor}
-use Rattle.b67_table.specs.Privacy.{Keeps as RegistersKeep}
+use Rattle.b67_table.specs.Privacy.{RegistersStay}
 use Rattle.b67_table.specs.Valid.{IsProcess, IsValid}
 use Rattle.b67_table.proofs.FirstValid.{counted}
 use Rattle.b67_table.proofs.Lists.{numbered_set, numbered_within}
@@ -19,9 +19,9 @@ use Rattle.b67_table.proofs.OwnValid.{words_here}
 use Rattle.b67_private.specs.Parts.{PlainParts}
 use Rattle.b67_private.proofs.Plains.{stretches_are_own}
 use Rattle.b67_action.proofs.Ready.{some_is, if_some}
-use Rattle.b67_machine.specs.Kept.{Kept, Counts}
+use Rattle.b67_machine.specs.Kept.{MachineModel, Counts}
 use Rattle.b67_machine.specs.Parts.{part_by, private_part}
-use Rattle.b67_machine.specs.Stepping.{IsStretched, Goes}
+use Rattle.b67_machine.specs.Stepping.{IsStretched, MachineGoes}
 use Rattle.b67_machine.proofs.Going.{goes_live}
 use Rattle.b67_machine.proofs.Plainly.{Keeps, live_there, plains_keep}
 
@@ -46,7 +46,7 @@ part_is P img o r e h = subst (λ (z : Option Registers). IfSome (part_by img z)
 
 -- a part after so many plain operators, whose registers are the process's but for those that plain operators set
 abbrev pub Follows : Code → ℕ → Private → Private → Type 0
-Follows code n part kept = PlainParts code kept n part × RegistersKeep kept.regs part.regs
+Follows code n part kept = PlainParts code kept n part × RegistersStay kept.regs part.regs
 
 -- the process lives, and the part follows its own
 module _ (code : Code) (img : Image) (p : ℕ) (v : IsValid code img) (live : is_live (numbered img.states p) ≡ true) (r : Registers) (has : numbered img.regs p ≡ Some r)
@@ -84,7 +84,7 @@ module _ (code : Code) (img : Image) (p : ℕ) (v : IsValid code img) (live : is
   })
 
 -- so it is on a machine whose image is this one
-module _ (m : Kept) (code : Code) (img : Image) (p n : ℕ) (part : Private) (c : m.code ≡ code) (i : m.image ≡ img) (v : IsValid code img)
+module _ (m : MachineModel) (code : Code) (img : Image) (p n : ℕ) (part : Private) (c : m.code ≡ code) (i : m.image ≡ img) (v : IsValid code img)
     (lives : is_live (numbered m.image.states p) ≡ true) (follows : IfSome (private_part m.image p) (Follows m.code n part)) where
   live : is_live (numbered img.states p) ≡ true
   live = subst (λ (x : Image). is_live (numbered x.states p) ≡ true) i lives
@@ -113,6 +113,6 @@ module _ (m : Kept) (code : Code) (img : Image) (p n : ℕ) (part : Private) (c 
       stretched code img p v live found.0 found.1 part n own_follows put
       (some_is (λ (r : Registers). put ≡ with_private img p (floor r) part) (numbered img.regs p) found.0 found.1 h)
 
-  pub goes_there : (new : Kept) → IfSome (numbered img.regs p) (λ (r : Registers). new.image ≡ with_private img p (floor r) part) → Counts m.counts p n new.counts
-      → new ≡ record m { image = new.image; counts = new.counts } → Goes m p n new
+  pub goes_there : (new : MachineModel) → IfSome (numbered img.regs p) (λ (r : Registers). new.image ≡ with_private img p (floor r) part) → Counts m.counts p n new.counts
+      → new ≡ record m { image = new.image; counts = new.counts } → MachineGoes m p n new
   goes_there new h counts others = goes_live m new code img p n n c i v live (stretched_there new.image h) counts others

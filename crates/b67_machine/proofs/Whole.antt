@@ -15,7 +15,7 @@ use Rattle.b67_table.proofs.FirstValid.{counted}
 use Rattle.b67_table.proofs.Lists.{numbered_set, numbered_within}
 use Rattle.b67_operators.specs.Leaves.{IsLinkedIn}
 use Rattle.b67_linkage.proofs.Linked.{live_are_linked}
-use Rattle.b67_private.specs.Parts.{IsPart, part_with}
+use Rattle.b67_private.specs.Parts.{IsPrivatePart, part_with}
 use Rattle.b67_private.proofs.Rooms.{from_base, left_is}
 use Rattle.b67_private.proofs.ValidParts.{valid_whole}
 use Rattle.b67_action.specs.Own.{part_from}
@@ -47,11 +47,11 @@ whole_by img (Some r) part e =
 pub whole_of : (img : Image) (p : ℕ) (part : Private) → whole_part img p ≡ Some part → HasWhole img (numbered img.regs p) part
 whole_of img p part e = whole_by img (numbered img.regs p) part e
 
-pub whole_is_part : (code : Code) (img : Image) (p : ℕ) (part : Private) → IsValid code img → is_able (numbered img.states p) ≡ true → whole_part img p ≡ Some part → IsPart part
+pub whole_is_part : (code : Code) (img : Image) (p : ℕ) (part : Private) → IsValid code img → is_able (numbered img.states p) ≡ true → whole_part img p ≡ Some part → IsPrivatePart part
 whole_is_part code img p part v able e =
     let h = whole_of img p part e in
     let words : reverse (words_of img.stacks part.regs.stack) ≡ part.words = ap reverse h.words ∙ reverse-reverse part.words in
-    subst (λ (ws : List Word). IsPart (part_with part.regs ws)) words (valid_whole code img p part.regs v (live_of (numbered img.states p) able) h.has)
+    subst (λ (ws : List Word). IsPrivatePart (part_with part.regs ws)) words (valid_whole code img p part.regs v (live_of (numbered img.states p) able) h.has)
 
 -- ---- on the room of a copy
 

@@ -8,11 +8,11 @@ use Rattle.b67_table.specs.Image.{Image, with_private, is_able}
 use Rattle.b67_table.specs.Valid.{IsValid}
 use Rattle.b67_action.specs.declared.running.Ran.{Ran}
 use Rattle.b67_action.specs.Running.{HasRun}
-use Rattle.b67_machine.specs.Entries.{Enters}
-use Rattle.b67_machine.specs.Kept.{Kept, Counts}
+use Rattle.b67_machine.specs.Entries.{EntriesFollow}
+use Rattle.b67_machine.specs.Kept.{MachineModel, Counts}
 use Rattle.b67_machine.specs.Letters.{last_or}
 use Rattle.b67_machine.specs.Parts.{whole_part}
-use Rattle.b67_machine.specs.Stepping.{Goes}
+use Rattle.b67_machine.specs.Stepping.{MachineGoes}
 
 -- ---- on a copy of a whole stack
 
@@ -29,7 +29,7 @@ released_after zero before = before
 released_after (suc n) before = []
 
 -- so many entries on its own stack, whose letters are noted first, and so many plain operators after them, and all else is as it was
-pub record Runs (old : Kept) (p most : ℕ) (ran : Ran) (noted : List Letter) (new : Kept) : Type 0 where
+pub record ChainRuns (old : MachineModel) (p most : ℕ) (ran : Ran) (noted : List Letter) (new : MachineModel) : Type 0 where
   pub begun : IsValid old.code old.image
   pub number : 1 ≤ p
   pub known : p ≤ length old.counts
@@ -43,7 +43,7 @@ pub record Runs (old : Kept) (p most : ℕ) (ran : Ran) (noted : List Letter) (n
   }
 
 -- so many entries that go on, whose letters are noted first, and so many plain operators after them
-pub record Passing (old : Kept) (p most : ℕ) (ran : Ran) (noted : List Letter) (new : Kept) : Type 0 where
-  pub between : Kept
-  pub enters : Enters p most old (take ran.entries noted) ran.operators between
-  pub goes : Goes between p ran.plain new
+pub record Passing (old : MachineModel) (p most : ℕ) (ran : Ran) (noted : List Letter) (new : MachineModel) : Type 0 where
+  pub between : MachineModel
+  pub enters : EntriesFollow p most old (take ran.entries noted) ran.operators between
+  pub goes : MachineGoes between p ran.plain new

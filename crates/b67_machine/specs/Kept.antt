@@ -5,7 +5,7 @@ use Rattle.b67_deeds.specs.declared.Letter.{Letter}
 use Rattle.b67_segment.specs.declared.code.Code.{Code}
 use Rattle.b67_table.specs.Image.{Image}
 
-pub record Kept : Type 0 where
+pub record MachineModel : Type 0 where
   pub code : Code
   pub image : Image
   -- how many operators are each process's, by their numbers from 1
@@ -24,10 +24,10 @@ or_none None = 0
 or_none (Some n) = n
 
 -- how many operators are a process's
-abbrev pub counted : List ℕ → ℕ → ℕ
-counted counts p = or_none (numbered counts p)
+abbrev pub operators_counted : List ℕ → ℕ → ℕ
+operators_counted counts p = or_none (numbered counts p)
 
 -- so many more are a process's, and of every other process as many as before
 pub record Counts (before : List ℕ) (p n : ℕ) (after : List ℕ) : Type 0 where
-  pub own : counted after p ≡ counted before p + n
-  pub others : (q : ℕ) → q ≢ p → counted after q ≡ counted before q
+  pub own : operators_counted after p ≡ operators_counted before p + n
+  pub others : (q : ℕ) → q ≢ p → operators_counted after q ≡ operators_counted before q

@@ -32,8 +32,8 @@ abbrev pub whole_part : Image → ℕ → Option Private
 whole_part img p = kept_from bottom img (numbered img.regs p)
 
 -- as many words as its S lies above its floor
-abbrev pub IsWhole : Private → Type 0
-IsWhole p = floor p.regs + length p.words ≡ p.regs.s
+abbrev pub IsWholePart : Private → Type 0
+IsWholePart p = floor p.regs + length p.words ≡ p.regs.s
 
 -- as many words as its S says
 abbrev pub IsFull : Private → Type 0
@@ -50,15 +50,15 @@ place_word None = number_word 0
 place_word (Some place) = number_word (2 ^ 16 * place.stack + place.at + 1)
 
 -- the registers before the display, in the order of their type
-abbrev pub first_registers : Registers → List Word
-first_registers r = number_word r.stack ∷ number_word r.s ∷ number_word r.f ∷ number_word r.ll ∷ []
+abbrev pub registers_before_display : Registers → List Word
+registers_before_display r = number_word r.stack ∷ number_word r.s ∷ number_word r.f ∷ number_word r.ll ∷ []
 
 -- the registers after the display, in the order of their type
 abbrev pub last_registers : Registers → List Word
 last_registers r = number_word r.cells ∷ number_word r.segment ∷ number_word r.place ∷ place_word r.task ∷ place_word r.critical ∷ []
 
 abbrev pub register_list : Registers → List Word
-register_list r = first_registers r ++ (map place_word r.display ++ last_registers r)
+register_list r = registers_before_display r ++ (map place_word r.display ++ last_registers r)
 
 -- the registers in the order of their type, each as an operand, and then the private words
 abbrev pub part_list : Private → List Word

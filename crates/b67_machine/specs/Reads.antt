@@ -9,7 +9,7 @@ use Rattle.b67_table.specs.declared.ProcessState.TheVariants.{Able, Ended}
 use Rattle.b67_machine.specs.declared.reads.End.{End}
 use Rattle.b67_machine.specs.declared.reads.End.TheVariants as ends
 use Rattle.b67_machine.specs.declared.Failure.{Failure}
-use Rattle.b67_machine.specs.Kept.{Kept}
+use Rattle.b67_machine.specs.Kept.{MachineModel}
 
 abbrev pub is_able_state : ProcessState → Bool
 is_able_state Able = true
@@ -19,26 +19,26 @@ abbrev pub lives : ProcessState → Bool
 lives Ended = false
 lives state = true
 
-abbrev pub shown : ImageEnd → End
-shown finished = ends.Finished
-shown (faulted kind p) = ends.Fault kind p
-shown all_waiting = ends.AllWaiting
+abbrev pub end_shown : ImageEnd → End
+end_shown finished = ends.Finished
+end_shown (faulted kind p) = ends.Fault kind p
+end_shown all_waiting = ends.AllWaiting
 
 abbrev pub shown_end : Option ImageEnd → Option End
 shown_end None = None
-shown_end (Some e) = Some (shown e)
+shown_end (Some e) = Some (end_shown e)
 
 abbrev pub limit_end : Option ℕ → List Registers → Option End
 limit_end None regs = None
 limit_end (Some p) regs = Some (ends.StackLimit p (length_in (numbered regs p)))
 
-abbrev pub end_by : Option ImageEnd → Kept → Option End
-end_by (Some e) m = Some (shown e)
-end_by None m = limit_end m.limit m.image.regs
+abbrev pub machine_end_by : Option ImageEnd → MachineModel → Option End
+machine_end_by (Some e) m = Some (end_shown e)
+machine_end_by None m = limit_end m.limit m.image.regs
 
 -- the end of a machine: its image's, or the stack limit where the last operator that was tried came to it
-abbrev pub machine_end : Kept → Option End
-machine_end m = end_by (image_end m.image) m
+abbrev pub machine_end : MachineModel → Option End
+machine_end m = machine_end_by (image_end m.image) m
 
 -- the end of an image by what it rests on: whether process 1 has ended, the fault, and whether a process is able and one lives
 abbrev pub ended_by : Bool → Option Failure → Bool → Bool → Option End

@@ -10,11 +10,11 @@ use Rattle.b67_action.specs.declared.done.Done.{Done}
 use Rattle.b67_action.specs.declared.done.Done.TheVariants.{Went, Waits, Ended, Fault, Interrupt, StackLimit, NoMemory}
 use Rattle.b67_action.specs.Able.{AbleAfter}
 use Rattle.b67_letters.specs.Letters.{letter}
-use Rattle.b67_letters.specs.Releases.{releases, started_between, starts}
+use Rattle.b67_letters.specs.Releases.{releases, started_between, operator_starts}
 use Rattle.b67_action.specs.Done.{Came, is_performed}
 use Rattle.b67_machine.specs.declared.Failure.{Failure}
 use Rattle.b67_machine.specs.declared.entry.Performed.{Performed}
-use Rattle.b67_machine.specs.Kept.{Kept, Counts}
+use Rattle.b67_machine.specs.Kept.{MachineModel, Counts}
 use Rattle.b67_machine.specs.Letters.{lettered}
 
 -- ---- one operator
@@ -54,11 +54,11 @@ released_where false code img p = []
 
 -- the process that it starts, where it starts one
 abbrev pub started_where : Bool → Code → Image → ℕ → Option ℕ
-started_where true code img p = starts code img p
+started_where true code img p = operator_starts code img p
 started_where false code img p = None
 
 -- the next operator of a process came to this
-pub record Acts (old : Kept) (p : ℕ) (done : Done) (new : Kept) : Type 0 where
+pub record MachineActs (old : MachineModel) (p : ℕ) (done : Done) (new : MachineModel) : Type 0 where
   pub acted : Image
   pub came : Came old.code old.image p done acted
   pub image : new.image ≡ image_after p done acted
@@ -73,11 +73,11 @@ pub record Acts (old : Kept) (p : ℕ) (done : Done) (new : Kept) : Type 0 where
   pub code : new.code ≡ old.code
 
 -- a machine that found no memory once does nothing more
-abbrev pub StepsBy : Bool → Kept → ℕ → Done → Kept → Type 0
+abbrev pub StepsBy : Bool → MachineModel → ℕ → Done → MachineModel → Type 0
 StepsBy true old p done new = (done ≡ NoMemory) × (new ≡ old)
-StepsBy false old p done new = Acts old p done new
+StepsBy false old p done new = MachineActs old p done new
 
-abbrev pub Steps : Kept → ℕ → Done → Kept → Type 0
+abbrev pub Steps : MachineModel → ℕ → Done → MachineModel → Type 0
 Steps old p done new = StepsBy old.lacked old p done new
 
 -- ---- plain operators
@@ -89,7 +89,7 @@ pub record IsStretched (code : Code) (p n most : ℕ) (old new : Image) : Type 0
   pub valid : IsValid code new
 
 -- the process has performed so many plain operators, and all else is as it was
-pub record Goes (old : Kept) (p n : ℕ) (new : Kept) : Type 0 where
+pub record MachineGoes (old : MachineModel) (p n : ℕ) (new : MachineModel) : Type 0 where
   pub performed : Plains old.code p old.image n new.image
   pub counts : Counts old.counts p n new.counts
   pub others : new ≡ record old { image = new.image; counts = new.counts }
@@ -100,12 +100,12 @@ pub record Goes (old : Kept) (p n : ℕ) (new : Kept) : Type 0 where
 -- ---- an entry
 
 -- what comes after so many plain operators, of so many at the most
-abbrev pub Follows : Kept → ℕ → ℕ → ℕ → Option Done → Kept → Type 0
-Follows between p n most None new = (n ≡ most) × (new ≡ between)
-Follows between p n most (Some done) new = (n < most) × (plain between.code between.image p ≡ false) × Steps between p done new
+abbrev pub MachineFollows : MachineModel → ℕ → ℕ → ℕ → Option Done → MachineModel → Type 0
+MachineFollows between p n most None new = (n ≡ most) × (new ≡ between)
+MachineFollows between p n most (Some done) new = (n < most) × (plain between.code between.image p ≡ false) × Steps between p done new
 
 -- So many plain operators, and then the action that comes next; or as many plain operators as were allowed, and no action.
-pub record Performs (old : Kept) (p most : ℕ) (performed : Performed) (new : Kept) : Type 0 where
-  pub between : Kept
-  pub plains : Goes old p performed.plain between
-  pub then : Follows between p performed.plain most performed.done new
+pub record MachinePerforms (old : MachineModel) (p most : ℕ) (performed : Performed) (new : MachineModel) : Type 0 where
+  pub between : MachineModel
+  pub plains : MachineGoes old p performed.plain between
+  pub then : MachineFollows between p performed.plain most performed.done new

@@ -9,17 +9,17 @@ use Rattle.b67_machine.specs.declared.tables.Levels.{Levels}
 abbrev pub Operators : Type 0
 Operators = List (Option (Operator × ℕ))
 
-abbrev pub joined : Option (Option Operators) → Option Operators
-joined None = None
-joined (Some table) = table
+abbrev pub tables_joined : Option (Option Operators) → Option Operators
+tables_joined None = None
+tables_joined (Some table) = table
 
 -- the table of a level, where there is one
-abbrev pub level_at : List (Option Operators) → ℕ → Option Operators
-level_at levels level = joined (slice_get levels level)
+abbrev pub table_at_level : List (Option Operators) → ℕ → Option Operators
+table_at_level levels level = tables_joined (slice_get levels level)
 
 -- each table that stands at a level is the segment's at that level
 abbrev pub AreLevels : Code → ℕ → List (Option Operators) → Type 0
-AreLevels code segment levels = (level : ℕ) (table : Operators) → level_at levels level ≡ Some table → AreDecoded code segment level table
+AreLevels code segment levels = (level : ℕ) (table : Operators) → table_at_level levels level ≡ Some table → AreDecoded code segment level table
 
 abbrev pub levels_in : Option Levels → List (Option Operators)
 levels_in None = []

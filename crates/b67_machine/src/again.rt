@@ -1,7 +1,7 @@
 // A machine that is begun again, and compared with another one.
 ghost use Rattle.std.specs.Prelude.{◌≡◌, ℕ, true, length, IfOk};
 ghost use Rattle.b67_machine.specs.Beginning.{IsFresh};
-ghost use Rattle.b67_machine.specs.Kept.{counted};
+ghost use Rattle.b67_machine.specs.Kept.{operators_counted};
 
 use crate::Machine;
 use crate::same::{same_lines, same_numbers, same_registers, same_states};
@@ -13,7 +13,7 @@ use std::alloc::AllocError;
 
 // No process has performed an operator.
 fn clear_counts(counts: &mut Vec<u64>)
-    ensures none { (p : ℕ) → counted counts.new.items p ≡ 0 }
+    ensures none { (p : ℕ) → operators_counted counts.new.items p ≡ 0 }
     ensures size { length counts.new.items ≡ length counts.old.items }
 {
     counts.as_mut_slice().fill(0);

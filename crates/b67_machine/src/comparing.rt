@@ -3,7 +3,7 @@ ghost use Rattle.std.specs.Prelude.{◌≡◌, ◌↔◌, ◌-◌, ◌<◌, ◌�
 ghost use Rattle.b67_control.specs.Display.{levels};
 ghost use Rattle.b67_store.specs.Store.{words_of, stack_limit};
 ghost use Rattle.b67_linkage.specs.Held.{IsLinked};
-ghost use Rattle.b67_machine.specs.Parts.{number_word, place_word, first_registers, last_registers, register_list, FirstDiffer, FirstOf};
+ghost use Rattle.b67_machine.specs.Parts.{number_word, place_word, registers_before_display, last_registers, register_list, FirstDiffer, FirstOf};
 
 use b67_control::{Display, Registers};
 use b67_store::{Core, Words};
@@ -74,7 +74,7 @@ fn first_level(kept: &Display, given: &Display) -> Option<(u32, Word, Word)>
 
 // The registers before the display as words.
 fn first_registers(regs: &Registers) -> [Word; 4]
-    ensures { result ≡ first_registers regs.now }
+    ensures { result ≡ registers_before_display regs.now }
 {
     [
         operand(i64::from(regs.stack)),

@@ -1,7 +1,7 @@
 // What is kept of an operator beside the image.
 ghost use Rattle.std.specs.Prelude.{◌≡◌, ◌+◌, ◌<◌, ◌≤◌, ◌^◌, [], true, false, length, vec_capacity, IfSome};
 ghost use Rattle.b67_action.specs.Done.{is_performed};
-ghost use Rattle.b67_machine.specs.Kept.{counted, Counts};
+ghost use Rattle.b67_machine.specs.Kept.{operators_counted, Counts};
 ghost use Rattle.b67_machine.specs.Letters.{or_before, last_or};
 ghost use Rattle.b67_machine.specs.Stepping.{failure_of, limit_of, lacks, operators_in};
 
@@ -13,7 +13,7 @@ use b67_deeds::Letter;
 pub fn count(counts: &mut Vec<u64>, process: u32, operators: u32)
     requires least { 1 ≤ process }
     requires most { process ≤ length counts.old.items }
-    requires room { counted counts.old.items process + operators < 2 ^ 64 }
+    requires room { operators_counted counts.old.items process + operators < 2 ^ 64 }
     ensures counts { Counts counts.old.items process operators counts.new.items }
     ensures length { length counts.new.items ≡ length counts.old.items }
 {

@@ -5,7 +5,7 @@ ghost use Rattle.b67_table.specs.Image.{is_able};
 ghost use Rattle.b67_table.specs.Valid.{IsValid};
 ghost use Rattle.b67_action.specs.declared.done.Done.TheVariants.{Went};
 ghost use Rattle.b67_machine.specs.Entries.{PerformsEntries};
-ghost use Rattle.b67_machine.specs.Kept.{counted};
+ghost use Rattle.b67_machine.specs.Kept.{operators_counted};
 ghost use Rattle.b67_machine.specs.Reads.{machine_end};
 
 use crate::counting::write_letter;
@@ -48,7 +48,7 @@ impl<C: Core> Machine<C> {
     fn pass(&mut self, process: u32, letters: &mut [Letter], most: u32) -> Entered
         requires able { is_able (numbered self.old.image.states process) ≡ true }
         requires going { machine_end self.old ≡ None }
-        requires count { counted self.old.counts process + most < 2 ^ 64 }
+        requires count { operators_counted self.old.counts process + most < 2 ^ 64 }
         requires here { self.old.lacked ≡ false }
         requires some { 1 ≤ most }
         requires room { 1 ≤ length letters.old }
@@ -96,7 +96,7 @@ impl<C: Core> Machine<C> {
     fn pass_one(&mut self, process: u32, letters: &mut [Letter], most: u32) -> Entered
         requires able { is_able (numbered self.old.image.states process) ≡ true }
         requires going { machine_end self.old ≡ None }
-        requires count { counted self.old.counts process + most < 2 ^ 64 }
+        requires count { operators_counted self.old.counts process + most < 2 ^ 64 }
         requires here { self.old.lacked ≡ false }
         requires some { 1 ≤ most }
         requires room { length letters.old ≡ 1 }
@@ -121,7 +121,7 @@ impl<C: Core> Machine<C> {
     pub fn perform_entries(&mut self, process: u32, letters: &mut [Letter], most: u32) -> Entered
         requires able { is_able (numbered self.old.image.states process) ≡ true }
         requires going { machine_end self.old ≡ None }
-        requires count { counted self.old.counts process + most < 2 ^ 64 }
+        requires count { operators_counted self.old.counts process + most < 2 ^ 64 }
         requires room { 1 ≤ length letters.old }
         ensures performs { PerformsEntries self.old process most result letters.new self.new }
         ensures size { length letters.new ≡ length letters.old }

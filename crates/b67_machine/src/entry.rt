@@ -4,9 +4,9 @@ ghost use Rattle.b67_list.specs.Numbered.{numbered};
 ghost use Rattle.b67_table.specs.Image.{is_able};
 ghost use Rattle.b67_table.specs.Valid.{IsValid};
 ghost use Rattle.b67_action.specs.Able.{AbleAfter};
-ghost use Rattle.b67_machine.specs.Kept.{counted};
+ghost use Rattle.b67_machine.specs.Kept.{operators_counted};
 ghost use Rattle.b67_machine.specs.Reads.{machine_end};
-ghost use Rattle.b67_machine.specs.Stepping.{operators_in, Performs, Steps};
+ghost use Rattle.b67_machine.specs.Stepping.{operators_in, MachinePerforms, Steps};
 
 use crate::Machine;
 use b67_action::Done;
@@ -26,7 +26,7 @@ impl<C: Core> Machine<C> {
     pub(crate) fn act(&mut self, process: u32) -> Done
         requires able { is_able (numbered self.old.image.states process) ≡ true }
         requires going { machine_end self.old ≡ None }
-        requires count { counted self.old.counts process + 1 < 2 ^ 64 }
+        requires count { operators_counted self.old.counts process + 1 < 2 ^ 64 }
         ensures steps { Steps self.old process result self.new }
         ensures valid { IsValid self.new.code self.new.image }
     {
@@ -42,8 +42,8 @@ impl<C: Core> Machine<C> {
     pub fn perform_entry(&mut self, process: u32, most: u32) -> Performed
         requires able { is_able (numbered self.old.image.states process) ≡ true }
         requires going { machine_end self.old ≡ None }
-        requires count { counted self.old.counts process + most < 2 ^ 64 }
-        ensures performs { Performs self.old process most result self.new }
+        requires count { operators_counted self.old.counts process + most < 2 ^ 64 }
+        ensures performs { MachinePerforms self.old process most result self.new }
         ensures able { IfSome result.done (λ done. operators_in done ≡ 1 → AbleAfter self.old.image self.new.image process self.new.released) }
         ensures valid { IsValid self.new.code self.new.image }
     {

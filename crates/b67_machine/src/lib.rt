@@ -83,13 +83,13 @@ impl<C: Core> Drop for Machine<C> {
 }
 
 impl<C: Core> Model for Machine<C> {
-    ghost use Rattle.b67_machine.specs.Kept.{Kept};
+    ghost use Rattle.b67_machine.specs.Kept.{MachineModel};
 
-    ghost Value = { Kept };
+    ghost Value = { MachineModel };
 
     ghost use Rattle.std.specs.Prelude.{◌≡◌, length};
     ghost use Rattle.b67_reach.specs.Images.{image_of};
-    ghost use Rattle.b67_action.specs.Done.{HasRoom};
+    ghost use Rattle.b67_action.specs.Done.{KernelHasRoom};
     ghost use Rattle.b67_table.specs.Limits.{most_processes};
     ghost use Rattle.b67_table.specs.Valid.{IsValid};
     ghost use Rattle.b67_machine.specs.Machines.{with_failure};
@@ -107,7 +107,7 @@ impl<C: Core> Model for Machine<C> {
 
     ghost invariant = { λ m.
         IsValid m.parts.code (image_of (C.Core.stacks m.core) (C.Core.rows m.core) m.kernel m.parts)
-        × HasRoom m.kernel m.parts
+        × KernelHasRoom m.kernel m.parts
         × (length m.counts.items ≡ most_processes)
         × AreTables m.parts.code m.tables.items };
 }

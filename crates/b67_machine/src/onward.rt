@@ -5,7 +5,7 @@ ghost use Rattle.b67_table.specs.Image.{is_able};
 ghost use Rattle.b67_table.specs.Valid.{IsValid};
 ghost use Rattle.b67_action.specs.declared.done.Done.TheVariants.{Went};
 ghost use Rattle.b67_machine.specs.Entries.{IsCalm};
-ghost use Rattle.b67_machine.specs.Kept.{counted};
+ghost use Rattle.b67_machine.specs.Kept.{operators_counted};
 ghost use Rattle.b67_machine.specs.Reads.{machine_end};
 ghost use Rattle.b67_machine.specs.Stepping.{Steps};
 
@@ -22,7 +22,7 @@ impl<C: Core> Machine<C> {
     pub fn go_on(&mut self, process: u32) -> bool
         requires able { is_able (numbered self.old.image.states process) ≡ true }
         requires going { machine_end self.old ≡ None }
-        requires count { counted self.old.counts process + 1 < 2 ^ 64 }
+        requires count { operators_counted self.old.counts process + 1 < 2 ^ 64 }
         ensures went { result ≡ true → Steps self.old process Went self.new }
         ensures calm { result ≡ true → IsCalm self.old self.new }
         ensures stays { result ≡ false → self.new ≡ self.old }

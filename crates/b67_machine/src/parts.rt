@@ -7,19 +7,19 @@ ghost use Rattle.b67_store.specs.Store.{stack_limit, words_of, with_stack};
 ghost use Rattle.b67_table.specs.declared.Private.{Private as Part};
 ghost use Rattle.b67_table.specs.Image.{is_able, is_live, with_private};
 ghost use Rattle.b67_table.specs.Private.{floor};
-ghost use Rattle.b67_table.specs.Privacy.{Keeps};
+ghost use Rattle.b67_table.specs.Privacy.{RegistersStay};
 ghost use Rattle.b67_table.specs.Valid.{IsValid};
 ghost use Rattle.b67_operators.specs.Leaves.{IsLinkedIn};
-ghost use Rattle.b67_private.specs.Parts.{IsPart, PlainParts};
+ghost use Rattle.b67_private.specs.Parts.{IsPrivatePart, PlainParts};
 ghost use Rattle.b67_control.specs.declared.Registers.{Registers as TheRegisters};
 ghost use Rattle.b67_reach.specs.Images.{image_of};
 ghost use Rattle.b67_reach.specs.Woken.{KeepsPlaces};
 ghost use Rattle.b67_action.specs.Running.{HasRun};
-ghost use Rattle.b67_machine.specs.Chaining.{released_after, Runs};
-ghost use Rattle.b67_machine.specs.Kept.{counted};
-ghost use Rattle.b67_machine.specs.Parts.{kept_from, private_part, whole_part, IsWhole, IsFull, Compared};
+ghost use Rattle.b67_machine.specs.Chaining.{released_after, ChainRuns};
+ghost use Rattle.b67_machine.specs.Kept.{operators_counted};
+ghost use Rattle.b67_machine.specs.Parts.{kept_from, private_part, whole_part, IsWholePart, IsFull, Compared};
 ghost use Rattle.b67_machine.specs.Reads.{machine_end};
-ghost use Rattle.b67_machine.specs.Stepping.{Goes};
+ghost use Rattle.b67_machine.specs.Stepping.{MachineGoes};
 
 use crate::Machine;
 use crate::comparing::{REGISTER_WORDS, first_register, first_word};
@@ -35,7 +35,7 @@ use b67_word::Word;
 // A part is put in place of a process's own, from a base on: its words, and the registers that operators of the process's own set.
 fn put_from<C: Core>(core: &mut C, own: &mut Registers, base: u32, end: &Private)
     requires linked { IsLinked (C.Core.stacks core.old) (C.Core.rows core.old) own.old }
-    requires keeps { Keeps own.old end.now.regs }
+    requires keeps { RegistersStay own.old end.now.regs }
     requires room { base + length end.now.words ≤ stack_limit }
     ensures regs { own.new ≡ end.now.regs }
     ensures stacks { C.Core.stacks core.new ≡ with_stack (C.Core.stacks core.old) end.now.regs.stack (take base (words_of (C.Core.stacks core.old) end.now.regs.stack) ++ reverse end.now.words) }
@@ -51,7 +51,7 @@ fn put_from<C: Core>(core: &mut C, own: &mut Registers, base: u32, end: &Private
 // A private part is put in place of a process's own, from the floor before it on.
 fn put_part<C: Core>(core: &mut C, parts: &mut Parts, process: u32, end: &Private)
     requires linked { IsLinkedIn (C.Core.stacks core.old) (C.Core.rows core.old) (numbered parts.old.regs.items process) }
-    requires keeps { IfSome (numbered parts.old.regs.items process) (λ r. Keeps r end.now.regs) }
+    requires keeps { IfSome (numbered parts.old.regs.items process) (λ r. RegistersStay r end.now.regs) }
     requires room { IfSome (numbered parts.old.regs.items process) (λ r. floor r + length end.now.words ≤ stack_limit) }
     ensures put { (kernel : Events) → IfSome (numbered parts.old.regs.items process) (λ r. image_of (C.Core.stacks core.new) (C.Core.rows core.new) kernel parts.new ≡ with_private (image_of (C.Core.stacks core.old) (C.Core.rows core.old) kernel parts.old) process (floor r) end.now) }
     ensures others { parts.new ≡ record parts.old { regs = parts.new.regs } }
@@ -64,7 +64,7 @@ fn put_part<C: Core>(core: &mut C, parts: &mut Parts, process: u32, end: &Privat
 // A part with all the words of its stack is put in place of a process's own, after so many entries, which release nobody.
 fn put_whole<C: Core>(core: &mut C, parts: &mut Parts, process: u32, end: &Private, entries: u32)
     requires linked { IsLinkedIn (C.Core.stacks core.old) (C.Core.rows core.old) (numbered parts.old.regs.items process) }
-    requires keeps { IfSome (numbered parts.old.regs.items process) (λ r. Keeps r end.now.regs) }
+    requires keeps { IfSome (numbered parts.old.regs.items process) (λ r. RegistersStay r end.now.regs) }
     requires room { length end.now.words ≤ stack_limit }
     ensures put { (kernel : Events) → image_of (C.Core.stacks core.new) (C.Core.rows core.new) kernel parts.new ≡ with_private (image_of (C.Core.stacks core.old) (C.Core.rows core.old) kernel parts.old) process 0 end.now }
     ensures released { parts.new.woken.processes.items ≡ released_after entries parts.old.woken.processes.items }
@@ -83,8 +83,8 @@ impl<C: Core> Machine<C> {
     pub fn copy_private(&self, process: u32, into: &mut Private)
         requires lives { is_live (numbered self.now.image.states process) ≡ true }
         ensures part { private_part self.now.image process ≡ Some into.new }
-        ensures is_part { IsPart into.new }
-        ensures whole { IsWhole into.new }
+        ensures is_part { IsPrivatePart into.new }
+        ensures whole { IsWholePart into.new }
     {
         let regs = registers(&self.parts.regs, process);
         take_words(&self.core, regs, floor(regs), &mut into.words);
@@ -95,7 +95,7 @@ impl<C: Core> Machine<C> {
     pub fn copy_whole(&self, process: u32, into: &mut Private)
         requires lives { is_live (numbered self.now.image.states process) ≡ true }
         ensures part { whole_part self.now.image process ≡ Some into.new }
-        ensures is_part { IsPart into.new }
+        ensures is_part { IsPrivatePart into.new }
         ensures full { IsFull into.new }
     {
         let regs = registers(&self.parts.regs, process);
@@ -126,9 +126,9 @@ impl<C: Core> Machine<C> {
     pub fn put_private(&mut self, process: u32, end: &Private, performed: u32)
         requires lives { is_live (numbered self.old.image.states process) ≡ true }
         requires going { machine_end self.old ≡ None }
-        requires count { counted self.old.counts process + performed < 2 ^ 64 }
-        requires stretch { IfSome (private_part self.old.image process) (λ kept. PlainParts self.old.code kept performed end.now × Keeps kept.regs end.now.regs) }
-        ensures goes { Goes self.old process performed self.new }
+        requires count { operators_counted self.old.counts process + performed < 2 ^ 64 }
+        requires stretch { IfSome (private_part self.old.image process) (λ kept. PlainParts self.old.code kept performed end.now × RegistersStay kept.regs end.now.regs) }
+        ensures goes { MachineGoes self.old process performed self.new }
         ensures valid { IsValid self.new.code self.new.image }
     {
         put_part(&mut self.core, &mut self.parts, process, end);
@@ -140,12 +140,12 @@ impl<C: Core> Machine<C> {
     pub fn put_run(&mut self, process: u32, end: &Private, ran: Ran, letters: &[Letter])
         requires able { is_able (numbered self.old.image.states process) ≡ true }
         requires going { machine_end self.old ≡ None }
-        requires count { counted self.old.counts process + (ran.operators + ran.plain) < 2 ^ 64 }
+        requires count { operators_counted self.old.counts process + (ran.operators + ran.plain) < 2 ^ 64 }
         requires few { ran.operators + ran.plain < 2 ^ 32 }
         requires full { IsFull end.now }
-        requires keeps { IfSome (numbered self.old.image.regs process) (λ r. Keeps r end.now.regs) }
+        requires keeps { IfSome (numbered self.old.image.regs process) (λ r. RegistersStay r end.now.regs) }
         requires run { (most : ℕ) × HasRun self.old.code process most self.old.image ran letters.now (with_private self.old.image process 0 end.now) }
-        ensures runs { (most : ℕ) → HasRun self.old.code process most self.old.image ran letters.now (with_private self.old.image process 0 end.now) → Runs self.old process most ran letters.now self.new }
+        ensures runs { (most : ℕ) → HasRun self.old.code process most self.old.image ran letters.now (with_private self.old.image process 0 end.now) → ChainRuns self.old process most ran letters.now self.new }
         ensures valid { IsValid self.new.code self.new.image }
     {
         put_whole(&mut self.core, &mut self.parts, process, end, ran.entries);

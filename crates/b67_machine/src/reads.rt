@@ -5,7 +5,7 @@ ghost use Rattle.b67_list.specs.Numbered.{numbered};
 ghost use Rattle.b67_table.specs.Ending.{has_ended, image_end, may_act};
 ghost use Rattle.b67_table.specs.Image.{is_able};
 ghost use Rattle.b67_table.specs.Table.{length_in};
-ghost use Rattle.b67_machine.specs.Kept.{counted};
+ghost use Rattle.b67_machine.specs.Kept.{operators_counted};
 ghost use Rattle.b67_machine.specs.Reads.{ended_by, is_able_state, limit_end, lives, machine_end, shown_end};
 
 use crate::{Failure, Machine};
@@ -68,7 +68,7 @@ impl<C: Core> Machine<C> {
 
     /// How many operators a process has performed, one that is at fault included.
     pub fn count(&self, process: u32) -> u64
-        ensures { result ≡ counted self.now.counts process }
+        ensures { result ≡ operators_counted self.now.counts process }
     {
         match process {
             0 => 0,

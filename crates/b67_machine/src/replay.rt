@@ -1,9 +1,9 @@
 // Whole schedules.
 ghost use Rattle.std.specs.Prelude.{◌≡◌, ◌+◌, ◌≤◌, ◌⊎◌, [], length, option_copied, replicate, IfSome};
 ghost use Rattle.b67_schedule.specs.Giving.{given_entries};
-ghost use Rattle.b67_schedule.specs.Schedules.{most, entries};
+ghost use Rattle.b67_schedule.specs.Schedules.{most_in_schedule, entries};
 ghost use Rattle.b67_table.specs.Sound.{Sound};
-ghost use Rattle.b67_machine.specs.Replaying.{Advances, AdvancesBy, Agrees, AgreesBy, Between, Compares, EndsAfter, NoneDiffers, Replays, ReplaysRuns, StopsBefore, first_of, rest_of, within_entry};
+ghost use Rattle.b67_machine.specs.Replaying.{Advances, AdvancesBy, LettersAgree, AgreesBy, Between, Compares, EndsAfter, NoneDiffers, Replays, ReplaysRuns, StopsBefore, first_of, rest_of, within_entry};
 ghost use Rattle.b67_machine.specs.declared.replay.TheConstants.{NOTES};
 ghost use Rattle.b67_machine.specs.Beginning.{IsFresh};
 
@@ -44,7 +44,7 @@ impl<C: Core> Machine<C> {
         requires fresh { IsFresh self.old }
         requires empty { (done.old.runs ≡ []) × (done.old.letters ≡ []) }
         requires room { (length (given_entries given.now) ≤ done.old.room) ⊎ (budget ≤ done.old.room) }
-        requires few { (length (given_entries given.now) ≤ most) ⊎ (budget ≤ most) }
+        requires few { (length (given_entries given.now) ≤ most_in_schedule) ⊎ (budget ≤ most_in_schedule) }
         ensures replays { Replays self.old.code given.now budget done.new self.new result }
     {
         match given {
@@ -69,7 +69,7 @@ impl<C: Core> Machine<C> {
         requires each { IfSome (option_copied letters) (λ ls. length ls ≡ length (entries runs.now)) }
         requires empty { (done.old.runs ≡ []) × (done.old.letters ≡ []) }
         requires room { (length (entries runs.now) ≤ done.old.room) ⊎ (budget ≤ done.old.room) }
-        requires few { (length (entries runs.now) ≤ most) ⊎ (budget ≤ most) }
+        requires few { (length (entries runs.now) ≤ most_in_schedule) ⊎ (budget ≤ most_in_schedule) }
         ensures replays { ReplaysRuns self.old.code (entries runs.now) (option_copied letters.entry) budget done.new self.new result }
     {
         let mut notes = [Letter::Read; NOTES];
@@ -101,7 +101,7 @@ impl<C: Core> Machine<C> {
         requires between { Between self.old.code (entries done.old.runs) done.old.letters spent.old self.old }
         requires within { spent.old ≤ budget }
         requires room { (length done.old.letters + run.now.times ≤ done.old.room) ⊎ (budget ≤ done.old.room) }
-        requires few { (length done.old.letters + run.now.times ≤ most) ⊎ (budget ≤ most) }
+        requires few { (length done.old.letters + run.now.times ≤ most_in_schedule) ⊎ (budget ≤ most_in_schedule) }
         ensures entries { Advances self.old.code budget (entries done.old.runs) (replicate run.now.times run.now.process) spent.new (entries done.new.runs) done.new.letters self.new result }
         ensures agrees { IfSome result NoneDiffers }
         ensures room { done.old.room ≤ done.new.room }
@@ -126,9 +126,9 @@ impl<C: Core> Machine<C> {
         requires notes { length notes.old ≡ NOTES }
         requires each { IfSome (option_copied letters) (λ ls. length ls ≡ run.now.times) }
         requires room { (length done.old.letters + run.now.times ≤ done.old.room) ⊎ (budget ≤ done.old.room) }
-        requires few { (length done.old.letters + run.now.times ≤ most) ⊎ (budget ≤ most) }
+        requires few { (length done.old.letters + run.now.times ≤ most_in_schedule) ⊎ (budget ≤ most_in_schedule) }
         ensures entries { Advances self.old.code budget (entries done.old.runs) (replicate run.now.times run.now.process) spent.new (entries done.new.runs) done.new.letters self.new result }
-        ensures letters { Agrees (option_copied letters.entry) done.old.letters done.new.letters result }
+        ensures letters { LettersAgree (option_copied letters.entry) done.old.letters done.new.letters result }
         ensures notes { length notes.new ≡ NOTES }
         ensures room { done.old.room ≤ done.new.room }
     {
@@ -166,7 +166,7 @@ impl<C: Core> Machine<C> {
         requires notes { length notes.old ≡ NOTES }
         requires each { IfSome (option_copied letters) (λ ls. length ls ≡ times) }
         requires room { (length done.old.letters + times ≤ done.old.room) ⊎ (budget ≤ done.old.room) }
-        requires few { (length done.old.letters + times ≤ most) ⊎ (budget ≤ most) }
+        requires few { (length done.old.letters + times ≤ most_in_schedule) ⊎ (budget ≤ most_in_schedule) }
         ensures entries { AdvancesBy self.old.code budget (entries done.old.runs) process times spent.new (entries done.new.runs) done.new.letters self.new result }
         ensures letters { AgreesBy (option_copied letters.entry) done.old.letters done.new.letters result }
         ensures notes { length notes.new ≡ NOTES }

@@ -4,13 +4,13 @@ ghost use Rattle.b67_list.specs.Numbered.{numbered};
 ghost use Rattle.b67_events.specs.Events.{Events};
 ghost use Rattle.b67_segment.specs.Decoded.{AreDecoded};
 ghost use Rattle.b67_table.specs.Image.{Image, is_able};
-ghost use Rattle.b67_table.specs.Privacy.{Keeps};
+ghost use Rattle.b67_table.specs.Privacy.{RegistersStay};
 ghost use Rattle.b67_table.specs.Valid.{IsValid};
 ghost use Rattle.b67_reach.specs.Images.{image_of};
 ghost use Rattle.b67_reach.specs.Woken.{KeepsPlaces};
 ghost use Rattle.b67_action.specs.Running.{HasRun};
-ghost use Rattle.b67_machine.specs.Chaining.{released_after, Runs, RunsTo};
-ghost use Rattle.b67_machine.specs.Kept.{counted};
+ghost use Rattle.b67_machine.specs.Chaining.{released_after, ChainRuns, RunsTo};
+ghost use Rattle.b67_machine.specs.Kept.{operators_counted};
 ghost use Rattle.b67_machine.specs.Parts.{whole_part, IsFull};
 ghost use Rattle.b67_machine.specs.Reads.{machine_end};
 ghost use Rattle.b67_machine.specs.Tables.{AreTables};
@@ -77,7 +77,7 @@ pub fn run_part(
     requires table { IfSome table (λ t. AreDecoded code.now part.old.regs.segment part.old.regs.ll t.now) }
     ensures runs { (p : ℕ) → RunsTo code.now p most part.old result letters.new part.new }
     ensures full { IsFull part.new }
-    ensures keeps { Keeps part.old.regs part.new.regs }
+    ensures keeps { RegistersStay part.old.regs part.new.regs }
     ensures entries { result.entries ≤ length letters.new }
     ensures counted { result.entries ≤ result.operators }
     ensures size { length letters.new ≡ length letters.old }
@@ -95,8 +95,8 @@ impl<C: Core> Machine<C> {
     pub fn run_process(&mut self, process: u32, letters: &mut [Letter], most: u32) -> Ran
         requires able { is_able (numbered self.old.image.states process) ≡ true }
         requires going { machine_end self.old ≡ None }
-        requires count { counted self.old.counts process + most < 2 ^ 64 }
-        ensures runs { Runs self.old process most result letters.new self.new }
+        requires count { operators_counted self.old.counts process + most < 2 ^ 64 }
+        ensures runs { ChainRuns self.old process most result letters.new self.new }
         ensures entries { result.entries ≤ length letters.new }
         ensures counted { result.entries ≤ result.operators }
         ensures size { length letters.new ≡ length letters.old }

@@ -3,7 +3,7 @@ ghost use Rattle.std.specs.Prelude.{◌≡◌, ◌+◌, ◌<◌, ◌^◌, None, 
 ghost use Rattle.b67_list.specs.Numbered.{numbered};
 ghost use Rattle.b67_table.specs.Image.{is_able};
 ghost use Rattle.b67_table.specs.Valid.{IsValid};
-ghost use Rattle.b67_machine.specs.Kept.{counted};
+ghost use Rattle.b67_machine.specs.Kept.{operators_counted};
 ghost use Rattle.b67_machine.specs.Lacking.{LackingIsKept};
 ghost use Rattle.b67_machine.specs.Reads.{machine_end};
 ghost use Rattle.b67_machine.specs.Stepping.{Steps};
@@ -22,7 +22,7 @@ impl<C: Core> Machine<C> {
     pub fn step(&mut self, process: u32) -> Done
         requires able { is_able (numbered self.old.image.states process) ≡ true }
         requires going { machine_end self.old ≡ None }
-        requires count { counted self.old.counts process + 1 < 2 ^ 64 }
+        requires count { operators_counted self.old.counts process + 1 < 2 ^ 64 }
         ensures steps { Steps self.old process result self.new }
         ensures valid { IsValid self.new.code self.new.image }
     {

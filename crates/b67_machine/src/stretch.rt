@@ -6,9 +6,9 @@ ghost use Rattle.b67_store.specs.Store.{stack_limit, words_of};
 ghost use Rattle.b67_table.specs.Image.{is_able};
 ghost use Rattle.b67_table.specs.Table.{plain};
 ghost use Rattle.b67_table.specs.Valid.{IsValid};
-ghost use Rattle.b67_machine.specs.Kept.{counted};
+ghost use Rattle.b67_machine.specs.Kept.{operators_counted};
 ghost use Rattle.b67_machine.specs.Reads.{machine_end};
-ghost use Rattle.b67_machine.specs.Stepping.{Goes};
+ghost use Rattle.b67_machine.specs.Stepping.{MachineGoes};
 
 use crate::Machine;
 use b67_deeds::Letter;
@@ -24,8 +24,8 @@ impl<C: Core> Machine<C> {
     pub fn perform_plain(&mut self, process: u32, most: u32) -> u32
         requires able { is_able (numbered self.old.image.states process) ≡ true }
         requires going { machine_end self.old ≡ None }
-        requires count { counted self.old.counts process + most < 2 ^ 64 }
-        ensures goes { Goes self.old process result self.new }
+        requires count { operators_counted self.old.counts process + most < 2 ^ 64 }
+        ensures goes { MachineGoes self.old process result self.new }
         ensures most { result ≤ most }
         ensures stops { result < most → plain self.old.code self.new.image process ≡ false }
         ensures valid { IsValid self.new.code self.new.image }

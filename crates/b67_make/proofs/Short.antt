@@ -5,7 +5,7 @@ use Rattle.std.specs.List.{flat_map, range_with_len}
 use Rattle.std.specs.Fmt.{decimal}
 use Rattle.std.proofs.lemmas.List.{length-append}
 use Rattle.std.proofs.lemmas.Fmt.{length-decimal-le}
-use Rattle.b67_make.specs.Made.{adder, addition, numbers, group, call, groups_of, made}
+use Rattle.b67_make.specs.Made.{adder, addition, numbers_of_group, group, call, groups_of, made}
 
 -- texts of numbers below one, where each is so long at most
 each_le : (f : ℕ → List ℕ) (most high first count : ℕ) → ((i : ℕ) → i < high → length (f i) ≤ most) → first + count ≤ high →
@@ -65,11 +65,11 @@ group_le : (n g : ℕ) → n ≤ 500 → 50 * g < n → length (group n g) ≤ 2
 group_le n g few inside =
     let digits = decimal_le g (omega arith) in
     let parts = parts_le (50 * g + 1) (min (n - 50 * g) 50) (omega arith) (omega arith) in
-    let adders : length (flat_map adder (numbers n g)) ≤ 2000 = parts.0 in
-    let additions : length (flat_map addition (numbers n g)) ≤ 450 = parts.1 in
-    let all : length (group n g) ≡ 11 + length (decimal g) + 16 + length (flat_map adder (numbers n g)) + 70 + length (flat_map addition (numbers n g)) + 28 =
-    length_seven (codes "PROCEDURE G") (decimal g) (codes "; BEGIN\nTASK T;\n") (flat_map adder (numbers n g))
-    (codes "PROCEDURE R; BEGIN PROCURE(E); D:=D+1; LIBERATE(E) END;\nPROCESS R[T];\n") (flat_map addition (numbers n g)) (codes "WAIT(T.EXCEPTIONEVENT)\nEND;\n") in
+    let adders : length (flat_map adder (numbers_of_group n g)) ≤ 2000 = parts.0 in
+    let additions : length (flat_map addition (numbers_of_group n g)) ≤ 450 = parts.1 in
+    let all : length (group n g) ≡ 11 + length (decimal g) + 16 + length (flat_map adder (numbers_of_group n g)) + 70 + length (flat_map addition (numbers_of_group n g)) + 28 =
+    length_seven (codes "PROCEDURE G") (decimal g) (codes "; BEGIN\nTASK T;\n") (flat_map adder (numbers_of_group n g))
+    (codes "PROCEDURE R; BEGIN PROCURE(E); D:=D+1; LIBERATE(E) END;\nPROCESS R[T];\n") (flat_map addition (numbers_of_group n g)) (codes "WAIT(T.EXCEPTIONEVENT)\nEND;\n") in
     omega (arith, digits, adders, additions, all)
 
 groups_le : (n g : ℕ) → n ≤ 500 → g < groups_of n → 50 * g < n

@@ -18,14 +18,14 @@ abbrev pub addition : ℕ → List ℕ
 addition = line (codes "P") (codes "(S);\n")
 
 -- the numbers of a group, of those up to n: so many as are left, and at most fifty
-abbrev pub numbers : ℕ → ℕ → List ℕ
-numbers n g = range_with_len (MOST_ADDED * g + 1) (min (n - MOST_ADDED * g) MOST_ADDED)
+abbrev pub numbers_of_group : ℕ → ℕ → List ℕ
+numbers_of_group n g = range_with_len (MOST_ADDED * g + 1) (min (n - MOST_ADDED * g) MOST_ADDED)
 
 -- the procedure of a group: it starts a process that counts it, adds its numbers, and waits for that process
 abbrev pub group : ℕ → ℕ → List ℕ
 group n g =
-    codes "PROCEDURE G" ++ decimal g ++ codes "; BEGIN\nTASK T;\n" ++ flat_map adder (numbers n g)
-    ++ codes "PROCEDURE R; BEGIN PROCURE(E); D:=D+1; LIBERATE(E) END;\nPROCESS R[T];\n" ++ flat_map addition (numbers n g)
+    codes "PROCEDURE G" ++ decimal g ++ codes "; BEGIN\nTASK T;\n" ++ flat_map adder (numbers_of_group n g)
+    ++ codes "PROCEDURE R; BEGIN PROCURE(E); D:=D+1; LIBERATE(E) END;\nPROCESS R[T];\n" ++ flat_map addition (numbers_of_group n g)
     ++ codes "WAIT(T.EXCEPTIONEVENT)\nEND;\n"
 
 -- its call

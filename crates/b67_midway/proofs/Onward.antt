@@ -6,10 +6,10 @@ use Rattle.b67_segment.specs.declared.code.Code.{Code}
 use Rattle.b67_table.specs.Image.{Image}
 use Rattle.b67_table.specs.Ending.{image_end}
 use Rattle.b67_table.specs.Runs.{TableRun}
-use Rattle.b67_machine.specs.Kept.{Kept}
+use Rattle.b67_machine.specs.Kept.{MachineModel}
 use Rattle.b67_machine.specs.declared.replay.Replayed.{Replayed}
 use Rattle.b67_machine.specs.declared.replay.Replayed.TheVariants.{Ended, Ran, Illegal, BudgetSpent, NoMemory, Differs}
-use Rattle.b67_machine.specs.Replaying.{Answers, ReplaysEntries, NoneDiffers, tails_of, is_lacking}
+use Rattle.b67_machine.specs.Replaying.{ReplayAnswers, ReplaysEntries, NoneDiffers, tails_of, is_lacking}
 use Rattle.b67_fronts.specs.Fronts.{GoesThrough}
 use Rattle.b67_fronts.proofs.Onward.{fronts_go_on, alike, numbers_able}
 
@@ -17,10 +17,10 @@ nothing_is : (p : ℕ) (left : List ℕ) → p ∷ left ≡ [] → ⊥
 nothing_is p left e = cc
 
 -- a replay that goes on has no answer but want of memory
-module _ (code : Code) (budget : ℕ) (done : List ℕ) (new : Kept) where
+module _ (code : Code) (budget : ℕ) (done : List ℕ) (new : MachineModel) where
   -- an entry is left
   some_left : (p : ℕ) (left : List ℕ) (tail : ℕ) (image : Image) (answer : Replayed) → GoesThrough code (done ++ p ∷ left) budget
-      → (r : TableRun code done (tails_of (p ∷ left) tail) image) → Answers code budget (sum r.counts + tail) done (p ∷ left) tail image new answer → NoneDiffers answer
+      → (r : TableRun code done (tails_of (p ∷ left) tail) image) → ReplayAnswers code budget (sum r.counts + tail) done (p ∷ left) tail image new answer → NoneDiffers answer
       → is_lacking answer ≡ false → ⊥
   some_left p left tail image Ended g r (inl a) none here = nothing_is p left a.1
   some_left p left tail image Ended g r (inr a) none here = (fronts_go_on code budget done p left tail image g r).free a.2.0
@@ -31,11 +31,11 @@ module _ (code : Code) (budget : ℕ) (done : List ℕ) (new : Kept) where
   some_left p left tail image (Differs number) g r a none here = none
 
   -- no process has the number 0
-  never_ended : (spent tail : ℕ) (image : Image) → Answers code budget spent done (0 ∷ []) tail image new Ended → ⊥
+  never_ended : (spent tail : ℕ) (image : Image) → ReplayAnswers code budget spent done (0 ∷ []) tail image new Ended → ⊥
   never_ended spent tail image (inl a) = nothing_is 0 [] a.1
   never_ended spent tail image (inr a) = let least : 1 ≤ 0 = numbers_able image 0 a.1 in omega (arith, least)
 
-  never_ran : (spent tail : ℕ) (image : Image) → Answers code budget spent done (0 ∷ []) tail image new Ran → ⊥
+  never_ran : (spent tail : ℕ) (image : Image) → ReplayAnswers code budget spent done (0 ∷ []) tail image new Ran → ⊥
   never_ran spent tail image a = nothing_is 0 [] a.1
 
   not_spent : (tail : ℕ) (image : Image) → GoesThrough code done budget → (r : TableRun code done [] image) → image_end image ≡ None → sum r.counts + tail ≡ budget
@@ -48,13 +48,13 @@ module _ (code : Code) (budget : ℕ) (done : List ℕ) (new : Kept) where
       by (inr less) = omega (arith, less, spent, zero_is)
 
 -- what a replay of these entries, and whatever comes after them, has left
-module _ (code : Code) (budget : ℕ) (before next more done : List ℕ) (noted : List Letter) (new : Kept) (g : GoesThrough code (before ++ (next ++ more)) budget) where
+module _ (code : Code) (budget : ℕ) (before next more done : List ℕ) (noted : List Letter) (new : MachineModel) (g : GoesThrough code (before ++ (next ++ more)) budget) where
   -- after one entry more, of no process
   one_more : (answer : Replayed) → before ++ (next ++ more) ≡ done → ((rest : List ℕ) → ReplaysEntries code (before ++ (next ++ rest)) budget done noted new answer)
-      → ((spent tail : ℕ) (image : Image) → Answers code budget spent done (0 ∷ []) tail image new answer → ⊥) → ⊥
+      → ((spent tail : ℕ) (image : Image) → ReplayAnswers code budget spent done (0 ∷ []) tail image new answer → ⊥) → ⊥
   one_more answer whole all never =
       never (sum r.run.counts + r.tail) r.tail r.image
-      (subst (λ (xs : List ℕ). Answers code budget (sum r.run.counts + r.tail) done xs r.tail r.image new answer) left r.answers)
+      (subst (λ (xs : List ℕ). ReplayAnswers code budget (sum r.run.counts + r.tail) done xs r.tail r.image new answer) left r.answers)
     where
       r : ReplaysEntries code (before ++ (next ++ (more ++ 0 ∷ []))) budget done noted new answer
       r = all (more ++ 0 ∷ [])
@@ -68,7 +68,7 @@ module _ (code : Code) (budget : ℕ) (before next more done : List ℕ) (noted 
       left = append_cancel_left done r.left (0 ∷ []) (sym r.split ∙ parts)
 
   none_left : (answer : Replayed) (tail : ℕ) (image : Image) (r : TableRun code done [] image) → before ++ (next ++ more) ≡ done
-      → Answers code budget (sum r.counts + tail) done [] tail image new answer → NoneDiffers answer → is_lacking answer ≡ false
+      → ReplayAnswers code budget (sum r.counts + tail) done [] tail image new answer → NoneDiffers answer → is_lacking answer ≡ false
       → ((rest : List ℕ) → ReplaysEntries code (before ++ (next ++ rest)) budget done noted new answer) → ⊥
   none_left Ended tail image r whole a none here all = one_more Ended whole all (never_ended code budget done new)
   none_left Ran tail image r whole a none here all = one_more Ran whole all (never_ran code budget done new)
@@ -79,7 +79,7 @@ module _ (code : Code) (budget : ℕ) (before next more done : List ℕ) (noted 
   none_left (Differs number) tail image r whole a none here all = none
 
   by_left : (answer : Replayed) (left : List ℕ) (tail : ℕ) (image : Image) (r : TableRun code done (tails_of left tail) image) → before ++ (next ++ more) ≡ done ++ left
-      → Answers code budget (sum r.counts + tail) done left tail image new answer → NoneDiffers answer → is_lacking answer ≡ false
+      → ReplayAnswers code budget (sum r.counts + tail) done left tail image new answer → NoneDiffers answer → is_lacking answer ≡ false
       → ((rest : List ℕ) → ReplaysEntries code (before ++ (next ++ rest)) budget done noted new answer) → ⊥
   by_left answer [] tail image r split a none here all = none_left answer tail image r (split ∙ append-nil done) a none here all
   by_left answer (p ∷ left) tail image r split a none here all =

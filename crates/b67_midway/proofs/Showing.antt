@@ -10,7 +10,7 @@ use Rattle.b67_store.specs.Store.{words_of}
 use Rattle.b67_table.specs.declared.Private.{Private}
 use Rattle.b67_table.specs.Image.{Image, is_live, private_of}
 use Rattle.b67_table.specs.Private.{floor}
-use Rattle.b67_machine.specs.Parts.{part_by, private_part, IsWhole}
+use Rattle.b67_machine.specs.Parts.{part_by, private_part, IsWholePart}
 use Rattle.b67_stack_text.specs.Lines.{no_process_text}
 use Rattle.b67_midway.specs.Telling.{if_lives, process_text}
 
@@ -27,11 +27,11 @@ value : {a b : Private} → Some a ≡ Some b → a ≡ b
 value e = cc
 
 -- the words from the floor on are as many as S says, so that all are no more
-pub size_so : (img : Image) (p : ℕ) (r : Registers) (part : Private) → numbered img.regs p ≡ Some r → private_part img p ≡ Some part → IsWhole part
+pub size_so : (img : Image) (p : ℕ) (r : Registers) (part : Private) → numbered img.regs p ≡ Some r → private_part img p ≡ Some part → IsWholePart part
     → length (words_of img.stacks r.stack) ≤ part.regs.s
 size_so img p r part own is whole =
     let same : private_of img r ≡ part = value (ap (part_by img) (sym own) ∙ is) in
-    let all : IsWhole (private_of img r) = subst IsWhole (sym same) whole in
+    let all : IsWholePart (private_of img r) = subst IsWholePart (sym same) whole in
     let own_s : r.s ≡ part.regs.s = ap (λ (x : Private). x.regs.s) same in
     omega (
       arith,

@@ -1,7 +1,7 @@
 //! A part of a schedule that is gone through.
 
 ghost use Rattle.std.specs.Prelude.{◌≡◌, ◌+◌, ◌≤◌, ℕ, List, ◌++◌, length, replicate, OnOk};
-ghost use Rattle.b67_schedule.specs.Schedules.{entries, most};
+ghost use Rattle.b67_schedule.specs.Schedules.{entries, most_in_schedule};
 ghost use Rattle.b67_table.specs.Sound.{Sound};
 ghost use Rattle.b67_machine.specs.Replaying.{Between, is_lacking};
 ghost use Rattle.b67_fronts.specs.Fronts.{GoesThrough};
@@ -30,7 +30,7 @@ pub fn go_through<C: Core>(
     requires within { spent.old ≤ budget }
     requires goes { (more : List ℕ) × GoesThrough machine.old.code (entries done.old.runs ++ (replicate times process ++ more)) budget }
     requires room { length (entries done.old.runs) + times ≤ done.old.room }
-    requires few { budget ≤ most }
+    requires few { budget ≤ most_in_schedule }
     ensures done { OnOk result (entries done.new.runs ≡ entries done.old.runs ++ replicate times process) }
     ensures between { OnOk result (Between machine.old.code (entries done.new.runs) done.new.letters spent.new machine.new) }
     ensures within { OnOk result (spent.new ≤ budget) }

@@ -24,9 +24,9 @@ use Rattle.b67_table.specs.Program.{Change, answer, changed, cut, push, register
 use Rattle.b67_table.specs.Program as program
 use Rattle.b67_table.specs.Table.{length_in, stack_length}
 use Rattle.b67_table.proofs.Lists.{numbered_set, numbered_within, numbered_from}
-use Rattle.b67_reach.specs.Images.{own}
-use Rattle.b67_reach.specs.Answers.{Performs}
-use Rattle.b67_operators.specs.Entries.{accident, opening}
+use Rattle.b67_reach.specs.Images.{own_of_image}
+use Rattle.b67_reach.specs.Answers.{ProgramPerforms}
+use Rattle.b67_operators.specs.Entries.{accident, entry_opening}
 use Rattle.b67_operators.specs.Stages.{finished}
 
 -- ---- what calls on a stack answer
@@ -80,7 +80,7 @@ there_below st n at low = ap is_some (slice_get-get_or (words_of st n) at (recor
 -- a change that makes these stacks of the stacks, and no other but the registers, performs that
 pub performs_change : (change : Change) (f : Stacks → Stacks) (st new : Stacks) (rows more : Rows) (r q : Registers)
     → ((p : ℕ) (img : Image) → changed p change img ≡ with_registers (with_stacks img (f img.stacks)) p q) → q.s ≤ stack_limit → new ≡ f st → more ≡ rows
-    → Performs {A = Unit {0}} (answer change) (own st rows r) (own new more q) (Ok tt)
+    → ProgramPerforms {A = Unit {0}} (answer change) (own_of_image st rows r) (own_of_image new more q) (Ok tt)
 performs_change change f st new rows more r q is room e d = record {
   outcome = λ p img s t u.
       let regs = set_numbered img.regs p q in
@@ -115,16 +115,16 @@ module _ (r : Registers) (next mark : ℕ) (pcw : Pcw) (e : Entry) (selector : �
       ∙ ap (λ (z : Stacks). with_push z r.stack (entered_mark e.home (mark - r.f))) (a ∙ ap (λ (n : ℕ). with_cut st r.stack n) k_is))
 
   pub accident_plain : (st new : Stacks) (rows more : Rows) → pcw.names ≡ false → mark + 2 + 0 ≤ stack_limit → new ≡ framed st → more ≡ rows
-      → Performs {A = Unit {0}} (answer (accident r next mark pcw e selector)) (own st rows r) (own new more (entered r (mark + 2 + 0) mark pcw e 0)) (Ok tt)
+      → ProgramPerforms {A = Unit {0}} (answer (accident r next mark pcw e selector)) (own_of_image st rows r) (own_of_image new more (entered r (mark + 2 + 0) mark pcw e 0)) (Ok tt)
   accident_plain st new rows more plain room a b =
-      subst (λ (names : Bool). Performs {A = Unit {0}} (answer (change names)) (own st rows r) (own new more (entered r (mark + 2 + 0) mark pcw e 0)) (Ok tt)) (sym plain)
+      subst (λ (names : Bool). ProgramPerforms {A = Unit {0}} (answer (change names)) (own_of_image st rows r) (own_of_image new more (entered r (mark + 2 + 0) mark pcw e 0)) (Ok tt)) (sym plain)
       (performs_change (change false) framed st new rows more r (entered r (mark + 2 + 0) mark pcw e 0) (λ p img. refl) room a b)
 
   pub accident_named : (st new : Stacks) (rows more : Rows) → pcw.names ≡ true → mark + 2 + 1 ≤ stack_limit
       → new ≡ with_push (framed st) r.stack (operand (pos selector)) → more ≡ rows
-      → Performs {A = Unit {0}} (answer (accident r next mark pcw e selector)) (own st rows r) (own new more (entered r (mark + 2 + 1) mark pcw e 0)) (Ok tt)
+      → ProgramPerforms {A = Unit {0}} (answer (accident r next mark pcw e selector)) (own_of_image st rows r) (own_of_image new more (entered r (mark + 2 + 1) mark pcw e 0)) (Ok tt)
   accident_named st new rows more named room a b =
-      subst (λ (names : Bool). Performs {A = Unit {0}} (answer (change names)) (own st rows r) (own new more (entered r (mark + 2 + 1) mark pcw e 0)) (Ok tt)) (sym named)
+      subst (λ (names : Bool). ProgramPerforms {A = Unit {0}} (answer (change names)) (own_of_image st rows r) (own_of_image new more (entered r (mark + 2 + 1) mark pcw e 0)) (Ok tt)) (sym named)
       (performs_change (change true) (λ (z : Stacks). with_push (framed z) r.stack (operand (pos selector))) st new rows more r (entered r (mark + 2 + 1) mark pcw e 0)
       (λ p img. refl) room a b)
 
@@ -133,9 +133,9 @@ module _ (r : Registers) (next mark : ℕ) (pcw : Pcw) (e : Entry) (selector : �
 module _ (r : Registers) (next df : ℕ) (pcw : Pcw) (e : Entry) where
   pub opening_performs : (st once new : Stacks) (rows more : Rows) → r.s ≤ stack_limit → once ≡ with_word st (place r.stack r.f) (entered_mark e.home df)
       → new ≡ with_word once (place r.stack (r.f + 1)) (control_word r next pcw.level) → more ≡ rows
-      → Performs {A = Unit {0}} (answer (opening r next df pcw e)) (own st rows r) (own new more (entered r r.s r.f pcw e (r.s - (r.f + 2)))) (Ok tt)
+      → ProgramPerforms {A = Unit {0}} (answer (entry_opening r next df pcw e)) (own_of_image st rows r) (own_of_image new more (entered r r.s r.f pcw e (r.s - (r.f + 2)))) (Ok tt)
   opening_performs st once new rows more room a b d =
-      performs_change (opening r next df pcw e)
+      performs_change (entry_opening r next df pcw e)
       (λ (z : Stacks). with_word (with_word z (place r.stack r.f) (entered_mark e.home df)) (place r.stack (r.f + 1)) (control_word r next pcw.level))
       st new rows more r (entered r r.s r.f pcw e (r.s - (r.f + 2))) (λ p img. refl) room
       (b ∙ ap (λ (z : Stacks). with_word z (place r.stack (r.f + 1)) (control_word r next pcw.level)) a) d
@@ -144,13 +144,13 @@ module _ (r : Registers) (next df : ℕ) (pcw : Pcw) (e : Entry) where
 
 module _ (r : Registers) (next : ℕ) (x : Word) where
   pub finished_dropped : (st new : Stacks) (rows more : Rows) → r.s - 2 + 0 ≤ stack_limit → new ≡ with_cut st r.stack (r.s - 2) → more ≡ rows
-      → Performs {A = Unit {0}} (answer (finished false r next x)) (own st rows r) (own new more (record r { s = r.s - 2 + 0; place = next })) (Ok tt)
+      → ProgramPerforms {A = Unit {0}} (answer (finished false r next x)) (own_of_image st rows r) (own_of_image new more (record r { s = r.s - 2 + 0; place = next })) (Ok tt)
   finished_dropped st new rows more room a b =
       performs_change (finished false r next x) (λ (z : Stacks). with_cut z r.stack (r.s - 2)) st new rows more r (record r { s = r.s - 2 + 0; place = next })
       (λ p img. refl) room a b
 
   pub finished_kept : (st new : Stacks) (rows more : Rows) → r.s - 2 + 1 ≤ stack_limit → new ≡ with_push (with_cut st r.stack (r.s - 2)) r.stack x → more ≡ rows
-      → Performs {A = Unit {0}} (answer (finished true r next x)) (own st rows r) (own new more (record r { s = r.s - 2 + 1; place = next })) (Ok tt)
+      → ProgramPerforms {A = Unit {0}} (answer (finished true r next x)) (own_of_image st rows r) (own_of_image new more (record r { s = r.s - 2 + 1; place = next })) (Ok tt)
   finished_kept st new rows more room a b =
       performs_change (finished true r next x) (λ (z : Stacks). with_push (with_cut z r.stack (r.s - 2)) r.stack x) st new rows more r (record r { s = r.s - 2 + 1; place = next })
       (λ p img. refl) room a b

@@ -9,7 +9,7 @@ use Rattle.b67_letters.specs.Letters.{told_by}
 use Rattle.b67_reach.specs.declared.Stop.{Stop}
 use Rattle.b67_table.specs.Program.{Program}
 use Rattle.b67_reach.specs.Images.{Own}
-use Rattle.b67_reach.specs.Answers.{looked, both, Performs}
+use Rattle.b67_reach.specs.Answers.{looked, both, ProgramPerforms}
 
 module _ {A : Type 0} (k : A → Option Letter) where
   pub told_ok : (x : Result A InterruptKind) (a : A) → Ok a ≡ looked x → told_by k x ≡ k a
@@ -52,12 +52,12 @@ lettered_as (Err stop) named o e h = tt
 -- ---- an answer that gets a letter
 
 module _ {A B : Type 0} (program : Program) (old new : Own) where
-  pub performs_ok : (x : Result A Stop) (a : A) (b : B) → x ≡ Ok a → Performs program old new x → Performs program old new (Ok b)
+  pub performs_ok : (x : Result A Stop) (a : A) (b : B) → x ≡ Ok a → ProgramPerforms program old new x → ProgramPerforms program old new (Ok b)
   performs_ok (Ok c) a b e p = record { outcome = p.outcome; stays = tt }
   performs_ok (Err stop) a b e p = cc
 
-  pub performs_err : (x : Result A Stop) (stop : Stop) → x ≡ Err stop → Performs program old new x → Performs {A = B} program old new (Err stop)
+  pub performs_err : (x : Result A Stop) (stop : Stop) → x ≡ Err stop → ProgramPerforms program old new x → ProgramPerforms {A = B} program old new (Err stop)
   performs_err (Ok c) stop e p = cc
   performs_err (Err other) stop e p =
       let same : other ≡ stop = cc in
-      subst (λ (s : Stop). Performs {A = B} program old new (Err s)) same (record { outcome = p.outcome; stays = p.stays })
+      subst (λ (s : Stop). ProgramPerforms {A = B} program old new (Err s)) same (record { outcome = p.outcome; stays = p.stays })

@@ -2,7 +2,7 @@
 use Rattle.std.proofs.Common.{◌≡◌, refl, ap, ◌∙◌, ℕ, Bool, true, false, cond, ◌||◌, List, [], ◌∷◌, Option, Some, None}
 use Rattle.b67_word.specs.declared.Place.{Place}
 use Rattle.b67_deeds.specs.Events.{caused}
-use Rattle.b67_events.specs.Events.{Event, Events, same_place, event_at, is_open, state_of, waiters_at, changed, with_state, withdrawn, unlisted}
+use Rattle.b67_events.specs.Events.{Event, Events, same_place, event_at, is_open, state_of, waiters_at, event_changed, with_state, withdrawn, unlisted}
 use Rattle.b67_table.specs.Writes.{told_positions}
 use Rattle.b67_operators.specs.Leaves.{task_caused, task_waiters, task_numbers}
 
@@ -14,10 +14,10 @@ second_false : (a b : Bool) → (a || b) ≡ false → b ≡ false
 second_false true b e = cc
 second_false false b e = e
 
-none_caused : (at : Place) (es : List Event) → is_open at es ≡ false → changed at (with_state caused) es ≡ es
+none_caused : (at : Place) (es : List Event) → is_open at es ≡ false → event_changed at (with_state caused) es ≡ es
 none_caused at [] e = refl
 none_caused at (x ∷ es) e =
-    ap (λ (b : Bool). cond b (with_state caused x) x ∷ changed at (with_state caused) es) (first_false (same_place x.place at) (is_open at es) e)
+    ap (λ (b : Bool). cond b (with_state caused x) x ∷ event_changed at (with_state caused) es) (first_false (same_place x.place at) (is_open at es) e)
     ∙ ap (λ (z : List Event). x ∷ z) (none_caused at es (second_false (same_place x.place at) (is_open at es) e))
 
 none_there : (at : Place) (es : List Event) → is_open at es ≡ false → event_at at es ≡ None
@@ -33,7 +33,7 @@ module _ (task : Option Place) (at : Place) (t : task ≡ Some at) where
   pub not_caused : (k : Events) → is_open at k.events ≡ false → task_caused task k ≡ k
   not_caused k e =
       ap (λ (o : Option Place). task_caused o k) t
-      ∙ ap (λ (ps : List ℕ). record k { events = withdrawn ps (changed at (with_state caused) k.events); lists = unlisted ps k.lists }) (none_waits at k.events e)
+      ∙ ap (λ (ps : List ℕ). record k { events = withdrawn ps (event_changed at (with_state caused) k.events); lists = unlisted ps k.lists }) (none_waits at k.events e)
       ∙ ap (λ (es : List Event). record k { events = es }) (none_caused at k.events e)
 
   pub nobody_waits : (es : List Event) → is_open at es ≡ false → task_waiters task es ≡ []

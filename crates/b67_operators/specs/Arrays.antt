@@ -11,7 +11,7 @@ use Rattle.b67_table.specs.Moves.{replaced}
 use Rattle.b67_table.specs.Program.{Test, row, Program, answer, see, ◌>>=◌}
 use Rattle.b67_table.specs.declared.InterruptKind.{InterruptKind}
 use Rattle.b67_table.specs.declared.InterruptKind.TheVariants.{InvalidOperand}
-use Rattle.b67_table.specs.Arrays.{is_array, Subscripted, if_row, index_or_fault, index_in, element}
+use Rattle.b67_table.specs.Arrays.{is_array_descriptor, Subscripted, if_row, index_or_fault, index_in, element}
 use Rattle.b67_reach.specs.declared.Stop.{Stop}
 use Rattle.b67_reach.specs.declared.Stop.TheVariants.{Interrupt, Fault}
 
@@ -22,15 +22,15 @@ as_pair (Err kind) = Err kind
 
 abbrev pub array_found : Bool → Option Descriptor → Result Descriptor Stop
 array_found mother None = Err (Interrupt InvalidOperand)
-array_found mother (Some d) = if is_array mother d then Ok d else Err (Interrupt InvalidOperand)
+array_found mother (Some d) = if is_array_descriptor mother d then Ok d else Err (Interrupt InvalidOperand)
 
 abbrev pub subscript_found : Option ℕ → Result ℕ Stop
 subscript_found None = Err (Fault InvalidIndex)
 subscript_found (Some n) = Ok n
 
 -- the element of an array that a subscript names
-abbrev pub element_at : Descriptor → ℤ → Test Word
-element_at d z = row d.address (λ (found : Option Row). if_row found (index_or_fault (index_in z d.length))) >>= (λ (at : ℕ). element d.address at)
+abbrev pub test_element_at : Descriptor → ℤ → Test Word
+test_element_at d z = row d.address (λ (found : Option Row). if_row found (index_or_fault (index_in z d.length))) >>= (λ (at : ℕ). element d.address at)
 
 -- a copy of the descriptor that a word is takes the place of the two words on top
 abbrev pub copy_replaces : Registers → ℕ → Word → Program

@@ -7,7 +7,7 @@ use Rattle.b67_table.specs.declared.Cell.{Cell}
 use Rattle.b67_table.specs.declared.Reached.{Reached}
 use Rattle.b67_table.specs.Chains.{place}
 use Rattle.b67_store.specs.Store.{Stacks}
-use Rattle.b67_table.specs.Look.{Look, found, at, ◌>->◌, valid, seen}
+use Rattle.b67_table.specs.Look.{Look, found, at, ◌>->◌, valid, look_seen}
 use Rattle.b67_table.specs.References.{cell_of, reached}
 use Rattle.b67_table.specs.Image.{Image}
 use Rattle.b67_segment.specs.declared.code.Code.{Code}
@@ -42,8 +42,8 @@ accident r next mark pcw e selector =
 -- ---- entry at the mark at F
 
 -- the change of an entry at the mark at F
-abbrev pub opening : Registers → ℕ → ℕ → Pcw → Entry → Change
-opening r next df pcw e =
+abbrev pub entry_opening : Registers → ℕ → ℕ → Pcw → Entry → Change
+entry_opening r next df pcw e =
     save (place r.stack r.f) (entered_mark e.home df) (save (place r.stack (r.f + 1)) (control_word r next pcw.level)
     (registers (entered r r.s r.f pcw e (r.s - (r.f + 2))) done))
 
@@ -53,13 +53,13 @@ called_by r m w None = valid (as_pcw w) >-> (λ (pcw : Pcw). found (record { mar
 called_by r m w (Some c) =
     reached (Some c) >-> (λ (v : Reached). valid (as_pcw v.word) >-> (λ (pcw : Pcw). found (record { mark = m; pcw = pcw; home = Some v.cell.frame })))
 
-abbrev pub called : Registers → Look Called
-called r =
+abbrev pub procedure_called : Registers → Look Called
+procedure_called r =
     marked r >-> (λ (m : Mscw). at (place r.stack (r.f + 1)) (λ (w : Option Word). valid w) >-> (λ (above : Word). called_by r m above (cell_of r above)))
 
 -- what is called is a procedure, and no intrinsic
 abbrev pub CallsProcedure : Stacks → Registers → Type 0
-CallsProcedure stacks r = (c : Called) × (Ok c ≡ looked (seen stacks (called r))) × (c.pcw.intrinsic ≡ false)
+CallsProcedure stacks r = (c : Called) × (Ok c ≡ looked (look_seen stacks (procedure_called r))) × (c.pcw.intrinsic ≡ false)
 
 -- what ENTR does with what it calls: an intrinsic, or an entry
 abbrev pub enter_called : Code → Registers → ℕ → Called → Program
@@ -68,4 +68,4 @@ enter_called code r next c = enter_procedure code r next c.mark c.pcw c.home
 -- ENTR first looks at what it calls, and then does that
 abbrev pub EntersWhatItCalls : Type 0
 EntersWhatItCalls =
-    (code : Code) (r : Registers) (next p : ℕ) (img : Image) → does p (enter code r next) img ≡ does p (see (called r) >>= enter_called code r next) img
+    (code : Code) (r : Registers) (next p : ℕ) (img : Image) → does p (enter code r next) img ≡ does p (see (procedure_called r) >>= enter_called code r next) img

@@ -18,7 +18,7 @@ use Rattle.b67_table.specs.References.{popped, invalid}
 use Rattle.b67_table.specs.Rows.{is_result}
 use Rattle.b67_table.specs.Linkage.{leave_base, leave_other}
 use Rattle.b67_table.specs.Writes.{told_positions}
-use Rattle.b67_linkage.specs.Held.{Held, held, IsLinked}
+use Rattle.b67_linkage.specs.Held.{HeldCore, held, IsLinked}
 use Rattle.b67_linkage.specs.Leaving.{own_cells, frame_left, base_left}
 use Rattle.b67_reach.specs.declared.Stop.{Stop}
 use Rattle.b67_reach.specs.declared.Stop.TheVariants.{Interrupt, Fault}
@@ -36,7 +36,7 @@ program_in program None next = see invalid
 program_in program (Some r) next = program r next
 
 -- stacks, rows and the registers of all processes are those that one of them has left
-pub record HasLeft (h : Held) (p : ℕ) (all : List Registers) (stacks : Stacks) (rows : Rows) (new : List Registers) : Type 0 where
+pub record HasLeft (h : HeldCore) (p : ℕ) (all : List Registers) (stacks : Stacks) (rows : Rows) (new : List Registers) : Type 0 where
   pub stacks_are : stacks ≡ h.stacks
   pub rows_are : rows ≡ h.rows
   pub registers_are : new ≡ set_numbered all p h.regs
@@ -70,8 +70,8 @@ returned r = popped r >-> (λ (x : Word). if is_result x && not (nat_eq (frame r
 -- ---- the base frame
 
 -- the program, in a process with these stacks
-abbrev pub ends : Stacks → Rows → Registers → ℕ → Program
-ends stacks rows r next = leave_base r (own_cells (held stacks rows r)) next
+abbrev pub program_ends : Stacks → Rows → Registers → ℕ → Program
+program_ends stacks rows r next = leave_base r (own_cells (held stacks rows r)) next
 
 -- a process has left its base frame, and its pointer is at a place
 abbrev pub HasLeftBase : Stacks → Rows → List Registers → ℕ → ℕ → Option Registers → Stacks → Rows → List Registers → Type 0

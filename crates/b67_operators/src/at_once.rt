@@ -13,12 +13,12 @@ ghost use Rattle.b67_display.specs.Shown.{IsShown};
 ghost use Rattle.b67_linkage.specs.Held.{held, IsLinked};
 ghost use Rattle.b67_linkage.specs.Leaving.{frame_left};
 ghost use Rattle.b67_linkage.specs.Showing.{entry_shown, leaving_shown};
-ghost use Rattle.b67_reach.specs.Images.{own, image_of};
-ghost use Rattle.b67_reach.specs.Answers.{Acts, Performs};
+ghost use Rattle.b67_reach.specs.Images.{own_of_image, image_of};
+ghost use Rattle.b67_reach.specs.Answers.{ProgramActs, ProgramPerforms};
 ghost use Rattle.b67_table.specs.Private.{frame};
 ghost use Rattle.b67_deeds.specs.declared.Letter.TheVariants.{Leave};
 ghost use Rattle.b67_letters.specs.Letters.{left_letter};
-ghost use Rattle.b67_operators.specs.Entries.{opening, CallsProcedure};
+ghost use Rattle.b67_operators.specs.Entries.{entry_opening, CallsProcedure};
 ghost use Rattle.b67_operators.specs.Leaves.{IsLinkedIn, program_in, valued, leaves, HasLeftFrame, released};
 
 use crate::calling::find_called;
@@ -50,7 +50,7 @@ fn open_shown<C: Core>(
     requires next { next < end_of_code }
     requires procedure { Fits_pcw pcw.now }
     requires home { home.stack < 2 ^ 10 }
-    ensures { Performs (answer (opening regs.old next df pcw.now (entry_shown regs.old regs.old.f pcw.now home))) (own (C.Core.stacks core.old) (C.Core.rows core.old) regs.old) (own (C.Core.stacks core.new) (C.Core.rows core.new) regs.new) (Ok result) }
+    ensures { ProgramPerforms (answer (entry_opening regs.old next df pcw.now (entry_shown regs.old regs.old.f pcw.now home))) (own_of_image (C.Core.stacks core.old) (C.Core.rows core.old) regs.old) (own_of_image (C.Core.stacks core.new) (C.Core.rows core.new) regs.new) (Ok result) }
 {
     let mscw = Mscw {
         entered: true,
@@ -78,9 +78,9 @@ fn open_shown<C: Core>(
 pub fn enter_at_once<C: Core>(core: &mut C, regs: &mut Registers, next: u16) -> bool
     requires linked { IsLinked (C.Core.stacks core.old) (C.Core.rows core.old) regs.old }
     requires shown { IsShown regs.old.ll regs.old.display }
-    ensures entered { result ≡ true → (code : Code) → Performs (enter code regs.old next) (own (C.Core.stacks core.old) (C.Core.rows core.old) regs.old) (own (C.Core.stacks core.new) (C.Core.rows core.new) regs.new) (Ok (tt {0})) }
+    ensures entered { result ≡ true → (code : Code) → ProgramPerforms (enter code regs.old next) (own_of_image (C.Core.stacks core.old) (C.Core.rows core.old) regs.old) (own_of_image (C.Core.stacks core.new) (C.Core.rows core.new) regs.new) (Ok (tt {0})) }
     ensures calls { result ≡ true → CallsProcedure (C.Core.stacks core.old) regs.old }
-    ensures stays { result ≡ false → own (C.Core.stacks core.new) (C.Core.rows core.new) regs.new ≡ own (C.Core.stacks core.old) (C.Core.rows core.old) regs.old }
+    ensures stays { result ≡ false → own_of_image (C.Core.stacks core.new) (C.Core.rows core.new) regs.new ≡ own_of_image (C.Core.stacks core.old) (C.Core.rows core.old) regs.old }
 {
     let Ok(called) = find_called(core, regs) else {
         return false;
@@ -145,7 +145,7 @@ fn leave_at_once<C: Core>(
 ) -> bool
     requires linked { IsLinkedIn (C.Core.stacks core.old) (C.Core.rows core.old) (numbered parts.old.regs.items process) }
     requires shown { IfSome (numbered parts.old.regs.items process) (λ r. IsShown r.ll r.display) }
-    ensures left { result ≡ true → (next : ℕ) → Acts process (program_in (leaves (C.Core.stacks core.old) (C.Core.rows core.old) value) (numbered parts.old.regs.items process) next) (image_of (C.Core.stacks core.old) (C.Core.rows core.old) kernel.old parts.old) (image_of (C.Core.stacks core.new) (C.Core.rows core.new) kernel.new parts.new) (Ok (tt {0})) }
+    ensures left { result ≡ true → (next : ℕ) → ProgramActs process (program_in (leaves (C.Core.stacks core.old) (C.Core.rows core.old) value) (numbered parts.old.regs.items process) next) (image_of (C.Core.stacks core.old) (C.Core.rows core.old) kernel.old parts.old) (image_of (C.Core.stacks core.new) (C.Core.rows core.new) kernel.new parts.new) (Ok (tt {0})) }
     ensures stays { result ≡ false → image_of (C.Core.stacks core.new) (C.Core.rows core.new) kernel.new parts.new ≡ image_of (C.Core.stacks core.old) (C.Core.rows core.old) kernel.old parts.old }
     ensures states { parts.new.states ≡ parts.old.states }
     ensures started { parts.new.started ≡ parts.old.started }
@@ -178,7 +178,7 @@ pub fn exit_at_once<C: Core>(
 ) -> bool
     requires linked { IsLinkedIn (C.Core.stacks core.old) (C.Core.rows core.old) (numbered parts.old.regs.items process) }
     requires shown { IfSome (numbered parts.old.regs.items process) (λ r. IsShown r.ll r.display) }
-    ensures left { result ≡ true → (next : ℕ) → Acts process (program_in exit (numbered parts.old.regs.items process) next) (image_of (C.Core.stacks core.old) (C.Core.rows core.old) kernel.old parts.old) (image_of (C.Core.stacks core.new) (C.Core.rows core.new) kernel.new parts.new) (Ok (tt {0})) }
+    ensures left { result ≡ true → (next : ℕ) → ProgramActs process (program_in exit (numbered parts.old.regs.items process) next) (image_of (C.Core.stacks core.old) (C.Core.rows core.old) kernel.old parts.old) (image_of (C.Core.stacks core.new) (C.Core.rows core.new) kernel.new parts.new) (Ok (tt {0})) }
     ensures nobody { result ≡ true → (before : List ℕ) → released (numbered parts.old.regs.items process) kernel.old.events before ≡ before }
     ensures letter { result ≡ true → IfSome (numbered parts.old.regs.items process) (λ r. left_letter (frame r) ≡ Leave) }
     ensures stays { result ≡ false → image_of (C.Core.stacks core.new) (C.Core.rows core.new) kernel.new parts.new ≡ image_of (C.Core.stacks core.old) (C.Core.rows core.old) kernel.old parts.old }
@@ -204,7 +204,7 @@ pub fn return_at_once<C: Core>(
 ) -> bool
     requires linked { IsLinkedIn (C.Core.stacks core.old) (C.Core.rows core.old) (numbered parts.old.regs.items process) }
     requires shown { IfSome (numbered parts.old.regs.items process) (λ r. IsShown r.ll r.display) }
-    ensures left { result ≡ true → (next : ℕ) → Acts process (program_in return_value (numbered parts.old.regs.items process) next) (image_of (C.Core.stacks core.old) (C.Core.rows core.old) kernel.old parts.old) (image_of (C.Core.stacks core.new) (C.Core.rows core.new) kernel.new parts.new) (Ok (tt {0})) }
+    ensures left { result ≡ true → (next : ℕ) → ProgramActs process (program_in return_value (numbered parts.old.regs.items process) next) (image_of (C.Core.stacks core.old) (C.Core.rows core.old) kernel.old parts.old) (image_of (C.Core.stacks core.new) (C.Core.rows core.new) kernel.new parts.new) (Ok (tt {0})) }
     ensures stays { result ≡ false → image_of (C.Core.stacks core.new) (C.Core.rows core.new) kernel.new parts.new ≡ image_of (C.Core.stacks core.old) (C.Core.rows core.old) kernel.old parts.old }
     ensures states { parts.new.states ≡ parts.old.states }
     ensures started { parts.new.started ≡ parts.old.started }

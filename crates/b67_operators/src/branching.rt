@@ -2,9 +2,9 @@
 
 ghost use Rattle.std.specs.Prelude.{◌≡◌};
 ghost use Rattle.b67_table.specs.PrivateRows.{is_taken};
-ghost use Rattle.b67_table.specs.Rows.{turn, turn_by};
-ghost use Rattle.b67_reach.specs.Images.{own};
-ghost use Rattle.b67_reach.specs.Answers.{IsReady, Performs};
+ghost use Rattle.b67_table.specs.Rows.{branch_turn, turn_by};
+ghost use Rattle.b67_reach.specs.Images.{own_of_image};
+ghost use Rattle.b67_reach.specs.Answers.{IsReady, ProgramPerforms};
 
 use b67_ops::BranchKind;
 use b67_reach::{Registers, Stop, dropped, invalid, is_operand, popped};
@@ -31,7 +31,7 @@ fn turn_by<C: Core>(
     target: u16,
 ) -> Result<(), Stop>
     requires { IsReady (C.Core.stacks core.old) regs.old }
-    ensures { Performs (turn_by kind target regs.old next) (own (C.Core.stacks core.old) (C.Core.rows core.old) regs.old) (own (C.Core.stacks core.new) (C.Core.rows core.new) regs.new) result }
+    ensures { ProgramPerforms (turn_by kind target regs.old next) (own_of_image (C.Core.stacks core.old) (C.Core.rows core.old) regs.old) (own_of_image (C.Core.stacks core.new) (C.Core.rows core.new) regs.new) result }
 {
     let word = popped(core, regs)?;
     if !is_operand(word) {
@@ -52,7 +52,7 @@ pub fn turn<C: Core>(
     target: u16,
 ) -> Result<(), Stop>
     requires { IsReady (C.Core.stacks core.old) regs.old }
-    ensures { Performs (turn kind target regs.old next) (own (C.Core.stacks core.old) (C.Core.rows core.old) regs.old) (own (C.Core.stacks core.new) (C.Core.rows core.new) regs.new) result }
+    ensures { ProgramPerforms (branch_turn kind target regs.old next) (own_of_image (C.Core.stacks core.old) (C.Core.rows core.old) regs.old) (own_of_image (C.Core.stacks core.new) (C.Core.rows core.new) regs.new) result }
 {
     match kind {
         BranchKind::Brun => {

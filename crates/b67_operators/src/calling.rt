@@ -4,16 +4,16 @@ ghost use Rattle.std.specs.Prelude.{◌≡◌, ◌<◌, ◌≤◌, ◌+◌, ◌-
 ghost use Rattle.b67_control.specs.Control.{Fits_pcw, Fits_mscw, as_pcw};
 ghost use Rattle.b67_control.specs.Display.{levels};
 ghost use Rattle.b67_table.specs.Private.{floor};
-ghost use Rattle.b67_table.specs.Look.{seen};
+ghost use Rattle.b67_table.specs.Look.{look_seen};
 ghost use Rattle.b67_table.specs.References.{cell_of};
 ghost use Rattle.b67_table.specs.Rows.{level_below, marked};
 ghost use Rattle.b67_table.specs.Linkage.{entry};
 ghost use Rattle.b67_table.specs.Limits.{end_of_code, most_cells};
 ghost use Rattle.b67_table.specs.Program.{answer};
 ghost use Rattle.b67_linkage.specs.Held.{IsLinked};
-ghost use Rattle.b67_reach.specs.Images.{own};
-ghost use Rattle.b67_reach.specs.Answers.{looked, Performs};
-ghost use Rattle.b67_operators.specs.Entries.{called, called_by, opening, EntersWhatItCalls};
+ghost use Rattle.b67_reach.specs.Images.{own_of_image};
+ghost use Rattle.b67_reach.specs.Answers.{looked, ProgramPerforms};
+ghost use Rattle.b67_operators.specs.Entries.{procedure_called as called, called_by, entry_opening, EntersWhatItCalls};
 
 use crate::entering::{entering_after, stop_by};
 use b67_control::{Mscw, Pcw};
@@ -49,7 +49,7 @@ fn level_below(regs: &Registers, level: u8) -> Option<Place>
 
 // The PCW that a word above the mark is, or reaches, and the frame in which it lies.
 fn called_by<C: Core>(core: &C, regs: &Registers, mark: Mscw, word: Word) -> Result<Called, Stop>
-    ensures value { result ≡ looked (seen (C.Core.stacks core.now) (called_by regs.now mark word (cell_of regs.now word))) }
+    ensures value { result ≡ looked (look_seen (C.Core.stacks core.now) (called_by regs.now mark word (cell_of regs.now word))) }
     ensures procedure { IfOk result (λ c. Fits_pcw c.pcw) }
     ensures mark { IfOk result (λ c. c.mark ≡ mark) }
 {
@@ -80,7 +80,7 @@ fn called_by<C: Core>(core: &C, regs: &Registers, mark: Mscw, word: Word) -> Res
 /// reference that reaches one.
 pub fn find_called<C: Core>(core: &C, regs: &Registers) -> Result<Called, Stop>
     requires { IsLinked (C.Core.stacks core.now) (C.Core.rows core.now) regs.now }
-    ensures value { result ≡ looked (seen (C.Core.stacks core.now) (called regs.now)) }
+    ensures value { result ≡ looked (look_seen (C.Core.stacks core.now) (called regs.now)) }
     ensures procedure { IfOk result (λ c. Fits_pcw c.pcw) }
     ensures mark { IfOk result (λ c. Fits_mscw c.mark) }
     ensures above { OnOk result (regs.now.f + 2 ≤ regs.now.s) }
@@ -114,7 +114,7 @@ fn open_frame<C: Core>(
     requires next { next < end_of_code }
     requires procedure { Fits_pcw pcw.now }
     requires home { entry.now.home.stack < 2 ^ 10 }
-    ensures { Performs (answer (opening regs.old next df pcw.now entry.now)) (own (C.Core.stacks core.old) (C.Core.rows core.old) regs.old) (own (C.Core.stacks core.new) (C.Core.rows core.new) regs.new) (Ok result) }
+    ensures { ProgramPerforms (answer (entry_opening regs.old next df pcw.now entry.now)) (own_of_image (C.Core.stacks core.old) (C.Core.rows core.old) regs.old) (own_of_image (C.Core.stacks core.new) (C.Core.rows core.new) regs.new) (Ok result) }
 {
     let mscw = Mscw {
         entered: true,
@@ -150,7 +150,7 @@ fn enter_in<C: Core>(
     requires linked { IsLinked (C.Core.stacks core.old) (C.Core.rows core.old) regs.old }
     requires above { regs.old.f + 2 ≤ regs.old.s }
     requires procedure { Fits_pcw pcw.now }
-    ensures { Performs (entry regs.old next df pcw.now (Some home)) (own (C.Core.stacks core.old) (C.Core.rows core.old) regs.old) (own (C.Core.stacks core.new) (C.Core.rows core.new) regs.new) result }
+    ensures { ProgramPerforms (entry regs.old next df pcw.now (Some home)) (own_of_image (C.Core.stacks core.old) (C.Core.rows core.old) regs.old) (own_of_image (C.Core.stacks core.new) (C.Core.rows core.new) regs.new) result }
 {
     let fits = regs.s - (u32::from(regs.f) + 2) <= 511;
     let mark = regs.f;
@@ -170,7 +170,7 @@ pub fn entry<C: Core>(
     requires linked { IsLinked (C.Core.stacks core.old) (C.Core.rows core.old) regs.old }
     requires above { regs.old.f + 2 ≤ regs.old.s }
     requires procedure { Fits_pcw called.now.pcw }
-    ensures { Performs (entry regs.old next called.now.mark.df called.now.pcw called.now.home) (own (C.Core.stacks core.old) (C.Core.rows core.old) regs.old) (own (C.Core.stacks core.new) (C.Core.rows core.new) regs.new) result }
+    ensures { ProgramPerforms (entry regs.old next called.now.mark.df called.now.pcw called.now.home) (own_of_image (C.Core.stacks core.old) (C.Core.rows core.old) regs.old) (own_of_image (C.Core.stacks core.new) (C.Core.rows core.new) regs.new) result }
 {
     match called.home {
         Some(home) => enter_in(core, regs, next, called.mark.df, &called.pcw, home),

@@ -5,15 +5,15 @@ ghost use Rattle.b67_control.specs.Control.{Fits_pcw, as_pcw};
 ghost use Rattle.b67_control.specs.Display.{levels};
 ghost use Rattle.b67_store.specs.Store.{stack_at, stack_limit};
 ghost use Rattle.b67_table.specs.Private.{floor};
-ghost use Rattle.b67_table.specs.Look.{seen, ◌>->◌};
+ghost use Rattle.b67_table.specs.Look.{look_seen, ◌>->◌};
 ghost use Rattle.b67_table.specs.Linkage.{entering, accidental, selected};
 ghost use Rattle.b67_table.specs.Limits.{end_of_code};
 ghost use Rattle.b67_table.specs.Program.{answer};
 ghost use Rattle.b67_table.specs.References.{couple_cell, popped, reached, cell_of, cell_word};
 ghost use Rattle.b67_table.specs.Rows.{value_call, value_or_entry, cell_or_entry, evaluate};
 ghost use Rattle.b67_linkage.specs.Held.{IsLinked};
-ghost use Rattle.b67_reach.specs.Images.{own};
-ghost use Rattle.b67_reach.specs.Answers.{looked, IsReady, Performs};
+ghost use Rattle.b67_reach.specs.Images.{own_of_image};
+ghost use Rattle.b67_reach.specs.Answers.{looked, IsReady, ProgramPerforms};
 ghost use Rattle.b67_letters.specs.Letters.{told_by, value_letter, place_letter};
 ghost use Rattle.b67_operators.specs.Entries.{stop_by, accident};
 
@@ -56,7 +56,7 @@ pub fn entering_after<C: Core>(
     home: Place,
 ) -> Result<Entry, Stop>
     requires { Fits_pcw pcw.now }
-    ensures value { result ≡ looked (seen (C.Core.stacks core.now) (entering regs.old next fits mark pcw.now (Some home))) }
+    ensures value { result ≡ looked (look_seen (C.Core.stacks core.now) (entering regs.old next fits mark pcw.now (Some home))) }
     ensures home { IfOk result (λ e. e.home ≡ home) }
     ensures returnable { IfOk result (λ e. next < end_of_code) }
     ensures same { regs.new ≡ regs.old }
@@ -99,7 +99,7 @@ fn open_frame<C: Core>(
     requires procedure { Fits_pcw pcw.now }
     requires home { entry.now.home.stack < 2 ^ 10 }
     requires room { mark + 2 + length (selected pcw.now.names selector) ≤ stack_limit }
-    ensures { Performs (answer (accident regs.old next mark pcw.now entry.now selector)) (own (C.Core.stacks core.old) (C.Core.rows core.old) regs.old) (own (C.Core.stacks core.new) (C.Core.rows core.new) regs.new) (Ok result) }
+    ensures { ProgramPerforms (answer (accident regs.old next mark pcw.now entry.now selector)) (own_of_image (C.Core.stacks core.old) (C.Core.rows core.old) regs.old) (own_of_image (C.Core.stacks core.new) (C.Core.rows core.new) regs.new) (Ok result) }
 {
     let mscw = Mscw {
         entered: true,
@@ -132,7 +132,7 @@ fn full<C: Core>(
     requires linked { IsLinked (C.Core.stacks core.now) (C.Core.rows core.now) regs.old }
     requires full { regs.old.s ≡ stack_limit }
     requires procedure { Fits_pcw pcw.now }
-    ensures { Performs (accidental regs.old next 0 pcw.now home selector) (own (C.Core.stacks core.now) (C.Core.rows core.now) regs.old) (own (C.Core.stacks core.now) (C.Core.rows core.now) regs.new) result }
+    ensures { ProgramPerforms (accidental regs.old next 0 pcw.now home selector) (own_of_image (C.Core.stacks core.now) (C.Core.rows core.now) regs.old) (own_of_image (C.Core.stacks core.now) (C.Core.rows core.now) regs.new) result }
 {
     // what is found there, and what is refused, is the same at any mark
     let fits = u32::from(regs.f) < regs.s;
@@ -155,7 +155,7 @@ fn enter_at<C: Core>(
     requires mark { regs.old.s - taken < stack_limit }
     requires procedure { Fits_pcw pcw.now }
     requires home { home.stack < 2 ^ 10 }
-    ensures { Performs (accidental regs.old next taken pcw.now home selector) (own (C.Core.stacks core.old) (C.Core.rows core.old) regs.old) (own (C.Core.stacks core.new) (C.Core.rows core.new) regs.new) result }
+    ensures { ProgramPerforms (accidental regs.old next taken pcw.now home selector) (own_of_image (C.Core.stacks core.old) (C.Core.rows core.old) regs.old) (own_of_image (C.Core.stacks core.new) (C.Core.rows core.new) regs.new) result }
 {
     let mark = (regs.s - taken) as u16;
     let entry = entering_after(core, regs, next, regs.f < mark, mark, pcw, home)?;
@@ -181,7 +181,7 @@ pub fn accidental<C: Core>(
     requires taken { taken ≤ regs.old.s }
     requires procedure { Fits_pcw pcw.now }
     requires home { home.stack < 2 ^ 10 }
-    ensures { Performs (accidental regs.old next taken pcw.now home selector) (own (C.Core.stacks core.old) (C.Core.rows core.old) regs.old) (own (C.Core.stacks core.new) (C.Core.rows core.new) regs.new) result }
+    ensures { ProgramPerforms (accidental regs.old next taken pcw.now home selector) (own_of_image (C.Core.stacks core.old) (C.Core.rows core.old) regs.old) (own_of_image (C.Core.stacks core.new) (C.Core.rows core.new) regs.new) result }
 {
     if taken == 0 && regs.s == MOST_STACK_WORDS as u32 {
         full(core, regs, next, pcw, home, selector)
@@ -200,8 +200,8 @@ pub fn value_call<C: Core>(
 ) -> Result<Letter, Stop>
     requires linked { IsLinked (C.Core.stacks core.old) (C.Core.rows core.old) regs.old }
     requires couple { couple.level < levels }
-    ensures letter { IfOk result (λ l. told_by value_letter (seen (C.Core.stacks core.old) (reached (couple_cell regs.old couple.level couple.index))) ≡ Some l) }
-    ensures performs { Performs (value_call couple regs.old next) (own (C.Core.stacks core.old) (C.Core.rows core.old) regs.old) (own (C.Core.stacks core.new) (C.Core.rows core.new) regs.new) result }
+    ensures letter { IfOk result (λ l. told_by value_letter (look_seen (C.Core.stacks core.old) (reached (couple_cell regs.old couple.level couple.index))) ≡ Some l) }
+    ensures performs { ProgramPerforms (value_call couple regs.old next) (own_of_image (C.Core.stacks core.old) (C.Core.rows core.old) regs.old) (own_of_image (C.Core.stacks core.new) (C.Core.rows core.new) regs.new) result }
 {
     let found = reached(core, couple_cell(regs, couple.level, couple.index))?;
     let letter = entered_or(Letter::Read, found.word);
@@ -218,7 +218,7 @@ fn value_or_entry<C: Core>(
 ) -> Result<(), Stop>
     requires linked { IsLinked (C.Core.stacks core.old) (C.Core.rows core.old) regs.old }
     requires is_open { IsSome (stack_at (C.Core.stacks core.old) found.cell.frame.stack) }
-    ensures { Performs (value_or_entry regs.old next found (as_pcw found.word)) (own (C.Core.stacks core.old) (C.Core.rows core.old) regs.old) (own (C.Core.stacks core.new) (C.Core.rows core.new) regs.new) result }
+    ensures { ProgramPerforms (value_or_entry regs.old next found (as_pcw found.word)) (own_of_image (C.Core.stacks core.old) (C.Core.rows core.old) regs.old) (own_of_image (C.Core.stacks core.new) (C.Core.rows core.new) regs.new) result }
 {
     match Pcw::unpack(found.word) {
         Some(pcw) => {
@@ -257,7 +257,7 @@ fn cell_or_entry<C: Core>(
     requires some { 1 ≤ regs.old.s }
     requires is_open { IsSome (stack_at (C.Core.stacks core.old) found.cell.frame.stack) }
     requires index { found.cell.index < 2 ^ 14 }
-    ensures { Performs (cell_or_entry regs.old next found (as_pcw found.word)) (own (C.Core.stacks core.old) (C.Core.rows core.old) regs.old) (own (C.Core.stacks core.new) (C.Core.rows core.new) regs.new) result }
+    ensures { ProgramPerforms (cell_or_entry regs.old next found (as_pcw found.word)) (own_of_image (C.Core.stacks core.old) (C.Core.rows core.old) regs.old) (own_of_image (C.Core.stacks core.new) (C.Core.rows core.new) regs.new) result }
 {
     match Pcw::unpack(found.word) {
         Some(pcw) => {
@@ -282,7 +282,7 @@ fn cell_replaces<C: Core>(
     requires some { 1 ≤ regs.old.s }
     requires is_open { IsSome (stack_at (C.Core.stacks core.old) found.cell.frame.stack) }
     requires index { found.cell.index < 2 ^ 14 }
-    ensures { Performs (cell_or_entry regs.old next found None) (own (C.Core.stacks core.old) (C.Core.rows core.old) regs.old) (own (C.Core.stacks core.new) (C.Core.rows core.new) regs.new) result }
+    ensures { ProgramPerforms (cell_or_entry regs.old next found None) (own_of_image (C.Core.stacks core.old) (C.Core.rows core.old) regs.old) (own_of_image (C.Core.stacks core.new) (C.Core.rows core.new) regs.new) result }
 {
     if !is_operand(found.word) {
         return Err(invalid());
@@ -295,8 +295,8 @@ fn cell_replaces<C: Core>(
 /// entered instead, with selector 1, and another is the fault NOT A VARIABLE. The letter says which of the two it did.
 pub fn evaluate<C: Core>(core: &mut C, regs: &mut Registers, next: u16) -> Result<Letter, Stop>
     requires linked { IsLinked (C.Core.stacks core.old) (C.Core.rows core.old) regs.old }
-    ensures letter { IfOk result (λ l. told_by place_letter (seen (C.Core.stacks core.old) (popped regs.old >-> (λ x. reached (cell_of regs.old x)))) ≡ Some l) }
-    ensures performs { Performs (evaluate regs.old next) (own (C.Core.stacks core.old) (C.Core.rows core.old) regs.old) (own (C.Core.stacks core.new) (C.Core.rows core.new) regs.new) result }
+    ensures letter { IfOk result (λ l. told_by place_letter (look_seen (C.Core.stacks core.old) (popped regs.old >-> (λ x. reached (cell_of regs.old x)))) ≡ Some l) }
+    ensures performs { ProgramPerforms (evaluate regs.old next) (own_of_image (C.Core.stacks core.old) (C.Core.rows core.old) regs.old) (own_of_image (C.Core.stacks core.new) (C.Core.rows core.new) regs.new) result }
 {
     let found = evaluated(core, regs)?;
     let letter = entered_or(Letter::Resolve, found.word);
@@ -307,7 +307,7 @@ pub fn evaluate<C: Core>(core: &mut C, regs: &mut Registers, next: u16) -> Resul
 /// What the reference on top reaches.
 pub fn evaluated<C: Core>(core: &C, regs: &Registers) -> Result<Reached, Stop>
     requires linked { IsLinked (C.Core.stacks core.now) (C.Core.rows core.now) regs.now }
-    ensures value { result ≡ looked (seen (C.Core.stacks core.now) (popped regs.now >-> (λ x. reached (cell_of regs.now x)))) }
+    ensures value { result ≡ looked (look_seen (C.Core.stacks core.now) (popped regs.now >-> (λ x. reached (cell_of regs.now x)))) }
     ensures some { OnOk result (1 ≤ regs.now.s) }
     ensures fits { IfOk result (λ found. found.cell.index < 2 ^ 14) }
     ensures is_open { IfOk result (λ found. IsSome (stack_at (C.Core.stacks core.now) found.cell.frame.stack)) }

@@ -3,12 +3,12 @@
 ghost use Rattle.std.specs.Prelude.{◌≡◌, ◌<◌, ◌≤◌, ◌+◌, IfOk, IfSome, OnOk, unsigned_abs};
 ghost use Rattle.b67_num.specs.Whole.{most};
 ghost use Rattle.b67_control.specs.Control.{as_descriptor, Fits_descriptor, descriptor_word};
-ghost use Rattle.b67_table.specs.Look.{seen};
+ghost use Rattle.b67_table.specs.Look.{look_seen};
 ghost use Rattle.b67_table.specs.Private.{floor};
-ghost use Rattle.b67_table.specs.Arrays.{is_array, array_in, array_of, subscripted, index_in, index_or_fault, subscripted_element, index, index_and_load, index_mother};
-ghost use Rattle.b67_reach.specs.Images.{own};
-ghost use Rattle.b67_reach.specs.Answers.{looked, IsReady, Performs, Tells};
-ghost use Rattle.b67_operators.specs.Arrays.{as_pair, array_found, subscript_found, element_at, copy_replaces};
+ghost use Rattle.b67_table.specs.Arrays.{is_array_descriptor, array_in, array_of, subscripted, index_in, index_or_fault, subscripted_element, index_program, index_and_load, index_mother};
+ghost use Rattle.b67_reach.specs.Images.{own_of_image};
+ghost use Rattle.b67_reach.specs.Answers.{looked, IsReady, ProgramPerforms, TestTells};
+ghost use Rattle.b67_operators.specs.Arrays.{as_pair, array_found, subscript_found, test_element_at, copy_replaces};
 
 use crate::loading::operand_replaces;
 use b67_control::Descriptor;
@@ -41,7 +41,7 @@ fn array_of<C: Core>(
     mother: bool,
     word: Word,
 ) -> Result<Descriptor, Stop>
-    ensures value { result ≡ looked (seen (C.Core.stacks core.now) (array_of regs.now mother word)) }
+    ensures value { result ≡ looked (look_seen (C.Core.stacks core.now) (array_of regs.now mother word)) }
     ensures fits { IfOk result Fits_descriptor }
 {
     match cell_of(regs, word) {
@@ -56,7 +56,7 @@ fn array_of<C: Core>(
 // The array that the word on top is or reaches, and the whole number under it.
 fn subscripted<C: Core>(core: &C, regs: &Registers, mother: bool) -> Result<(Descriptor, i64), Stop>
     requires { IsReady (C.Core.stacks core.now) regs.now }
-    ensures value { result ≡ looked (as_pair (seen (C.Core.stacks core.now) (subscripted regs.now mother))) }
+    ensures value { result ≡ looked (as_pair (look_seen (C.Core.stacks core.now) (subscripted regs.now mother))) }
     ensures fits { IfOk result (λ found. Fits_descriptor found.0) }
     ensures small { IfOk result (λ found. unsigned_abs found.1 ≤ most) }
     ensures some { OnOk result (floor regs.now + 2 ≤ regs.now.s) }
@@ -85,7 +85,7 @@ fn index_of(subscript: i64, length: u32) -> Result<u32, Stop>
 /// look at the row.
 pub fn index<C: Core>(core: &mut C, regs: &mut Registers, next: u16) -> Result<(), Stop>
     requires { IsReady (C.Core.stacks core.old) regs.old }
-    ensures { Performs (index regs.old next) (own (C.Core.stacks core.old) (C.Core.rows core.old) regs.old) (own (C.Core.stacks core.new) (C.Core.rows core.new) regs.new) result }
+    ensures { ProgramPerforms (index_program regs.old next) (own_of_image (C.Core.stacks core.old) (C.Core.rows core.old) regs.old) (own_of_image (C.Core.stacks core.new) (C.Core.rows core.new) regs.new) result }
 {
     let (array, subscript) = subscripted(core, regs, false)?;
     let at = index_of(subscript, array.length)?;
@@ -101,7 +101,7 @@ pub fn index<C: Core>(core: &mut C, regs: &mut Registers, next: u16) -> Result<(
 
 // The element of an array that a subscript names; the row is looked at before the subscript.
 fn element_at<C: Core>(core: &C, array: Descriptor, subscript: i64) -> Result<Word, Stop>
-    ensures { Tells (element_at array subscript) (C.Core.stacks core.now) (C.Core.rows core.now) result }
+    ensures { TestTells (test_element_at array subscript) (C.Core.stacks core.now) (C.Core.rows core.now) result }
 {
     if !core.has_row(array.address) {
         return Err(invalid());
@@ -113,7 +113,7 @@ fn element_at<C: Core>(core: &C, array: Descriptor, subscript: i64) -> Result<Wo
 // The element that the words on top name.
 fn subscripted_element<C: Core>(core: &C, regs: &Registers, mother: bool) -> Result<Word, Stop>
     requires { IsReady (C.Core.stacks core.now) regs.now }
-    ensures value { Tells (subscripted_element regs.now mother) (C.Core.stacks core.now) (C.Core.rows core.now) result }
+    ensures value { TestTells (subscripted_element regs.now mother) (C.Core.stacks core.now) (C.Core.rows core.now) result }
     ensures some { OnOk result (floor regs.now + 2 ≤ regs.now.s) }
 {
     let (array, subscript) = subscripted(core, regs, mother)?;
@@ -123,7 +123,7 @@ fn subscripted_element<C: Core>(core: &C, regs: &Registers, mother: bool) -> Res
 /// NXLV: a subscript and an array without mother are replaced by the element, an operand.
 pub fn index_and_load<C: Core>(core: &mut C, regs: &mut Registers, next: u16) -> Result<(), Stop>
     requires { IsReady (C.Core.stacks core.old) regs.old }
-    ensures { Performs (index_and_load regs.old next) (own (C.Core.stacks core.old) (C.Core.rows core.old) regs.old) (own (C.Core.stacks core.new) (C.Core.rows core.new) regs.new) result }
+    ensures { ProgramPerforms (index_and_load regs.old next) (own_of_image (C.Core.stacks core.old) (C.Core.rows core.old) regs.old) (own_of_image (C.Core.stacks core.new) (C.Core.rows core.new) regs.new) result }
 {
     let word = subscripted_element(core, regs, false)?;
     operand_replaces(core, regs, next, 2, word)
@@ -138,7 +138,7 @@ fn copy_replaces<C: Core>(
 ) -> Result<(), Stop>
     requires ready { IsReady (C.Core.stacks core.old) regs.old }
     requires some { 2 ≤ regs.old.s }
-    ensures { Performs (copy_replaces regs.old next word) (own (C.Core.stacks core.old) (C.Core.rows core.old) regs.old) (own (C.Core.stacks core.new) (C.Core.rows core.new) regs.new) result }
+    ensures { ProgramPerforms (copy_replaces regs.old next word) (own_of_image (C.Core.stacks core.old) (C.Core.rows core.old) regs.old) (own_of_image (C.Core.stacks core.new) (C.Core.rows core.new) regs.new) result }
 {
     let Some(row) = Descriptor::unpack(word) else {
         return Err(invalid());
@@ -151,7 +151,7 @@ fn copy_replaces<C: Core>(
 /// NXLN: a subscript and a mother are replaced by a copy of the row's descriptor.
 pub fn index_mother<C: Core>(core: &mut C, regs: &mut Registers, next: u16) -> Result<(), Stop>
     requires { IsReady (C.Core.stacks core.old) regs.old }
-    ensures { Performs (index_mother regs.old next) (own (C.Core.stacks core.old) (C.Core.rows core.old) regs.old) (own (C.Core.stacks core.new) (C.Core.rows core.new) regs.new) result }
+    ensures { ProgramPerforms (index_mother regs.old next) (own_of_image (C.Core.stacks core.old) (C.Core.rows core.old) regs.old) (own_of_image (C.Core.stacks core.new) (C.Core.rows core.new) regs.new) result }
 {
     let word = subscripted_element(core, regs, true)?;
     copy_replaces(core, regs, next, word)

@@ -6,7 +6,7 @@ ghost use Rattle.b67_control.specs.Control.{Fits_rcw};
 ghost use Rattle.b67_control.specs.Display.{levels};
 ghost use Rattle.b67_events.specs.Events.{closed_from};
 ghost use Rattle.b67_table.specs.Linkage.{is_critical, leaving};
-ghost use Rattle.b67_table.specs.Look.{seen};
+ghost use Rattle.b67_table.specs.Look.{look_seen};
 ghost use Rattle.b67_table.specs.Private.{frame};
 ghost use Rattle.b67_table.specs.Questions.{live_criticals};
 ghost use Rattle.b67_table.specs.Rows.{exit, is_result, return_value};
@@ -15,8 +15,8 @@ ghost use Rattle.b67_linkage.specs.Held.{held, IsLinked};
 ghost use Rattle.b67_linkage.specs.Leaving.{frame_left};
 ghost use Rattle.b67_reach.specs.Images.{image_of};
 ghost use Rattle.b67_reach.specs.Woken.{HasPlaces, KeepsPlaces};
-ghost use Rattle.b67_reach.specs.Answers.{looked, IsReady, Acts};
-ghost use Rattle.b67_operators.specs.Leaves.{IsLinkedIn, program_in, valued, leaves, HasLeftFrame, below_found, returned, ends, HasLeftBase, task_caused, task_waiters, task_numbers, released};
+ghost use Rattle.b67_reach.specs.Answers.{looked, IsReady, ProgramActs};
+ghost use Rattle.b67_operators.specs.Leaves.{IsLinkedIn, program_in, valued, leaves, HasLeftFrame, below_found, returned, program_ends, HasLeftBase, task_caused, task_waiters, task_numbers, released};
 
 use b67_control::{Registers, Sirw};
 use b67_events::{Kernel, Woken};
@@ -65,7 +65,7 @@ fn below<C: Core>(
     all: &[Registers],
     frame: Place,
 ) -> Result<Leaving, Stop>
-    ensures value { result ≡ below_found (seen (C.Core.stacks core.now) (leaving frame)) (is_critical frame.stack (frame.at ∷ []) (live_criticals states.now all.now)) }
+    ensures value { result ≡ below_found (look_seen (C.Core.stacks core.now) (leaving frame)) (is_critical frame.stack (frame.at ∷ []) (live_criticals states.now all.now)) }
     ensures fits { IfOk result (λ l. Fits_rcw l.below.control) }
 {
     let Ok(found) = leaving(core, frame) else {
@@ -122,7 +122,7 @@ fn leave<C: Core>(
     value: Option<Word>,
 ) -> Result<(), Stop>
     requires linked { IsLinkedIn (C.Core.stacks core.old) (C.Core.rows core.old) (numbered parts.old.regs.items process) }
-    ensures acts { (next : ℕ) → Acts process (program_in (leaves (C.Core.stacks core.old) (C.Core.rows core.old) value) (numbered parts.old.regs.items process) next) (image_of (C.Core.stacks core.old) (C.Core.rows core.old) kernel.old parts.old) (image_of (C.Core.stacks core.new) (C.Core.rows core.new) kernel.new parts.new) result }
+    ensures acts { (next : ℕ) → ProgramActs process (program_in (leaves (C.Core.stacks core.old) (C.Core.rows core.old) value) (numbered parts.old.regs.items process) next) (image_of (C.Core.stacks core.old) (C.Core.rows core.old) kernel.old parts.old) (image_of (C.Core.stacks core.new) (C.Core.rows core.new) kernel.new parts.new) result }
     ensures processes { kernel.new.room ≡ kernel.old.room }
     ensures code { parts.new.code ≡ parts.old.code }
     ensures woken { parts.new.woken ≡ parts.old.woken }
@@ -186,7 +186,7 @@ fn end<C: Core>(
 ) -> Result<(), Stop>
     requires linked { IsLinkedIn (C.Core.stacks core.old) (C.Core.rows core.old) (numbered parts.old.regs.items process) }
     requires room { HasPlaces kernel.old.room parts.old.woken }
-    ensures acts { Acts process (program_in (ends (C.Core.stacks core.old) (C.Core.rows core.old)) (numbered parts.old.regs.items process) next) (image_of (C.Core.stacks core.old) (C.Core.rows core.old) kernel.old parts.old) (image_of (C.Core.stacks core.new) (C.Core.rows core.new) kernel.new parts.new) result }
+    ensures acts { ProgramActs process (program_in (program_ends (C.Core.stacks core.old) (C.Core.rows core.old)) (numbered parts.old.regs.items process) next) (image_of (C.Core.stacks core.old) (C.Core.rows core.old) kernel.old parts.old) (image_of (C.Core.stacks core.new) (C.Core.rows core.new) kernel.new parts.new) result }
     ensures woken { OnOk result ((r : Registers) → numbered parts.old.regs.items process ≡ Some r → parts.new.woken.processes.items ≡ task_waiters r.task (closed_from r.stack 0 kernel.old.events)) }
     ensures capacity { KeepsPlaces parts.old.woken parts.new.woken }
     ensures processes { kernel.new.room ≡ kernel.old.room }
@@ -226,7 +226,7 @@ pub fn exit<C: Core>(
 ) -> Result<(), Stop>
     requires linked { IsLinkedIn (C.Core.stacks core.old) (C.Core.rows core.old) (numbered parts.old.regs.items process) }
     requires room { HasPlaces kernel.old.room parts.old.woken }
-    ensures acts { Acts process (program_in exit (numbered parts.old.regs.items process) next) (image_of (C.Core.stacks core.old) (C.Core.rows core.old) kernel.old parts.old) (image_of (C.Core.stacks core.new) (C.Core.rows core.new) kernel.new parts.new) result }
+    ensures acts { ProgramActs process (program_in exit (numbered parts.old.regs.items process) next) (image_of (C.Core.stacks core.old) (C.Core.rows core.old) kernel.old parts.old) (image_of (C.Core.stacks core.new) (C.Core.rows core.new) kernel.new parts.new) result }
     ensures woken { OnOk result (parts.new.woken.processes.items ≡ released (numbered parts.old.regs.items process) kernel.old.events parts.old.woken.processes.items) }
     ensures capacity { KeepsPlaces parts.old.woken parts.new.woken }
     ensures processes { kernel.new.room ≡ kernel.old.room }
@@ -249,7 +249,7 @@ fn is_result(word: Word) -> bool
 // The word on top, which is the value of the frame that is left.
 pub fn returned<C: Core>(core: &C, regs: &Registers) -> Result<Word, Stop>
     requires { IsReady (C.Core.stacks core.now) regs.now }
-    ensures { result ≡ looked (seen (C.Core.stacks core.now) (returned regs.now)) }
+    ensures { result ≡ looked (look_seen (C.Core.stacks core.now) (returned regs.now)) }
 {
     let word = popped(core, regs)?;
     if !is_result(word) || frame_of(regs) == 0 {
@@ -269,7 +269,7 @@ pub fn return_value<C: Core>(
     next: u16,
 ) -> Result<(), Stop>
     requires { IsLinkedIn (C.Core.stacks core.old) (C.Core.rows core.old) (numbered parts.old.regs.items process) }
-    ensures acts { Acts process (program_in return_value (numbered parts.old.regs.items process) next) (image_of (C.Core.stacks core.old) (C.Core.rows core.old) kernel.old parts.old) (image_of (C.Core.stacks core.new) (C.Core.rows core.new) kernel.new parts.new) result }
+    ensures acts { ProgramActs process (program_in return_value (numbered parts.old.regs.items process) next) (image_of (C.Core.stacks core.old) (C.Core.rows core.old) kernel.old parts.old) (image_of (C.Core.stacks core.new) (C.Core.rows core.new) kernel.new parts.new) result }
     ensures processes { kernel.new.room ≡ kernel.old.room }
     ensures code { parts.new.code ≡ parts.old.code }
     ensures woken { parts.new.woken ≡ parts.old.woken }

@@ -6,7 +6,7 @@ ghost use Rattle.b67_table.specs.Arrays.{as_indexed};
 ghost use Rattle.b67_table.specs.Program.{Program};
 ghost use Rattle.b67_letters.specs.Letters.{entered_or, element_or_not};
 ghost use Rattle.b67_reach.specs.Images.{Own};
-ghost use Rattle.b67_reach.specs.Answers.{Performs};
+ghost use Rattle.b67_reach.specs.Answers.{ProgramPerforms};
 
 use b67_control::Pcw;
 use b67_deeds::Letter;
@@ -38,7 +38,7 @@ pub fn element_or_not(element: Letter, variable: Letter, word: Word) -> Letter
 /// The answer of an operator that has this letter where nothing stops it.
 #[inline(always)]
 pub fn lettered(answer: Result<(), Stop>, letter: Letter) -> Result<Letter, Stop>
-    ensures performs { (program : Program) (old new : Own) → Performs program old new answer → Performs program old new result }
+    ensures performs { (program : Program) (old new : Own) → ProgramPerforms program old new answer → ProgramPerforms program old new result }
     ensures letter { IfOk result (λ l. l ≡ letter) }
 {
     match answer {

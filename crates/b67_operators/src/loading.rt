@@ -4,9 +4,9 @@ ghost use Rattle.std.specs.Prelude.{◌≡◌, ◌||◌, ◌==◌, ◌+◌, ◌�
 ghost use Rattle.b67_table.specs.Rows.{is_passed, load_through, load_value, loaded, operand_pushed, value_pushed};
 ghost use Rattle.b67_table.specs.Arrays.{as_indexed};
 ghost use Rattle.b67_operators.specs.Stages.{operand_replaces};
-ghost use Rattle.b67_reach.specs.Images.{own};
-ghost use Rattle.b67_reach.specs.Answers.{IsReady, Performs, Tells};
-ghost use Rattle.b67_table.specs.Look.{seen};
+ghost use Rattle.b67_reach.specs.Images.{own_of_image};
+ghost use Rattle.b67_reach.specs.Answers.{IsReady, ProgramPerforms, TestTells};
+ghost use Rattle.b67_table.specs.Look.{look_seen};
 ghost use Rattle.b67_table.specs.References.{popped};
 ghost use Rattle.b67_letters.specs.Letters.{told_by, loaded_letter};
 
@@ -30,7 +30,7 @@ fn is_passed(word: Word) -> bool
 /// LODT: the reference on top is replaced by the word that it names, an operand or a SIRW.
 pub fn load_through<C: Core>(core: &mut C, regs: &mut Registers, next: u16) -> Result<(), Stop>
     requires { IsReady (C.Core.stacks core.old) regs.old }
-    ensures { Performs (load_through regs.old next) (own (C.Core.stacks core.old) (C.Core.rows core.old) regs.old) (own (C.Core.stacks core.new) (C.Core.rows core.new) regs.new) result }
+    ensures { ProgramPerforms (load_through regs.old next) (own_of_image (C.Core.stacks core.old) (C.Core.rows core.old) regs.old) (own_of_image (C.Core.stacks core.new) (C.Core.rows core.new) regs.new) result }
 {
     let x = popped(core, regs)?;
     let found = named(core, cell_of(regs, x))?;
@@ -43,7 +43,7 @@ pub fn load_through<C: Core>(core: &mut C, regs: &mut Registers, next: u16) -> R
 
 // The word of an indexed descriptor's element, or what a reference reaches.
 fn loaded<C: Core>(core: &C, regs: &Registers, x: Word) -> Result<Word, Stop>
-    ensures { Tells (loaded regs.now x (as_indexed x)) (C.Core.stacks core.now) (C.Core.rows core.now) result }
+    ensures { TestTells (loaded regs.now x (as_indexed x)) (C.Core.stacks core.now) (C.Core.rows core.now) result }
 {
     match as_indexed(x) {
         Some(descriptor) => element(core, descriptor.address, descriptor.length),
@@ -61,7 +61,7 @@ pub fn operand_replaces<C: Core>(
 ) -> Result<(), Stop>
     requires ready { IsReady (C.Core.stacks core.old) regs.old }
     requires some { (1 ≤ count) × (count ≤ regs.old.s) }
-    ensures { Performs (operand_replaces regs.old next count word) (own (C.Core.stacks core.old) (C.Core.rows core.old) regs.old) (own (C.Core.stacks core.new) (C.Core.rows core.new) regs.new) result }
+    ensures { ProgramPerforms (operand_replaces regs.old next count word) (own_of_image (C.Core.stacks core.old) (C.Core.rows core.old) regs.old) (own_of_image (C.Core.stacks core.new) (C.Core.rows core.new) regs.new) result }
 {
     if is_operand(word) {
         replaced(core, regs, next, count, word);
@@ -74,8 +74,8 @@ pub fn operand_replaces<C: Core>(
 /// LOAD: the reference or the indexed descriptor on top is replaced by the operand that it reaches. The letter says which of the two it was.
 pub fn load_value<C: Core>(core: &mut C, regs: &mut Registers, next: u16) -> Result<Letter, Stop>
     requires { IsReady (C.Core.stacks core.old) regs.old }
-    ensures letter { IfOk result (λ l. told_by loaded_letter (seen (C.Core.stacks core.old) (popped regs.old)) ≡ Some l) }
-    ensures performs { Performs (load_value regs.old next) (own (C.Core.stacks core.old) (C.Core.rows core.old) regs.old) (own (C.Core.stacks core.new) (C.Core.rows core.new) regs.new) result }
+    ensures letter { IfOk result (λ l. told_by loaded_letter (look_seen (C.Core.stacks core.old) (popped regs.old)) ≡ Some l) }
+    ensures performs { ProgramPerforms (load_value regs.old next) (own_of_image (C.Core.stacks core.old) (C.Core.rows core.old) regs.old) (own_of_image (C.Core.stacks core.new) (C.Core.rows core.new) regs.new) result }
 {
     let x = popped(core, regs)?;
     let word = loaded(core, regs, x)?;
@@ -92,7 +92,7 @@ fn value_pushed<C: Core>(
     word: Word,
 ) -> Result<(), Stop>
     requires { IsReady (C.Core.stacks core.old) regs.old }
-    ensures { Performs (value_pushed regs.old next word) (own (C.Core.stacks core.old) (C.Core.rows core.old) regs.old) (own (C.Core.stacks core.new) (C.Core.rows core.new) regs.new) result }
+    ensures { ProgramPerforms (value_pushed regs.old next word) (own_of_image (C.Core.stacks core.old) (C.Core.rows core.old) regs.old) (own_of_image (C.Core.stacks core.new) (C.Core.rows core.new) regs.new) result }
 {
     if regs.s as usize == MOST_STACK_WORDS {
         return Err(Stop::StackLimit);
@@ -111,7 +111,7 @@ pub fn operand_pushed<C: Core>(
     found: Reached,
 ) -> Result<(), Stop>
     requires { IsReady (C.Core.stacks core.old) regs.old }
-    ensures { Performs (operand_pushed regs.old next found) (own (C.Core.stacks core.old) (C.Core.rows core.old) regs.old) (own (C.Core.stacks core.new) (C.Core.rows core.new) regs.new) result }
+    ensures { ProgramPerforms (operand_pushed regs.old next found) (own_of_image (C.Core.stacks core.old) (C.Core.rows core.old) regs.old) (own_of_image (C.Core.stacks core.new) (C.Core.rows core.new) regs.new) result }
 {
     if is_operand(found.word) {
         value_pushed(core, regs, next, found.word)

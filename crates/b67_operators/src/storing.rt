@@ -4,11 +4,11 @@ ghost use Rattle.std.specs.Prelude.{◌≡◌, ◌≤◌, ◌+◌, ◌<◌, true
 ghost use Rattle.b67_store.specs.Store.{word_at, row_words, stack_limit};
 ghost use Rattle.b67_table.specs.Arrays.{as_indexed};
 ghost use Rattle.b67_table.specs.References.{cell_place, named, popped_two};
-ghost use Rattle.b67_table.specs.Look.{seen};
+ghost use Rattle.b67_table.specs.Look.{look_seen};
 ghost use Rattle.b67_table.specs.Rows.{store, store_by, stored};
 ghost use Rattle.b67_table.specs.Program.{answer, save, write_row};
-ghost use Rattle.b67_reach.specs.Images.{own};
-ghost use Rattle.b67_reach.specs.Answers.{IsReady, Performs};
+ghost use Rattle.b67_reach.specs.Images.{own_of_image};
+ghost use Rattle.b67_reach.specs.Answers.{IsReady, ProgramPerforms};
 ghost use Rattle.b67_operators.specs.Stages.{finished, operand_cell};
 ghost use Rattle.b67_letters.specs.Letters.{told_by, stored_letter};
 
@@ -25,7 +25,7 @@ use b67_word::{Place, Word};
 fn finish<C: Core>(core: &mut C, regs: &mut Registers, keeps: bool, next: u16, x: Word)
     requires ready { IsReady (C.Core.stacks core.old) regs.old }
     requires some { 2 ≤ regs.old.s }
-    ensures { Performs (answer (finished keeps regs.old next x)) (own (C.Core.stacks core.old) (C.Core.rows core.old) regs.old) (own (C.Core.stacks core.new) (C.Core.rows core.new) regs.new) (Ok result) }
+    ensures { ProgramPerforms (answer (finished keeps regs.old next x)) (own_of_image (C.Core.stacks core.old) (C.Core.rows core.old) regs.old) (own_of_image (C.Core.stacks core.new) (C.Core.rows core.new) regs.new) (Ok result) }
 {
     let length = regs.s - 2;
     core.cut(regs.stack, length).unwrap();
@@ -49,7 +49,7 @@ fn stored_element<C: Core>(
     requires ready { IsReady (C.Core.stacks core.old) regs.old }
     requires some { 2 ≤ regs.old.s }
     requires there { is_some (slice_get (row_words (C.Core.rows core.old) d.address) d.length) ≡ true }
-    ensures { Performs (answer (stored keeps regs.old next x (write_row d.address d.length x))) (own (C.Core.stacks core.old) (C.Core.rows core.old) regs.old) (own (C.Core.stacks core.new) (C.Core.rows core.new) regs.new) (Ok result) }
+    ensures { ProgramPerforms (answer (stored keeps regs.old next x (write_row d.address d.length x))) (own_of_image (C.Core.stacks core.old) (C.Core.rows core.old) regs.old) (own_of_image (C.Core.stacks core.new) (C.Core.rows core.new) regs.new) (Ok result) }
 {
     core.write_row(d.address, d.length, x).unwrap();
     finish(core, regs, keeps, next, x);
@@ -68,7 +68,7 @@ fn stored_cell<C: Core>(
     requires some { 2 ≤ regs.old.s }
     requires there { is_some (word_at (C.Core.stacks core.old) (cell_place cell)) ≡ true }
     requires fits { cell.frame.at + cell.index < stack_limit }
-    ensures { Performs (answer (stored keeps regs.old next x (save (cell_place cell) x))) (own (C.Core.stacks core.old) (C.Core.rows core.old) regs.old) (own (C.Core.stacks core.new) (C.Core.rows core.new) regs.new) (Ok result) }
+    ensures { ProgramPerforms (answer (stored keeps regs.old next x (save (cell_place cell) x))) (own_of_image (C.Core.stacks core.old) (C.Core.rows core.old) regs.old) (own_of_image (C.Core.stacks core.new) (C.Core.rows core.new) regs.new) (Ok result) }
 {
     let place = Place {
         stack: cell.frame.stack,
@@ -80,7 +80,7 @@ fn stored_cell<C: Core>(
 
 // The place of the cell that a reference names, where an operand lies in it.
 fn operand_cell<C: Core>(core: &C, cell: Option<Cell>) -> Result<Cell, Stop>
-    ensures value { result ≡ operand_cell (seen (C.Core.stacks core.now) (named cell)) }
+    ensures value { result ≡ operand_cell (look_seen (C.Core.stacks core.now) (named cell)) }
     ensures there { IfOk result (λ c. is_some (word_at (C.Core.stacks core.now) (cell_place c)) ≡ true) }
     ensures fits { IfOk result (λ c. c.frame.at + c.index < stack_limit) }
 {
@@ -104,7 +104,7 @@ fn store_in_cell<C: Core>(
 ) -> Result<(), Stop>
     requires ready { IsReady (C.Core.stacks core.old) regs.old }
     requires some { 2 ≤ regs.old.s }
-    ensures { Performs (store_by keeps regs.old next x y None) (own (C.Core.stacks core.old) (C.Core.rows core.old) regs.old) (own (C.Core.stacks core.new) (C.Core.rows core.new) regs.new) result }
+    ensures { ProgramPerforms (store_by keeps regs.old next x y None) (own_of_image (C.Core.stacks core.old) (C.Core.rows core.old) regs.old) (own_of_image (C.Core.stacks core.new) (C.Core.rows core.new) regs.new) result }
 {
     let cell = operand_cell(core, cell_of(regs, y))?;
     stored_cell(core, regs, keeps, next, x, cell);
@@ -123,7 +123,7 @@ fn store_in_element<C: Core>(
 ) -> Result<(), Stop>
     requires ready { IsReady (C.Core.stacks core.old) regs.old }
     requires some { 2 ≤ regs.old.s }
-    ensures { Performs (store_by keeps regs.old next x y (Some d)) (own (C.Core.stacks core.old) (C.Core.rows core.old) regs.old) (own (C.Core.stacks core.new) (C.Core.rows core.new) regs.new) result }
+    ensures { ProgramPerforms (store_by keeps regs.old next x y (Some d)) (own_of_image (C.Core.stacks core.old) (C.Core.rows core.old) regs.old) (own_of_image (C.Core.stacks core.new) (C.Core.rows core.new) regs.new) result }
 {
     if core.read_row(d.address, d.length).is_none() {
         return Err(invalid());
@@ -143,7 +143,7 @@ fn store_by<C: Core>(
 ) -> Result<(), Stop>
     requires ready { IsReady (C.Core.stacks core.old) regs.old }
     requires some { 2 ≤ regs.old.s }
-    ensures { Performs (store_by keeps regs.old next x y (as_indexed y)) (own (C.Core.stacks core.old) (C.Core.rows core.old) regs.old) (own (C.Core.stacks core.new) (C.Core.rows core.new) regs.new) result }
+    ensures { ProgramPerforms (store_by keeps regs.old next x y (as_indexed y)) (own_of_image (C.Core.stacks core.old) (C.Core.rows core.old) regs.old) (own_of_image (C.Core.stacks core.new) (C.Core.rows core.new) regs.new) result }
 {
     match as_indexed(y) {
         Some(d) => store_in_element(core, regs, keeps, next, x, y, d),
@@ -161,8 +161,8 @@ pub fn store<C: Core>(
     keeps: bool,
 ) -> Result<Letter, Stop>
     requires { IsReady (C.Core.stacks core.old) regs.old }
-    ensures letter { IfOk result (λ l. told_by stored_letter (seen (C.Core.stacks core.old) (popped_two regs.old)) ≡ Some l) }
-    ensures performs { Performs (store keeps regs.old next) (own (C.Core.stacks core.old) (C.Core.rows core.old) regs.old) (own (C.Core.stacks core.new) (C.Core.rows core.new) regs.new) result }
+    ensures letter { IfOk result (λ l. told_by stored_letter (look_seen (C.Core.stacks core.old) (popped_two regs.old)) ≡ Some l) }
+    ensures performs { ProgramPerforms (store keeps regs.old next) (own_of_image (C.Core.stacks core.old) (C.Core.rows core.old) regs.old) (own_of_image (C.Core.stacks core.new) (C.Core.rows core.new) regs.new) result }
 {
     let two = popped_two(core, regs)?;
     if !is_operand(two.0) {

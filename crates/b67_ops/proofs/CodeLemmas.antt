@@ -9,15 +9,15 @@ use Rattle.b67_ops.specs.declared.BranchKind.TheVariants as branches
 use Rattle.b67_ops.specs.declared.table.OperatorKind.{OperatorKind}
 use Rattle.b67_ops.specs.declared.table.OperatorKind.TheVariants.{Valc, Namc, Lt8, Lt16, Lt48, Mpcw, Branch, Plain}
 use Rattle.b67_ops.specs.declared.table.TheConstants.{TABLE}
-use Rattle.b67_ops.specs.Codes.{Row, code_of, first_with, kind_with}
+use Rattle.b67_ops.specs.Codes.{CodeRow, code_of, first_with, kind_with}
 use Rattle.b67_ops.specs.Decoding.{code_in}
 
 -- each of these rows has its operator's code
-abbrev agree : {Name : Type 0} → List (Row Name) → Bool
+abbrev agree : {Name : Type 0} → List (CodeRow Name) → Bool
 agree rows = list_all (λ row. eqb (code_of row.0) row.1) rows
 
 -- what is found in such rows has the code that was sought
-first_with-code : {Name : Type 0} (code : ℕ) (rows : List (Row Name)) (kind : OperatorKind) → agree rows ≡ true → first_with code rows ≡ Some kind → code_of kind ≡ code
+first_with-code : {Name : Type 0} (code : ℕ) (rows : List (CodeRow Name)) (kind : OperatorKind) → agree rows ≡ true → first_with code rows ≡ Some kind → code_of kind ≡ code
 first_with-code code [] kind all h = cc
 first_with-code code (row ∷ rows) kind all h =
     let parts = and_parts (eqb (code_of row.0) row.1) (agree rows) all in

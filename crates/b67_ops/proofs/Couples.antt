@@ -5,7 +5,7 @@ use Rattle.std.proofs.lemmas.Nat.{pow_pos, pow-add, mul-add-lt, shr_below, div-m
 use Rattle.std.proofs.Math.Pow.{mod-mod-pow}
 use Rattle.b67_ops.specs.declared.TheConstants.{MOST_LEVEL}
 use Rattle.b67_ops.specs.declared.Couple.{Couple}
-use Rattle.b67_ops.specs.Spelling.{level_bits, index_bits, couple_bits, IsSpelled, IsSeen}
+use Rattle.b67_ops.specs.Spelling.{level_bits, index_bits, couple_bits, IsSpelled, CoupleIsSeen}
 use Rattle.b67_ops.specs.Decoding.{couple_of}
 
 -- a level takes one bit to five
@@ -30,7 +30,7 @@ couple_bits-below level couple h =
     rw all_bits at (mul-add-lt couple.level (2 ^ index_bits level) couple.index (2 ^ level_bits level) h.level_fits h.index_fits)
 
 -- a couple that can be seen at a level has a spelling there
-pub IsSpelled-from_seen : (level : ℕ) (couple : Couple) → level ≤ MOST_LEVEL → IsSeen level couple → IsSpelled level couple
+pub IsSpelled-from_seen : (level : ℕ) (couple : Couple) → level ≤ MOST_LEVEL → CoupleIsSeen level couple → IsSpelled level couple
 IsSpelled-from_seen level couple most h = record {
   level_fits = omega (arith, level-below level most, h.level_seen);
   index_fits = h.index_fits;

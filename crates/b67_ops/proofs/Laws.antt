@@ -10,7 +10,7 @@ use Rattle.b67_ops.specs.declared.BadCode.{BadCode}
 use Rattle.b67_ops.specs.declared.BadCode.TheVariants.{Unknown, CutShort, BadLevel}
 use Rattle.b67_ops.specs.declared.Operator.{Operator}
 use Rattle.b67_ops.specs.declared.Operator.TheVariants.{Valc, Namc, Lt8, Lt16, Lt48, Mpcw, Branch, Plain}
-use Rattle.b67_ops.specs.Spelling.{filling, spelling, HasSpelling, Fits, level_named, Stands}
+use Rattle.b67_ops.specs.Spelling.{filling, spelling, HasSpelling, Fits, level_named, OperatorStands}
 use Rattle.b67_ops.specs.Decoding.{◌>>=◌, front, decoded}
 use Rattle.b67_ops.specs.Refusals.{IsCutShort, NamesLevelAbove, IsUnknown}
 use Rattle.b67_ops.proofs.Couples.{IsSpelled-from_seen}
@@ -69,7 +69,7 @@ level_named-within level (Branch kind place) h = omega arith
 level_named-within level (Plain kind) h = omega arith
 
 -- an operator stands within the code
-pub Stands-within : {bytes : List ℕ} {at level : ℕ} {op : Operator} {next : ℕ} → Stands bytes at level op next → (at < next) × (next ≤ at + 12) × (next ≤ length bytes)
+pub Stands-within : {bytes : List ℕ} {at level : ℕ} {op : Operator} {next : ℕ} → OperatorStands bytes at level op next → (at < next) × (next ≤ at + 12) × (next ≤ length bytes)
 Stands-within {bytes} {at} {level} {op} {next} s =
     let size = length-spelling at level op in
     let long = ap length s.text in (
@@ -80,7 +80,7 @@ Stands-within {bytes} {at} {level} {op} {next} s =
 
 -- what was appended stands
 pub Stands-appended : (bytes : List ℕ) (level : ℕ) (op : Operator) → Fits level op
-    → Stands (bytes ++ spelling (length bytes) level op) (length bytes) level op (length bytes + length (spelling (length bytes) level op))
+    → OperatorStands (bytes ++ spelling (length bytes) level op) (length bytes) level op (length bytes + length (spelling (length bytes) level op))
 Stands-appended bytes level op h =
     let at = length bytes in
     let sp = spelling at level op in
@@ -93,7 +93,7 @@ Stands-appended bytes level op h =
     }
 
 -- what stands still stands after more
-pub Stands-kept : {bytes : List ℕ} {at level : ℕ} {op : Operator} {next : ℕ} (more : List ℕ) → Stands bytes at level op next → Stands (bytes ++ more) at level op next
+pub Stands-kept : {bytes : List ℕ} {at level : ℕ} {op : Operator} {next : ℕ} (more : List ℕ) → OperatorStands bytes at level op next → OperatorStands (bytes ++ more) at level op next
 Stands-kept {bytes} {at} {level} {op} {next} more s =
     let within = Stands-within s in
     let sp = spelling at level op in
@@ -106,14 +106,14 @@ Stands-kept {bytes} {at} {level} {op} {next} more s =
     }
 
 -- what stands is read at the front of the code there
-front-stands : {bytes : List ℕ} {at level : ℕ} {op : Operator} {next : ℕ} → level ≤ MOST_LEVEL → Stands bytes at level op next
+front-stands : {bytes : List ℕ} {at level : ℕ} {op : Operator} {next : ℕ} → level ≤ MOST_LEVEL → OperatorStands bytes at level op next
     → front (filling at) level (drop at bytes) ≡ Ok (op, length (spelling at level op))
 front-stands {bytes} {at} {level} {op} {next} most s =
     ap (front (filling at) level) s.text ∙ front-spelling at level op (drop next bytes) (HasSpelling-from_fits level op most s.fits)
 
 -- one operator stands at a place, where the current level is one
 pub Stands-unique : {bytes : List ℕ} {at level : ℕ} {op other : Operator} {next after : ℕ} → level ≤ MOST_LEVEL
-    → Stands bytes at level op next → Stands bytes at level other after → (op ≡ other) × (next ≡ after)
+    → OperatorStands bytes at level op next → OperatorStands bytes at level other after → (op ≡ other) × (next ≡ after)
 Stands-unique {at = at} {level = level} {op = op} {other = other} most s t =
     let same : ◌≡◌ {A = Result (Operator × ℕ) BadCode} (Ok (op, length (spelling at level op))) (Ok (other, length (spelling at level other))) = sym (front-stands most s) ∙ front-stands most t in
     let pair : ◌≡◌ {A = Operator × ℕ} (op, length (spelling at level op)) (other, length (spelling at level other)) = cc in
@@ -133,7 +133,7 @@ judged-seen : (at level : ℕ) (found : Operator × ℕ) → level_named found.0
 judged-seen at level found h = cond-false (ltb level (level_named found.0)) (Err BadLevel) (Ok (found.0, at + found.1)) (le-ltb level (level_named found.0) h)
 
 -- what stands is decoded
-pub decoded-stands : {bytes : List ℕ} {at level : ℕ} {op : Operator} {next : ℕ} → level ≤ MOST_LEVEL → Stands bytes at level op next → decoded bytes at level ≡ Ok (op, next)
+pub decoded-stands : {bytes : List ℕ} {at level : ℕ} {op : Operator} {next : ℕ} → level ≤ MOST_LEVEL → OperatorStands bytes at level op next → decoded bytes at level ≡ Ok (op, next)
 decoded-stands {bytes} {at} {level} {op} {next} most s =
     decoded-front bytes at level (Ok (op, length (spelling at level op))) (front-stands most s)
     ∙ judged-seen at level (op, length (spelling at level op)) (level_named-within level op s.fits)
@@ -165,7 +165,7 @@ take-append-ge (x ∷ xs) ys (suc n) h =
 
 -- what can come of a decoding, each with its cause
 pub data Outcome (bytes : List ℕ) (at level : ℕ) : Result (Operator × ℕ) BadCode → Type 0 where
-  stands : (op : Operator) (next : ℕ) → Stands bytes at level op next → Outcome bytes at level (Ok (op, next))
+  stands : (op : Operator) (next : ℕ) → OperatorStands bytes at level op next → Outcome bytes at level (Ok (op, next))
   cut_short : IsCutShort bytes at level → Outcome bytes at level (Err CutShort)
   above : NamesLevelAbove bytes at level → Outcome bytes at level (Err BadLevel)
   unknown : IsUnknown bytes at level → Outcome bytes at level (Err Unknown)
@@ -243,13 +243,13 @@ not-part at level a b rest x missing p q h some whole =
     absurd (omega (arith, length-append sp (x ++ missing), length-append x missing))
 
 module _ (bytes : List ℕ) (at level : ℕ) (most : level ≤ MOST_LEVEL) where
-  stands-known : (op : Operator) (next : ℕ) → Stands bytes at level op next → HasSpelling level op
+  stands-known : (op : Operator) (next : ℕ) → OperatorStands bytes at level op next → HasSpelling level op
   stands-known op next s = HasSpelling-from_fits level op most s.fits
 
-  only-stands : {r : Result (Operator × ℕ) BadCode} → Outcome bytes at level r → (op : Operator) (next : ℕ) → r ≡ Ok (op, next) → Stands bytes at level op next
+  only-stands : {r : Result (Operator × ℕ) BadCode} → Outcome bytes at level r → (op : Operator) (next : ℕ) → r ≡ Ok (op, next) → OperatorStands bytes at level op next
   only-stands (stands o n s) op next h =
       let same : ◌≡◌ {A = Operator × ℕ} (o, n) (op, next) = cc in
-      subst (λ (p : Operator × ℕ). Stands bytes at level p.0 p.1) same s
+      subst (λ (p : Operator × ℕ). OperatorStands bytes at level p.0 p.1) same s
   only-stands (cut_short c) op next h = cc
   only-stands (above n) op next h = cc
   only-stands (unknown u) op next h = cc
@@ -294,7 +294,7 @@ module _ (bytes : List ℕ) (at level : ℕ) (most : level ≤ MOST_LEVEL) where
   unknown-all (unknown v) u = refl
 
   -- an operator is decoded exactly where it stands
-  pub decoded-ok : IsBytes bytes → (op : Operator) (next : ℕ) → (decoded bytes at level ≡ Ok (op, next)) ↔ Stands bytes at level op next
+  pub decoded-ok : IsBytes bytes → (op : Operator) (next : ℕ) → (decoded bytes at level ≡ Ok (op, next)) ↔ OperatorStands bytes at level op next
   decoded-ok b op next = (only-stands (decoded-outcome bytes at level b) op next, decoded-stands most)
 
   -- each refusal comes exactly where it has its cause

@@ -5,7 +5,7 @@ use Rattle.b67_ops.specs.declared.BranchKind.TheVariants as branches
 use Rattle.b67_ops.specs.declared.table.OperatorKind.{OperatorKind}
 use Rattle.b67_ops.specs.declared.table.OperatorKind.TheVariants.{Valc, Namc, Lt8, Lt16, Lt48, Mpcw, Branch, Plain}
 use Rattle.b67_ops.specs.declared.table.TheConstants.{TABLE}
-use Rattle.b67_ops.specs.Codes.{Row, name_of}
+use Rattle.b67_ops.specs.Codes.{CodeRow, name_of}
 
 -- two texts are one
 abbrev same_text : List ℕ → List ℕ → Bool
@@ -14,7 +14,7 @@ same_text (x ∷ xs) (y ∷ ys) = eqb x y && same_text xs ys
 same_text _ _ = false
 
 -- the operator of the first row that has this name
-abbrev first_named : List ℕ → List (Row (record { now : List ℕ })) → Option OperatorKind
+abbrev first_named : List ℕ → List (CodeRow (record { now : List ℕ })) → Option OperatorKind
 first_named name [] = None
 first_named name (row ∷ more) = cond (same_text row.2.now name) (Some row.0) (first_named name more)
 

@@ -11,12 +11,12 @@ use Rattle.b67_ops.specs.declared.intrinsic.TheConstants.{FIRST_INTRINSIC}
 use Rattle.b67_ops.specs.Positions.{position}
 
 -- the number of an intrinsic: they are numbered in the order in which they are declared
-abbrev pub number_of : Intrinsic → ℕ
-number_of intrinsic = FIRST_INTRINSIC + position generated.the_parts (generated.as_values intrinsic)
+abbrev pub intrinsic_number_of : Intrinsic → ℕ
+intrinsic_number_of intrinsic = FIRST_INTRINSIC + position generated.the_parts (generated.as_values intrinsic)
 
 -- the couple of an intrinsic: level 0 names the stack of the system
 abbrev pub couple_of_intrinsic : Intrinsic → Couple
-couple_of_intrinsic intrinsic = record { level = 0; index = number_of intrinsic }
+couple_of_intrinsic intrinsic = record { level = 0; index = intrinsic_number_of intrinsic }
 
 -- the intrinsics in the order of their numbers
 abbrev pub intrinsics : List Intrinsic

@@ -65,7 +65,7 @@ pub record IsSpelled (level : ℕ) (couple : Couple) : Type 0 where
   pub index_fits : couple.index < 2 ^ index_bits level
 
 -- a couple that can stand in a block of this level
-pub record IsSeen (level : ℕ) (couple : Couple) : Type 0 where
+pub record CoupleIsSeen (level : ℕ) (couple : Couple) : Type 0 where
   pub level_seen : couple.level ≤ level
   pub index_fits : couple.index < 2 ^ index_bits level
 
@@ -86,7 +86,7 @@ HasSpelling level op = FitsAs (IsSpelled level) op
 
 -- an operator that may stand in a block of this level: it has a spelling, and its couple names no level above
 abbrev pub Fits : ℕ → Operator → Type 0
-Fits level op = FitsAs (IsSeen level) op
+Fits level op = FitsAs (CoupleIsSeen level) op
 
 -- the level that the operator's couple names, or 0 where it has no couple
 abbrev pub level_named : Operator → ℕ
@@ -100,7 +100,7 @@ level_named (Branch kind place) = 0
 level_named (Plain kind) = 0
 
 -- at this place of the code, where the current level is this one, stands this operator, and next is the place after it
-pub record Stands (bytes : List ℕ) (at level : ℕ) (op : Operator) (next : ℕ) : Type 0 where
+pub record OperatorStands (bytes : List ℕ) (at level : ℕ) (op : Operator) (next : ℕ) : Type 0 where
   pub text : drop at bytes ≡ spelling at level op ++ drop next bytes
   pub next_is : next ≡ at + length (spelling at level op)
   pub fits : Fits level op

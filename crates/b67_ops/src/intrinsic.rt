@@ -1,7 +1,7 @@
 //! The intrinsics: what `ENTR` does by itself, where it enters a procedure of the system.
 
 ghost use Rattle.std.specs.Prelude.{◌≡◌};
-ghost use Rattle.b67_ops.specs.Intrinsics.{number_of, couple_of_intrinsic};
+ghost use Rattle.b67_ops.specs.Intrinsics.{intrinsic_number_of, couple_of_intrinsic};
 
 use crate::Couple;
 
@@ -55,7 +55,7 @@ pub const INTRINSICS: usize = (LAST_INTRINSIC - FIRST_INTRINSIC + 1) as usize;
 impl Intrinsic {
     /// The number of the intrinsic.
     pub fn number(self) -> u16
-        ensures { result ≡ number_of self }
+        ensures { result ≡ intrinsic_number_of self }
     {
         self as u16
     }

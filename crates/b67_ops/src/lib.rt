@@ -13,7 +13,7 @@
 ghost use Rattle.std.specs.Prelude.{◌≡◌, ℕ, ◌+◌, ◌-◌, ◌*◌, ◌/◌, ◌%◌, ◌^◌, ◌<◌, ◌≤◌, ◌++◌, length, ◌∷◌, replicate, OnOk, OnErr, IfOk, ◌↔◌, nat_eq, if◌then◌else◌};
 ghost use Rattle.std.specs.List.{list_all};
 ghost use Rattle.std.specs.Int.{w16, to_be_bytes, bytes_high_first};
-ghost use Rattle.b67_ops.specs.Spelling.{kind_of, index_bits, couple_bits, couple_spelling, filling, spelling, IsSeen, Fits, level_named, Stands};
+ghost use Rattle.b67_ops.specs.Spelling.{kind_of, index_bits, couple_bits, couple_spelling, filling, spelling, CoupleIsSeen, Fits, level_named, OperatorStands};
 ghost use Rattle.b67_ops.specs.Refusals.{IsCutShort, NamesLevelAbove, IsUnknown};
 ghost use Rattle.b67_ops.specs.declared.Operator.{Operator};
 ghost use Rattle.b67_ops.specs.Decoding.{couple_of, byte_front, place_front, six_front, word_front, couple_front, code_in, operator_front, front, decoded};
@@ -197,7 +197,7 @@ fn index_bits(level: u8) -> u16
 /// A couple as a number of 14 bits, with the level above the index.
 fn couple_bits(couple: Couple, level: u8) -> u16
     requires level { level ≤ MOST_LEVEL }
-    requires seen { IsSeen level couple }
+    requires seen { CoupleIsSeen level couple }
     ensures value { result ≡ couple_bits level couple }
     ensures most { result < 2 ^ 14 }
 {
@@ -207,7 +207,7 @@ fn couple_bits(couple: Couple, level: u8) -> u16
 /// Appends an operator that is the first two bits of a code, and a couple.
 fn push_couple(out: &mut Vec<u8>, code: u8, couple: Couple, level: u8) -> Result<(), AllocError>
     requires level { level ≤ MOST_LEVEL }
-    requires seen { IsSeen level couple }
+    requires seen { CoupleIsSeen level couple }
     requires code { code < 0x80 }
     ensures ok { OnOk result (out.new.items ≡ out.old.items ++ couple_spelling code level couple) }
     ensures err { OnErr result (out.new.items ≡ out.old.items) }
@@ -403,7 +403,7 @@ pub fn decode(bytes: &[u8], at: usize, level: u8) -> Result<(Operator, usize), B
 
     // An operator comes exactly where it stands.
     ensures ok { (op : Operator) (next : ℕ)
-        → (result ≡ Ok (op, next)) ↔ Stands bytes.now at level op next }
+        → (result ≡ Ok (op, next)) ↔ OperatorStands bytes.now at level op next }
 
     // It lies within the code, and is at most 12 syllables.
     ensures within { IfOk result (λ found.

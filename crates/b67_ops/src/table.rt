@@ -2,7 +2,7 @@
 
 ghost use Rattle.std.specs.Prelude.{◌≡◌, ◌<◌, Some, [], length, get_or, map};
 ghost use Rattle.b67_ops.specs.declared.table.OperatorKind.{OperatorKind};
-ghost use Rattle.b67_ops.specs.Codes.{code_of, codes_of, name_of, kind_with, index, first_with};
+ghost use Rattle.b67_ops.specs.Codes.{code_of, codes_of, name_of, kind_with, operator_index, first_with};
 ghost use Rattle.b67_ops.specs.Printed.{OperatorsAreTold};
 ghost use Rattle.b67_ops.specs.declared.TheConstants.{OUTER_LEVEL, MOST_LEVEL};
 ghost use Rattle.b67_ops.specs.declared.intrinsic.TheConstants.{FIRST_INTRINSIC};
@@ -87,7 +87,7 @@ const TABLE: [Row; 46] = [
 
 /// Where an operator's row stands in the table.
 fn index(kind: OperatorKind) -> usize
-    ensures value { result ≡ index kind }
+    ensures value { result ≡ operator_index kind }
     ensures within { result < 46 }
 {
     match kind {

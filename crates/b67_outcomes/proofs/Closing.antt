@@ -13,9 +13,9 @@ use Rattle.b67_outcomes.specs.declared.found.Step.{Step}
 use Rattle.b67_outcomes.specs.declared.found.State.{State}
 use Rattle.b67_outcomes.specs.declared.found.Limit.{Limit}
 use Rattle.b67_outcomes.specs.declared.found.Found.{Found}
-use Rattle.b67_outcomes.specs.Entering.{LeadsTo}
-use Rattle.b67_outcomes.specs.Settling.{Last, ended, stopped, Comes, at_end, at_limit, after, LocalsPass}
-use Rattle.b67_outcomes.specs.Finding.{History, first, IsLed, IsKept, IsEndKept, IsStopKept, IsSearched, Grows, IsArrived, IsFollowed, IsExpanded, AreNoted, AreAll}
+use Rattle.b67_outcomes.specs.Entering.{HistoryLeadsTo}
+use Rattle.b67_outcomes.specs.Settling.{Last, ended, stopped, LastComes, at_end, at_limit, after, LocalsPass}
+use Rattle.b67_outcomes.specs.Finding.{History, first, IsLed, IsKept, IsEndKept, IsStopKept, IsSearched, FoundGrows, IsArrived, IsFollowed, IsExpanded, AreNoted, AreAll}
 use Rattle.b67_outcomes.proofs.Determined.{led_one}
 use Rattle.b67_outcomes.proofs.Histories.{history_one, led_none, led_more}
 use Rattle.b67_outcomes.proofs.Keeping.{followed_stays, expanded_stays}
@@ -25,7 +25,7 @@ use Rattle.b67_outcomes.proofs.Passing.{settled, from_first}
 
 module _ (code : Code) (Local : Image → ℕ → Type 0) where
   -- those before the next one are followed
-  pub followed_next : (old new : Found) (number : ℕ) (h : List ℕ) (process : ℕ) → Grows old new
+  pub followed_next : (old new : Found) (number : ℕ) (h : List ℕ) (process : ℕ) → FoundGrows old new
       → ((p : ℕ) → 1 ≤ p → p < process → IsFollowed code Local old number h p) → IsFollowed code Local new number h process
       → (p : ℕ) → 1 ≤ p → p < process + 1 → IsFollowed code Local new number h p
   followed_next old new number h process g before this p least below =
@@ -35,7 +35,7 @@ module _ (code : Code) (Local : Image → ℕ → Type 0) where
 
   -- and so all, where those after them may not act
   pub expanded_by : (found : Found) (number : ℕ) (h : List ℕ) (here : Image) (processes process : ℕ) → History found.steps.items number h
-      → LeadsTo code h here → ((p : ℕ) → may_act here p ≡ true → (1 ≤ p) × (p ≤ processes)) → processes < process
+      → HistoryLeadsTo code h here → ((p : ℕ) → may_act here p ≡ true → (1 ≤ p) × (p ≤ processes)) → processes < process
       → ((p : ℕ) → 1 ≤ p → p < process → IsFollowed code Local found number h p) → IsExpanded code Local found number
   expanded_by found number h here processes process is l all past each =
       record {
@@ -64,7 +64,7 @@ grown_back (y ∷ xs) more zero x below e = e
 grown_back (y ∷ xs) more (suc k) x below e = grown_back xs more k x (omega (arith, below)) e
 
 -- and the next one
-pub expanded_next : (code : Code) (Local : Image → ℕ → Type 0) (old new : Found) (done : ℕ) (this : State) → Grows old new → slice_get old.states.items done ≡ Some this
+pub expanded_next : (code : Code) (Local : Image → ℕ → Type 0) (old new : Found) (done : ℕ) (this : State) → FoundGrows old new → slice_get old.states.items done ≡ Some this
     → AreExpanded code Local old done → IsExpanded code Local new this.number → AreExpanded code Local new (done + 1)
 expanded_next code Local old new done this g there before here k s below is = by (cases_lt k done)
   where
@@ -106,7 +106,7 @@ pub all_noted : (code : Code) (Local : Image → ℕ → Type 0) (found : Found)
 all_noted code Local found all k p s h img quiet there is leads may stops =
     let x = all k s there in
     let f = x.each p in
-    f.stops img quiet (subst (λ (g : List ℕ). LeadsTo code g img) (history_one found.steps.items s.number h x.history is x.is) leads) may stops
+    f.stops img quiet (subst (λ (g : List ℕ). HistoryLeadsTo code g img) (history_one found.steps.items s.number h x.history is x.is) leads) may stops
 
 -- ---- all
 
@@ -126,7 +126,7 @@ module _ (code : Code) (Local : Image → ℕ → Type 0) (laws : LocalsPass cod
       (subst (λ (n : ℕ). IsFollowed code Local found n x.history p) k.state.3 (x.each p))
 
   comes_kept : (most k : ℕ) → k ≤ most → (a : Image) (output : List (List ℕ)) (last : Last) → IsKept code found.steps.items found.states.items a
-      → Comes code a k output last → IsLastKept output last
+      → LastComes code a k output last → IsLastKept output last
   unfolding IsLastKept
   comes_kept most k few a output last kept (at_end is) = record { image = a; kept = kept; output_is = refl; ends = is }
   comes_kept most k few a output last kept (at_limit {quiet = quiet} {p = p} may s) =
@@ -141,7 +141,7 @@ module _ (code : Code) (Local : Image → ℕ → Type 0) (laws : LocalsPass cod
       comes_kept most sooner.count (omega (arith, less, few)) x.image output last x.kept sooner.comes
 
   from_runs : IsArrived code Local found first_image → (h counts : List ℕ) (img : Image) (output : List (List ℕ)) (last : Last) → Runs code h counts img
-      → Comes code img 0 output last → IsLastKept output last
+      → LastComes code img 0 output last → IsLastKept output last
   from_runs x h counts img output last r c =
       let all_of = from_first code h counts img 0 output last r c in
       let sooner = settled code Local laws first_image x.image x.settled all_of.0 output last ([], led_none code) x.settles all_of.1 in

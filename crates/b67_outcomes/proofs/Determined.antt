@@ -7,8 +7,8 @@ use Rattle.b67_table.specs.Image.{Image}
 use Rattle.b67_table.specs.Outcome.{Outcome, gives, faults, limit}
 use Rattle.b67_table.specs.Ending.{failed}
 use Rattle.b67_table.specs.Table.{table, plain, private_next, is_new}
-use Rattle.b67_table.specs.Runs.{Plains, stay, go, Acts, acts, fails, Entry, Runs, begin, entry}
-use Rattle.b67_outcomes.specs.Entering.{Stops, LeadsTo}
+use Rattle.b67_table.specs.Runs.{Plains, stay, go, ProcessActs, acts, fails, RunEntry, Runs, begin, entry}
+use Rattle.b67_outcomes.specs.Entering.{Stops, HistoryLeadsTo}
 
 given : (x y : Image) → gives x ≡ gives y → x ≡ y
 given x y e = cc
@@ -25,7 +25,7 @@ no_plain code img p e = ap (λ (x : Bool). private_next code img p && x) e ∙ n
 at_limit : (code : Code) (img : Image) (p : ℕ) → table code img p ≡ limit → plain code img p ≡ false
 at_limit code img p e = no_plain code img p (ap is_new e)
 
-stuck : (code : Code) (p : ℕ) (a b : Image) → Acts code p a b → plain code a p ≡ false
+stuck : (code : Code) (p : ℕ) (a b : Image) → ProcessActs code p a b → plain code a p ≡ false
 stuck code p a b (acts e t) = e
 stuck code p a b (fails kind t) = no_plain code a p (ap is_new t)
 
@@ -48,28 +48,28 @@ differ_limit x A e = cc
 fault_limit : (o : Outcome Image) (k : FaultKind) (A : Type 0) → o ≡ faults k → o ≡ limit → A
 fault_limit o k A e f = cc
 
-acts_one : (code : Code) (p : ℕ) (a b c : Image) → Acts code p a b → Acts code p a c → b ≡ c
+acts_one : (code : Code) (p : ℕ) (a b c : Image) → ProcessActs code p a b → ProcessActs code p a c → b ≡ c
 acts_one code p a b c (acts e t) (acts f u) = given b c (sym t ∙ u)
 acts_one code p a b c (acts e t) (fails kind u) = differ_fault b kind _ (sym t ∙ u)
 acts_one code p a b c (fails kind t) (acts f u) = differ_fault c kind _ (sym u ∙ t)
 acts_one code p a b c (fails k t) (fails l u) = kept_kind a p (table code a p) k l t u
 
-pub entry_one : (code : Code) (p : ℕ) (a b c : Image) (n m : ℕ) → Entry code p a n b → Entry code p a m c → b ≡ c
+pub entry_one : (code : Code) (p : ℕ) (a b c : Image) (n m : ℕ) → RunEntry code p a n b → RunEntry code p a m c → b ≡ c
 entry_one code p a b c n m x y =
     let same = plains_one code p a x.quiet y.quiet n m x.plains (stuck code p x.quiet b x.action) y.plains (stuck code p y.quiet c y.action) in
-    acts_one code p x.quiet b c x.action (subst (λ (z : Image). Acts code p z c) (sym same) y.action)
+    acts_one code p x.quiet b c x.action (subst (λ (z : Image). ProcessActs code p z c) (sym same) y.action)
 
 -- it comes to it in one image only
 pub stops_one : (code : Code) (p : ℕ) (a b c : Image) → Stops code p a b → Stops code p a c → b ≡ c
 stops_one code p a b c s t =
     plains_one code p a b c s.count t.count s.plains (at_limit code b p s.at_limit) t.plains (at_limit code c p t.at_limit)
 
-acts_not_limit : (code : Code) (p : ℕ) (a b : Image) (A : Type 0) → Acts code p a b → table code a p ≡ limit → A
+acts_not_limit : (code : Code) (p : ℕ) (a b : Image) (A : Type 0) → ProcessActs code p a b → table code a p ≡ limit → A
 acts_not_limit code p a b A (acts e t) l = differ_limit b A (sym t ∙ l)
 acts_not_limit code p a b A (fails kind t) l = fault_limit (table code a p) kind A t l
 
 -- a process that comes to the limit has no entry
-pub no_entry : (code : Code) (p : ℕ) (a b c : Image) (m : ℕ) (A : Type 0) → Stops code p a b → Entry code p a m c → A
+pub no_entry : (code : Code) (p : ℕ) (a b c : Image) (m : ℕ) (A : Type 0) → Stops code p a b → RunEntry code p a m c → A
 no_entry code p a b c m A s x =
     let same = plains_one code p a b x.quiet s.count m s.plains (at_limit code b p s.at_limit) x.plains (stuck code p x.quiet c x.action) in
     acts_not_limit code p x.quiet c A x.action (subst (λ (z : Image). table code z p ≡ limit) same s.at_limit)
@@ -78,7 +78,7 @@ pub runs_one : (code : Code) (h c d : List ℕ) (a b : Image) → Runs code h c 
 runs_one code [] c d a b begin begin = refl
 runs_one code (p ∷ h) c d a b (entry {counts = c2} {a = x} {n = n} r e) (entry {counts = d2} {a = y} {n = m} s f) =
     let same = runs_one code h c2 d2 x y r s in
-    entry_one code p x a b n m e (subst (λ (z : Image). Entry code p z m b) (sym same) f)
+    entry_one code p x a b n m e (subst (λ (z : Image). RunEntry code p z m b) (sym same) f)
 
-pub led_one : (code : Code) (h : List ℕ) (a b : Image) → LeadsTo code h a → LeadsTo code h b → a ≡ b
+pub led_one : (code : Code) (h : List ℕ) (a b : Image) → HistoryLeadsTo code h a → HistoryLeadsTo code h b → a ≡ b
 led_one code h a b l m = runs_one code h l.0 m.0 a b l.1 m.1

@@ -10,11 +10,11 @@ use Rattle.b67_segment.specs.declared.code.Code.{Code}
 use Rattle.b67_table.specs.Image.{Image}
 use Rattle.b67_table.specs.Beginning.{first_image}
 use Rattle.b67_table.specs.Ending.{may_act}
-use Rattle.b67_table.specs.Runs.{Entry, Runs, begin, entry}
+use Rattle.b67_table.specs.Runs.{RunEntry, Runs, begin, entry}
 use Rattle.b67_outcomes.specs.declared.found.TheConstants.{MOST_STEPS}
 use Rattle.b67_outcomes.specs.declared.found.Step.{Step}
-use Rattle.b67_outcomes.specs.Entering.{Enters, IsNumber, LeadsTo, Leads}
-use Rattle.b67_outcomes.specs.Finding.{History, first, later, IsLed, IsAt, IsAfter, AreLed, before_of, HoldsPath}
+use Rattle.b67_outcomes.specs.Entering.{ProcessEnters, IsProcessNumber, HistoryLeadsTo, HistoryLeads}
+use Rattle.b67_outcomes.specs.Finding.{History, first, later, IsLed, NumberIsAt, IsAfter, AreLed, before_of, HoldsPath}
 use Rattle.b67_outcomes.proofs.Determined.{entry_one, no_entry, led_one}
 
 -- ---- lists
@@ -124,39 +124,39 @@ drop_next [] i p e = absurd (none-some p e)
 drop_next (q ∷ h) zero p e = ap (λ (z : ℕ). z ∷ h) (same_Some q p e)
 drop_next (q ∷ h) (suc i) p e = drop_next h i p e
 
-pub numbers_begun : (h : List ℕ) → All IsNumber (drop (length h) h)
-numbers_begun h = subst (λ (z : List ℕ). All IsNumber z) (sym (drop_all (length h) h (omega arith))) (λ k d below. absurd (omega (arith, below)))
+pub numbers_begun : (h : List ℕ) → All IsProcessNumber (drop (length h) h)
+numbers_begun h = subst (λ (z : List ℕ). All IsProcessNumber z) (sym (drop_all (length h) h (omega arith))) (λ k d below. absurd (omega (arith, below)))
 
-pub numbers_next : (h : List ℕ) (i left p : ℕ) → suc i ≡ left → slice_get h i ≡ Some p → IsNumber p → All IsNumber (drop left h) → All IsNumber (drop i h)
+pub numbers_next : (h : List ℕ) (i left p : ℕ) → suc i ≡ left → slice_get h i ≡ Some p → IsProcessNumber p → All IsProcessNumber (drop left h) → All IsProcessNumber (drop i h)
 numbers_next h i left p on there number all =
-    subst (λ (z : List ℕ). All IsNumber z) (sym (drop_next h i p there))
-    (All-cons IsNumber p (drop (suc i) h) number (subst (λ (k : ℕ). All IsNumber (drop k h)) (sym on) all))
+    subst (λ (z : List ℕ). All IsProcessNumber z) (sym (drop_next h i p there))
+    (All-cons IsProcessNumber p (drop (suc i) h) number (subst (λ (k : ℕ). All IsProcessNumber (drop k h)) (sym on) all))
 
 -- ---- runs of histories
 
-pub led_none : (code : Code) → LeadsTo code [] first_image
+pub led_none : (code : Code) → HistoryLeadsTo code [] first_image
 led_none code = ([], begin)
 
-pub led_more : (code : Code) (h : List ℕ) (p : ℕ) (a b : Image) (n : ℕ) → LeadsTo code h a → Entry code p a n b → LeadsTo code (p ∷ h) b
+pub led_more : (code : Code) (h : List ℕ) (p : ℕ) (a b : Image) (n : ℕ) → HistoryLeadsTo code h a → RunEntry code p a n b → HistoryLeadsTo code (p ∷ h) b
 led_more code h p a b n l e = ((n + 1) ∷ l.0, entry l.1 e)
 
 -- nothing is performed yet
-pub led_begun : (code : Code) (h : List ℕ) (img : Image) → img ≡ first_image → LeadsTo code (drop (length h) h) img
+pub led_begun : (code : Code) (h : List ℕ) (img : Image) → img ≡ first_image → HistoryLeadsTo code (drop (length h) h) img
 led_begun code h img e =
-    subst (λ (z : List ℕ). LeadsTo code z img) (sym (drop_all (length h) h (omega arith))) (subst (λ (x : Image). LeadsTo code [] x) (sym e) (led_none code))
+    subst (λ (z : List ℕ). HistoryLeadsTo code z img) (sym (drop_all (length h) h (omega arith))) (subst (λ (x : Image). HistoryLeadsTo code [] x) (sym e) (led_none code))
 
 -- the history of a state that is led has a run
-pub led_leads : (code : Code) (steps : List Step) (k : ℕ) (h : List ℕ) → IsLed code steps k → History steps k h → Leads code h
-led_leads code steps k h led is = (led.image, subst (λ (z : List ℕ). LeadsTo code z led.image) (history_one steps k led.history h led.is is) led.leads)
+pub led_leads : (code : Code) (steps : List Step) (k : ℕ) (h : List ℕ) → IsLed code steps k → History steps k h → HistoryLeads code h
+led_leads code steps k h led is = (led.image, subst (λ (z : List ℕ). HistoryLeadsTo code z led.image) (history_one steps k led.history h led.is is) led.leads)
 
 -- the entry at a place of a history
 pub record EntryAt (code : Code) (h : List ℕ) (i p : ℕ) : Type 0 where
   pub from : Image
   pub to : Image
   pub count : ℕ
-  pub before : LeadsTo code (drop (suc i) h) from
-  pub is : Entry code p from count to
-  pub after : LeadsTo code (drop i h) to
+  pub before : HistoryLeadsTo code (drop (suc i) h) from
+  pub is : RunEntry code p from count to
+  pub after : HistoryLeadsTo code (drop i h) to
 
 pub entry_at : (code : Code) (h counts : List ℕ) (i p : ℕ) (img : Image) → slice_get h i ≡ Some p → Runs code h counts img → EntryAt code h i p
 entry_at code [] counts i p img there r = absurd (none-some p there)
@@ -166,7 +166,7 @@ entry_at code (q ∷ h) counts zero p img there (entry {counts = c} {a = a} {n =
       to = img;
       count = n;
       before = (c, r);
-      is = subst (λ (z : ℕ). Entry code z a n img) (same_Some q p there) e;
+      is = subst (λ (z : ℕ). RunEntry code z a n img) (same_Some q p there) e;
       after = ((n + 1) ∷ c, entry r e);
     }
 entry_at code (q ∷ h) counts (suc i) p img there (entry {counts = c} {a = a} r e) =
@@ -174,26 +174,26 @@ entry_at code (q ∷ h) counts (suc i) p img there (entry {counts = c} {a = a} r
     record { from = x.from; to = x.to; count = x.count; before = x.before; is = x.is; after = x.after }
 
 -- the machine that stands after the entries before it may perform it
-pub next_may : (code : Code) (h : List ℕ) (i left p : ℕ) (a : Image) → suc i ≡ left → Leads code h → slice_get h i ≡ Some p → LeadsTo code (drop left h) a
+pub next_may : (code : Code) (h : List ℕ) (i left p : ℕ) (a : Image) → suc i ≡ left → HistoryLeads code h → slice_get h i ≡ Some p → HistoryLeadsTo code (drop left h) a
     → may_act a p ≡ true
 next_may code h i left p a on l there at =
     let x = entry_at code h l.1.0 i p l.0 there l.1.1 in
-    let here = subst (λ (k : ℕ). LeadsTo code (drop k h) a) (sym on) at in
+    let here = subst (λ (k : ℕ). HistoryLeadsTo code (drop k h) a) (sym on) at in
     subst (λ (z : Image). may_act z p ≡ true) (led_one code (drop (suc i) h) x.from a x.before here) x.is.may
 
-entered : (code : Code) (p : ℕ) (a b : Image) (r : Bool) (n : ℕ) (c : Image) → Enters code p a r b → Entry code p a n c → c ≡ b
+entered : (code : Code) (p : ℕ) (a b : Image) (r : Bool) (n : ℕ) (c : Image) → ProcessEnters code p a r b → RunEntry code p a n c → c ≡ b
 entered code p a b true n c x e = entry_one code p a c b n x.0 e x.1
 entered code p a b false n c s e = no_entry code p a b c n _ s e
 
 -- and stands after it then
-pub next_led : (code : Code) (h : List ℕ) (i left p : ℕ) (a b : Image) (r : Bool) → suc i ≡ left → Leads code h → slice_get h i ≡ Some p
-    → LeadsTo code (drop left h) a → Enters code p a r b → LeadsTo code (drop i h) b
+pub next_led : (code : Code) (h : List ℕ) (i left p : ℕ) (a b : Image) (r : Bool) → suc i ≡ left → HistoryLeads code h → slice_get h i ≡ Some p
+    → HistoryLeadsTo code (drop left h) a → ProcessEnters code p a r b → HistoryLeadsTo code (drop i h) b
 next_led code h i left p a b r on l there at e =
     let x = entry_at code h l.1.0 i p l.0 there l.1.1 in
-    let here = subst (λ (k : ℕ). LeadsTo code (drop k h) a) (sym on) at in
+    let here = subst (λ (k : ℕ). HistoryLeadsTo code (drop k h) a) (sym on) at in
     let same = led_one code (drop (suc i) h) x.from a x.before here in
-    subst (λ (z : Image). LeadsTo code (drop i h) z)
-    (entered code p a b r x.count x.to e (subst (λ (z : Image). Entry code p z x.count x.to) same x.is)) x.after
+    subst (λ (z : Image). HistoryLeadsTo code (drop i h) z)
+    (entered code p a b r x.count x.to e (subst (λ (z : Image). RunEntry code p z x.count x.to) same x.is)) x.after
 
 -- ---- paths
 
@@ -202,47 +202,47 @@ pub path_end : (path : List ℕ) (p : ℕ) (h : List ℕ) → reverse (path ++ p
 path_end path p h = ap (λ (z : List ℕ). z ++ h) (reverse-append path (p ∷ []))
 
 -- a run of entries after others has one of those
-pub rest_leads : (code : Code) (more h counts : List ℕ) (img : Image) → Runs code (more ++ h) counts img → Leads code h
+pub rest_leads : (code : Code) (more h counts : List ℕ) (img : Image) → Runs code (more ++ h) counts img → HistoryLeads code h
 rest_leads code [] h counts img r = (img, (counts, r))
 rest_leads code (p ∷ more) h counts img (entry {counts = c} {a = a} r e) = rest_leads code more h c a r
 
 -- where a machine stands at the history of a number, that history leads to its image
-pub at_history : (code : Code) (steps : List Step) (n : ℕ) (img : Image) (h : List ℕ) → IsAt code steps n img → History steps n h → LeadsTo code h img
-at_history code steps n img h x is = subst (λ (g : List ℕ). LeadsTo code g img) (history_one steps n x.history h x.is is) x.leads
+pub at_history : (code : Code) (steps : List Step) (n : ℕ) (img : Image) (h : List ℕ) → NumberIsAt code steps n img → History steps n h → HistoryLeadsTo code h img
+at_history code steps n img h x is = subst (λ (g : List ℕ). HistoryLeadsTo code g img) (history_one steps n x.history h x.is is) x.leads
 
-pub at_stays : (code : Code) (xs more ys : List Step) (n : ℕ) (img : Image) → ys ≡ xs ++ more → IsAt code xs n img → IsAt code ys n img
+pub at_stays : (code : Code) (xs more ys : List Step) (n : ℕ) (img : Image) → ys ≡ xs ++ more → NumberIsAt code xs n img → NumberIsAt code ys n img
 at_stays code xs more ys n img e x =
     record { history = x.history; is = subst (λ (z : List Step). History z n x.history) (sym e) (history_stays xs more n x.history x.is); leads = x.leads }
 
-pub at_led : (code : Code) (steps : List Step) (n : ℕ) (img : Image) → IsAt code steps n img → IsLed code steps n
+pub at_led : (code : Code) (steps : List Step) (n : ℕ) (img : Image) → NumberIsAt code steps n img → IsLed code steps n
 at_led code steps n img x = record { history = x.history; image = img; is = x.is; leads = x.leads }
 
-pub at_one : (code : Code) (steps : List Step) (n : ℕ) (a b : Image) → IsAt code steps n a → IsAt code steps n b → a ≡ b
+pub at_one : (code : Code) (steps : List Step) (n : ℕ) (a b : Image) → NumberIsAt code steps n a → NumberIsAt code steps n b → a ≡ b
 at_one code steps n a b x y = led_one code y.history a b (at_history code steps n a y.history x y.is) y.leads
 
 -- and where it stands after a path
 pub after_history : (code : Code) (steps : List Step) (n : ℕ) (path : List ℕ) (img : Image) (h : List ℕ) → IsAfter code steps n path img → History steps n h
-    → LeadsTo code (reverse path ++ h) img
+    → HistoryLeadsTo code (reverse path ++ h) img
 after_history code steps n path img h x is =
-    subst (λ (g : List ℕ). LeadsTo code (reverse path ++ g) img) (history_one steps n x.history h x.is is) x.leads
+    subst (λ (g : List ℕ). HistoryLeadsTo code (reverse path ++ g) img) (history_one steps n x.history h x.is is) x.leads
 
 pub after_one : (code : Code) (steps : List Step) (n : ℕ) (path : List ℕ) (a b : Image) → IsAfter code steps n path a → IsAfter code steps n path b → a ≡ b
 after_one code steps n path a b x y =
     led_one code (reverse path ++ y.history) a b (after_history code steps n path a y.history x y.is) y.leads
 
 -- no entry
-pub after_none : (code : Code) (steps : List Step) (n : ℕ) (path : List ℕ) (img : Image) → path ≡ [] → IsAt code steps n img → IsAfter code steps n path img
+pub after_none : (code : Code) (steps : List Step) (n : ℕ) (path : List ℕ) (img : Image) → path ≡ [] → NumberIsAt code steps n img → IsAfter code steps n path img
 after_none code steps n path img e x =
     subst (λ (z : List ℕ). IsAfter code steps n z img) (sym e) (record { history = x.history; is = x.is; leads = x.leads })
 
 -- an entry more
 pub after_more : (code : Code) (steps : List Step) (n : ℕ) (path longer : List ℕ) (p k : ℕ) (a b : Image) → longer ≡ path ++ p ∷ []
-    → IsAfter code steps n path a → Entry code p a k b → IsAfter code steps n longer b
+    → IsAfter code steps n path a → RunEntry code p a k b → IsAfter code steps n longer b
 after_more code steps n path longer p k a b same x e =
     record {
       history = x.history;
       is = x.is;
-      leads = subst (λ (z : List ℕ). LeadsTo code z b) (sym (ap (λ (z : List ℕ). reverse z ++ x.history) same ∙ path_end path p x.history))
+      leads = subst (λ (z : List ℕ). HistoryLeadsTo code z b) (sym (ap (λ (z : List ℕ). reverse z ++ x.history) same ∙ path_end path p x.history))
           (led_more code (reverse path ++ x.history) p a b k x.leads e);
     }
 
@@ -262,7 +262,7 @@ pub record LastEntry (code : Code) (steps : List Step) (n : ℕ) (path : List �
   pub from : Image
   pub count : ℕ
   pub before : IsAfter code steps n path from
-  pub is : Entry code p from count to
+  pub is : RunEntry code p from count to
 
 pub last_entry : (code : Code) (steps : List Step) (n : ℕ) (path longer : List ℕ) (p : ℕ) (to : Image) → longer ≡ path ++ p ∷ []
     → IsAfter code steps n longer to → LastEntry code steps n path p to
@@ -275,12 +275,12 @@ last_entry code steps n path longer p to same x =
 
 -- the entry at a place of a path that has a run
 entry_after : (code : Code) (steps : List Step) (n : ℕ) (path : List ℕ) (i : ℕ) (img a : Image) → i < length path → IsAfter code steps n path img
-    → IsAfter code steps n (take i path) a → (to : Image) × (count : ℕ) × Entry code (get_or path i 0) a count to
+    → IsAfter code steps n (take i path) a → (to : Image) × (count : ℕ) × RunEntry code (get_or path i 0) a count to
 entry_after code steps n path i img a below x here =
     let part = part_leads code steps n path (suc i) img x in
     let last = last_entry code steps n (take i path) (take (suc i) path) (get_or path i 0) part.0 (take-suc path i 0 below) part.1 in
     let same = after_one code steps n (take i path) last.from a last.before here in
-    (part.0, last.count, subst (λ (z : Image). Entry code (get_or path i 0) z last.count part.0) same last.is)
+    (part.0, last.count, subst (λ (z : Image). RunEntry code (get_or path i 0) z last.count part.0) same last.is)
 
 -- the machine that stands after the entries before it may perform it
 pub path_may : (code : Code) (steps : List Step) (n : ℕ) (path : List ℕ) (i : ℕ) (img a : Image) → i < length path → IsAfter code steps n path img
@@ -289,14 +289,14 @@ path_may code steps n path i img a below x here = let e = entry_after code steps
 
 -- and stands after it then
 pub path_after : (code : Code) (steps : List Step) (n : ℕ) (path : List ℕ) (i : ℕ) (img a b : Image) (r : Bool) → i < length path
-    → IsAfter code steps n path img → IsAfter code steps n (take i path) a → Enters code (get_or path i 0) a r b → IsAfter code steps n (take (i + 1) path) b
+    → IsAfter code steps n path img → IsAfter code steps n (take i path) a → ProcessEnters code (get_or path i 0) a r b → IsAfter code steps n (take (i + 1) path) b
 path_after code steps n path i img a b r below x here e =
     let y = entry_after code steps n path i img a below x here in
     let same = entered code (get_or path i 0) a b r y.1 y.0 e y.2 in
     let one : suc i ≡ i + 1 = omega arith in
     subst (λ (k : ℕ). IsAfter code steps n (take k path) b) one
     (after_more code steps n (take i path) (take (suc i) path) (get_or path i 0) y.1 a b (take-suc path i 0 below) here
-    (subst (λ (z : Image). Entry code (get_or path i 0) a y.1 z) same y.2))
+    (subst (λ (z : Image). RunEntry code (get_or path i 0) a y.1 z) same y.2))
 
 -- ---- the steps of a path
 
@@ -307,7 +307,7 @@ pub new_history : (xs : List Step) (s : Step) (h : List ℕ) → History xs s.be
 new_history xs s h is = later (last_is xs s) (history_within xs s.before h is) (history_stays xs (s ∷ []) s.before h is)
 
 -- so each is led where one step more is added
-pub new_led : (code : Code) (xs : List Step) (s : Step) (h : List ℕ) → AreLed code xs → History xs s.before h → Leads code (s.process ∷ h)
+pub new_led : (code : Code) (xs : List Step) (s : Step) (h : List ℕ) → AreLed code xs → History xs s.before h → HistoryLeads code (s.process ∷ h)
     → AreLed code (xs ++ s ∷ [])
 new_led code xs s h led is leads k within =
     below_more (λ (q : ℕ). IsLed code (xs ++ s ∷ []) q) (suc (length xs))
@@ -345,7 +345,7 @@ held_next old steps longer number at path s x before same room =
           (new_history steps s (reverse path ++ h) (there h is));
       short = omega (arith, room, length_push steps s);
       led = λ code h img is l led.
-          let longer_led = subst (λ (z : List ℕ). LeadsTo code z img) (path_end path s.process h) l in
+          let longer_led = subst (λ (z : List ℕ). HistoryLeadsTo code z img) (path_end path s.process h) l in
           let before_led = rest_leads code (s.process ∷ []) (reverse path ++ h) longer_led.0 img longer_led.1 in
           new_led code steps s (reverse path ++ h) (x.led code h before_led.0 is before_led.1 led) (there h is) (img, longer_led);
     }

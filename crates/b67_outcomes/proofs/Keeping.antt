@@ -6,14 +6,14 @@ use Rattle.std.proofs.lemmas.Option.{same_Some, none-some}
 use Rattle.b67_segment.specs.declared.code.Code.{Code}
 use Rattle.b67_table.specs.Image.{Image}
 use Rattle.b67_table.specs.Ending.{may_act}
-use Rattle.b67_table.specs.Runs.{Entry}
+use Rattle.b67_table.specs.Runs.{RunEntry}
 use Rattle.b67_outcomes.specs.declared.found.TheConstants.{MOST_STEPS}
 use Rattle.b67_outcomes.specs.declared.found.Step.{Step}
 use Rattle.b67_outcomes.specs.declared.found.State.{State}
 use Rattle.b67_outcomes.specs.declared.found.Limit.{Limit}
 use Rattle.b67_outcomes.specs.declared.found.Found.{Found}
-use Rattle.b67_outcomes.specs.Entering.{Enters, Stops, LeadsTo}
-use Rattle.b67_outcomes.specs.Finding.{History, IsAt, IsAfter, AreLed, AreStates, IsKept, IsStop, IsNoted, IsSearched, HoldsState, Grows, IsArrived, IsFollowed, IsExpanded}
+use Rattle.b67_outcomes.specs.Entering.{ProcessEnters, Stops, HistoryLeadsTo}
+use Rattle.b67_outcomes.specs.Finding.{History, NumberIsAt, IsAfter, AreLed, AreStates, IsKept, IsStop, IsNoted, IsSearched, HoldsState, FoundGrows, IsArrived, IsFollowed, IsExpanded}
 use Rattle.b67_outcomes.proofs.Determined.{entry_one, no_entry, led_one}
 use Rattle.b67_outcomes.proofs.Histories.{history_within, history_stays, stays, last_is}
 
@@ -28,10 +28,10 @@ last_or (w ∷ xs) x y (suc k) P old new e = last_or xs x y k P (λ j z f. old (
 
 -- ---- what stays
 
-pub grown_history : (old new : Found) (k : ℕ) (h : List ℕ) → Grows old new → History old.steps.items k h → History new.steps.items k h
+pub grown_history : (old new : Found) (k : ℕ) (h : List ℕ) → FoundGrows old new → History old.steps.items k h → History new.steps.items k h
 grown_history old new k h g is = subst (λ (z : List Step). History z k h) (sym g.steps) (history_stays old.steps.items g.more k h is)
 
-pub grown_none : (f : Found) → Grows f f
+pub grown_none : (f : Found) → FoundGrows f f
 grown_none f =
     record {
       more = [];
@@ -43,7 +43,7 @@ grown_none f =
       cut = λ e. e;
     }
 
-pub grown_more : (a b c : Found) → Grows a b → Grows b c → Grows a c
+pub grown_more : (a b c : Found) → FoundGrows a b → FoundGrows b c → FoundGrows a c
 grown_more a b c g h =
     record {
       more = g.more ++ h.more;
@@ -55,7 +55,7 @@ grown_more a b c g h =
       cut = λ e. g.cut (h.cut e);
     }
 
-kept_stays : (code : Code) (old new : Found) (img : Image) → Grows old new → IsKept code old.steps.items old.states.items img
+kept_stays : (code : Code) (old new : Found) (img : Image) → FoundGrows old new → IsKept code old.steps.items old.states.items img
     → IsKept code new.steps.items new.states.items img
 kept_stays code old new img g k =
     record {
@@ -66,15 +66,15 @@ kept_stays code old new img g k =
       leads = k.leads;
     }
 
-noted_stays : (old new : Found) (number p : ℕ) → Grows old new → IsNoted old.limits.items number p → IsNoted new.limits.items number p
+noted_stays : (old new : Found) (number p : ℕ) → FoundGrows old new → IsNoted old.limits.items number p → IsNoted new.limits.items number p
 noted_stays old new number p g x =
     (x.0, x.1, ap (λ (z : List Limit). slice_get z x.0) g.limits ∙ stays old.limits.items g.more_limits x.0 x.1 x.2, x.3, x.4)
 
 module _ (code : Code) (Local : Image → ℕ → Type 0) where
-  pub arrived_stays : (old new : Found) (img : Image) → Grows old new → IsArrived code Local old img → IsArrived code Local new img
+  pub arrived_stays : (old new : Found) (img : Image) → FoundGrows old new → IsArrived code Local old img → IsArrived code Local new img
   arrived_stays old new img g x = record { image = x.image; settled = x.settled; settles = x.settles; kept = kept_stays code old new x.image g x.kept }
 
-  pub followed_stays : (old new : Found) (number : ℕ) (h : List ℕ) (p : ℕ) → Grows old new → IsFollowed code Local old number h p
+  pub followed_stays : (old new : Found) (number : ℕ) (h : List ℕ) (p : ℕ) → FoundGrows old new → IsFollowed code Local old number h p
       → IsFollowed code Local new number h p
   followed_stays old new number h p g f =
       record {
@@ -82,7 +82,7 @@ module _ (code : Code) (Local : Image → ℕ → Type 0) where
         stops = λ a quiet l may s. noted_stays old new number p g (f.stops a quiet l may s);
       }
 
-  pub expanded_stays : (old new : Found) (number : ℕ) → Grows old new → IsExpanded code Local old number → IsExpanded code Local new number
+  pub expanded_stays : (old new : Found) (number : ℕ) → FoundGrows old new → IsExpanded code Local old number → IsExpanded code Local new number
   expanded_stays old new number g x =
       record {
         history = x.history;
@@ -93,7 +93,7 @@ module _ (code : Code) (Local : Image → ℕ → Type 0) where
   -- ---- one process after a history
 
   -- one that may not act leads nowhere
-  pub followed_idle : (found : Found) (number : ℕ) (h : List ℕ) (p : ℕ) (here : Image) → LeadsTo code h here → may_act here p ≡ false
+  pub followed_idle : (found : Found) (number : ℕ) (h : List ℕ) (p : ℕ) (here : Image) → HistoryLeadsTo code h here → may_act here p ≡ false
       → IsFollowed code Local found number h p
   followed_idle found number h p here l idle =
       record {
@@ -102,28 +102,28 @@ module _ (code : Code) (Local : Image → ℕ → Type 0) where
       }
 
   -- one that comes to the stack limit is noted
-  followed_limit : (found : Found) (number : ℕ) (h : List ℕ) (p : ℕ) (here there : Image) → LeadsTo code h here
+  followed_limit : (found : Found) (number : ℕ) (h : List ℕ) (p : ℕ) (here there : Image) → HistoryLeadsTo code h here
       → Stops code p here there → IsNoted found.limits.items number p → IsFollowed code Local found number h p
   followed_limit found number h p here there l x noted =
       record {
-        entries = λ whole a b n m e. no_entry code p here there b n _ x (subst (λ (y : Image). Entry code p y n b) (led_one code h a here m l) e);
+        entries = λ whole a b n m e. no_entry code p here there b n _ x (subst (λ (y : Image). RunEntry code p y n b) (led_one code h a here m l) e);
         stops = λ a quiet m may s. noted;
       }
 
   -- to where another leads the search has come
-  pub followed_arrived : (found : Found) (number : ℕ) (h : List ℕ) (p : ℕ) (here there : Image) → LeadsTo code h here
-      → Enters code p here true there → (found.cut ≡ false → IsArrived code Local found there) → IsFollowed code Local found number h p
+  pub followed_arrived : (found : Found) (number : ℕ) (h : List ℕ) (p : ℕ) (here there : Image) → HistoryLeadsTo code h here
+      → ProcessEnters code p here true there → (found.cut ≡ false → IsArrived code Local found there) → IsFollowed code Local found number h p
   followed_arrived found number h p here there l x k =
       record {
         entries = λ whole a b n m e.
             subst (λ (z : Image). IsArrived code Local found z)
-            (entry_one code p here there b x.0 n x.1 (subst (λ (y : Image). Entry code p y n b) (led_one code h a here m l) e)) (k whole);
+            (entry_one code p here there b x.0 n x.1 (subst (λ (y : Image). RunEntry code p y n b) (led_one code h a here m l) e)) (k whole);
         stops = λ a quiet m may s.
             no_entry code p here quiet there x.0 _ (subst (λ (y : Image). Stops code p y quiet) (led_one code h a here m l) s) x.1;
       }
 
   pub noted_followed : (new : Found) (limits : List Limit) (l : Limit) (h : List ℕ) (here quiet : Image) → new.limits.items ≡ limits ++ l ∷ []
-      → LeadsTo code h here → Stops code l.process here quiet → IsFollowed code Local new l.state h l.process
+      → HistoryLeadsTo code h here → Stops code l.process here quiet → IsFollowed code Local new l.state h l.process
   noted_followed new limits l h here quiet e leads stops =
       followed_limit new l.state h l.process here quiet leads stops
       (length limits, l, ap (λ (z : List Limit). slice_get z (length limits)) e ∙ last_is limits l, refl, refl)
@@ -131,7 +131,7 @@ module _ (code : Code) (Local : Image → ℕ → Type 0) where
 -- ---- the same lists
 
 pub same_grows : (old new : Found) → new.steps.items ≡ old.steps.items → new.states.items ≡ old.states.items → new.limits.items ≡ old.limits.items
-    → (new.cut ≡ false → old.cut ≡ false) → Grows old new
+    → (new.cut ≡ false → old.cut ≡ false) → FoundGrows old new
 same_grows old new steps states limits cut =
     record {
       more = [];
@@ -167,7 +167,7 @@ cut_searched code most old new s steps states limits full =
 -- ---- a limit is noted
 
 pub noted_grows : (old new : Found) (l : Limit) → new.steps.items ≡ old.steps.items → new.states.items ≡ old.states.items
-    → new.limits.items ≡ old.limits.items ++ l ∷ [] → new.cut ≡ old.cut → Grows old new
+    → new.limits.items ≡ old.limits.items ++ l ∷ [] → new.cut ≡ old.cut → FoundGrows old new
 noted_grows old new l steps states limits cut =
     record {
       more = [];
@@ -179,13 +179,13 @@ noted_grows old new l steps states limits cut =
       cut = λ e. sym cut ∙ e;
     }
 
-stop_of : (code : Code) (steps : List Step) (l : Limit) (h : List ℕ) (here quiet : Image) → History steps l.state h → LeadsTo code h here
+stop_of : (code : Code) (steps : List Step) (l : Limit) (h : List ℕ) (here quiet : Image) → History steps l.state h → HistoryLeadsTo code h here
     → may_act here l.process ≡ true → Stops code l.process here quiet → IsStop code steps l
 stop_of code steps l h here quiet is leads may stops = record { history = h; image = here; quiet = quiet; is = is; leads = leads; may = may; stops = stops }
 
 pub noted_searched : (code : Code) (most : ℕ) (old new : Found) (l : Limit) (h : List ℕ) (here quiet : Image) → IsSearched code most old
     → new.steps.items ≡ old.steps.items → new.states.items ≡ old.states.items → new.limits.items ≡ old.limits.items ++ l ∷ [] → new.cut ≡ old.cut
-    → History old.steps.items l.state h → LeadsTo code h here → may_act here l.process ≡ true → Stops code l.process here quiet → IsSearched code most new
+    → History old.steps.items l.state h → HistoryLeadsTo code h here → may_act here l.process ≡ true → Stops code l.process here quiet → IsSearched code most new
 noted_searched code most old new l h here quiet s steps states limits cut is leads may stops =
     record {
       led = subst (λ (z : List Step). AreLed code z) (sym steps) s.led;
@@ -203,7 +203,7 @@ noted_searched code most old new l h here quiet s steps states limits cut is lea
 
 -- ---- a state is kept
 
-pub held_grows : (old new : Found) (number : ℕ) (path : List ℕ) (at : ℕ) → HoldsState old number path at new → Grows old new
+pub held_grows : (old new : Found) (number : ℕ) (path : List ℕ) (at : ℕ) → HoldsState old number path at new → FoundGrows old new
 held_grows old new number path at x =
     record {
       more = x.path_held.more;
@@ -247,7 +247,7 @@ held_searched code most old new number path at there s x after room =
 
 -- and a machine that stands after the path stands at its end
 pub held_at : (code : Code) (old new : Found) (number : ℕ) (path : List ℕ) (at : ℕ) (there : Image) → HoldsState old number path at new
-    → IsAfter code old.steps.items number path there → IsAt code new.steps.items at there
+    → IsAfter code old.steps.items number path there → NumberIsAt code new.steps.items at there
 held_at code old new number path at there x after =
     record { history = reverse path ++ after.history; is = x.path_held.is after.history after.is; leads = after.leads }
 

@@ -8,7 +8,7 @@ use Rattle.b67_table.specs.Beginning.{first_image}
 use Rattle.b67_outcomes.specs.declared.found.Step.{Step}
 use Rattle.b67_outcomes.specs.declared.found.State.{State}
 use Rattle.b67_outcomes.specs.declared.found.Found.{Found}
-use Rattle.b67_outcomes.specs.Settling.{CanSettle, Settles, rest, settle}
+use Rattle.b67_outcomes.specs.Settling.{CanSettle, ImageSettles, rest, settle}
 use Rattle.b67_outcomes.specs.Finding.{History, AreLed, AreStates}
 use Rattle.b67_outcomes.specs.Kept.{IsNext, AreKept, IsStateNext, IsTree, GoesOn, IsBegun}
 use Rattle.b67_outcomes.proofs.Histories.{history_one}
@@ -76,7 +76,7 @@ module _ (code : Code) (Local Also : Image → ℕ → Type 0) (more : (img : Im
   can_settle img p (inl only) = inl only
   can_settle img p (inr local) = inr (local.0, more img p local.1)
 
-  settles_so : (a b : Image) (h : List ℕ) → Settles code Local a h b → Settles code Also a h b
+  settles_so : (a b : Image) (h : List ℕ) → ImageSettles code Local a h b → ImageSettles code Also a h b
   settles_so a b h rest = rest
   settles_so a b h (settle {b = x} {p = p} {settled = g} s can e) = settle (settles_so a x g s) (can_settle x p can) e
 

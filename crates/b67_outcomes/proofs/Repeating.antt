@@ -8,8 +8,8 @@ use Rattle.std.proofs.lemmas.Option.{slice_get-get_or}
 use Rattle.b67_segment.specs.declared.code.Code.{Code}
 use Rattle.b67_table.specs.Image.{Image}
 use Rattle.b67_table.specs.Ending.{may_act}
-use Rattle.b67_table.specs.Runs.{Runs, Entry, entry}
-use Rattle.b67_outcomes.specs.Entering.{IsNumber, Leads, LeadsTo, Repeats, none, again}
+use Rattle.b67_table.specs.Runs.{Runs, RunEntry, entry}
+use Rattle.b67_outcomes.specs.Entering.{IsProcessNumber, HistoryLeads, HistoryLeadsTo, Repeats, none, again}
 use Rattle.b67_outcomes.proofs.Determined.{entry_one, led_one}
 use Rattle.b67_outcomes.proofs.Histories.{drop_next, led_more, rest_leads}
 
@@ -19,7 +19,7 @@ module _ (code : Code) (p : ℕ) where
   repeats_one k a b c none none = refl
   repeats_one k a b c (again {k = j} {n = n} {b = x} r e) (again {n = m} {b = y} s f) =
       let same = repeats_one j a x y r s in
-      entry_one code p x b c n m e (subst (λ (z : Image). Entry code p z m c) (sym same) f)
+      entry_one code p x b c n m e (subst (λ (z : Image). RunEntry code p z m c) (sym same) f)
 
   -- before the first the process may act
   pub first_may : (k : ℕ) (a c : Image) → 1 ≤ k → Repeats code p k a c → may_act a p ≡ true
@@ -54,12 +54,12 @@ module _ (code : Code) (p : ℕ) where
 
   -- ---- in a history
 
-  pub led_repeats : (k : ℕ) (h : List ℕ) (a b : Image) → LeadsTo code h a → Repeats code p k a b → LeadsTo code (replicate k p ++ h) b
+  pub led_repeats : (k : ℕ) (h : List ℕ) (a b : Image) → HistoryLeadsTo code h a → Repeats code p k a b → HistoryLeadsTo code (replicate k p ++ h) b
   led_repeats k h a b l none = l
   led_repeats k h a b l (again {k = j} {n = n} {b = x} r e) = led_more code (replicate j p ++ h) p x b n (led_repeats j h a x l r) e
 
   -- where a history that ends with them has a run, they are performed after the entries before
-  pub has_repeats : (k : ℕ) (h : List ℕ) (a : Image) → Leads code (replicate k p ++ h) → LeadsTo code h a → (b : Image) × Repeats code p k a b
+  pub has_repeats : (k : ℕ) (h : List ℕ) (a : Image) → HistoryLeads code (replicate k p ++ h) → HistoryLeadsTo code h a → (b : Image) × Repeats code p k a b
   has_repeats zero h a leads l = (a, none)
   has_repeats (suc k) h a leads l = by leads.1.0 leads.1.1 (λ x c r. has_repeats k h a (x, (c, r)) l)
     where
@@ -68,16 +68,16 @@ module _ (code : Code) (p : ℕ) where
       by counts (entry {counts = c} {a = x} {n = n} r e) earlier =
           let before = earlier x c r in
           let same = led_one code (replicate k p ++ h) x before.0 (c, r) (led_repeats k h a before.0 l before.1) in
-          (leads.0, again before.1 (subst (λ (z : Image). Entry code p z n leads.0) same e))
+          (leads.0, again before.1 (subst (λ (z : Image). RunEntry code p z n leads.0) same e))
 
 -- a history that has a run has one from each place on
-pub part_leads : (code : Code) (h : List ℕ) (i : ℕ) → Leads code h → Leads code (drop i h)
+pub part_leads : (code : Code) (h : List ℕ) (i : ℕ) → HistoryLeads code h → HistoryLeads code (drop i h)
 part_leads code h i leads =
     rest_leads code (take i h) (drop i h) leads.1.0 leads.0 (subst (λ (z : List ℕ). Runs code z leads.1.0 leads.0) (sym (take-append-drop i h)) leads.1.1)
 
-pub numbers_repeat : (k p : ℕ) (h : List ℕ) → IsNumber p → All IsNumber h → All IsNumber (replicate k p ++ h)
+pub numbers_repeat : (k p : ℕ) (h : List ℕ) → IsProcessNumber p → All IsProcessNumber h → All IsProcessNumber (replicate k p ++ h)
 numbers_repeat zero p h number all = all
-numbers_repeat (suc k) p h number all = All-cons IsNumber p (replicate k p ++ h) number (numbers_repeat k p h number all)
+numbers_repeat (suc k) p h number all = All-cons IsProcessNumber p (replicate k p ++ h) number (numbers_repeat k p h number all)
 
 -- ---- how many there are
 

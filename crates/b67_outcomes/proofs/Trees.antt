@@ -7,12 +7,12 @@ use Rattle.std.proofs.lemmas.Option.{slice_get_within, same_Some, none-some}
 use Rattle.b67_segment.specs.declared.code.Code.{Code}
 use Rattle.b67_table.specs.Image.{Image}
 use Rattle.b67_table.specs.Beginning.{first_image}
-use Rattle.b67_table.specs.Runs.{Entry}
+use Rattle.b67_table.specs.Runs.{RunEntry}
 use Rattle.b67_outcomes.specs.declared.found.Step.{Step}
 use Rattle.b67_outcomes.specs.declared.found.State.{State}
 use Rattle.b67_outcomes.specs.declared.found.Found.{Found}
-use Rattle.b67_outcomes.specs.Entering.{LeadsTo}
-use Rattle.b67_outcomes.specs.Finding.{History, IsAt, IsState, AreOnce, AreGrowing, AreBelow, before_of, IsKept, IsSearched, Grows}
+use Rattle.b67_outcomes.specs.Entering.{HistoryLeadsTo}
+use Rattle.b67_outcomes.specs.Finding.{History, NumberIsAt, IsState, AreOnce, AreGrowing, AreBelow, before_of, IsKept, IsSearched, FoundGrows}
 use Rattle.b67_outcomes.specs.Kept.{IsSame, AreOpen, IsReady, AreNotExpanded, IsBegun, GoesOn, IsHeld, IsStateNext, IsTree}
 use Rattle.b67_outcomes.proofs.Histories.{history_one, history_stays, history_within, joined, no_steps, stays, led_more}
 use Rattle.b67_outcomes.proofs.Apart.{led_earlier, none_after, below_more, others_stay, own_next, once_more}
@@ -172,7 +172,7 @@ module _ (code : Code) (Local : Image → ℕ → Type 0) (most number p : ℕ) 
       by (inr a) (inr b) = let j_is = a.0 in let k_is = b.0 in absurd (omega (arith, less, j_is, k_is))
 
   -- the history of the state goes on from that before it
-  goes_on : (here : Image) (n : ℕ) (g : List ℕ) → History old.steps.items number g → LeadsTo code g here → Entry code p here n there
+  goes_on : (here : Image) (n : ℕ) (g : List ℕ) → History old.steps.items number g → HistoryLeadsTo code g here → RunEntry code p here n there
       → GoesOn code Local g (reverse ((p ∷ []) ++ x.settled) ++ g)
   goes_on here n g is leads e =
       record {
@@ -182,13 +182,13 @@ module _ (code : Code) (Local : Image → ℕ → Type 0) (most number p : ℕ) 
         there = there;
         enters = led_more code g p here there n leads e;
         image = x.image;
-        leads = subst (λ (z : List ℕ). LeadsTo code (reverse ((p ∷ []) ++ x.settled) ++ z) x.image)
+        leads = subst (λ (z : List ℕ). HistoryLeadsTo code (reverse ((p ∷ []) ++ x.settled) ++ z) x.image)
             (history_one old.steps.items number x.after.history g x.after.is is) x.after.leads;
         settles = x.settles;
       }
 
-  tree_held : (here : Image) (n : ℕ) → IsTree code Local old → IsState old.states.items number → IsReady old number p → IsAt code old.steps.items number here
-      → Entry code p here n there → IsTree code Local new
+  tree_held : (here : Image) (n : ℕ) → IsTree code Local old → IsState old.states.items number → IsReady old number p → NumberIsAt code old.steps.items number here
+      → RunEntry code p here n there → IsTree code Local new
   tree_held here n tree state ready at e =
       record {
         once = once_held tree.once ready.below;
@@ -218,16 +218,16 @@ module _ (code : Code) (Local : Image → ℕ → Type 0) (most number p : ℕ) 
           (x.held.path_held.is at.history at.is))
           (goes_on here n at.history at.is at.leads e)
 
-  pub kept_held : (here : Image) (n : ℕ) → IsTree code Local old × IsReady old number p → IsState old.states.items number → IsAt code old.steps.items number here
-      → Entry code p here n there → IsTree code Local new × IsReady new number (p + 1)
+  pub kept_held : (here : Image) (n : ℕ) → IsTree code Local old × IsReady old number p → IsState old.states.items number → NumberIsAt code old.steps.items number here
+      → RunEntry code p here n there → IsTree code Local new × IsReady new number (p + 1)
   kept_held here n both state at e = (tree_held here n both.0 state both.1 at e, ready_held both.1)
 
 -- ---- an entry of a process
 
 -- what is kept is a tree still, and the steps after the state are of processes up to this one
 pub kept_next : (code : Code) (Local : Image → ℕ → Type 0) (most number p n : ℕ) (path : List ℕ) (here there : Image) (old new : Found) → IsSearched code most old
-    → IsSearched code most new → IsTree code Local old × IsReady old number p → IsState old.states.items number → IsAt code old.steps.items number here
-    → Entry code p here n there → path ≡ p ∷ [] → IsSame most old new ⊎ IsHeld code Local old number path there new
+    → IsSearched code most new → IsTree code Local old × IsReady old number p → IsState old.states.items number → NumberIsAt code old.steps.items number here
+    → RunEntry code p here n there → path ≡ p ∷ [] → IsSame most old new ⊎ IsHeld code Local old number path there new
     → IsTree code Local new × IsReady new number (p + 1)
 kept_next code Local most number p n path here there old new before after both state at e path_is (inl same) =
     kept_same code Local old new number p same.steps same.states both (p + 1) (omega arith)
@@ -281,7 +281,7 @@ module _ (code : Code) (Local : Image → ℕ → Type 0) (most : ℕ) (old new 
             first_next code Local new.steps.items new.states.items k s (reverse x.settled) (one_state k s is).0
             (subst (λ (m : ℕ). History new.steps.items m (reverse x.settled)) (sym x.held.number_is ∙ ap (λ (z : State). z.number) (one_state k s is).1)
             (subst (λ (z : List ℕ). History new.steps.items x.at z) from_none (x.held.path_held.is x.after.history x.after.is)))
-            (record { image = x.image; leads = subst (λ (z : List ℕ). LeadsTo code z x.image) from_none x.after.leads; settles = x.settles });
+            (record { image = x.image; leads = subst (λ (z : List ℕ). HistoryLeadsTo code z x.image) from_none x.after.leads; settles = x.settles });
       }
 
 -- the first state is kept
@@ -314,18 +314,18 @@ ready_next code Local found done s tree not is = record { below = not done s (om
         by (inr more) = more
 
 -- and after that
-pub expanded_open : (code : Code) (Local : Image → ℕ → Type 0) (old new : Found) (done : ℕ) (s : State) → Grows old new → IsTree code Local new
+pub expanded_open : (code : Code) (Local : Image → ℕ → Type 0) (old new : Found) (done : ℕ) (s : State) → FoundGrows old new → IsTree code Local new
     → AreOpen new s.number → slice_get old.states.items done ≡ Some s → AreNotExpanded new (done + 1)
 expanded_open code Local old new done s g tree opened is k t later there =
     let stays_there = ap (λ (z : List State). slice_get z done) g.states ∙ stays old.states.items g.more_states done s is in
     opened k t there (tree.growing done k s t (omega (arith, later)) stays_there there)
 
-pub some_stay : (old new : Found) → Grows old new → 1 ≤ length old.states.items → 1 ≤ length new.states.items
+pub some_stay : (old new : Found) → FoundGrows old new → 1 ≤ length old.states.items → 1 ≤ length new.states.items
 some_stay old new g some =
     let e = ap (λ (z : List State). length z) g.states ∙ length-append old.states.items g.more_states in omega (arith, e, some)
 
 -- a state stays one
-pub state_stays : (old new : Found) (number : ℕ) → Grows old new → IsState old.states.items number → IsState new.states.items number
+pub state_stays : (old new : Found) (number : ℕ) → FoundGrows old new → IsState old.states.items number → IsState new.states.items number
 state_stays old new number g x =
     (x.0, x.1, ap (λ (z : List State). slice_get z x.0) g.states ∙ stays old.states.items g.more_states x.0 x.1 x.2, x.3)
 

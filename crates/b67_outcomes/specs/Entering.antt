@@ -4,11 +4,11 @@ use Rattle.b67_segment.specs.declared.code.Code.{Code}
 use Rattle.b67_table.specs.Image.{Image}
 use Rattle.b67_table.specs.Outcome.{limit}
 use Rattle.b67_table.specs.Table.{table}
-use Rattle.b67_table.specs.Runs.{Runs, Entry, Plains}
+use Rattle.b67_table.specs.Runs.{Runs, RunEntry, Plains}
 
 -- the number of a process is from 1 on, and has 16 bits
-abbrev pub IsNumber : ℕ → Type 0
-IsNumber p = (1 ≤ p) × (p < 2 ^ 16)
+abbrev pub IsProcessNumber : ℕ → Type 0
+IsProcessNumber p = (1 ≤ p) × (p < 2 ^ 16)
 
 -- the process comes to the stack limit before its action, in this image
 pub record Stops (code : Code) (p : ℕ) (a quiet : Image) : Type 0 where
@@ -17,23 +17,23 @@ pub record Stops (code : Code) (p : ℕ) (a quiet : Image) : Type 0 where
   pub at_limit : table code quiet p ≡ limit
 
 -- an entry of the process was performed, or it came to the stack limit
-abbrev pub Enters : Code → ℕ → Image → Bool → Image → Type 0
-Enters code p a true b = (n : ℕ) × Entry code p a n b
-Enters code p a false b = Stops code p a b
+abbrev pub ProcessEnters : Code → ℕ → Image → Bool → Image → Type 0
+ProcessEnters code p a true b = (n : ℕ) × RunEntry code p a n b
+ProcessEnters code p a false b = Stops code p a b
 
 -- so many entries of the process, one after another, lead from one image to the other
 pub data Repeats (code : Code) (p : ℕ) : ℕ → Image → Image → Type 0 where
   none : {a : Image} → Repeats code p 0 a a
-  again : {k n : ℕ} {a b c : Image} → Repeats code p k a b → Entry code p b n c → Repeats code p (suc k) a c
+  again : {k n : ℕ} {a b c : Image} → Repeats code p k a b → RunEntry code p b n c → Repeats code p (suc k) a c
 
 -- the run of a history leads to the image
-abbrev pub LeadsTo : Code → List ℕ → Image → Type 0
-LeadsTo code history img = (counts : List ℕ) × Runs code history counts img
+abbrev pub HistoryLeadsTo : Code → List ℕ → Image → Type 0
+HistoryLeadsTo code history img = (counts : List ℕ) × Runs code history counts img
 
 -- the history has a run
-abbrev pub Leads : Code → List ℕ → Type 0
-Leads code history = (img : Image) × LeadsTo code history img
+abbrev pub HistoryLeads : Code → List ℕ → Type 0
+HistoryLeads code history = (img : Image) × HistoryLeadsTo code history img
 
 -- some run leads to the image
 abbrev pub IsReached : Code → Image → Type 0
-IsReached code img = (history : List ℕ) × LeadsTo code history img
+IsReached code img = (history : List ℕ) × HistoryLeadsTo code history img

@@ -4,14 +4,14 @@ use Rattle.b67_segment.specs.declared.code.Code.{Code}
 use Rattle.b67_table.specs.Image.{Image}
 use Rattle.b67_table.specs.Ending.{ImageEnd, image_end, may_act}
 use Rattle.b67_table.specs.Table.{stack_length}
-use Rattle.b67_table.specs.Runs.{Runs, Entry}
+use Rattle.b67_table.specs.Runs.{Runs, RunEntry}
 use Rattle.b67_outcomes.specs.declared.found.TheConstants.{MOST_STEPS}
 use Rattle.b67_outcomes.specs.declared.found.Step.{Step}
 use Rattle.b67_outcomes.specs.declared.found.State.{State}
 use Rattle.b67_outcomes.specs.declared.found.Limit.{Limit}
 use Rattle.b67_outcomes.specs.declared.found.Found.{Found}
-use Rattle.b67_outcomes.specs.Entering.{Stops, LeadsTo}
-use Rattle.b67_outcomes.specs.Settling.{Settles}
+use Rattle.b67_outcomes.specs.Entering.{Stops, HistoryLeadsTo}
+use Rattle.b67_outcomes.specs.Settling.{ImageSettles}
 
 -- ---- histories
 
@@ -26,23 +26,23 @@ pub record IsLed (code : Code) (steps : List Step) (number : ℕ) : Type 0 where
   pub history : List ℕ
   pub image : Image
   pub is : History steps number history
-  pub leads : LeadsTo code history image
+  pub leads : HistoryLeadsTo code history image
 
 -- so it is with each
 abbrev pub AreLed : Code → List Step → Type 0
 AreLed code steps = (number : ℕ) → number ≤ length steps → IsLed code steps number
 
 -- the history of the number leads to the image
-pub record IsAt (code : Code) (steps : List Step) (number : ℕ) (img : Image) : Type 0 where
+pub record NumberIsAt (code : Code) (steps : List Step) (number : ℕ) (img : Image) : Type 0 where
   pub history : List ℕ
   pub is : History steps number history
-  pub leads : LeadsTo code history img
+  pub leads : HistoryLeadsTo code history img
 
 -- a path goes on from the history of the number, its entries in the order in which they are performed, and leads to the image
 pub record IsAfter (code : Code) (steps : List Step) (number : ℕ) (path : List ℕ) (img : Image) : Type 0 where
   pub history : List ℕ
   pub is : History steps number history
-  pub leads : LeadsTo code (reverse path ++ history) img
+  pub leads : HistoryLeadsTo code (reverse path ++ history) img
 
 -- ---- states
 
@@ -60,7 +60,7 @@ pub record IsKept (code : Code) (steps : List Step) (states : List State) (img :
   pub history : List ℕ
   pub state : IsState states number
   pub is : History steps number history
-  pub leads : LeadsTo code history img
+  pub leads : HistoryLeadsTo code history img
 
 -- ---- what is kept once
 
@@ -84,7 +84,7 @@ pub record IsStop (code : Code) (steps : List Step) (l : Limit) : Type 0 where
   pub image : Image
   pub quiet : Image
   pub is : History steps l.state history
-  pub leads : LeadsTo code history image
+  pub leads : HistoryLeadsTo code history image
   pub may : may_act image l.process ≡ true
   pub stops : Stops code l.process image quiet
 
@@ -100,7 +100,7 @@ IsNoted limits number p = (k : ℕ) × (l : Limit) × (slice_get limits k ≡ So
 abbrev pub AreNoted : Code → Found → Type 0
 AreNoted code found =
     (k p : ℕ) (s : State) (history : List ℕ) (img quiet : Image) → slice_get found.states.items k ≡ Some s → History found.steps.items s.number history
-    → LeadsTo code history img → may_act img p ≡ true → Stops code p img quiet → IsNoted found.limits.items s.number p
+    → HistoryLeadsTo code history img → may_act img p ≡ true → Stops code p img quiet → IsNoted found.limits.items s.number p
 
 -- ---- the search
 
@@ -133,7 +133,7 @@ pub record HoldsPath (old : List Step) (number : ℕ) (path : List ℕ) (at : �
   pub at_is : at ≡ before_of number (length old) (length more)
   pub is : (history : List ℕ) → History old number history → History new at (reverse path ++ history)
   pub short : length new ≤ MOST_STEPS
-  pub led : (code : Code) (history : List ℕ) (img : Image) → History old number history → LeadsTo code (reverse path ++ history) img → AreLed code old
+  pub led : (code : Code) (history : List ℕ) (img : Image) → History old number history → HistoryLeadsTo code (reverse path ++ history) img → AreLed code old
       → AreLed code new
 
 -- and a state has that history
@@ -146,7 +146,7 @@ pub record HoldsState (old : Found) (number : ℕ) (path : List ℕ) (at : ℕ) 
   pub cut : new.cut ≡ old.cut
 
 -- what was kept and noted is so still, and a search that was cut is
-pub record Grows (old new : Found) : Type 0 where
+pub record FoundGrows (old new : Found) : Type 0 where
   pub more : List Step
   pub steps : new.steps.items ≡ old.steps.items ++ more
   pub more_states : List State
@@ -160,13 +160,13 @@ module _ (code : Code) (Local : Image → ℕ → Type 0) where
   pub record IsArrived (found : Found) (img : Image) : Type 0 where
     pub image : Image
     pub settled : List ℕ
-    pub settles : Settles code Local img settled image
+    pub settles : ImageSettles code Local img settled image
     pub kept : IsKept code found.steps.items found.states.items image
 
   -- so it is after an entry of the process after the history, where the search is not cut; and where the process comes to the stack limit that is noted
   pub record IsFollowed (found : Found) (number : ℕ) (history : List ℕ) (p : ℕ) : Type 0 where
-    pub entries : found.cut ≡ false → (a b : Image) (n : ℕ) → LeadsTo code history a → Entry code p a n b → IsArrived found b
-    pub stops : (a quiet : Image) → LeadsTo code history a → may_act a p ≡ true → Stops code p a quiet → IsNoted found.limits.items number p
+    pub entries : found.cut ≡ false → (a b : Image) (n : ℕ) → HistoryLeadsTo code history a → RunEntry code p a n b → IsArrived found b
+    pub stops : (a quiet : Image) → HistoryLeadsTo code history a → may_act a p ≡ true → Stops code p a quiet → IsNoted found.limits.items number p
 
   -- so it is with each process
   pub record IsExpanded (found : Found) (number : ℕ) : Type 0 where

@@ -6,8 +6,8 @@ use Rattle.b67_table.specs.Beginning.{first_image}
 use Rattle.b67_outcomes.specs.declared.found.Step.{Step}
 use Rattle.b67_outcomes.specs.declared.found.State.{State}
 use Rattle.b67_outcomes.specs.declared.found.Found.{Found}
-use Rattle.b67_outcomes.specs.Entering.{LeadsTo}
-use Rattle.b67_outcomes.specs.Settling.{Settles}
+use Rattle.b67_outcomes.specs.Entering.{HistoryLeadsTo}
+use Rattle.b67_outcomes.specs.Settling.{ImageSettles}
 use Rattle.b67_outcomes.specs.Finding.{History, IsAfter, AreOnce, AreGrowing, AreBelow, HoldsState}
 
 -- ---- what is kept at once
@@ -35,8 +35,8 @@ module _ (code : Code) (Local : Image → ℕ → Type 0) where
   -- the history is that of entries that can be performed at once
   pub record IsBegun (history : List ℕ) : Type 0 where
     pub image : Image
-    pub leads : LeadsTo code history image
-    pub settles : Settles code Local first_image history image
+    pub leads : HistoryLeadsTo code history image
+    pub settles : ImageSettles code Local first_image history image
 
   -- the history goes on from another by an entry of a process, and after it by entries that can be performed at once
   pub record GoesOn (before history : List ℕ) : Type 0 where
@@ -44,10 +44,10 @@ module _ (code : Code) (Local : Image → ℕ → Type 0) where
     pub settled : List ℕ
     pub is : history ≡ settled ++ process ∷ before
     pub there : Image
-    pub enters : LeadsTo code (process ∷ before) there
+    pub enters : HistoryLeadsTo code (process ∷ before) there
     pub image : Image
-    pub leads : LeadsTo code history image
-    pub settles : Settles code Local there settled image
+    pub leads : HistoryLeadsTo code history image
+    pub settles : ImageSettles code Local there settled image
 
   -- the state is kept to which a path leads that goes on from this one, where the image is this, by entries that can be performed at once
   pub record IsHeld (old : Found) (number : ℕ) (path : List ℕ) (img : Image) (new : Found) : Type 0 where
@@ -56,7 +56,7 @@ module _ (code : Code) (Local : Image → ℕ → Type 0) where
     pub held : HoldsState old number (path ++ settled) at new
     pub image : Image
     pub after : IsAfter code old.steps.items number (path ++ settled) image
-    pub settles : Settles code Local img (reverse settled) image
+    pub settles : ImageSettles code Local img (reverse settled) image
 
   -- ---- histories
 

@@ -1,7 +1,7 @@
 // A process is followed from a state.
 ghost use Rattle.std.specs.Prelude.{◌≡◌, ◌⊎◌, ℕ, ◌+◌, List, false, true, IfOk, IfSome};
 ghost use Rattle.b67_table.specs.Ending.{may_act};
-ghost use Rattle.b67_outcomes.specs.Finding.{Grows, History, IsAfter, IsArrived, IsAt, IsFollowed, IsSearched, IsState};
+ghost use Rattle.b67_outcomes.specs.Finding.{FoundGrows, History, IsAfter, IsArrived, NumberIsAt, IsFollowed, IsSearched, IsState};
 ghost use Rattle.b67_outcomes.specs.Kept.{IsHeld, IsReady, IsSame, IsTree};
 ghost use Rattle.b67_outcomes.specs.declared.follow.TheConstants.{MOST_SETTLED};
 
@@ -48,9 +48,9 @@ pub fn arrive<W: Walker>(
     requires stands { IsAfter (W.code walker.old) found.old.steps.items number path.old.items (W.image walker.old) }
     ensures code { W.code walker.new ≡ W.code walker.old }
     ensures second { W.code second.new ≡ W.code second.old }
-    ensures grows { IfOk result (λ u. Grows found.old found.new) }
+    ensures grows { IfOk result (λ u. FoundGrows found.old found.new) }
     ensures searched { IfOk result (λ u. IsSearched (W.code walker.old) most found.new) }
-    ensures stands { IfOk result (λ at. IfSome at (λ number. IsAt (W.code walker.old) found.new.steps.items number (W.image walker.new))) }
+    ensures stands { IfOk result (λ at. IfSome at (λ number. NumberIsAt (W.code walker.old) found.new.steps.items number (W.image walker.new))) }
     ensures keeps { IfOk result (λ u. IsSame most found.old found.new ⊎ IsHeld (W.code walker.old) (W.Local (W.code walker.old)) found.old number path.old.items (W.image walker.old) found.new) }
     ensures arrived { IfOk result (λ u. found.new.cut ≡ false → IsArrived (W.code walker.old) (W.Local (W.code walker.old)) found.new (W.image walker.old)) }
 {
@@ -87,15 +87,15 @@ pub fn find<W: Walker>(
 ) -> Result<Option<u32>, AllocError>
     requires codes { W.code second.old ≡ W.code walker.old }
     requires searched { IsSearched (W.code walker.old) most found.old }
-    requires stands { IsAt (W.code walker.old) found.old.steps.items number (W.image walker.old) }
+    requires stands { NumberIsAt (W.code walker.old) found.old.steps.items number (W.image walker.old) }
     requires may { may_act (W.image walker.old) process ≡ true }
     requires state { IsState found.old.states.items number }
     requires tree { IsTree (W.code walker.old) (W.Local (W.code walker.old)) found.old × IsReady found.old number process }
     ensures code { W.code walker.new ≡ W.code walker.old }
     ensures second { W.code second.new ≡ W.code second.old }
-    ensures grows { IfOk result (λ u. Grows found.old found.new) }
+    ensures grows { IfOk result (λ u. FoundGrows found.old found.new) }
     ensures searched { IfOk result (λ u. IsSearched (W.code walker.old) most found.new) }
-    ensures stands { IfOk result (λ at. IfSome at (λ number. IsAt (W.code walker.old) found.new.steps.items number (W.image walker.new))) }
+    ensures stands { IfOk result (λ at. IfSome at (λ number. NumberIsAt (W.code walker.old) found.new.steps.items number (W.image walker.new))) }
     ensures tree { IfOk result (λ u. IsTree (W.code walker.old) (W.Local (W.code walker.old)) found.new × IsReady found.new number (process + 1)) }
     ensures followed { IfOk result (λ u. (history : List ℕ) → History found.old.steps.items number history → IsFollowed (W.code walker.old) (W.Local (W.code walker.old)) found.new number history process) }
 {
@@ -127,14 +127,14 @@ pub fn follow<W: Walker>(
 ) -> Result<(), AllocError>
     requires codes { W.code second.old ≡ W.code walker.old }
     requires searched { IsSearched (W.code walker.old) most found.old }
-    requires stands { IsAt (W.code walker.old) found.old.steps.items number (W.image walker.old) }
+    requires stands { NumberIsAt (W.code walker.old) found.old.steps.items number (W.image walker.old) }
     requires state { IsState found.old.states.items number }
     requires tree { IsTree (W.code walker.old) (W.Local (W.code walker.old)) found.old × IsReady found.old number process }
     ensures code { W.code walker.new ≡ W.code walker.old }
     ensures second { W.code second.new ≡ W.code second.old }
-    ensures grows { IfOk result (λ u. Grows found.old found.new) }
+    ensures grows { IfOk result (λ u. FoundGrows found.old found.new) }
     ensures searched { IfOk result (λ u. IsSearched (W.code walker.old) most found.new) }
-    ensures stands { IfOk result (λ u. IsAt (W.code walker.old) found.new.steps.items number (W.image walker.new)) }
+    ensures stands { IfOk result (λ u. NumberIsAt (W.code walker.old) found.new.steps.items number (W.image walker.new)) }
     ensures tree { IfOk result (λ u. IsTree (W.code walker.old) (W.Local (W.code walker.old)) found.new × IsReady found.new number (process + 1)) }
     ensures followed { IfOk result (λ u. (history : List ℕ) → History found.old.steps.items number history → IsFollowed (W.code walker.old) (W.Local (W.code walker.old)) found.new number history process) }
 {

@@ -1,7 +1,7 @@
 // The search.
 ghost use Rattle.std.specs.Prelude.{◌≡◌, ◌≤◌, [], false, true, length, IfOk, IfSome, Some};
 ghost use Rattle.b67_table.specs.Beginning.{first_image};
-ghost use Rattle.b67_outcomes.specs.Finding.{AreAll, AreNoted, Grows, IsArrived, IsAt, IsExpanded, IsLastAble, IsLed, IsSearched, IsState};
+ghost use Rattle.b67_outcomes.specs.Finding.{AreAll, AreNoted, FoundGrows, IsArrived, NumberIsAt, IsExpanded, IsLastAble, IsLed, IsSearched, IsState};
 ghost use Rattle.b67_outcomes.specs.Kept.{AreNotExpanded, AreOpen, IsReady, IsTree};
 ghost use Rattle.b67_outcomes.specs.Settling.{LocalsPass};
 
@@ -44,9 +44,9 @@ fn stand<W: Walker>(
     number: u32,
 ) -> Result<(), AllocError>
     requires led { IsLed (W.code walker.old) steps.now number }
-    requires there { IfSome at (λ number. IsAt (W.code walker.old) steps.now number (W.image walker.old)) }
+    requires there { IfSome at (λ number. NumberIsAt (W.code walker.old) steps.now number (W.image walker.old)) }
     ensures code { W.code walker.new ≡ W.code walker.old }
-    ensures at { IfOk result (λ u. IsAt (W.code walker.old) steps.now number (W.image walker.new)) }
+    ensures at { IfOk result (λ u. NumberIsAt (W.code walker.old) steps.now number (W.image walker.new)) }
 {
     if is_at(at, number) {
         return Ok(());
@@ -72,12 +72,12 @@ fn expand<W: Walker>(
     requires there { number ≤ length found.old.steps.items }
     requires state { IsState found.old.states.items number }
     requires tree { IsTree (W.code walker.old) (W.Local (W.code walker.old)) found.old × IsReady found.old number 0 }
-    requires stands { IfSome at (λ number. IsAt (W.code walker.old) found.old.steps.items number (W.image walker.old)) }
+    requires stands { IfSome at (λ number. NumberIsAt (W.code walker.old) found.old.steps.items number (W.image walker.old)) }
     ensures code { W.code walker.new ≡ W.code walker.old }
     ensures second { W.code second.new ≡ W.code second.old }
-    ensures grows { IfOk result (λ u. Grows found.old found.new) }
+    ensures grows { IfOk result (λ u. FoundGrows found.old found.new) }
     ensures searched { IfOk result (λ u. IsSearched (W.code walker.old) most found.new) }
-    ensures stands { IfOk result (λ at. IfSome at (λ number. IsAt (W.code walker.old) found.new.steps.items number (W.image walker.new))) }
+    ensures stands { IfOk result (λ at. IfSome at (λ number. NumberIsAt (W.code walker.old) found.new.steps.items number (W.image walker.new))) }
     ensures tree { IfOk result (λ u. IsTree (W.code walker.old) (W.Local (W.code walker.old)) found.new × AreOpen found.new number) }
     ensures expanded { IfOk result (λ u. IsExpanded (W.code walker.old) (W.Local (W.code walker.old)) found.new number) }
 {
@@ -117,7 +117,7 @@ fn begin<W: Walker>(
     ensures code { W.code walker.new ≡ W.code walker.old }
     ensures second { W.code second.new ≡ W.code second.old }
     ensures searched { IfOk result (λ u. IsSearched (W.code walker.old) most found.new) }
-    ensures stands { IfOk result (λ at. IfSome at (λ number. IsAt (W.code walker.old) found.new.steps.items number (W.image walker.new))) }
+    ensures stands { IfOk result (λ at. IfSome at (λ number. NumberIsAt (W.code walker.old) found.new.steps.items number (W.image walker.new))) }
     ensures arrived { IfOk result (λ u. found.new.cut ≡ false → IsArrived (W.code walker.old) (W.Local (W.code walker.old)) found.new first_image) }
     ensures tree { IfOk result (λ u. IsTree (W.code walker.old) (W.Local (W.code walker.old)) found.new × AreNotExpanded found.new 0 × (1 ≤ length found.new.states.items)) }
 {

@@ -2,7 +2,7 @@
 ghost use Rattle.std.specs.Prelude.{◌≡◌, ℕ, ◌++◌, List, reverse, IfOk, IfSome};
 ghost use Rattle.b67_outcomes.specs.Entering.{IsReached};
 ghost use Rattle.b67_outcomes.specs.Finding.{IsAfter};
-ghost use Rattle.b67_outcomes.specs.Settling.{CanSettle, IsOnly, Settles};
+ghost use Rattle.b67_outcomes.specs.Settling.{CanSettle, IsOnly, ImageSettles};
 
 use crate::walking::walk_on;
 use crate::{Step, Walker};
@@ -75,7 +75,7 @@ pub fn settle<W: Walker>(
     requires stands { IsAfter (W.code walker.old) steps.now number path.old.items (W.image walker.old) }
     ensures code { W.code walker.new ≡ W.code walker.old }
     ensures stands { IfOk result (λ u. IsAfter (W.code walker.old) steps.now number path.new.items (W.image walker.new)) }
-    ensures settles { IfOk result (λ u. (more : List ℕ) × (path.new.items ≡ path.old.items ++ more) × Settles (W.code walker.old) (W.Local (W.code walker.old)) (W.image walker.old) (reverse more) (W.image walker.new)) }
+    ensures settles { IfOk result (λ u. (more : List ℕ) × (path.new.items ≡ path.old.items ++ more) × ImageSettles (W.code walker.old) (W.Local (W.code walker.old)) (W.image walker.old) (reverse more) (W.image walker.new)) }
 {
     let mut count = 0;
     'entries: while count < most {

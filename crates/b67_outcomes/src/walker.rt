@@ -8,7 +8,7 @@ pub trait Walker: Drop {
     ghost use Rattle.b67_table.specs.Image.{Image};
     ghost use Rattle.b67_table.specs.Beginning.{first_image};
     ghost use Rattle.b67_table.specs.Ending.{may_act};
-    ghost use Rattle.b67_outcomes.specs.Entering.{Enters, IsNumber, IsReached, Repeats};
+    ghost use Rattle.b67_outcomes.specs.Entering.{ProcessEnters, IsProcessNumber, IsReached, Repeats};
 
     ghost code: { Self → Code };
 
@@ -37,8 +37,8 @@ pub trait Walker: Drop {
         requires may { may_act (image self.old) process ≡ true }
         requires reached { IsReached (code self.old) (image self.old) }
         ensures code { code self.new ≡ code self.old }
-        ensures number { IsNumber process }
-        ensures entered { IfOk result (λ entered. Enters (code self.old) process (image self.old) entered (image self.new)) };
+        ensures number { IsProcessNumber process }
+        ensures entered { IfOk result (λ entered. ProcessEnters (code self.old) process (image self.old) entered (image self.new)) };
 
     /// Performs so many entries of the process, one after another, from an image to which a run leads, where it has so many.
     fn enter_run(&mut self, process: u32, count: usize) -> Result<(), AllocError>
@@ -46,7 +46,7 @@ pub trait Walker: Drop {
         requires has { (img : Image) × Repeats (code self.old) process count (image self.old) img }
         requires reached { IsReached (code self.old) (image self.old) }
         ensures code { code self.new ≡ code self.old }
-        ensures number { IsNumber process }
+        ensures number { IsProcessNumber process }
         ensures entered { IfOk result (λ u. Repeats (code self.old) process count (image self.old) (image self.new)) };
 
     /// Tests that the next entry of a process that may act is local, in an image to which a run leads. `false` says nothing.

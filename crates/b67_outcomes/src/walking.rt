@@ -1,8 +1,8 @@
 // From a state that is kept back to its schedule, and from there to its image.
 ghost use Rattle.std.specs.Prelude.{◌≡◌, ◌-◌, ◌<◌, ◌≤◌, ◌++◌, ℕ, List, drop, get_or, length, replicate, IfOk, All, Some, slice_get};
 ghost use Rattle.b67_table.specs.Image.{Image};
-ghost use Rattle.b67_outcomes.specs.Entering.{IsNumber, LeadsTo, Leads};
-ghost use Rattle.b67_outcomes.specs.Finding.{History, IsAfter, IsAt, IsLed};
+ghost use Rattle.b67_outcomes.specs.Entering.{IsProcessNumber, HistoryLeadsTo, HistoryLeads};
+ghost use Rattle.b67_outcomes.specs.Finding.{History, IsAfter, NumberIsAt, IsLed};
 
 use crate::{Step, Walker};
 use std::alloc::{AllocError, Global};
@@ -52,10 +52,10 @@ fn times(history: &[u32], left: usize) -> usize
 
 /// Performs a history from the beginning, the entries of one process that follow one another at once.
 pub fn perform<W: Walker>(walker: &mut W, history: &[u32]) -> Result<(), AllocError>
-    requires leads { Leads (W.code walker.old) history.now }
+    requires leads { HistoryLeads (W.code walker.old) history.now }
     ensures code { W.code walker.new ≡ W.code walker.old }
-    ensures led { IfOk result (λ u. LeadsTo (W.code walker.old) history.now (W.image walker.new)) }
-    ensures numbers { IfOk result (λ u. All IsNumber history.now) }
+    ensures led { IfOk result (λ u. HistoryLeadsTo (W.code walker.old) history.now (W.image walker.new)) }
+    ensures numbers { IfOk result (λ u. All IsProcessNumber history.now) }
 {
     walker.restart()?;
     let mut left = history.len();
@@ -76,7 +76,7 @@ pub fn walk<W: Walker>(
 ) -> Result<(), AllocError>
     requires led { IsLed (W.code walker.old) steps.now number }
     ensures code { W.code walker.new ≡ W.code walker.old }
-    ensures at { IfOk result (λ u. IsAt (W.code walker.old) steps.now number (W.image walker.new)) }
+    ensures at { IfOk result (λ u. NumberIsAt (W.code walker.old) steps.now number (W.image walker.new)) }
 {
     let history = history_of(alloc, steps, number)?;
     perform(walker, history.as_slice())

@@ -12,7 +12,7 @@ use Rattle.b67_outcomes.proofs.Apart.{same_tail}
 use Rattle.b67_outcomes.proofs.Kept.{IsHistoryOf}
 use Rattle.b67_told.specs.declared.Outcome.{Outcome}
 use Rattle.b67_told.specs.declared.Told.{Told}
-use Rattle.b67_told.specs.Telling.{IsTold}
+use Rattle.b67_told.specs.Telling.{OutcomeIsTold}
 use Rattle.b67_teller.specs.Following.{EndsAs, StopsAs, stopped_outcome}
 use Rattle.b67_teller.specs.Books.{AreTold}
 use Rattle.b67_outcomes_all.specs.Outcomes.{IsHistoryTold}
@@ -22,13 +22,13 @@ turned g h e = sym (reverse-reverse g) ∙ ap reverse e ∙ reverse-reverse h
 
 module _ (code : Code) (found : Found) (told : List Told) (histories : List (List ℕ)) (x : IsHistoryOf found.steps.items found.states.items histories)
     (are : AreTold code found told) (noted : AreNoted code found) where
-  ended : (k : ℕ) (h : List ℕ) (o : Outcome) → slice_get histories k ≡ Some h → EndsAs code (reverse h) o → IsTold told o
+  ended : (k : ℕ) (h : List ℕ) (o : Outcome) → slice_get histories k ≡ Some h → EndsAs code (reverse h) o → OutcomeIsTold told o
   ended k h o there e =
       let s = x.state k h there in
       let is = subst (λ (z : List ℕ). History found.steps.items s.0.number z) (turned h e.history e.order) s.2 in
-      subst (λ (z : Outcome). IsTold told z) (sym e.is) (are.ended k s.0 s.1 e.history e.image e.end is e.leads e.ended)
+      subst (λ (z : Outcome). OutcomeIsTold told z) (sym e.is) (are.ended k s.0 s.1 e.history e.image e.end is e.leads e.ended)
 
-  stopped : (k : ℕ) (h : List ℕ) (p : ℕ) (o : Outcome) → slice_get histories k ≡ Some h → StopsAs code (reverse (p ∷ h)) o → IsTold told o
+  stopped : (k : ℕ) (h : List ℕ) (p : ℕ) (o : Outcome) → slice_get histories k ≡ Some h → StopsAs code (reverse (p ∷ h)) o → OutcomeIsTold told o
   stopped k h p o there e =
       let s = x.state k h there in
       let same = turned (p ∷ h) (e.process ∷ e.history) e.order in
@@ -37,7 +37,7 @@ module _ (code : Code) (found : Found) (told : List Told) (histories : List (Lis
       let limit =
       are.stopped n.0 n.1 (slice_get_within found.limits.items n.0 n.1 n.2) n.2 e.history e.image e.quiet
       (subst (λ (m : ℕ). History found.steps.items m e.history) (sym n.3) is) e.leads (subst (λ (q : ℕ). Stops code q e.image e.quiet) (sym n.4) e.stops) in
-      subst (λ (z : Outcome). IsTold told z) (sym e.is) (subst (λ (q : ℕ). IsTold told (stopped_outcome e.image q e.quiet)) n.4 limit)
+      subst (λ (z : Outcome). OutcomeIsTold told z) (sym e.is) (subst (λ (q : ℕ). OutcomeIsTold told (stopped_outcome e.image q e.quiet)) n.4 limit)
 
   -- what comes of each is told
   pub histories_told : All (IsHistoryTold code told) histories

@@ -22,10 +22,10 @@ use Rattle.b67_outcomes.specs.Entering.{Stops}
 use Rattle.b67_outcomes.specs.Finding.{History, IsKept, AreAll}
 use Rattle.b67_told.specs.declared.Outcome.{Outcome}
 use Rattle.b67_told.specs.declared.Told.{Told}
-use Rattle.b67_told.specs.Telling.{IsTold, outcomes_in}
+use Rattle.b67_told.specs.Telling.{OutcomeIsTold, outcomes_in}
 use Rattle.b67_teller.specs.Following.{image_words, ended_outcome, stopped_outcome}
 use Rattle.b67_teller.specs.Books.{AreTold}
-use Rattle.b67_outcomes_all.specs.Outcomes.{shown_end, ComesTo, ComesToStop, IsStopTold, ToldAreAll}
+use Rattle.b67_outcomes_all.specs.Outcomes.{shown_end, SourceComesTo, ComesToStop, IsStopTold, ToldAreAll}
 use Rattle.b67_outcomes_all.proofs.Telling.{no_tails, may_there, told}
 
 same_outcome : (o : Outcome) (output : List (List ℕ)) (end : EndWords) → o.output ≡ output → o.end ≡ end → o ≡ record { output = output; end = end }
@@ -40,18 +40,18 @@ ended (Some machine.all_waiting) end x = (machine.all_waiting, refl, ap shown_en
 
 module _ (tree : PProgram) (code : Code) (found : Found) (os : List Told) (f : Faithful tree code) (all : AreAll code found) (are : AreTold code found os) where
   -- the outcome of a state is told
-  state_is : (img : Image) (e : ImageEnd) → IsKept code found.steps.items found.states.items img → image_end img ≡ Some e → IsTold os (ended_outcome img e)
+  state_is : (img : Image) (e : ImageEnd) → IsKept code found.steps.items found.states.items img → image_end img ≡ Some e → OutcomeIsTold os (ended_outcome img e)
   state_is img e k there =
       are.ended k.state.0 k.state.1 k.state.2 k.history img e (subst (λ (n : ℕ). History found.steps.items n k.history) (sym k.state.3) k.is) k.leads there
 
-  told_end : (schedule : List ℕ) (o : Outcome) (c : ComesTo tree schedule o) (img : Image) → TableRun code schedule [] img → IsTold os o
+  told_end : (schedule : List ℕ) (o : Outcome) (c : SourceComesTo tree schedule o) (img : Image) → TableRun code schedule [] img → OutcomeIsTold os o
   told_end schedule o c img t =
       let x = told tree code found f all schedule c.world c.end c.legal c.ends img t in
       let e = ended (image_end x.image) c.end (sym x.tells.ends ∙ c.ends) in
       let same = same_outcome o x.image.output (image_words e.0) (c.output ∙ sym x.tells.output) (c.shown ∙ e.2) in
-      subst (λ (z : Outcome). IsTold os z) (sym same) (state_is x.image e.0 x.is_kept e.1)
+      subst (λ (z : Outcome). OutcomeIsTold os z) (sym same) (state_is x.image e.0 x.is_kept e.1)
 
-  told_stop : (before : List ℕ) (p : ℕ) (o : Outcome) → ComesToStop code before p o → IsTold os o
+  told_stop : (before : List ℕ) (p : ℕ) (o : Outcome) → ComesToStop code before p o → OutcomeIsTold os o
   told_stop before p o c =
       let same_image = no_tails code 1 c.run.before_tails c.image c.run.after in
       let x =
@@ -61,11 +61,11 @@ module _ (tree : PProgram) (code : Code) (found : Found) (os : List Told) (f : F
       are.stopped x.noted.0 l (slice_get_within found.limits.items x.noted.0 l x.noted.2) x.noted.2 x.kept.history x.image x.quiet
       (subst (λ (n : ℕ). History found.steps.items n x.kept.history) (sym x.noted.3) x.kept.is) x.kept.leads
       (subst (λ (q : ℕ). Stops code q x.image x.quiet) (sym x.noted.4) x.stops) in
-      let own : IsTold os (stopped_outcome x.image p x.quiet) = subst (λ (q : ℕ). IsTold os (stopped_outcome x.image q x.quiet)) x.noted.4 contained in
+      let own : OutcomeIsTold os (stopped_outcome x.image p x.quiet) = subst (λ (q : ℕ). OutcomeIsTold os (stopped_outcome x.image q x.quiet)) x.noted.4 contained in
       let same =
       same_outcome o x.image.output (ends.StackLimit p (stack_length p x.quiet)) (c.output ∙ sym x.output_is)
       (c.shown ∙ ap (λ (n : ℕ). ends.StackLimit p n) (sym x.words_are)) in
-      subst (λ (z : Outcome). IsTold os z) (sym same) own
+      subst (λ (z : Outcome). OutcomeIsTold os z) (sym same) own
 
   -- the outcome of the stack limit to which a legal schedule comes
   stop_told : (schedule : List ℕ) (w : World) → run tree schedule ≡ Some w → ComesToLimit code schedule → IsStopTold code (outcomes_in os) schedule
@@ -91,8 +91,8 @@ module _ (tree : PProgram) (code : Code) (found : Found) (os : List Told) (f : F
         told = told_stop c.before c.next o comes;
       }
 
-  by_run : (schedule : List ℕ) (o : Outcome) → ComesTo tree schedule o → ((img : Image) × TableRun code schedule [] img) ⊎ ComesToLimit code schedule
-      → IsTold os o ⊎ IsStopTold code (outcomes_in os) schedule
+  by_run : (schedule : List ℕ) (o : Outcome) → SourceComesTo tree schedule o → ((img : Image) × TableRun code schedule [] img) ⊎ ComesToLimit code schedule
+      → OutcomeIsTold os o ⊎ IsStopTold code (outcomes_in os) schedule
   by_run schedule o c (inl x) = inl (told_end schedule o c x.0 x.1)
   by_run schedule o c (inr x) = inr (stop_told schedule c.world c.legal x)
 

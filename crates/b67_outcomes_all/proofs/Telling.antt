@@ -22,7 +22,7 @@ use Rattle.b67_faithful.specs.Weight.{weight}
 use Rattle.b67_faithful.specs.Agreement.{Shows, end_as}
 use Rattle.b67_faithful.specs.Faithful.{Faithful, ComesToLimit}
 use Rattle.b67_outcomes.specs.declared.found.Found.{Found}
-use Rattle.b67_outcomes.specs.Entering.{LeadsTo}
+use Rattle.b67_outcomes.specs.Entering.{HistoryLeadsTo}
 use Rattle.b67_outcomes.specs.Finding.{AreAll}
 use Rattle.b67_outcomes_all.specs.Sources.{KeptAreLegal, KeptTellAll, StopsAreLimits, IsLimitNoted, IsToldIn}
 
@@ -80,7 +80,7 @@ pub no_tails : (code : Code) (p : ℕ) (a b : Image) → Tails code p a [] b →
 no_tails code p a b none = refl
 
 -- a history with its run is a run under its schedule
-run_of : (code : Code) (history : List ℕ) (img : Image) → LeadsTo code history img → TableRun code (reverse history) [] img
+run_of : (code : Code) (history : List ℕ) (img : Image) → HistoryLeadsTo code history img → TableRun code (reverse history) [] img
 run_of code history img leads =
     record { history = history; counts = leads.0; before_tails = img; order = refl; runs = leads.1; after = none }
 

@@ -19,7 +19,7 @@ use Rattle.b67_explain.specs.Explaining.{ExplainsReplay}
 use Rattle.b67_told.specs.declared.TheConstants.{MOST_TEXT_BYTES}
 use Rattle.b67_told.specs.declared.Outcome.{Outcome}
 use Rattle.b67_told.specs.declared.Told.{Told}
-use Rattle.b67_told.specs.Telling.{outcomes_in, AreDifferent, IsTold}
+use Rattle.b67_told.specs.Telling.{outcomes_in, AreDifferent, OutcomeIsTold}
 use Rattle.b67_told.specs.Texts.{told_text, told_texts, OutcomesText}
 use Rattle.b67_outcomes.specs.declared.found.Found.{Found}
 use Rattle.b67_settling.specs.Local.{IsLocal}
@@ -51,7 +51,7 @@ shown_end (fault kind p) = ends.Fault kind p
 shown_end all_waiting = ends.AllWaiting
 
 -- a legal schedule of the source comes to this end
-pub record ComesTo (tree : PProgram) (schedule : List ℕ) (o : Outcome) : Type 0 where
+pub record SourceComesTo (tree : PProgram) (schedule : List ℕ) (o : Outcome) : Type 0 where
   pub world : World
   pub legal : run tree schedule ≡ Some world
   pub end : End
@@ -82,7 +82,7 @@ pub record IsStopTold (code : Code) (os : List Outcome) (schedule : List ℕ) : 
 -- Each legal schedule that comes to an end has its outcome among these, or that of the stack limit to which it comes before; so has each legal
 -- schedule that comes to the stack limit, and each run of the code that does.
 pub record AreAllOutcomes (tree : PProgram) (code : Code) (os : List Outcome) : Type 0 where
-  pub ends : (schedule : List ℕ) (o : Outcome) → ComesTo tree schedule o → Contains os o ⊎ IsStopTold code os schedule
+  pub ends : (schedule : List ℕ) (o : Outcome) → SourceComesTo tree schedule o → Contains os o ⊎ IsStopTold code os schedule
   pub stops : (schedule : List ℕ) (world : World) → run tree schedule ≡ Some world → ComesToLimit code schedule → IsStopTold code os schedule
   pub limits : (before : List ℕ) (p : ℕ) (o : Outcome) → ComesToStop code before p o → Contains os o
 
@@ -107,14 +107,14 @@ pub record Telling : Type 0 where
 pub record IsFull (tree : PProgram) (told : List Told) : Type 0 where
   pub item : Told
   pub confirmed : Confirms tree item.schedule item.outcome
-  pub other : IsTold told item.outcome → ⊥
+  pub other : OutcomeIsTold told item.outcome → ⊥
   pub long : MOST_TEXT_BYTES < length (told_texts told) + length (told_text item)
 
 -- what comes of a history, its last entry first, is told: the outcome of its image, where that has an end, and that of each stack limit to which a process
 -- comes after it
 pub record IsHistoryTold (code : Code) (told : List Told) (history : List ℕ) : Type 0 where
-  pub ended : (o : Outcome) → EndsAs code (reverse history) o → IsTold told o
-  pub stopped : (p : ℕ) (o : Outcome) → StopsAs code (reverse (p ∷ history)) o → IsTold told o
+  pub ended : (o : Outcome) → EndsAs code (reverse history) o → OutcomeIsTold told o
+  pub stopped : (p : ℕ) (o : Outcome) → StopsAs code (reverse (p ∷ history)) o → OutcomeIsTold told o
 
 -- These are outcomes of the source, each confirmed by a replay; they differ; their text is not too long. As many states were kept as is said, and at most
 -- so many: each has a history, and no two have the same; and what comes of each is told, unless an outcome was left out. Where nothing was cut these

@@ -13,11 +13,11 @@ use Rattle.b67_faithful.specs.Faithful.{Faithful}
 use Rattle.b67_faithful.specs.Weight.{weight}
 use Rattle.b67_outcomes.specs.declared.found.Found.{Found}
 use Rattle.b67_outcomes.specs.declared.found.Limit.{Limit}
-use Rattle.b67_outcomes.specs.Entering.{LeadsTo}
+use Rattle.b67_outcomes.specs.Entering.{HistoryLeadsTo}
 use Rattle.b67_outcomes.specs.Finding.{History, IsKept, IsStopKept, AreLed, AreStops, AreAll}
 
 -- the image has the output and the end of the world
-pub record Tells (w : World) (img : Image) : Type 0 where
+pub record ImageTells (w : World) (img : Image) : Type 0 where
   pub output : img.output ≡ w.output
   pub ends : end_of w ≡ end_as (image_end img)
 
@@ -27,7 +27,7 @@ pub record Tells (w : World) (img : Image) : Type 0 where
 pub record IsToldIn (code : Code) (found : Found) (w : World) : Type 0 where
   pub image : Image
   pub is_kept : IsKept code found.steps.items found.states.items image
-  pub tells : Tells w image
+  pub tells : ImageTells w image
 
 -- it is noted that an entry of the schedule comes to the stack limit, after the entries before it
 pub record IsLimitNoted (code : Code) (found : Found) (schedule : List ℕ) : Type 0 where
@@ -51,14 +51,14 @@ KeptTellAll =
 pub record IsLegalTo (tree : PProgram) (schedule : List ℕ) (img : Image) : Type 0 where
   pub world : World
   pub legal : run tree schedule ≡ Some world
-  pub tells : Tells world img
+  pub tells : ImageTells world img
 
 -- the history of the number, the last entry first, is that of a legal schedule
 pub record IsLegalState (tree : PProgram) (code : Code) (found : Found) (number : ℕ) : Type 0 where
   pub history : List ℕ
   pub image : Image
   pub is : History found.steps.items number history
-  pub leads : LeadsTo code history image
+  pub leads : HistoryLeadsTo code history image
   pub legal : IsLegalTo tree (reverse history) image
 
 abbrev pub KeptAreLegal : Type 0

@@ -12,34 +12,34 @@ use Rattle.b67_segment.specs.declared.code.Code.{Code}
 use Rattle.b67_table.specs.declared.Private.{Private}
 use Rattle.b67_table.specs.Beginning.{first_image, first_registers}
 use Rattle.b67_table.specs.Image.{Image, is_able}
-use Rattle.b67_table.specs.Privacy.{Keeps}
+use Rattle.b67_table.specs.Privacy.{RegistersStay}
 use Rattle.b67_table.specs.Valid.{IsValid}
-use Rattle.b67_private.specs.Parts.{PlainParts, stay, go, IsPart, is_plain}
+use Rattle.b67_private.specs.Parts.{PlainParts, stay, go, IsPrivatePart, is_plain}
 use Rattle.b67_private.proofs.ValidParts.{first_part}
 use Rattle.b67_action.specs.declared.running.Ran.{Ran}
 use Rattle.b67_machine.specs.declared.tables.Levels.{Levels}
 use Rattle.b67_machine.specs.Tables.{AreTables}
 use Rattle.b67_machine.specs.Chaining.{RunsTo}
-use Rattle.b67_machine.specs.Parts.{private_part, whole_part, IsWhole, IsFull}
+use Rattle.b67_machine.specs.Parts.{private_part, whole_part, IsWholePart, IsFull}
 use Rattle.b67_limits.specs.declared.TheConstants.{MOST_RUN}
 use Rattle.b67_parcel.specs.Parcels.{Stretch, IsTaken, IsStretch, part_for, IsComplete, IsPlain, IsRun, Performs, WorkedBy, no_operators, IsFetched, Fetched}
 
-keeps_self : (r : Registers) → Keeps r r
+keeps_self : (r : Registers) → RegistersStay r r
 keeps_self r = (refl, refl, refl, refl, refl, refl)
 
-keeps_both : (a b c : Registers) → Keeps a b → Keeps b c → Keeps a c
+keeps_both : (a b c : Registers) → RegistersStay a b → RegistersStay b c → RegistersStay a c
 keeps_both a b c k l = (l.0 ∙ k.0, l.1 ∙ k.1, l.2 ∙ k.2, l.3 ∙ k.3, l.4 ∙ k.4, l.5 ∙ k.5)
 
 -- ---- as it is filled
 
-module _ (code : Code) (p : ℕ) (start end : Private) (noted : List Letter) (same : end ≡ start) (part : IsPart start) where
+module _ (code : Code) (p : ℕ) (start end : Private) (noted : List Letter) (same : end ≡ start) (part : IsPrivatePart start) where
   idle : (room : ℕ) → Performs room code (record { process = p; room = room; start = start; end = end; ran = no_operators; noted = noted })
   idle zero = record {
     performed = subst (PlainParts code start 0) (sym same) stay;
     only = refl;
     few = omega arith;
-    keeps = subst (λ (x : Private). Keeps start.regs x.regs) (sym same) (keeps_self start.regs);
-    part = subst IsPart (sym same) part;
+    keeps = subst (λ (x : Private). RegistersStay start.regs x.regs) (sym same) (keeps_self start.regs);
+    part = subst IsPrivatePart (sym same) part;
   }
   idle (suc n) = inl (record { none = refl; same = same })
 
@@ -72,7 +72,7 @@ begun_with code f p room start end ran noted is e r s x none size =
     (subst (λ (y : Private). IsTaken code f.process f.room y) (sym s) is.taken)) in
     let complete : IsComplete room start =
     subst (λ (k : ℕ). IsComplete k start) (sym r) (subst (λ (y : Private). IsComplete f.room y) (sym s) is.complete) in
-    filled code p start end noted x (subst IsPart (sym s) is.is_part) room ran taken complete size none
+    filled code p start end noted x (subst IsPrivatePart (sym s) is.is_part) room ran taken complete size none
 
 -- a part that was lent stands first
 pub first_is : (part rest : List Letter) (n : ℕ) → length part ≡ n → take n (part ++ rest) ≡ part
@@ -108,8 +108,8 @@ begun code start end ran noted valid e f none size =
     let first : Private = record { regs = first_registers; words = [] } in
     let starts : start ≡ first = part_is start first_registers [] e.0 e.1 in
     let ends : end ≡ first = part_is end first_registers [] f.0 f.1 in
-    filled code 1 start end noted (ends ∙ sym starts) (subst IsPart (sym starts) first_part) 0 ran (subst (IsTaken code 1 0) (sym starts) (first_of code valid))
-    (subst IsWhole (sym starts) refl) size none
+    filled code 1 start end noted (ends ∙ sym starts) (subst IsPrivatePart (sym starts) first_part) 0 ran (subst (IsTaken code 1 0) (sym starts) (first_of code valid))
+    (subst IsWholePart (sym starts) refl) size none
 
 pub none_fetched : (code : Code) (part : Private) → IsValid code first_image → (part.regs ≡ first_registers) × (part.words ≡ [])
     → IsFetched code (record { is_there = false; process = 1; room = 0; part = part })
@@ -153,7 +153,7 @@ abbrev pub stretched : Stretch → Private → ℕ → Stretch
 stretched s after m = record s { end = after; ran = record s.ran { plain = s.ran.plain + m } }
 
 module _ (code : Code) (s : Stretch) (after : Private) (m : ℕ) (is : IsPlain code s) (more : PlainParts code s.end m after) (most : m ≤ MOST_STRETCH - s.ran.plain)
-    (keeps : Keeps s.end.regs after.regs) (part : IsPart after) where
+    (keeps : RegistersStay s.end.regs after.regs) (part : IsPrivatePart after) where
   pub goes_on : IsPlain code (stretched s after m)
   goes_on = record {
     performed = plains_both code s.start s.end after s.ran.plain m is.performed more;
@@ -177,14 +177,14 @@ full_of (suc n) start some e = e
 
 -- its run, as it was performed on a copy of the start
 module _ (code other : Code) (s : Stretch) (copy end : Private) (ran : Ran) (noted : List Letter) (same : other ≡ code) (copied : copy ≡ s.start)
-    (runs : (p : ℕ) → RunsTo other p MOST_RUN copy ran noted end) (full : IsFull end) (keeps : Keeps copy.regs end.regs) (counted : ran.entries ≤ ran.operators)
+    (runs : (p : ℕ) → RunsTo other p MOST_RUN copy ran noted end) (full : IsFull end) (keeps : RegistersStay copy.regs end.regs) (counted : ran.entries ≤ ran.operators)
     (most : ran.operators + ran.plain ≤ MOST_RUN) where
   pub has_run : IsRun code (record s { end = end; ran = ran; noted = noted })
   has_run = record {
     runs = subst (λ (c : Code). RunsTo c s.process MOST_RUN s.start ran noted end) same
         (subst (λ (x : Private). RunsTo other s.process MOST_RUN x ran noted end) copied (runs s.process));
     full = full;
-    keeps = subst (λ (x : Private). Keeps x.regs end.regs) copied keeps;
+    keeps = subst (λ (x : Private). RegistersStay x.regs end.regs) copied keeps;
     counted = counted;
     most = most;
   }

@@ -6,11 +6,11 @@ use Rattle.b67_deeds.specs.declared.Letter.{Letter}
 use Rattle.b67_segment.specs.declared.code.Code.{Code}
 use Rattle.b67_table.specs.declared.Private.{Private}
 use Rattle.b67_table.specs.Image.{Image, is_able}
-use Rattle.b67_table.specs.Privacy.{Keeps}
+use Rattle.b67_table.specs.Privacy.{RegistersStay}
 use Rattle.b67_table.specs.Valid.{IsValid}
-use Rattle.b67_private.specs.Parts.{PlainParts, IsPart, is_plain}
+use Rattle.b67_private.specs.Parts.{PlainParts, IsPrivatePart, is_plain}
 use Rattle.b67_action.specs.declared.running.Ran.{Ran}
-use Rattle.b67_machine.specs.Parts.{private_part, whole_part, IsWhole, IsFull}
+use Rattle.b67_machine.specs.Parts.{private_part, whole_part, IsWholePart, IsFull}
 use Rattle.b67_machine.specs.Chaining.{RunsTo}
 use Rattle.b67_limits.specs.declared.TheConstants.{MOST_RUN}
 
@@ -36,7 +36,7 @@ part_for (suc n) img p = whole_part img p
 
 -- it has as many words as its registers say
 abbrev pub IsComplete : ℕ → Private → Type 0
-IsComplete zero part = IsWhole part
+IsComplete zero part = IsWholePart part
 IsComplete (suc n) part = IsFull part
 
 -- it was the part of a process that was able, in a valid image of the code
@@ -60,7 +60,7 @@ pub record Fetched : Type 0 where
 pub record IsFetched (code : Code) (f : Fetched) : Type 0 where
   pub taken : IsTaken code f.process f.room f.part
   pub complete : IsComplete f.room f.part
-  pub is_part : IsPart f.part
+  pub is_part : IsPrivatePart f.part
 
 -- ---- what is performed
 
@@ -73,8 +73,8 @@ pub record IsPlain (code : Code) (s : Stretch) : Type 0 where
   pub performed : PlainParts code s.start s.ran.plain s.end
   pub only : s.ran ≡ record no_operators { plain = s.ran.plain }
   pub few : s.ran.plain ≤ MOST_STRETCH
-  pub keeps : Keeps s.start.regs s.end.regs
-  pub part : IsPart s.end
+  pub keeps : RegistersStay s.start.regs s.end.regs
+  pub part : IsPrivatePart s.end
 
 -- Nothing was performed yet.
 pub record IsIdle (s : Stretch) : Type 0 where
@@ -86,7 +86,7 @@ pub record IsIdle (s : Stretch) : Type 0 where
 pub record IsRun (code : Code) (s : Stretch) : Type 0 where
   pub runs : RunsTo code s.process MOST_RUN s.start s.ran s.noted s.end
   pub full : IsFull s.end
-  pub keeps : Keeps s.start.regs s.end.regs
+  pub keeps : RegistersStay s.start.regs s.end.regs
   pub counted : s.ran.entries ≤ s.ran.operators
   pub most : s.ran.operators + s.ran.plain ≤ MOST_RUN
 
@@ -98,7 +98,7 @@ Performs (suc n) code s = IsIdle s ⊎ IsRun code s
 pub record IsStretch (code : Code) (s : Stretch) : Type 0 where
   pub taken : IsTaken code s.process s.room s.start
   pub complete : IsComplete s.room s.start
-  pub is_part : IsPart s.start
+  pub is_part : IsPrivatePart s.start
   pub performed : Performs s.room code s
   pub letters : length s.noted ≡ s.room
 

@@ -1,7 +1,7 @@
 // Parts of processes: taken from a machine, and copied.
 ghost use Rattle.std.specs.Prelude.{◌≡◌, Some, true};
 ghost use Rattle.b67_list.specs.Numbered.{numbered};
-ghost use Rattle.b67_private.specs.Parts.{IsPart};
+ghost use Rattle.b67_private.specs.Parts.{IsPrivatePart};
 ghost use Rattle.b67_table.specs.Image.{is_live};
 ghost use Rattle.b67_parcel.specs.Parcels.{part_for, IsComplete};
 
@@ -14,7 +14,7 @@ pub fn take_part<C: Core>(machine: &Machine<C>, process: u32, room: u32, into: &
     requires { is_live (numbered machine.now.image.states process) ≡ true }
     ensures part { part_for room machine.now.image process ≡ Some into.new }
     ensures complete { IsComplete room into.new }
-    ensures is_part { IsPart into.new }
+    ensures is_part { IsPrivatePart into.new }
 {
     if room == 0 {
         machine.copy_private(process, into);

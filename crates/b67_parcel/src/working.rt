@@ -5,7 +5,7 @@ ghost use Rattle.b67_segment.specs.declared.TheConstants.{MOST_SEGMENT_WORDS};
 ghost use Rattle.b67_segment.specs.Decoded.{AreDecoded};
 ghost use Rattle.b67_table.specs.Beginning.{first_registers};
 ghost use Rattle.b67_table.specs.Image.{Image, is_able};
-ghost use Rattle.b67_table.specs.Privacy.{Keeps};
+ghost use Rattle.b67_table.specs.Privacy.{RegistersStay};
 ghost use Rattle.b67_table.specs.Valid.{IsValid};
 ghost use Rattle.b67_machine.specs.Chaining.{RunsTo};
 ghost use Rattle.b67_machine.specs.Parts.{whole_part, IsFull};
@@ -95,7 +95,7 @@ fn run_most(
     requires room { room ≤ length letters.old }
     ensures runs { (p : ℕ) → RunsTo code.now p MOST part.old result (take room letters.new) part.new }
     ensures full { IsFull part.new }
-    ensures keeps { Keeps part.old.regs part.new.regs }
+    ensures keeps { RegistersStay part.old.regs part.new.regs }
     ensures counted { result.entries ≤ result.operators }
     ensures size { length letters.new ≡ length letters.old }
     ensures most { result.operators + result.plain ≤ MOST }

@@ -3,11 +3,11 @@ use Rattle.std.proofs.Common.{◌≡◌, ◌≢◌, inl, inr, ℕ, ◌+◌, ◌-
 use Rattle.std.proofs.lemmas.Bool.{cases_eq, cases_lt}
 use Rattle.std.proofs.lemmas.List.{take_all, take_more, append_assoc, append_cancel_left, length-append, length-drop, length-take-le, take-append-drop, drop_at, get_or-drop}
 use Rattle.std.proofs.Math.Seq.{get_or-append_seam}
-use Rattle.b67_parts.specs.Parts.{AreRecords, Ends, Begins, Divides, HasNone, HasNoneBefore, Parts, IsFirstLineFeed}
+use Rattle.b67_parts.specs.Parts.{AreRecords, Ends, RecordBegins, Divides, HasNone, HasNoneBefore, Parts, IsFirstLineFeed}
 
 -- what stands after the end of the record that is the mark stands after the mark
 pub behind_mark : (mark bytes rest : List ℕ) (r : Option (Bor (List ℕ))) → bytes ≡ mark ++ rest → MatchOption r ((text : List ℕ) → Ends rest text → ⊥) (λ text. Ends rest text.now) →
-    MatchOption r ((text : List ℕ) → Begins mark bytes text → ⊥) (λ text. Begins mark bytes text.now)
+    MatchOption r ((text : List ℕ) → RecordBegins mark bytes text → ⊥) (λ text. RecordBegins mark bytes text.now)
 behind_mark mark bytes rest None e none = λ text begins. none text (subst (λ bs. Ends bs text) (append_cancel_left mark begins.rest rest (sym begins.are ∙ e)) begins.ends)
 behind_mark mark bytes rest (Some text) e ends = record { rest = rest; are = e; ends = ends }
 
@@ -18,19 +18,19 @@ rest_at bytes from = let left = length-drop from bytes in take_all (length bytes
 -- ---- the mark is looked for from a place on, where a record begins
 
 -- the mark at the place is the first, where none begins before it
-pub first_at : (mark bytes text : List ℕ) (from : ℕ) → from ≤ length bytes → AreRecords (take from bytes) → HasNoneBefore mark bytes from → Begins mark (drop from bytes) text →
+pub first_at : (mark bytes text : List ℕ) (from : ℕ) → from ≤ length bytes → AreRecords (take from bytes) → HasNoneBefore mark bytes from → RecordBegins mark (drop from bytes) text →
     Parts mark bytes (take from bytes) (Some text)
 first_at mark bytes text from within records none marked =
     let divides : Divides mark bytes (take from bytes) text = record { rest = drop from bytes; are = sym (take-append-drop from bytes); records = records; marked = marked } in
     (divides, subst (λ n. HasNoneBefore mark bytes n) (sym (length-take-le from bytes within)) none)
 
 -- a mark that begins at the place or after it begins after it, where none is at it
-behind_place : (mark bytes source text : List ℕ) (from : ℕ) → ((text : List ℕ) → Begins mark (drop from bytes) text → ⊥) → Divides mark bytes source text → from ≤ length source →
+behind_place : (mark bytes source text : List ℕ) (from : ℕ) → ((text : List ℕ) → RecordBegins mark (drop from bytes) text → ⊥) → Divides mark bytes source text → from ≤ length source →
     from < length source
 behind_place mark bytes source text from none divides reached =
     cases (λ (e : length source ≡ from).
     let rest : drop from bytes ≡ divides.rest = ap (λ bs. drop from bs) divides.are ∙ drop_at source divides.rest from e in
-    none text (subst (λ bs. Begins mark bs text) (sym rest) divides.marked))
+    none text (subst (λ bs. RecordBegins mark bs text) (sym rest) divides.marked))
   where
     cases : ((length source ≡ from) → ⊥) → from < length source
     cases other = elim (cases_eq (length source) from) [ inl e ↦ absurd (other e) | inr ne ↦ omega arith ]
@@ -68,7 +68,7 @@ feed_before mark bytes source text from divides (inr (before, e)) more =
 
 -- no mark begins at the place
 abbrev NoneAt : List ℕ → List ℕ → ℕ → Type 0
-NoneAt mark bytes from = (text : List ℕ) → Begins mark (drop from bytes) text → ⊥
+NoneAt mark bytes from = (text : List ℕ) → RecordBegins mark (drop from bytes) text → ⊥
 
 feed_of : (mark bytes source text : List ℕ) (from : ℕ) → HasNoneBefore mark bytes from → NoneAt mark bytes from → Divides mark bytes source text → FeedBefore bytes source from
 feed_of mark bytes source text from before none divides =

@@ -1,7 +1,7 @@
 -- An input has one division at a mark.
 use Rattle.std.proofs.Common.{◌≡◌, ℕ, List, ◌∷◌, ◌++◌, length, take, get_or, Option, Some, None, refl, sym, ap, ◌∙◌, subst, arith}
 use Rattle.std.proofs.lemmas.List.{append_cancel_left, take_at}
-use Rattle.b67_parts.specs.Parts.{Ends, by_line_feed, by_return, by_end, Begins, Divides, Parts}
+use Rattle.b67_parts.specs.Parts.{Ends, by_line_feed, by_return, by_end, RecordBegins, Divides, Parts}
 
 -- an LF is no CR
 apart : {B : Type 0} (text later : List ℕ) → 10 ∷ text ≡ 13 ∷ later → B
@@ -22,7 +22,7 @@ same_end bytes text later (by_end e g) (by_line_feed f) = let both = sym e ∙ f
 same_end bytes text later (by_end e g) (by_return f) = let both = sym e ∙ f in absurd cc
 same_end bytes text later (by_end e g) (by_end f h) = g ∙ sym h
 
-same_text : (mark bytes text later : List ℕ) → Begins mark bytes text → Begins mark bytes later → text ≡ later
+same_text : (mark bytes text later : List ℕ) → RecordBegins mark bytes text → RecordBegins mark bytes later → text ≡ later
 same_text mark bytes text later one other =
     let rest = append_cancel_left mark other.rest one.rest (sym other.are ∙ one.are) in
     same_end one.rest text later one.ends (subst (λ bs. Ends bs later) rest other.ends)
@@ -35,7 +35,7 @@ same_divide mark bytes source other text later one two size =
     let other_is = take_at other two.rest (length other) refl in
     let same : source ≡ other = sym source_is ∙ ap (λ bs. take (length other) bs) (sym one.are ∙ two.are) ∙ other_is in
     let rest : two.rest ≡ one.rest = append_cancel_left other two.rest one.rest (sym two.are ∙ one.are ∙ ap (λ s. s ++ one.rest) same) in
-    let ends : text ≡ later = same_text mark one.rest text later one.marked (subst (λ bs. Begins mark bs later) rest two.marked) in
+    let ends : text ≡ later = same_text mark one.rest text later one.marked (subst (λ bs. RecordBegins mark bs later) rest two.marked) in
     (same, ap Some ends)
 
 pub one_division : (mark bytes source other : List ℕ) (text later : Option (List ℕ)) → Parts mark bytes source text → Parts mark bytes other later → (source ≡ other) × (text ≡ later)

@@ -12,7 +12,7 @@ pub data Ends (bytes text : List ℕ) : Type 0 where
   by_end : bytes ≡ [] → text ≡ [] → Ends bytes text
 
 -- the first record of these bytes is exactly the mark, and the text is all after it
-pub record Begins (mark bytes text : List ℕ) : Type 0 where
+pub record RecordBegins (mark bytes text : List ℕ) : Type 0 where
   pub rest : List ℕ
   pub are : bytes ≡ mark ++ rest
   pub ends : Ends rest text
@@ -22,7 +22,7 @@ pub record Divides (mark bytes source text : List ℕ) : Type 0 where
   pub rest : List ℕ
   pub are : bytes ≡ source ++ rest
   pub records : AreRecords source
-  pub marked : Begins mark rest text
+  pub marked : RecordBegins mark rest text
 
 -- no record is the mark
 abbrev pub HasNone : List ℕ → List ℕ → Type 0

@@ -4,7 +4,7 @@
 #![tactic(auto)]
 
 ghost use Rattle.std.specs.Prelude.{◌≡◌, ◌≢◌, ℕ, List, slice_index, option_copied, EachIndex, MatchOption, Option};
-ghost use Rattle.b67_parts.specs.Parts.{Begins, Ends, IsFirstLineFeed, Parts};
+ghost use Rattle.b67_parts.specs.Parts.{RecordBegins, Ends, IsFirstLineFeed, Parts};
 ghost use Rattle.b67_parts.specs.declared.TheConstants.{MOST_INPUT_BYTES};
 
 /// The most bytes of an input that has two parts.
@@ -35,7 +35,7 @@ pub fn divided<'a>(mark: &[u8], bytes: &'a [u8]) -> (&'a [u8], Option<&'a [u8]>)
 
 /// What stands after the first record, if that is exactly the mark.
 fn behind<'a>(mark: &[u8], bytes: &'a [u8]) -> Option<&'a [u8]>
-    ensures { MatchOption result ((text : List ℕ) → Begins mark.now bytes.now text → ⊥) (λ text. Begins mark.now bytes.now text.now) }
+    ensures { MatchOption result ((text : List ℕ) → RecordBegins mark.now bytes.now text → ⊥) (λ text. RecordBegins mark.now bytes.now text.now) }
 {
     match bytes.strip_prefix(mark) {
         Some(rest) => behind_end(rest),

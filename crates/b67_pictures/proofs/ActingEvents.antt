@@ -1,11 +1,11 @@
 -- What is done with one event: how it changes, who waits then, who is released, and what is told. One lemma for all deeds, by their table.
 use Rattle.std.proofs.Common.{◌≡◌, ◌≢◌, ◌⊎◌, inl, inr, refl, sym, ap, ◌∙◌, subst, ℕ, ◌≤◌, List, [], ◌∷◌, length, Option, Some, None, Bool, true, false, Ok, arith}
-use Rattle.b67_pictures.proofs.Prelude.{option_map, if◌then◌else◌, numbered, set_numbered, EventDeed, Deed, Next, deed, after_change, EventState, IsListed, Letter, PProgram, Scopes, scopes_of, Named, Ask, ask, resume, Choice, choice, choice_of, goes, wakes_or_waits, event_at, set_event, list_in, all_withdrawn, Answer, done, value, Reference, event, truth, Process, Part, State, waits_for, procures, is_able, lives, World, event_in, cell_at, cells_with, followed, process_at, with_process, set_all_able, instance_at, IsSeen, RestsKeepToTheirText, AllIsMadeInOrder, InAnswer, IsStanding, AreListed, IsOwn, Word, Place, Registers, Intrinsic, Placed, Code, stack_limit, same_place-true, same_place-self, is_open, changed as with_event, with_state, Event, list_of, Image, woken_number, Outcome, cell_place, plain, operator_at, AwaitsAt, able_again, told_positions, ProcessState, WaitsFor, Procures, letter, registers_releases, released_by, releases, AreNested, Texts, ActsAt, ComesTo, ActsOnAt, Slot, operand, Core, size, with_core, CoreAt, FragmentsArePerformed, length_set_numbered, true_false, some_same, IsAsked, registers_now, without_call, enter_class, numbered_set, numbered_other, same_or_not, action_not_plain, action_is, makes, unmade, facts_of, HasFacts, named_from, event_there, cell_there, LivesIn, lives_waiting, operator_there, idle_list, idle_nowhere, reached_stands, AbleActor, actor_of, state_there, choice_is, gives_within, process_is, text_in, level_in, context_in, most_in, stored_world, event_stays, IsEventAt, Pictures, PicturesBy, StateIs, AreAwaiting, ListIs, MayAct, Does, gave}
+use Rattle.b67_pictures.proofs.Prelude.{option_map, if◌then◌else◌, numbered, set_numbered, EventDeed, Deed, Next, deed, after_change, EventState, IsListed, Letter, PProgram, Scopes, scopes_of, Named, Ask, ask, resume, Choice, choice, choice_of, goes, wakes_or_waits, event_at, set_event, list_in, all_withdrawn, Answer, done, value, Reference, event, truth, Process, Part, State, waits_for, procures, is_able, lives, World, event_in, cell_at, cells_with, followed, process_at, with_process, set_all_able, instance_at, BlockIsSeen, RestsKeepToTheirText, AllIsMadeInOrder, InAnswer, IsStanding, WaitersAreListed, IsOwn, Word, Place, Registers, Intrinsic, Placed, Code, stack_limit, same_place-true, same_place-self, is_open, event_changed, with_state, Event, list_of, Image, woken_number, Outcome, cell_place, plain, operator_at, AwaitsAt, able_again, told_positions, ProcessState, WaitsFor, Procures, letter, registers_releases, released_by, releases, AreNested, Texts, ActsAt, ComesTo, ActsOnAt, Slot, operand, Core, size, with_core, CoreAt, FragmentsArePerformed, length_set_numbered, true_false, some_same, IsAsked, registers_now, without_call, enter_class, numbered_set, numbered_other, same_or_not, action_not_plain, action_is, makes, unmade, facts_of, HasFacts, named_from, event_there, cell_there, LivesIn, lives_waiting, operator_there, idle_list, idle_nowhere, reached_stands, AbleActor, actor_of, state_there, choice_is, gives_within, process_is, text_in, level_in, context_in, most_in, stored_world, event_stays, IsEventAt, Pictures, PicturesBy, StateIs, AreAwaiting, ListIs, MayAct, Does, gave}
 use Rattle.b67_deeds.specs.Deeds as deeds
 use Rattle.b67_deeds.proofs.Lists.{Lists, deed_lists, waiting_frees_nobody}
 use Rattle.algol_meaning.specs.Asks as asked_for
 use Rattle.algol_meaning.specs.Choice as choices
-use Rattle.algol_meaning.specs.Choice.{does, did, all_followed, does_with_first}
+use Rattle.algol_meaning.specs.Choice.{deed_does as does, did, all_followed, does_with_first}
 use Rattle.algol_standing.proofs.Awaiting.{awaits_procures}
 use Rattle.b67_events.specs.Events as kernel
 use Rattle.b67_ops.specs.declared.Operator.TheVariants as ops
@@ -162,7 +162,7 @@ module _ (tree : PProgram) (code : Code) (texts : Texts) (nested : AreNested (sc
       core_registers None = registers_now img p core (core_of None) s.has refl
       core_registers (Some b) = registers_now img p core (core_of (Some b)) s.has refl
 
-      nameless : (told : Option Bool) → InAnswer (IsSeen (scopes_of tree) ((instance_at w part.instance).block)) (answer_of told)
+      nameless : (told : Option Bool) → InAnswer (BlockIsSeen (scopes_of tree) ((instance_at w part.instance).block)) (answer_of told)
       nameless None = tt
       nameless (Some b) = tt
 
@@ -226,7 +226,7 @@ module _ (tree : PProgram) (code : Code) (texts : Texts) (nested : AreNested (sc
       standing : IsStanding w r.instance
       standing = reached_stands tree code texts (actor_of s) r.instance o.home.own
 
-      listed : AreListed w r e
+      listed : WaitersAreListed w r e
       listed = s.ok.sound.listed r e standing means
 
       -- who waits for it
@@ -253,14 +253,14 @@ module _ (tree : PProgram) (code : Code) (texts : Texts) (nested : AreNested (sc
         later = change e
 
         abbrev pub changed_first : Image
-        changed_first = record (with_core img p (core_of told)) { events = with_event at (with_state change) img.events; states = states }
+        changed_first = record (with_core img p (core_of told)) { events = event_changed at (with_state change) img.events; states = states }
 
         -- before the others are released
         abbrev pub before : World
         before = with_process (set_event w r later) p (gone_on told state)
 
         -- nobody else waits for more
-        awaiting : is_able ((process_at w p).state) ≡ true → AreAwaiting (record img { events = with_event at (with_state change) img.events; states = states })
+        awaiting : is_able ((process_at w p).state) ≡ true → AreAwaiting (record img { events = event_changed at (with_state change) img.events; states = states })
         awaiting able_now m to m_listed = by_place (kernel.same_place at to) refl (subst (λ (z : Option Event). IsListed (kernel.state_of z).waiters m) (changed_there at to change img.events) m_listed)
           where
             nowhere : (z : Place) → IsListed (kernel.waiters_at z img.events) p → ⊥
@@ -351,7 +351,7 @@ module _ (tree : PProgram) (code : Code) (texts : Texts) (nested : AreNested (sc
               }
             where
               by_place : WaitsHere tree code texts w lay img s.by s.ok r at k → (to : Place) (b : Bool) → kernel.same_place at to ≡ b →
-                  IsListed (kernel.state_of (if b then option_map (with_state change) (kernel.event_at to img.events) else kernel.event_at to img.events)).waiters k → kernel.is_among (list_of k img.lists) to ≡ true
+                  IsListed (kernel.state_of (if b then option_map (with_state change) (kernel.event_at to img.events) else kernel.event_at to img.events)).waiters k → kernel.event_is_among (list_of k img.lists) to ≡ true
               by_place h to true same l =
                   let to_is : at ≡ to = same_place-true at to same in
                   let gone : IsListed (change e).waiters k = subst (λ (z : Option Event). IsListed (kernel.state_of (option_map (with_state change) z)).waiters k) (ap (λ (z : Place). kernel.event_at z img.events) (sym to_is) ∙ has_there) l in
@@ -373,7 +373,7 @@ module _ (tree : PProgram) (code : Code) (texts : Texts) (nested : AreNested (sc
               }
 
           all_let_go : raw code img p ≡ effects.gives (record changed_first {
-            events = kernel.withdrawn e.waiters (with_event at (with_state change) img.events);
+            events = kernel.withdrawn e.waiters (event_changed at (with_state change) img.events);
             lists = kernel.unlisted e.waiters img.lists;
             states = able_again e.waiters states;
             numbers = told_positions at img.lists e.waiters img.numbers;
@@ -392,7 +392,7 @@ module _ (tree : PProgram) (code : Code) (texts : Texts) (nested : AreNested (sc
               after : Image
               after =
                   record changed_first {
-                    events = kernel.withdrawn e.waiters (with_event at (with_state change) img.events);
+                    events = kernel.withdrawn e.waiters (event_changed at (with_state change) img.events);
                     lists = kernel.unlisted e.waiters img.lists;
                     states = able_again e.waiters states;
                     numbers = told_positions at img.lists e.waiters img.numbers;
@@ -429,7 +429,7 @@ module _ (tree : PProgram) (code : Code) (texts : Texts) (nested : AreNested (sc
                   here (joins able_now k (subst (λ (z : Option Event). IsListed (kernel.state_of (option_map (with_state change) z)).waiters k) (ap (λ (z : Place). kernel.event_at z img.events) (sym to_is) ∙ has_there) l))
               by_place to false same l = u.0 to l
 
-              nowhere : (to : Place) → IsListed (kernel.waiters_at to (with_event at (with_state change) img.events)) k → ⊥
+              nowhere : (to : Place) → IsListed (kernel.waiters_at to (event_changed at (with_state change) img.events)) k → ⊥
               nowhere to l = by_place to (kernel.same_place at to) refl (subst (λ (z : Option Event). IsListed (kernel.state_of z).waiters k) (changed_there at to change img.events) l)
 
           some_freed : raw code img p ≡ effects.gives (with_states changed_first (able_again fs states)) → (choice sc w p).world ≡ with_process (set_all_able (set_event w r later) fs) p (gone_on told state) →
@@ -445,7 +445,7 @@ module _ (tree : PProgram) (code : Code) (texts : Texts) (nested : AreNested (sc
         abbrev released_image : List ℕ → List ℕ → Image
         released_image fs ws =
             record changed_first {
-              events = kernel.withdrawn ws (with_event at (with_state change) img.events);
+              events = kernel.withdrawn ws (event_changed at (with_state change) img.events);
               lists = kernel.unlisted ws img.lists;
               states = able_again fs states;
               numbers = told_positions at img.lists ws img.numbers;
@@ -493,7 +493,7 @@ module _ (tree : PProgram) (code : Code) (texts : Texts) (nested : AreNested (sc
       idle_state : is_able ((process_at w p).state) ≡ true → list_in q.state ≡ []
       idle_state able_now = ap (λ (z : Process). list_in z.state) (sym (process_is w p q s.at)) ∙ idle_list tree code texts w lay img s.by p able_now
 
-      told_same : (told : Option Bool) → choices.told sc w p q part outer told ≡ answer_of told
+      told_same : (told : Option Bool) → choices.told_answer sc w p q part outer told ≡ answer_of told
       told_same None = refl
       told_same (Some b) = refl
 

@@ -1,6 +1,6 @@
 -- A block of a statement is entered.
 use Rattle.std.proofs.Common.{◌≡◌, refl, sym, ap, ◌∙◌, subst, ℕ, ◌+◌, ◌-◌, ◌*◌, ◌≤◌, List, [], ◌∷◌, ◌++◌, length, Option, Some, None, Bool, false, not, arith, Ok}
-use Rattle.b67_pictures.proofs.Prelude.{if◌then◌else◌, slice_get, Block, block_numbered, number_at, around, level_of, PProgram, PDecls, PStmts, Scopes, scopes_of, same_name, Spot, Kind, Ask, nothing, enters_block, ask, resume, choice_of, is_evaluation, Answer, settle_items, items_of, Cell, instance_at, IsSeen, IsSeenAround, IsInner, RestsKeepToTheirText, AllIsMadeInOrder, segment_of, IsStanding, Word, Place, irw_laws, as_sirw-other, as_pcw-pcw_word, kind_of-pcw_word, as_irw, as_sirw, as_pcw, Pcw, Placed, Spells, Code, place, seen, frame, display_at, cell_of, level_below, actuals_are_few, parameter_cells, result_of, variables, zero_cells, procedures, actuals_of, CellsAt, Yields, yields_of, Context, decls_depth, stmts_depth, Has, code_at, LiesNested, Texts, context_of, ActionAt, Entered, Gives, pushed, ComesTo, Slot, control, mark, SlotIs, BlocksBegin, FragmentsArePerformed, some_same, IsShort, tokens_around, none_wanted, ActualsAre, most_is, makes, unmade, complete_of, controls_fit, Linked, level_around, owned_frame, asks_as_own, runs_at, IsInReach, block_controls, controls_count, most_around, IsComplete, Owned, run_level, Calls, part_there, shown_frame, AbleActor, actor_of, choice_is, text_in, level_in, context_in, most_in, names_in, Does}
+use Rattle.b67_pictures.proofs.Prelude.{if◌then◌else◌, slice_get, Block, block_numbered, number_at, around, level_of, PProgram, PDecls, PStmts, Scopes, scopes_of, same_name, Spot, Kind, Ask, nothing, enters_block, ask, resume, choice_of, is_evaluation, Answer, settle_items, items_of, Cell, instance_at, BlockIsSeen, IsSeenAround, IsInner, RestsKeepToTheirText, AllIsMadeInOrder, segment_of, IsStanding, Word, Place, irw_laws, as_sirw-other, as_pcw-pcw_word, kind_of-pcw_word, as_irw, as_sirw, as_pcw, Pcw, Placed, Spells, Code, place, look_seen, frame, display_at, cell_of, level_below, actuals_are_few, parameter_cells, result_cells_of, variables, zero_cells, procedures, actuals_of, CellsAt, Yields, yields_of, Context, decls_depth, stmts_depth, Has, code_at, LiesNested, Texts, context_of, ActionAt, Entered, Gives, pushed, ComesTo, Slot, control, mark, SlotIs, BlocksBegin, FragmentsArePerformed, some_same, IsShortSegment, tokens_around, none_wanted, ActualsAre, most_is, makes, unmade, complete_of, controls_fit, Linked, level_around, owned_frame, asks_as_own, runs_at, IsInReach, block_controls, controls_count, most_around, IsComplete, Owned, run_level, Calls, part_there, shown_frame, AbleActor, actor_of, choice_is, text_in, level_in, context_in, most_in, names_in, Does}
 use Rattle.algol_tree.specs.Plain.{body}
 use Rattle.algol_meaning.specs.Rest.{Item, entered}
 use Rattle.algol_meaning.specs.World.{block}
@@ -27,7 +27,7 @@ use Rattle.b67_pictures.proofs.FrameEntering.{AreCells, Body, GoesOnBehind, ente
 use Rattle.b67_scenes.proofs.Paths.{part_in_reach}
 use Rattle.b67_pictures.proofs.ParentPlaces.{standing_linked, linked_few, linked_low}
 
-module _ (tree : PProgram) (code : Code) (texts : Texts) (nested : LiesNested tree) (short : IsShort tree code)
+module _ (tree : PProgram) (code : Code) (texts : Texts) (nested : LiesNested tree) (short : IsShortSegment tree code)
     (fragments : FragmentsArePerformed) (begins_so : BlocksBegin) (starts : InnerBlocksStart) (follow : InnerBlocksFollow) (keeps : RestsKeepToTheirText) (order : AllIsMadeInOrder)
     (actor : AbleActor tree code texts) where
   open actor use {w, lay, img, p, q, part, outer, core, s}
@@ -60,7 +60,7 @@ module _ (tree : PProgram) (code : Code) (texts : Texts) (nested : LiesNested tr
     at = a.2
 
     is_inner : IsInner sc around_block (body spot ds ss)
-    is_inner = blocks_seen (IsSeen sc around_block) (IsInner sc around_block) (IsSeenAround sc around_block) (body spot ds ss) part.rest asks s.stands.frame.text
+    is_inner = blocks_seen (BlockIsSeen sc around_block) (IsInner sc around_block) (IsSeenAround sc around_block) (body spot ds ss) part.rest asks s.stands.frame.text
 
     -- the part has its frame's instance for its own
     owns : is_evaluation part.purpose ≡ false
@@ -152,7 +152,7 @@ module _ (tree : PProgram) (code : Code) (texts : Texts) (nested : LiesNested tr
           spells = subst (λ (k : ℕ). Spells (texts.placed k) s.stands.there.segment) (sym same_segment) s.stands.there.spells;
           leads = λ m x is. subst (λ (y : Pcw). Leads code img core a.0 x m y linked.at) c_is
               (block_leads code img core a.0 x m c linked.at (no_irw x is) (no_sirw x is) (ap as_pcw is ∙ as_pcw-pcw_word c at.fits) home_there);
-          calls = λ x is. subst (λ (y : Pcw). seen img.stacks (called_by x (cell_of core.registers x)) ≡ Ok y) c_is
+          calls = λ x is. subst (λ (y : Pcw). look_seen img.stacks (called_by x (cell_of core.registers x)) ≡ Ok y) c_is
               (block_calls code img core a.0 x (record { entered = false; stack = 0; displacement = 0; df = 0 }) c linked.at (no_irw x is) (no_sirw x is) (ap as_pcw is ∙ as_pcw-pcw_word c at.fits));
         }
 
@@ -161,7 +161,7 @@ module _ (tree : PProgram) (code : Code) (texts : Texts) (nested : LiesNested tr
     zeros_many : length (variables ds) ≡ length (zero_cells b)
     zeros_many =
         ap (λ (x : PDecls). length (variables x)) (sym is_inner.decls_are)
-        ∙ ap (λ (o : Option Kind). length (result_of o b.name ++ variables b.decls)) (sym is_inner.result)
+        ∙ ap (λ (o : Option Kind). length (result_cells_of o b.name ++ variables b.decls)) (sym is_inner.result)
 
     -- its actuals are those that stand in these declarations and these statements
     actuals_are : actuals_in_block sc ds ss ≡ actuals_of sc b

@@ -1,6 +1,6 @@
 -- The procedure that an entry or a START names: the frame that holds it, and its control word there.
 use Rattle.std.proofs.Common.{◌≡◌, sym, ap, ◌∙◌, subst, ℕ, suc, ◌+◌, ◌≤◌, ◌<◌, List, ◌∷◌, ◌++◌, length, Option, Some, true, arith}
-use Rattle.b67_pictures.proofs.Prelude.{slice_get, Block, block_numbered, number_at, around, level_of, PProgram, Scopes, scopes_of, use_of, Named, Instance, instance_at, or_no_instance, ancestor, IsSeen, is_procedure, segment_of, Word, Place, pcw_word, Pcw, Couple, OUTER_LEVEL, Code, Segment, word_at, get_within as get_below, place, display_at, simple_cells, procedures, made_base, IsProcedure, code_at, LiesNested, Texts, ProgramAt, control_words, segment_low, get-front, get-behind, Linked, level_around, as_many_values, IsParent, IsInReach, block_controls, Found, named_parent, named_seen, named_shown, Actor, Seen, names_in}
+use Rattle.b67_pictures.proofs.Prelude.{slice_get, Block, block_numbered, number_at, around, level_of, PProgram, Scopes, scopes_of, use_of, Named, Instance, instance_at, or_no_instance, ancestor, BlockIsSeen, is_procedure, segment_of, Word, Place, pcw_word, Pcw, Couple, OUTER_LEVEL, Code, Segment, word_at, get_within as get_below, place, display_at, simple_cells, procedures, made_base, IsProcedure, code_at, LiesNested, Texts, ProgramAt, control_words, segment_low, get-front, get-behind, Linked, level_around, as_many_values, IsParent, IsInReach, block_controls, Found, named_parent, named_seen, named_shown, Actor, Seen, names_in}
 use Rattle.b67_control.specs.Control.{Fits_pcw}
 use Rattle.b67_templates.specs.Nested.{IsDeclared}
 use Rattle.b67_rows.proofs.Numbers.{get_within}
@@ -17,7 +17,7 @@ module _ (tree : PProgram) (code : Code) (program : ProgramAt code tree) (nested
   open actor use {w, lay, img, part, outer, core, s}
 
   module _ (n : Named) (callee : ℕ) (couple : Couple)
-      (named : IsProcedure (scopes_of tree) (names_in tree w part) n callee couple) (seen_there : IsSeen (scopes_of tree) ((instance_at w part.instance).block) n) where
+      (named : IsProcedure (scopes_of tree) (names_in tree w part) n callee couple) (seen_there : BlockIsSeen (scopes_of tree) ((instance_at w part.instance).block) n) where
     -- The instance that holds it is an ancestor, whose frame lies in whatever stack; the procedure's segment is there, and its control word lies in that frame.
     pub record CalledProcedure : Type 0 where
       pub parent : IsParent (scopes_of tree) w lay part.instance ((use_of (scopes_of tree) n).up) ((use_of (scopes_of tree) n).block)

@@ -1,6 +1,6 @@
 -- An action changes a cell of an instance whose frame lies in the stack of whatever process: the image after it pictures the world after it.
 use Rattle.std.proofs.Common.{◌≡◌, ◌≢◌, ◌⊎◌, inl, inr, refl, sym, ap, ◌∙◌, subst, ℕ, ◌+◌, ◌<◌, ◌≤◌, List, ◌∷◌, ◌++◌, length, Option, Some, Bool, false, arith, true, []}
-use Rattle.b67_pictures.proofs.Prelude.{if◌then◌else◌, slice_get, numbered, IsListed, block_numbered, PProgram, Scopes, scopes_of, same_name, resume, referred_in, list_in, Answer, Cell, NamedCell, Instance, Process, Part, State, lives, World, or_no_instance, with_process, cells_with, instance_at, Made, all_to_make, all_left_to_make, IsSeen, RestsKeepToTheirText, AllIsMadeInOrder, InAnswer, in_either, IsIn, referred_in_cells, IsStanding, IsOwn, Word, Registers, Code, stack_at, word_at, stack_limit, Event, waiters_at, place, Image, woken_number, floor, ProcessState, simple_cells, Texts, ComesTo, Slot, Core, size, over, HasCore, with_core, CoreAt, FragmentsArePerformed, length_set_numbered, some_same, none_some, has_now, others_have, system_stays, same_or_not, numbered_set, HasFacts, facts_of, KeepsArrays, keeps_same, begins_core, StandOn, AreMade, ArraysAre, EventsAre, CellsAre, all_laid, Found, found_laid, LeavesAlone, alike_but, Actor, found_own, comes_to, text_in, level_in, context_in, most_in, IsStored, put, length_put, stored_world, others_at, ChangedCells, EventsStay, state_stays, events_kept, events_beside, events_same, still_awaiting, waits_kept, waits_still, Living, living, PicturesBy, StateIs, AreAwaiting, WaitsAre}
+use Rattle.b67_pictures.proofs.Prelude.{if◌then◌else◌, slice_get, numbered, IsListed, block_numbered, PProgram, Scopes, scopes_of, same_name, resume, referred_in, list_in, Answer, Cell, NamedCell, Instance, Process, Part, State, lives, World, or_no_instance, with_process, cells_with, instance_at, Made, all_to_make, all_left_to_make, BlockIsSeen, RestsKeepToTheirText, AllIsMadeInOrder, InAnswer, in_either, IsInSkeleton, referred_in_cells, IsStanding, IsOwn, Word, Registers, Code, stack_at, word_at, stack_limit, Event, waiters_at, place, Image, woken_number, floor, ProcessState, simple_cells, Texts, ComesTo, Slot, Core, size, over, HasCore, with_core, CoreAt, FragmentsArePerformed, length_set_numbered, some_same, none_some, has_now, others_have, system_stays, same_or_not, numbered_set, HasFacts, facts_of, KeepsArrays, keeps_same, begins_core, StandOn, AreMade, ArraysAre, EventsAre, CellsAre, all_laid, Found, found_laid, LeavesAlone, alike_but, Actor, found_own, comes_to, text_in, level_in, context_in, most_in, IsStored, put, length_put, stored_world, others_at, ChangedCells, EventsStay, state_stays, events_kept, events_beside, events_same, still_awaiting, waits_kept, waits_still, Living, living, PicturesBy, StateIs, AreAwaiting, WaitsAre}
 use Rattle.algol_standing.proofs.Seen.{in_front, in_back}
 use Rattle.b67_rows.proofs.Numbers.{get_within}
 use Rattle.b67_scenes.proofs.StoringFrames.{changed}
@@ -23,26 +23,26 @@ word_below img p core has n x low is =
     there.1 ∙ sym (begins_core img p core has n there.0 there.1) ∙ is
 
 -- where a cell that refers to nothing comes in place of one, nothing more is referred to
-pub refers_fewer : (cells : List NamedCell) (name : List ℕ) (c : Cell) → referred_in c ≡ [] → (r : ℕ) → IsIn (referred_in_cells (cells_with cells name c)) r → IsIn (referred_in_cells cells) r
+pub refers_fewer : (cells : List NamedCell) (name : List ℕ) (c : Cell) → referred_in c ≡ [] → (r : ℕ) → IsInSkeleton (referred_in_cells (cells_with cells name c)) r → IsInSkeleton (referred_in_cells cells) r
 refers_fewer [] name c none r inside = inside
 refers_fewer (d ∷ cells) name c none r inside = by_name (same_name d.name name) (refers_fewer cells name c none r) inside
   where
-    further : (IsIn (referred_in_cells (cells_with cells name c)) r → IsIn (referred_in_cells cells) r) → IsIn (referred_in d.cell) r ⊎ IsIn (referred_in_cells (cells_with cells name c)) r → IsIn (referred_in d.cell ++ referred_in_cells cells) r
+    further : (IsInSkeleton (referred_in_cells (cells_with cells name c)) r → IsInSkeleton (referred_in_cells cells) r) → IsInSkeleton (referred_in d.cell) r ⊎ IsInSkeleton (referred_in_cells (cells_with cells name c)) r → IsInSkeleton (referred_in d.cell ++ referred_in_cells cells) r
     further later (inl m) = in_front (referred_in d.cell) (referred_in_cells cells) r m
     further later (inr m) = in_back (referred_in d.cell) (referred_in_cells cells) r (later m)
 
-    by_name : (b : Bool) → (IsIn (referred_in_cells (cells_with cells name c)) r → IsIn (referred_in_cells cells) r) → IsIn (referred_in_cells (if b then record d { cell = c } ∷ cells else d ∷ cells_with cells name c)) r →
-        IsIn (referred_in d.cell ++ referred_in_cells cells) r
-    by_name true later m = in_back (referred_in d.cell) (referred_in_cells cells) r (subst (λ (is : List ℕ). IsIn (is ++ referred_in_cells cells) r) none m)
+    by_name : (b : Bool) → (IsInSkeleton (referred_in_cells (cells_with cells name c)) r → IsInSkeleton (referred_in_cells cells) r) → IsInSkeleton (referred_in_cells (if b then record d { cell = c } ∷ cells else d ∷ cells_with cells name c)) r →
+        IsInSkeleton (referred_in d.cell ++ referred_in_cells cells) r
+    by_name true later m = in_back (referred_in d.cell) (referred_in_cells cells) r (subst (λ (is : List ℕ). IsInSkeleton (is ++ referred_in_cells cells) r) none m)
     by_name false later m = further later (in_either (referred_in d.cell) (referred_in_cells (cells_with cells name c)) r m)
 
 module _ (tree : PProgram) (code : Code) (texts : Texts) (fragments : FragmentsArePerformed) (kept : RestsKeepToTheirText) (order : AllIsMadeInOrder) (actor : Actor tree code texts) where
   open actor use {w, lay, img, p, q, part, outer, core, s}
 
-  module _ (unmade : all_left_to_make part.rest ≡ all_to_make part.rest) (answer : Answer) (nameless : InAnswer (IsSeen (scopes_of tree) ((instance_at w part.instance).block)) answer)
+  module _ (unmade : all_left_to_make part.rest ≡ all_to_make part.rest) (answer : Answer) (nameless : InAnswer (BlockIsSeen (scopes_of tree) ((instance_at w part.instance).block)) answer)
       (i : ℕ) (f : Found tree code texts w lay img i) (x : Instance) (at : numbered w.instances i ≡ Some x) (with_cells : List NamedCell) (far : ℕ) (word : Option Word) (many : length with_cells ≡ length x.cells)
       (short : IsStored word → far < length (simple_cells (scopes_of tree) (block_numbered (scopes_of tree).blocks x.block))) (low : IsStored word → length f.lies.frame.lower + 2 + far < length f.core.below)
-      (keeps : KeepsArrays (scopes_of tree) w (stored_world w i x at with_cells) lay lay i) (fewer : (r : ℕ) → IsIn (referred_in_cells with_cells) r → IsIn (referred_in_cells x.cells) r)
+      (keeps : KeepsArrays (scopes_of tree) w (stored_world w i x at with_cells) lay lay i) (fewer : (r : ℕ) → IsInSkeleton (referred_in_cells with_cells) r → IsInSkeleton (referred_in_cells x.cells) r)
       (changes : (simple : List NamedCell) (values : List Word) (arrays : List NamedCell) (declared : List Made) (descriptors : List Word) →
       CellsAre (simple_cells (scopes_of tree) (block_numbered (scopes_of tree).blocks x.block)) simple values → AreMade declared arrays (lay.rows i) descriptors → x.cells ≡ simple ++ arrays →
       ChangedCells (simple_cells (scopes_of tree) (block_numbered (scopes_of tree).blocks x.block)) (lay.rows i) with_cells simple values (put word values far) declared descriptors)

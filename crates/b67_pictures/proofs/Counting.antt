@@ -1,6 +1,6 @@
 -- A process of a pictured image performs at most as many operators for an entry as the longest segment has syllables.
 use Rattle.std.proofs.Common.{◌≡◌, refl, ap, ℕ, ◌≤◌, Bool, false, List, [], ◌∷◌, Option, Some, None, cond, arith}
-use Rattle.b67_pictures.proofs.Prelude.{numbered, PProgram, Process, Part, World, Code, Image, is_live, Plains, stay, go, Acts, Texts, AreFew, numbered_beyond, runs_low, Layout, Living, Pictured, living, dead, PicturesBy}
+use Rattle.b67_pictures.proofs.Prelude.{numbered, PProgram, Process, Part, World, Code, Image, is_live, Plains, stay, go, ProcessActs, Texts, AreFew, numbered_beyond, runs_low, Layout, Living, Pictured, living, dead, PicturesBy}
 use Rattle.b67_ops.specs.declared.TheConstants.{MOST_LEVEL}
 use Rattle.b67_table.specs.declared.InterruptKind.TheVariants.{BadCode as bad_code}
 use Rattle.b67_table.specs.Effect.{interrupts}
@@ -23,7 +23,7 @@ module _ (code : Code) (img : Image) (p : ℕ) (gone : is_live (numbered img.sta
   unfolding table raw
   has_none = ap (λ (b : Bool). limited (stack_length p) (cond b (by_registers code img p (numbered img.regs p)) (interrupts bad_code))) gone
 
-  no_action : {B : Type 0} {after : Image} → Acts code p img after → B
+  no_action : {B : Type 0} {after : Image} → ProcessActs code p img after → B
   no_action (acts np t) = gives_interrupts t has_none
   no_action (fails kind t) = faults_interrupts t has_none
 

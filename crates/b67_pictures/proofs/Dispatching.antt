@@ -1,6 +1,6 @@
 -- A process that stands at its action does it: by what its head asks for.
 use Rattle.std.proofs.Common.{◌≡◌, refl, ap, ℕ, zero, suc, ◌<◌, ◌≤◌, ◌^◌, List, [], ◌∷◌, length, Option, arith}
-use Rattle.b67_pictures.proofs.Prelude.{EventDeed, Block, block_numbered, level_of, PProgram, PPair, PStmts, PBody, Scopes, scopes_of, use_of, MOST_BLOCK_CELLS, Kind, Named, PhraseText, Ask, nothing, reads, reads_element, indexes, enters, passes, resolves, reads_result, leaves, stores, selects, turns, goes_to, enters_block, starts, writes, makes_arrays, makes_event, ask, event_deed, own, there, element_of, Given, done, value, cell, Value, Reference, Instance, or_no_instance, RestsKeepToTheirText, AllIsMadeInOrder, Couple, Code, simple_cells, IsVariable, IsRead, of_variable, of_formal, AreNested, LiesNested, Texts, RestsGoOn, GoesOn, FragmentsArePerformed, found_low, AbleActor, actor_of, text_in, level_in, context_in, most_in, names_in, Does}
+use Rattle.b67_pictures.proofs.Prelude.{EventDeed, Block, block_numbered, level_of, PProgram, PPair, PStmts, PBody, Scopes, scopes_of, use_of, MOST_BLOCK_CELLS, Kind, Named, PhraseText, Ask, nothing, reads, reads_element, indexes, enters, passes, resolves, reads_result, leaves, stores, selects, turns, goes_to, enters_block, starts, writes, makes_arrays, makes_event, ask, event_deed, own, there, element_of, Given, done, value, cell, Value, Reference, Instance, or_no_instance, RestsKeepToTheirText, AllIsMadeInOrder, Couple, Code, simple_cells, IsVariable, IsRead, of_variable, of_formal, AreNested, LiesNested, Texts, RestsGoOn, CodeGoesOn, FragmentsArePerformed, found_low, AbleActor, actor_of, text_in, level_in, context_in, most_in, names_in, Does}
 use Rattle.algol_tree.specs.declared.TheConstants.{MOST_LEVEL}
 use Rattle.algol_meaning.specs.Rest.{Place, place, entered}
 use Rattle.algol_meaning.specs.Asks.{fails}
@@ -116,6 +116,6 @@ module _ (tree : PProgram) (code : Code) (texts : Texts) where
     -- whatever its head asks for
     pub scene_does : Does tree code texts w img p
     scene_does =
-        let on : GoesOn (scopes_of tree) (context_in tree code texts w part s.stands.frame.gives) (text_in tree texts w part) (level_in tree w part) (most_in tree w part) part.rest s.stands.pc s.stands.slots =
+        let on : CodeGoesOn (scopes_of tree) (context_in tree code texts w part s.stands.frame.gives) (text_in tree texts w part) (level_in tree w part) (most_in tree w part) part.rest s.stands.pc s.stands.slots =
         rests (scopes_of tree) (context_in tree code texts w part s.stands.frame.gives) (text_in tree texts w part) (level_in tree w part) (most_in tree w part) part.rest s.stands.pc s.stands.slots s.stands.stands s.stands.asks in
         by_ask (ask part.rest) (record { asks = refl; action = on.action; answered = on.answered; waits = on.waits; returns = on.returns })

@@ -1,6 +1,6 @@
 -- A store to an element.
 use Rattle.std.proofs.Common.{◌≡◌, ◌≢◌, ◌⊎◌, inl, inr, refl, sym, ap, ◌∙◌, subst, ℕ, ◌+◌, ◌≤◌, List, [], ◌∷◌, ◌++◌, length, Option, Some, None, Ok, arith}
-use Rattle.b67_pictures.proofs.Prelude.{numbered, ElementStore, block_numbered, level_of, PProgram, Scopes, scopes_of, Kind, Ask, stores, ask, resume, Choice, choice, choice_of, goes, is_evaluation, Answer, done, element_of, Value, Reference, ArrayCell, Cell, array, NamedCell, Instance, Process, Part, World, instance_at, or_no_instance, with_instance, with_process, set_cell, cell_in, cells_with, array_in, Made, RestsKeepToTheirText, AllIsMadeInOrder, segment_of, Word, Placed, Code, Rows, stack_limit, Image, with_rows, frame, operator_at, told_by, element_or_not, stored_letter, operator_letter, Simple, simple_cells, HasKind, Texts, ActionAt, Acted, ComesTo, Slot, element, operand, descriptor, Core, size, HasCore, IsCore, with_core, ValueIs, newest, SlotsAre, CoreAt, FragmentsArePerformed, registers_now, without_two, same_or_not, action_not_plain, action_is, Top, top_slot, makes, unmade, value_tag, arrays_unchanged, ElementFound, element_found, event_before, events_replaced, facts_of, KeepsArrays, known_is, OwnCells, framed_cells, AreMade, HoldElements, ArraysAre, IsElement, EventsAre, IsInReach, CellsAre, Stands, run_level, at_element, ElementHome, element_home, Found, operator_there, AbleActor, actor_of, gives_within, choice_is, text_in, level_in, context_in, most_in, length_cells, stored_world, ChangedCells, PicturesBy, MayAct, Does, gave}
+use Rattle.b67_pictures.proofs.Prelude.{numbered, ElementStore, block_numbered, level_of, PProgram, Scopes, scopes_of, Kind, Ask, stores, ask, resume, Choice, choice, choice_of, goes, is_evaluation, Answer, done, element_of, Value, Reference, ArrayCell, Cell, array, NamedCell, Instance, Process, Part, World, instance_at, or_no_instance, with_instance, with_process, set_cell, cell_in, cells_with, array_in, Made, RestsKeepToTheirText, AllIsMadeInOrder, segment_of, Word, Placed, Code, Rows, stack_limit, Image, with_rows, frame, operator_at, told_by, element_or_not, stored_letter, operator_letter, Simple, simple_cells, HasKind, Texts, ActionAt, Acted, ComesTo, Slot, element, operand, descriptor, Core, size, HasCore, IsCore, with_core, ValueIs, newest, SlotsAre, CoreAt, FragmentsArePerformed, registers_now, without_two, same_or_not, action_not_plain, action_is, Top, top_slot, makes, unmade, value_tag, arrays_unchanged, ElementFound, element_found, event_before, events_replaced, facts_of, KeepsArrays, known_is, OwnCells, framed_cells, AreMade, HoldElements, ArraysAre, IsElement, EventsAre, IsInReach, CellsAre, FrameStands, run_level, at_element, ElementHome, element_home, Found, operator_there, AbleActor, actor_of, gives_within, choice_is, text_in, level_in, context_in, most_in, length_cells, stored_world, ChangedCells, PicturesBy, MayAct, Does, gave}
 use Rattle.algol_meaning.specs.Arrays.{with_element, flat}
 use Rattle.b67_ops.specs.declared.Operator.TheVariants as ops
 use Rattle.b67_ops.specs.declared.PlainKind.TheVariants as kinds
@@ -38,7 +38,7 @@ module _ (tree : PProgram) (code : Code) (texts : Texts) (fragments : FragmentsA
     abbrev text : List Placed
     text = texts.placed (segment_of sc.blocks b)
 
-    abbrev st : Stands tree code texts w lay p part outer core
+    abbrev st : FrameStands tree code texts w lay p part outer core
     st = s.stands
 
     abbrev next : ℕ

@@ -1,6 +1,6 @@
 -- EXIT of the base frame of a process with a task: what it comes to, and whom it releases.
 use Rattle.std.proofs.Common.{◌≡◌, refl, ap, ◌∙◌, ℕ, ◌+◌, List, [], ◌∷◌, ◌++◌, length, take, drop, Option, Some, Bool, false, Ok, append-nil}
-use Rattle.b67_pictures.proofs.Prelude.{if◌then◌else◌, reverse, numbered, set_numbered, caused, Word, Place, Registers, Code, Rows, words_of, Event, closed_from, waiters_at, changed as with_event, with_state, unlisted, gives, Image, with_rows, arrays_closed, is_critical, frame, Program, Change, asked, answer, live_criticals, operator_at, able_again, told_positions, Ended, registers_releases, Core, HasCore, words_are, ended_at}
+use Rattle.b67_pictures.proofs.Prelude.{if◌then◌else◌, reverse, numbered, set_numbered, caused, Word, Place, Registers, Code, Rows, words_of, Event, closed_from, waiters_at, event_changed, with_state, unlisted, gives, Image, with_rows, arrays_closed, is_critical, frame, Program, Change, asked, answer, live_criticals, operator_at, able_again, told_positions, Ended, registers_releases, Core, HasCore, words_are, ended_at}
 use Rattle.std.specs.Prelude.{nat_eq}
 use Rattle.b67_num.specs.declared.FaultKind.TheVariants.{CriticalBlockExit}
 use Rattle.b67_ops.specs.declared.Operator.TheVariants as ops
@@ -12,7 +12,7 @@ use Rattle.b67_table.specs.Questions.{told}
 use Rattle.b67_table.specs.Questions as questions
 use Rattle.b67_table.specs.Rows.{row, exit}
 use Rattle.b67_table.specs.Table.{raw}
-use Rattle.b67_table.specs.Writes.{written}
+use Rattle.b67_table.specs.Writes.{write_made}
 use Rattle.b67_table.specs.Writes as writes
 use Rattle.b67_letters.proofs.Calm.{arrays_have}
 use Rattle.b67_letters.specs.Releases.{change_releases, effect_releases, fetched_releases}
@@ -33,7 +33,7 @@ module _ (code : Code) (img : Image) (p : ℕ) (core : Core) (has : HasCore img 
   abbrev pub caused_at : Image
   caused_at =
       record (ended_at img rows p (record core.registers { place = next })) {
-        events = withdrawn (waiters_at task (closed_from core.registers.stack 0 img.events)) (with_event task (with_state caused) (closed_from core.registers.stack 0 img.events));
+        events = withdrawn (waiters_at task (closed_from core.registers.stack 0 img.events)) (event_changed task (with_state caused) (closed_from core.registers.stack 0 img.events));
         lists = unlisted (waiters_at task (closed_from core.registers.stack 0 img.events)) img.lists;
         states = set_numbered (able_again (waiters_at task (closed_from core.registers.stack 0 img.events)) img.states) p Ended;
         numbers = told_positions task img.lists (waiters_at task (closed_from core.registers.stack 0 img.events)) img.numbers;
@@ -73,7 +73,7 @@ module _ (code : Code) (img : Image) (p : ℕ) (core : Core) (has : HasCore img 
 
   end_change : change_releases p (arrays_closed cells (last (Some task))) img ≡ waiters_at task (closed_from r.stack 0 img.events)
   end_change =
-      arrays_have Releases (λ n more j i same. j (written p (writes.close_row n) i) same) (λ n more j i same. j (told i (questions.row n)) i same) cells (last (Some task)) last_releases img refl
+      arrays_have Releases (λ n more j i same. j (write_made p (writes.close_row n) i) same) (λ n more j i same. j (told i (questions.row n)) i same) cells (last (Some task)) last_releases img refl
 
   pub end_releases : registers_releases code img p (numbered img.regs p) ≡ waiters_at task (closed_from core.registers.stack 0 img.events)
   unfolding row

@@ -1,6 +1,6 @@
 -- Accidental entry: VALC or EVAL enters the code of the actual that a parameter's cell names, and the part waits for its value or its place.
 use Rattle.std.proofs.Common.{◌≡◌, refl, sym, ap, ◌∙◌, subst, ℕ, ◌+◌, ◌<◌, ◌≤◌, List, [], ◌∷◌, length, Option, Some, Ok, Bool, true, false, arith}
-use Rattle.b67_pictures.proofs.Prelude.{if◌then◌else◌, numbered, NotAVariable, block_numbered, level_of, PProgram, Scopes, scopes_of, Kind, Named, Ask, nothing, reads, resolves, ask, resume, located_of, choice_of, read_of, resolved_of, is_subscripted, opens, fails, Answer, settle_actual_place, Cell, Instance, name_place, instance_at, or_no_instance, IsSeen, RestsKeepToTheirText, AllIsMadeInOrder, segment_of, Word, Place, as_pcw-pcw_word, as_sirw, as_pcw, pcw_word, Irw, Pcw, Couple, Code, place, frame, irw_or_sirw, cell_of, couple_cell, operator_at, has_place, in_routine, Yields, depth, LiesNested, Texts, context_of, Acted, ActionAt, Entered, Gives, pushed, selected, ComesTo, Slot, newest, FragmentsArePerformed, IsShort, place_reached_class, Reaches, reached_through, value_reached_class, action_not_plain, action_is, HaveTexts, makes, unmade, pcw_refers_nothing, most_around, Takes, routine_of, Found, operator_there, ActualNamed, AbleActor, Actor, actor_of, choice_is, text_in, level_in, context_in, most_in, Does}
+use Rattle.b67_pictures.proofs.Prelude.{if◌then◌else◌, numbered, NotAVariable, block_numbered, level_of, PProgram, Scopes, scopes_of, Kind, Named, Ask, nothing, reads, resolves, ask, resume, located_of, choice_of, read_of, resolved_of, is_subscripted, opens, fails, Answer, settle_actual_place, Cell, Instance, name_place, instance_at, or_no_instance, BlockIsSeen, RestsKeepToTheirText, AllIsMadeInOrder, segment_of, Word, Place, as_pcw-pcw_word, as_sirw, as_pcw, pcw_word, Irw, Pcw, Couple, Code, place, frame, irw_or_sirw, cell_of, couple_cell, operator_at, has_place, in_routine, Yields, depth, LiesNested, Texts, context_of, Acted, ActionAt, Entered, Gives, pushed, selected, ComesTo, Slot, newest, FragmentsArePerformed, IsShortSegment, place_reached_class, Reaches, reached_through, value_reached_class, action_not_plain, action_is, HaveTexts, makes, unmade, pcw_refers_nothing, most_around, Takes, routine_of, Found, operator_there, ActualNamed, AbleActor, Actor, actor_of, choice_is, text_in, level_in, context_in, most_in, Does}
 use Rattle.algol_meaning.specs.Asks.{evaluated_of}
 use Rattle.algol_meaning.specs.Rest.{entered}
 use Rattle.algol_meaning.specs.Settle.{settle}
@@ -24,7 +24,7 @@ use Rattle.b67_pictures.proofs.Resolving.{FindsName, finds_name}
 -- what the entry of an actual's code needs of the code of the program: it is short, and stands in its segments; from the start of the code of
 -- an actual the machine comes to where it stands for its value and for its place, and has room for that; and a frame may be lent
 pub record ActualsAreEntered (tree : PProgram) (code : Code) (texts : Texts) : Type 0 where
-  pub short : IsShort tree code
+  pub short : IsShortSegment tree code
   pub stand : HaveTexts tree code texts
   pub values : RoutinesGiveValues
   pub places : RoutinesGivePlaces
@@ -81,7 +81,7 @@ module _ (tree : PProgram) (code : Code) (texts : Texts) (nested : LiesNested tr
     known : block < length sc.blocks
     known = subst (λ (x : Instance). x.block < length sc.blocks) (sym (ap or_no_instance here)) found_there.lies.owned.framed.known
 
-    is_seen : InExpr (IsSeen sc block) h.a.actual
+    is_seen : InExpr (BlockIsSeen sc block) h.a.actual
     is_seen = actual_seen sc block (nested.nested.each block known) h.denotes.level h.a.actual kind h.denotes.couple h.denotes.stands
 
     has_room : depth h.a.actual ≤ most_around tree block

@@ -1,6 +1,6 @@
 -- An evaluation is entered: a part that evaluates an actual has a frame without cells above the words of the part around, which waits. No instance is made.
 use Rattle.std.proofs.Common.{◌≡◌, ◌⊎◌, inl, inr, refl, sym, ap, ◌∙◌, subst, ℕ, zero, suc, ◌+◌, ◌-◌, ◌*◌, ◌≤◌, ◌<◌, List, [], ◌∷◌, length, Some, Bool, true, false, arith, None}
-use Rattle.b67_pictures.proofs.Prelude.{if◌then◌else◌, slice_get, numbered, Enter, block_numbered, level_of, PProgram, Scopes, scopes_of, Kind, nothing, ask, resume, Choice, choice, is_evaluation, Rest, Answer, Instance, Process, Part, Purpose, World, instance_at, or_no_instance, ancestor, with_process, all_to_make, all_left_to_make, KeepsToText, RestsKeepToTheirText, AllIsMadeInOrder, segment_of, newest_own, Word, Place, place_at, Placed, Code, stack_limit, place, entered_mark, control_word, frame, plain, letter, has_place, in_routine, Yields, depth, LiesNested, Texts, context_of, Gives, pushed, selected, ComesTo, Slot, slots_length, Core, size, IsCore, HasCore, with_core, newest, SlotsAre, CoreAt, FragmentsArePerformed, length_set_numbered, IsShort, tokens_around, part_weight, weight, parts_weight, has_now, others_have, system_stays, shown, lower_of, numbered_set, most_or_more, HaveTexts, arrays_unchanged, events_unchanged, HasFacts, facts_of, keeps_same, Linked, StayBelow, top_still, StandOn, frame_resumed, AreKnown, IsInReach, most_around, run_level, IsChained, Frame, Waits, Around, of_lent, Lent, Takes, AreLaid, all_laid, Found, found_laid, alike_by, steps_none, living_of, AbleActor, actor_of, gives_within, limit_beyond, goes_on, weight_of, text_in, level_in, context_in, most_in, FrameStill, frame_still, still_low, parts_weigh, known_stays, task_stays, state_stays, events_same, Living, Pictures, PicturesBy, Does, gave, stopped}
+use Rattle.b67_pictures.proofs.Prelude.{if◌then◌else◌, slice_get, numbered, Enter, block_numbered, level_of, PProgram, Scopes, scopes_of, Kind, nothing, ask, resume, Choice, choice, is_evaluation, Rest, Answer, Instance, Process, Part, Purpose, World, instance_at, or_no_instance, ancestor, with_process, all_to_make, all_left_to_make, KeepsToText, RestsKeepToTheirText, AllIsMadeInOrder, segment_of, newest_own, Word, Place, place_at, Placed, Code, stack_limit, place, entered_mark, control_word, frame, plain, letter, has_place, in_routine, Yields, depth, LiesNested, Texts, context_of, Gives, pushed, selected, ComesTo, Slot, slots_length, Core, size, IsCore, HasCore, with_core, newest, SlotsAre, CoreAt, FragmentsArePerformed, length_set_numbered, IsShortSegment, tokens_around, part_weight, weight, parts_weight, has_now, others_have, system_stays, shown, lower_of, numbered_set, most_or_more, HaveTexts, arrays_unchanged, events_unchanged, HasFacts, facts_of, keeps_same, Linked, StayBelow, top_still, StandOn, frame_resumed, AreKnown, IsInReach, most_around, run_level, IsChained, Frame, Waits, Around, of_lent, Lent, Takes, AreLaid, all_laid, Found, found_laid, alike_by, steps_none, living_of, AbleActor, actor_of, gives_within, limit_beyond, goes_on, weight_of, text_in, level_in, context_in, most_in, FrameStill, frame_still, still_low, parts_weigh, known_stays, task_stays, state_stays, events_same, Living, Pictures, PicturesBy, Does, gave, stopped}
 use Rattle.algol_tree.specs.Plain as forms
 use Rattle.algol_tree.specs.Plain.{PExpr}
 use Rattle.algol_meaning.specs.Rest.{entered}
@@ -59,7 +59,7 @@ module _ (tree : PProgram) (code : Code) (texts : Texts) (w : World) where
     pub comes : ComesTo (scopes_of tree) (in_routine gives (context_of code texts (scopes_of tree) ((instance_at w i).block))) (texts.placed (segment_of (scopes_of tree).blocks ((instance_at w i).block)))
         (level_of (block_numbered (scopes_of tree).blocks ((instance_at w i).block)) + 1) (most_around tree ((instance_at w i).block)) rest at (selected (has_place e) selector)
 
-module _ (tree : PProgram) (code : Code) (texts : Texts) (nested : LiesNested tree) (short : IsShort tree code) (stand : HaveTexts tree code texts)
+module _ (tree : PProgram) (code : Code) (texts : Texts) (nested : LiesNested tree) (short : IsShortSegment tree code) (stand : HaveTexts tree code texts)
     (fragments : FragmentsArePerformed) (keeps : RestsKeepToTheirText) (order : AllIsMadeInOrder)
     (actor : AbleActor tree code texts) where
   open actor use {w, lay, img, p, q, part, outer, core, s, able_is, able_p}

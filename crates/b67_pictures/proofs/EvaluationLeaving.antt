@@ -1,6 +1,6 @@
 -- The frame of an evaluation is left: no instance is left, no row is closed, and the part around goes on with the value, or with the place.
 use Rattle.std.proofs.Common.{◌≡◌, ◌≢◌, inl, inr, refl, sym, ap, ◌∙◌, subst, ℕ, zero, suc, List, [], ◌∷◌, length, Option, Some, None, Bool, true, false, Ok, arith, ◌⊎◌, ◌++◌}
-use Rattle.b67_pictures.proofs.Prelude.{list_any, if◌then◌else◌, is_some, ◌||◌, ◌==◌, reverse, numbered, EventState, Leave, PProgram, Scopes, scopes_of, Kind, Ask, leaves, ask, Choice, choice, choice_of, left_with, left_or_ended, fails, some_depends, Answer, value, Value, Process, Part, lives, World, with_process, instance_at, ancestor, RestsKeepToTheirText, AllIsMadeInOrder, IsStanding, IsOnPath, IsOwn, newest_own, Word, Place, as_sirw, Descriptor, Sirw, Code, Rows, one_event, same_place, is_from, as_indexed, place, gives, Image, with_rows, arrays_closed, is_critical, frame, Change, live_criticals, is_result, plain, operator_at, Below, letter, Yields, AreNested, Texts, ActionAt, Gives, IsFound, held_at, operand, descriptor, Core, IsCore, HasCore, Known, FragmentsArePerformed, length_set_numbered, true_false, system_stays, Leaves, after, outer_is, left_has, left_others, numbered_set, operand_given, return_raw, return_class, return_action, action_not_plain, Top, top_slot, HaveTexts, value_tag, arrays_unchanged, IsElsewhere, event_outside, HasFacts, facts_of, KeepsArrays, known_is, keeps_same, StayBelow, Layout, ArraysAre, AreKnown, HeldIs, EventsAre, HasEvent, IsInReach, Waits, Lent, all_laid, element_home, operator_there, AreAlike, alike_by, names_variable, Actor, actor_of, InnerActor, choice_is, gives_within, goes_on, text_in, level_in, context_in, most_in, state_stays, events_same, fewer_closed, held_of, Living, Pictures, PicturesBy, StateIs, Does, gave}
+use Rattle.b67_pictures.proofs.Prelude.{list_any, if◌then◌else◌, is_some, ◌||◌, ◌==◌, reverse, numbered, EventState, Leave, PProgram, Scopes, scopes_of, Kind, Ask, leaves, ask, Choice, choice, choice_of, left_with, left_or_ended, fails, some_depends, Answer, value, Value, Process, Part, lives, World, with_process, instance_at, ancestor, RestsKeepToTheirText, AllIsMadeInOrder, IsStanding, IsOnPath, IsOwn, newest_own, Word, Place, as_sirw, Descriptor, Sirw, Code, Rows, one_event, same_place, is_from, as_indexed, place, gives, Image, with_rows, arrays_closed, is_critical, frame, Change, live_criticals, is_result, plain, operator_at, Below, letter, Yields, AreNested, Texts, ActionAt, Gives, PlaceIsFound, held_at, operand, descriptor, Core, IsCore, HasCore, Known, FragmentsArePerformed, length_set_numbered, true_false, system_stays, Leaves, after, outer_is, left_has, left_others, numbered_set, operand_given, return_raw, return_class, return_action, action_not_plain, Top, top_slot, HaveTexts, value_tag, arrays_unchanged, IsElsewhere, event_outside, HasFacts, facts_of, KeepsArrays, known_is, keeps_same, StayBelow, Layout, ArraysAre, AreKnown, HeldIs, EventsAre, HasEvent, IsInReach, Waits, Lent, all_laid, element_home, operator_there, AreAlike, alike_by, names_variable, Actor, actor_of, InnerActor, choice_is, gives_within, goes_on, text_in, level_in, context_in, most_in, state_stays, events_same, fewer_closed, held_of, Living, Pictures, PicturesBy, StateIs, Does, gave}
 use Rattle.b67_num.specs.declared.FaultKind.TheVariants as fault
 use Rattle.algol_meaning.specs.Rest as rests
 use Rattle.b67_ops.specs.declared.Operator.TheVariants as ops
@@ -41,13 +41,13 @@ module _ (tree : PProgram) (code : Code) (texts : Texts) (nested : AreNested (sc
   open actor use {w, lay, part, outer}
 
   -- the word of a place that was found may be given back
-  pub place_word_given : (x : rests.Place) (kind : Kind) (word : Word) → IsFound x → HeldIs (scopes_of tree) w lay (IsInReach w (part ∷ outer)) part.instance (held_at x kind) word → is_result word ≡ true
+  pub place_word_given : (x : rests.Place) (kind : Kind) (word : Word) → PlaceIsFound x → HeldIs (scopes_of tree) w lay (IsInReach w (part ∷ outer)) part.instance (held_at x kind) word → is_result word ≡ true
   place_word_given (rests.own n) kind word found h = absurd found
   place_word_given (rests.there r) kind word found h = reference_given word _ (names_variable tree code texts nested actor r kind word h).reads
   place_word_given (rests.element_of r ks) kind word found h = element_given word _ (element_home tree code texts actor r ks kind word h).reads
 
 -- what it stands for does not depend on the part
-place_moved : (sc : Scopes) (w : World) (lay : Layout) (Stand : ℕ → Type 0) (i j : ℕ) (x : rests.Place) (kind : Kind) (word : Word) → IsFound x → HeldIs sc w lay Stand i (held_at x kind) word →
+place_moved : (sc : Scopes) (w : World) (lay : Layout) (Stand : ℕ → Type 0) (i j : ℕ) (x : rests.Place) (kind : Kind) (word : Word) → PlaceIsFound x → HeldIs sc w lay Stand i (held_at x kind) word →
     HeldIs sc w lay Stand j (held_at x kind) word
 place_moved sc w lay Stand i j (rests.own n) kind word found h = absurd found
 place_moved sc w lay Stand i j (rests.there r) kind word found h = h

@@ -1,6 +1,6 @@
 -- An event changes, and with it the state of the process that acts on it: the image pictures the world after it.
 use Rattle.std.proofs.Common.{◌≡◌, ◌≢◌, ◌⊎◌, inl, inr, refl, sym, ap, ◌∙◌, subst, ℕ, ◌≤◌, List, ◌∷◌, length, Option, Some, None, true}
-use Rattle.b67_pictures.proofs.Prelude.{numbered, EventState, PProgram, Scopes, scopes_of, resume, set_event, list_in, Answer, Reference, event, NamedCell, Instance, State, lives, World, instance_at, or_no_instance, with_instance, with_process, cells_with, all_to_make, all_left_to_make, IsSeen, RestsKeepToTheirText, AllIsMadeInOrder, InAnswer, Word, Place, Registers, Code, stack_limit, Event, changed as with_event, place, Image, is_live, cell_place, ProcessState, AreNested, Texts, ComesTo, Slot, Core, size, HasCore, with_core, CoreAt, FragmentsArePerformed, same_or_not, arrays_unchanged, events_unchanged, OwnCells, OwnEvent, Layout, ArraysAre, event_there, EventsAre, cell_there, found_laid, Actor, Seen, text_in, level_in, context_in, most_in, stored_world, PicturesBy, StateIs, AreAwaiting}
+use Rattle.b67_pictures.proofs.Prelude.{numbered, EventState, PProgram, Scopes, scopes_of, resume, set_event, list_in, Answer, Reference, event, NamedCell, Instance, State, lives, World, instance_at, or_no_instance, with_instance, with_process, cells_with, all_to_make, all_left_to_make, BlockIsSeen, RestsKeepToTheirText, AllIsMadeInOrder, InAnswer, Word, Place, Registers, Code, stack_limit, Event, event_changed, place, Image, is_live, cell_place, ProcessState, AreNested, Texts, ComesTo, Slot, Core, size, HasCore, with_core, CoreAt, FragmentsArePerformed, same_or_not, arrays_unchanged, events_unchanged, OwnCells, OwnEvent, Layout, ArraysAre, event_there, EventsAre, cell_there, found_laid, Actor, Seen, text_in, level_in, context_in, most_in, stored_world, PicturesBy, StateIs, AreAwaiting}
 use Rattle.algol_meaning.specs.World as meant
 use Rattle.b67_events.specs.Laws.{StaysInPlace}
 use Rattle.b67_table.specs.declared.ProcessState.TheVariants as image_states
@@ -40,7 +40,7 @@ module _ (tree : PProgram) (code : Code) (texts : Texts) (nested : AreNested (sc
   open actor use {w, lay, img, p, q, part, outer, core, s}
 
   module _ (able_is : lives q.state ≡ true) (unmade : all_left_to_make part.rest ≡ all_to_make part.rest)
-      (answer : Answer) (nameless : InAnswer (IsSeen (scopes_of tree) ((instance_at w part.instance).block)) answer)
+      (answer : Answer) (nameless : InAnswer (BlockIsSeen (scopes_of tree) ((instance_at w part.instance).block)) answer)
       (r : Reference) (l : Seen tree code texts actor r.instance) (number : ℕ)
       (found : OwnEvent (scopes_of tree) w lay l.found.lies.part.instance l.found.lies.owned.framed.instance (own_there tree code texts nested actor l) r.name number)
       (later : EventState) (change : Event → Event) (stays : StaysInPlace change)
@@ -53,7 +53,7 @@ module _ (tree : PProgram) (code : Code) (texts : Texts) (nested : AreNested (sc
       (comes : ComesTo (scopes_of tree) (context_in tree code texts w part s.stands.frame.gives) (text_in tree texts w part) (level_in tree w part) (most_in tree w part) (resume (scopes_of tree) part.rest answer) next below)
       (smaller : size (record { below = core.below; words = words; registers = registers }) ≤ stack_limit)
       (awaiting : AreAwaiting (record img {
-        events = with_event (cell_place (cell_there tree code texts nested actor l number)) change img.events;
+        events = event_changed (cell_place (cell_there tree code texts nested actor l number)) change img.events;
         states = states;
       }))
       (after : IsAfter (scopes_of tree) w
@@ -90,7 +90,7 @@ module _ (tree : PProgram) (code : Code) (texts : Texts) (nested : AreNested (sc
     w' = with_process stored p (record q { todo = record part { rest = resume sc part.rest answer } ∷ outer; state = state })
 
     abbrev base : Image
-    base = record img { events = with_event at change img.events; states = states }
+    base = record img { events = event_changed at change img.events; states = states }
 
     -- each one has its core
     same : (m : ℕ) (other : Core) → HasCore img m other → HasCore base m other
@@ -103,9 +103,9 @@ module _ (tree : PProgram) (code : Code) (texts : Texts) (nested : AreNested (sc
     arrays_now : ArraysAre sc w' lay img.rows
     arrays_now = arrays_unchanged sc stored w' lay img.rows refl (arrays_after sc w lay i instance has_it.0 r.name number has_it.1 later img.rows s.by.arrays)
 
-    events_now : EventsAre sc w' lay (with_event at change img.events)
+    events_now : EventsAre sc w' lay (event_changed at change img.events)
     events_now =
-        events_unchanged sc stored w' lay (with_event at change img.events) refl
+        events_unchanged sc stored w' lay (event_changed at change img.events) refl
         (events_after sc w lay i instance has_it.0 r.name number has_it.1 later (place l.found.number (length l.found.lies.frame.lower)) (found_laid tree code texts w lay img i l.found) change stays
         (ap (λ c. change (event_there at c)) has_it.2 ∙ becomes) img.events s.by.events)
 
@@ -115,7 +115,7 @@ module _ (tree : PProgram) (code : Code) (texts : Texts) (nested : AreNested (sc
         (stored_world w r.instance l.found.lies.owned.framed.instance (instance_there tree code texts actor r l) (cells_with l.found.lies.owned.framed.instance.cells r.name (event later))) p
         (record q { todo = record part { rest = resume (scopes_of tree) part.rest answer } ∷ outer; state = state })) lay
         (with_core (record img {
-          events = with_event (cell_place (cell_there tree code texts nested actor l number)) change img.events;
+          events = event_changed (cell_place (cell_there tree code texts nested actor l number)) change img.events;
           states = states;
         }) p (record { below = core.below; words = words; registers = registers }))
     event_pictured = by_number (same_or_not l.found.number p)

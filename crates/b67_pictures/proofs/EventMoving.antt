@@ -1,6 +1,6 @@
 -- One event of a world becomes another one, and nobody acts: the image in which it has changed pictures the world after it.
 use Rattle.std.proofs.Common.{◌≡◌, refl, sym, ap, ◌∙◌, subst, ℕ, ◌+◌, List, ◌++◌, length, Some, None, true}
-use Rattle.b67_pictures.proofs.Prelude.{slice_get, numbered, EventState, block_numbered, PProgram, Scopes, scopes_of, set_event, change_event, Reference, event, NamedCell, Instance, Process, lives, World, instance_at, or_no_instance, event_in, cell_in, cell_at, cells_with, Made, an_event, IsIn, IsOwn, referred_in_cells, Word, Place, Code, changed as with_event, with_state, place, Image, simple_cells, made_base, made_of, Texts, Core, HasCore, length_set_numbered, some_same, none_some, true_false, HasFacts, KeepsArrays, StandOn, OwnCells, framed_cells, OwnEvent, known_event, Layout, AreMade, event_there, HasEvent, EventsAre, CellsAre, all_laid, LeavesAlone, put, stored_world, others_at, stored_on, ChangedCells, others_stored, EventsStay, events_kept, events_beside, waits_kept, IsEventAt, Living, Pictured, living, dead, PicturesBy, AreAwaiting}
+use Rattle.b67_pictures.proofs.Prelude.{slice_get, numbered, EventState, block_numbered, PProgram, Scopes, scopes_of, set_event, change_event, Reference, event, NamedCell, Instance, Process, lives, World, instance_at, or_no_instance, event_in, cell_in, cell_at, cells_with, Made, an_event, IsInSkeleton, IsOwn, referred_in_cells, Word, Place, Code, event_changed, with_state, place, Image, simple_cells, made_base, made_of, Texts, Core, HasCore, length_set_numbered, some_same, none_some, true_false, HasFacts, KeepsArrays, StandOn, OwnCells, framed_cells, OwnEvent, known_event, Layout, AreMade, event_there, HasEvent, EventsAre, CellsAre, all_laid, LeavesAlone, put, stored_world, others_at, stored_on, ChangedCells, others_stored, EventsStay, events_kept, events_beside, waits_kept, IsEventAt, Living, Pictured, living, dead, PicturesBy, AreAwaiting}
 use Rattle.algol_meaning.specs.World.{no_process}
 use Rattle.b67_events.specs.Events as kernel
 use Rattle.b67_scenes.proofs.EventThere as there
@@ -107,7 +107,7 @@ module _ (tree : PProgram) (code : Code) (texts : Texts) (w : World) (lay : Layo
     many : length cells' ≡ length x.cells
     many = there.as_many sc w lay i x own_cells r.name number found later
 
-    fewer : (k : ℕ) → IsIn (referred_in_cells cells') k → IsIn (referred_in_cells x.cells) k
+    fewer : (k : ℕ) → IsInSkeleton (referred_in_cells cells') k → IsInSkeleton (referred_in_cells x.cells) k
     fewer = refers_fewer x.cells r.name (event later) refl
 
     changes : (simple : List NamedCell) (values : List Word) (arrays : List NamedCell) (declared : List Made) (descriptors : List Word) → CellsAre (simple_cells sc (block_numbered sc.blocks x.block)) simple values →
@@ -133,7 +133,7 @@ module _ (tree : PProgram) (code : Code) (texts : Texts) (w : World) (lay : Layo
         }
 
     abbrev pub moved_image : Image
-    moved_image = record img { events = with_event at (with_state change) img.events }
+    moved_image = record img { events = event_changed at (with_state change) img.events }
 
     same_core : (m : ℕ) (core : Core) → HasCore img m core → HasCore moved_image m core
     same_core m core has = record { live = has.live; registers = has.registers; own = has.own; stack = has.stack; is = has.is }
@@ -144,13 +144,13 @@ module _ (tree : PProgram) (code : Code) (texts : Texts) (w : World) (lay : Layo
         (λ z there_z. subst (λ (y : Process). IsOwn y.todo i) (some_same (sym o.is ∙ there_z)) o.own) (λ core has set. absurd set) (λ core has. same_core o.number core has) (λ k core a b has. same_core k core has) (λ k other. refl)
         m q (λ (none : m ≡ 0). none_some (ap (λ (n : ℕ). numbered w.processes n) (sym none) ∙ there_is)) there_is there_is (by.each m q there_is)
 
-    events_now : EventsAre sc w' lay (with_event at (with_state change) img.events)
+    events_now : EventsAre sc w' lay (event_changed at (with_state change) img.events)
     events_now =
-        subst (λ (z : Place). EventsAre sc w' lay (with_event z (with_state change) img.events)) (sym at_is)
+        subst (λ (z : Place). EventsAre sc w' lay (event_changed z (with_state change) img.events)) (sym at_is)
         (there.events_after sc w lay i x own_cells r.name number found later (place o.number high) laid (with_state change) (λ e. refl) refl img.events by.events)
 
-    pub moved_pictured : AreAwaiting (record img { events = with_event at (with_state change) img.events }) →
-        PicturesBy tree code texts moved_world lay (record img { events = with_event at (with_state change) img.events })
+    pub moved_pictured : AreAwaiting (record img { events = event_changed at (with_state change) img.events }) →
+        PicturesBy tree code texts moved_world lay (record img { events = event_changed at (with_state change) img.events })
     moved_pictured awaiting =
         record {
           laid = by.laid ∙ sym (length_set_numbered w.instances i (changed w i x is cells'));

@@ -1,12 +1,12 @@
 -- A frame is entered: the instance of a block or a procedure has it above the words of the part around, which waits.
 use Rattle.std.proofs.Common.{◌≡◌, ◌≢◌, refl, sym, ap, ◌∙◌, subst, ℕ, zero, suc, ◌+◌, ◌*◌, ◌≤◌, ◌<◌, List, [], ◌∷◌, ◌++◌, length, Option, Some, None, Bool, false, arith, append_assoc, append-nil, length-append, true}
-use Rattle.b67_pictures.proofs.Prelude.{nat_tests, length-reverse, if◌then◌else◌, ◌&&◌, ◌||◌, ◌==◌, replicate, reverse, slice_get, numbered, Enter, Block, block_numbered, level_of, PProgram, Scopes, scopes_of, nothing, ask, resume, Choice, choice, is_this, is_evaluation, some_depends, fresh_cells, Answer, Given, settle_items, items_of, Cell, Instance, Process, Purpose, Part, lives, World, instance_at, or_no_instance, ancestor, with_process, all_to_make, all_left_to_make, KeepsToText, RestsKeepToTheirText, AllIsMadeInOrder, segment_of, IsStanding, newest_own, Word, Place, pcw_word, place_at, Pcw, Registers, Placed, Code, stack_limit, numbered_within, place, entered_mark, control_word, frame, Wanted, parameter_cells, zero_cells, simple_cells, actuals_of, made_of, CellsAt, in_routine, yields_of, Yields, LiesNested, Texts, context_of, Gives, pushed, ComesTo, Slot, Core, size, IsCore, HasCore, with_core, newest, SlotsAre, CoreAt, BlocksBegin, FragmentsArePerformed, control_words, length_set_numbered, none_some, IsShort, tokens_around, part_weight, weight, parts_weight, has_now, others_have, system_stays, lower_of, ActualsAre, numbered_last, numbered_before, numbered_earlier, numbered_set, length_mapped, rows_there, no_elements, no_rows, arrays_joined, block_few, events_joined, HasFacts, facts_of, LeadAll, fresh_are, simple_many, KeepsArrays, Remain, denotes_lasts, keeps_same, all_each, StayBelow, runs_at, top_still, as_many_values, StandOn, frame_resumed, zero_word, cells_length, Allotted, Layout, AreMade, AreKnown, IsInReach, block_controls, controls_count, most_around, CellsAre, IsChained, home_of, Framed, ItemsStand, Frame, Waits, Around, of_own, run_level, AreLaid, all_laid, Calls, AreAlike, living_of, reached_stands, AbleActor, actor_of, gives_within, goes_on, weight_of, text_in, level_in, context_in, most_in, FrameStill, frame_still, still_low, known_stays, parts_weigh, names_in, EventsStay, critical_stays, task_stays, state_stays, events_before, Living, Pictures, PicturesBy, Does, gave}
+use Rattle.b67_pictures.proofs.Prelude.{nat_tests, length-reverse, if◌then◌else◌, ◌&&◌, ◌||◌, ◌==◌, replicate, reverse, slice_get, numbered, Enter, Block, block_numbered, level_of, PProgram, Scopes, scopes_of, nothing, ask, resume, Choice, choice, is_this, is_evaluation, some_depends, fresh_cells, Answer, Given, settle_items, items_of, Cell, Instance, Process, Purpose, Part, lives, World, instance_at, or_no_instance, ancestor, with_process, all_to_make, all_left_to_make, KeepsToText, RestsKeepToTheirText, AllIsMadeInOrder, segment_of, IsStanding, newest_own, Word, Place, pcw_word, place_at, Pcw, Registers, Placed, Code, stack_limit, numbered_within, place, entered_mark, control_word, frame, Wanted, parameter_cells, zero_cells, simple_cells, actuals_of, made_of, CellsAt, in_routine, yields_of, Yields, LiesNested, Texts, context_of, Gives, pushed, ComesTo, Slot, Core, size, IsCore, HasCore, with_core, newest, SlotsAre, CoreAt, BlocksBegin, FragmentsArePerformed, control_words, length_set_numbered, none_some, IsShortSegment, tokens_around, part_weight, weight, parts_weight, has_now, others_have, system_stays, lower_of, ActualsAre, numbered_last, numbered_before, numbered_earlier, numbered_set, length_mapped, rows_there, no_elements, no_rows, arrays_joined, block_few, events_joined, HasFacts, facts_of, LeadAll, fresh_are, simple_many, KeepsArrays, Remain, denotes_lasts, keeps_same, all_each, StayBelow, runs_at, top_still, as_many_values, StandOn, frame_resumed, zero_word, cells_length, Allotted, Layout, AreMade, AreKnown, IsInReach, block_controls, controls_count, most_around, CellsAre, IsChained, home_of, Framed, ItemsStand, Frame, Waits, Around, of_own, run_level, AreLaid, all_laid, Calls, AreAlike, living_of, reached_stands, AbleActor, actor_of, gives_within, goes_on, weight_of, text_in, level_in, context_in, most_in, FrameStill, frame_still, still_low, known_stays, parts_weigh, names_in, EventsStay, critical_stays, task_stays, state_stays, events_before, Living, Pictures, PicturesBy, Does, gave}
 use Rattle.algol_meaning.specs.Rest.{entered}
 use Rattle.algol_meaning.specs.Instances as instances
 use Rattle.b67_table.specs.Outcome as outcomes
 use Rattle.b67_table.specs.Table.{table}
-use Rattle.b67_templates.specs.Fragments.{Goes}
-use Rattle.b67_cores.specs.Stretches.{Begins}
+use Rattle.b67_templates.specs.Fragments.{FragmentGoes}
+use Rattle.b67_cores.specs.Stretches.{CoreBegins}
 use Rattle.b67_templates.specs.Nested.{IsText}
 use Rattle.b67_rows.proofs.StackWords.{length-stack}
 use Rattle.b67_rows.proofs.Texted.{block_keeps, block_makes}
@@ -57,7 +57,7 @@ abbrev pub entered_world : Scopes → World → ℕ → Process → Part → Lis
 entered_world sc w p q part outer h j given purpose =
     with_process (record w { instances = w.instances ++ new_instance sc p h j given ∷ [] }) p (record q { todo = inner_of sc w j purpose ∷ around_of sc part ∷ outer })
 
-module _ (tree : PProgram) (code : Code) (texts : Texts) (nested : LiesNested tree) (short : IsShort tree code)
+module _ (tree : PProgram) (code : Code) (texts : Texts) (nested : LiesNested tree) (short : IsShortSegment tree code)
     (fragments : FragmentsArePerformed) (begins : BlocksBegin) (keeps : RestsKeepToTheirText) (order : AllIsMadeInOrder)
     (actor : AbleActor tree code texts) where
   open actor use {w, lay, img, p, q, part, outer, core, s, able_is, able_p}
@@ -80,7 +80,7 @@ module _ (tree : PProgram) (code : Code) (texts : Texts) (nested : LiesNested tr
     pub ats : List ℕ
     pub routines : RoutinesStand tree code texts j ats
     pub items : ItemsStand tree code texts j
-    pub over : Goes (texts.placed (segment_of sc.blocks j)) (level_of (block_numbered sc.blocks j)) begin ready
+    pub over : FragmentGoes (texts.placed (segment_of sc.blocks j)) (level_of (block_numbered sc.blocks j)) begin ready
     pub cells_at : CellsAt sc (context_of code texts sc j) (texts.placed (segment_of sc.blocks j)) (level_of (block_numbered sc.blocks j)) (length (zero_cells (block_numbered sc.blocks j)))
         (block_controls sc j ats) ready start
     pub comes : ComesTo sc (context_of code texts sc j) (texts.placed (segment_of sc.blocks j)) (level_of (block_numbered sc.blocks j)) (most_around tree j) (settle_items sc (items_of (block_numbered sc.blocks j))) start []
@@ -292,7 +292,7 @@ module _ (tree : PProgram) (code : Code) (texts : Texts) (nested : LiesNested tr
     abbrev bound' : ℕ
     bound' = at + 2 + length taken + (many + length controls) + most_around tree j
 
-    g : Begins sc [] code ps inner_level bound' many controls body.start new
+    g : CoreBegins sc [] code ps inner_level bound' many controls body.start new
     g =
         begins sc [] (context_of code texts sc j) code ps inner_level bound' many controls begin body.ready body.start new body.over body.cells_at
         (entries.core_at tree code texts nested short (actor_of s) wanted gs slot next waiting h j begin e) (omega (arith, few_cells, as_given)) (omega (arith, new_long))

@@ -1,6 +1,6 @@
 -- A process goes on in its innermost part, in a world in which its own instances, and the rows of their arrays, are what they were.
 use Rattle.std.proofs.Common.{◌≡◌, refl, sym, ap, ◌∙◌, subst, ℕ, ◌+◌, ◌<◌, ◌≤◌, List, ◌∷◌, length, Some, arith}
-use Rattle.b67_pictures.proofs.Prelude.{numbered, block_numbered, level_of, PProgram, scopes_of, resume, is_evaluation, Answer, Instance, Process, Part, State, World, instance_at, all_to_make, all_left_to_make, IsSeen, RestsKeepToTheirText, AllIsMadeInOrder, segment_of, InAnswer, place_at, Registers, Code, stack_limit, Image, in_routine, Yields, Texts, context_of, ComesTo, Slot, Core, size, HasCore, Known, CoreAt, FragmentsArePerformed, weight, facts_of, StayBelow, StandOn, frame_resumed, Layout, AreKnown, IsInReach, most_around, IsChained, Frame, run_level, AreLaid, all_laid, steps_none, living_of, CanClimb, Actor, weight_of, text_in, level_in, context_in, most_in, names_in, FrameStill, frame_still, frame_low, chained_stays, top_stays, parts_weigh, known_stays, EventsStay, critical_stays, task_stays, CriticalIs, TaskIs, Living}
+use Rattle.b67_pictures.proofs.Prelude.{numbered, block_numbered, level_of, PProgram, scopes_of, resume, is_evaluation, Answer, Instance, Process, Part, State, World, instance_at, all_to_make, all_left_to_make, BlockIsSeen, RestsKeepToTheirText, AllIsMadeInOrder, segment_of, InAnswer, place_at, Registers, Code, stack_limit, Image, in_routine, Yields, Texts, context_of, ComesTo, Slot, Core, size, HasCore, Known, CoreAt, FragmentsArePerformed, weight, facts_of, StayBelow, StandOn, frame_resumed, Layout, AreKnown, IsInReach, most_around, IsChained, Frame, run_level, AreLaid, all_laid, steps_none, living_of, CanClimb, Actor, weight_of, text_in, level_in, context_in, most_in, names_in, FrameStill, frame_still, frame_low, chained_stays, top_stays, parts_weigh, known_stays, EventsStay, critical_stays, task_stays, CriticalIs, TaskIs, Living}
 use Rattle.b67_scenes.specs.Reaches as reaching
 use Rattle.b67_scenes.proofs.Staying.{block_stays}
 use Rattle.b67_pictures.proofs.InFrame.{SameFrame}
@@ -9,7 +9,7 @@ module _ (tree : PProgram) (code : Code) (texts : Texts) (fragments : FragmentsA
   open actor use {w, lay, p, q, part, outer, bound, core, s}
 
   module _ (unmade : all_left_to_make part.rest ≡ all_to_make part.rest)
-      (a : Answer) (nameless : InAnswer (IsSeen (scopes_of tree) ((instance_at w part.instance).block)) a) (new : Core) (below : new.below ≡ core.below) (frame_is : SameFrame core.registers new.registers)
+      (a : Answer) (nameless : InAnswer (BlockIsSeen (scopes_of tree) ((instance_at w part.instance).block)) a) (new : Core) (below : new.below ≡ core.below) (frame_is : SameFrame core.registers new.registers)
       (known : List Known) (known_are : AreKnown (scopes_of tree) w lay (IsInReach w (part ∷ outer)) part.instance known)
       (pc : ℕ) (slots : List Slot) (there : CoreAt (scopes_of tree) known code (text_in tree texts w part) (level_in tree w part) pc slots new) (few : length slots ≤ most_in tree w part)
       (comes : ComesTo (scopes_of tree) (context_in tree code texts w part s.stands.frame.gives) (text_in tree texts w part) (level_in tree w part) (most_in tree w part) (resume (scopes_of tree) part.rest a) pc slots)
@@ -48,7 +48,7 @@ module _ (tree : PProgram) (code : Code) (texts : Texts) (fragments : FragmentsA
         (resume (scopes_of tree) part.rest a) pc slots
 
     abbrev frame' : Frame tree code texts w' lay' p part' outer new.below
-    frame' = frame_resumed tree code texts w' lay' p keeps order part outer core.below new.below still.frame below unmade a (subst (λ (b : ℕ). InAnswer (IsSeen (scopes_of tree) b) a) block_is nameless)
+    frame' = frame_resumed tree code texts w' lay' p keeps order part outer core.below new.below still.frame below unmade a (subst (λ (b : ℕ). InAnswer (BlockIsSeen (scopes_of tree) b) a) block_is nameless)
 
     light' : bound + 3 ≤ weight tree w' p
     light' =

@@ -1,6 +1,6 @@
 -- Actions that change nothing but what lies above the cells of the process's own frame, and the output.
 use Rattle.std.proofs.Common.{◌≡◌, ◌≢◌, ◌⊎◌, inl, inr, refl, sym, ap, ◌∙◌, subst, ℕ, ◌+◌, ◌<◌, ◌≤◌, List, [], ◌∷◌, length, Some, None, false, arith}
-use Rattle.b67_pictures.proofs.Prelude.{numbered, Letter, PProgram, scopes_of, resume, Choice, choice, Answer, Process, Part, World, instance_at, with_process, all_to_make, all_left_to_make, IsSeen, RestsKeepToTheirText, AllIsMadeInOrder, InAnswer, place_at, Registers, Code, stack_limit, Image, woken_number, frame, plain, letter, Yields, Texts, ComesTo, Slot, slots_length, Core, size, HasCore, with_core, Known, CoreAt, FragmentsArePerformed, length_set_numbered, weight, has_now, others_have, system_stays, numbered_set, most_or_more, arrays_unchanged, events_unchanged, HasFacts, facts_of, keeps_same, StayBelow, StandOn, frame_resumed, AreKnown, IsInReach, IsChained, Frame, AreLaid, all_laid, alike_by, steps_none, living_of, AbleActor, gives_within, limit_beyond, weight_of, process_is, text_in, level_in, context_in, most_in, FrameStill, frame_still, frame_low, chained_stays, top_stays, parts_weigh, known_stays, names_in, task_stays, state_stays, events_same, CriticalIs, TaskIs, Pictures, PicturesBy, WaitsAre, MayAct, Does, gave, stopped}
+use Rattle.b67_pictures.proofs.Prelude.{numbered, Letter, PProgram, scopes_of, resume, Choice, choice, Answer, Process, Part, World, instance_at, with_process, all_to_make, all_left_to_make, BlockIsSeen, RestsKeepToTheirText, AllIsMadeInOrder, InAnswer, place_at, Registers, Code, stack_limit, Image, woken_number, frame, plain, letter, Yields, Texts, ComesTo, Slot, slots_length, Core, size, HasCore, with_core, Known, CoreAt, FragmentsArePerformed, length_set_numbered, weight, has_now, others_have, system_stays, numbered_set, most_or_more, arrays_unchanged, events_unchanged, HasFacts, facts_of, keeps_same, StayBelow, StandOn, frame_resumed, AreKnown, IsInReach, IsChained, Frame, AreLaid, all_laid, alike_by, steps_none, living_of, AbleActor, gives_within, limit_beyond, weight_of, process_is, text_in, level_in, context_in, most_in, FrameStill, frame_still, frame_low, chained_stays, top_stays, parts_weigh, known_stays, names_in, task_stays, state_stays, events_same, CriticalIs, TaskIs, Pictures, PicturesBy, WaitsAre, MayAct, Does, gave, stopped}
 use Rattle.b67_table.specs.Effect as effects
 use Rattle.b67_table.specs.Outcome as outcomes
 use Rattle.b67_table.specs.Table.{table, raw}
@@ -17,7 +17,7 @@ module _ (tree : PProgram) (code : Code) (texts : Texts) (fragments : FragmentsA
   open actor use {w, lay, img, p, q, part, outer, bound, core, s, able_is, able_p}
 
   module _ (unmade : all_left_to_make part.rest ≡ all_to_make part.rest)
-      (a : Answer) (nameless : InAnswer (IsSeen (scopes_of tree) ((instance_at w part.instance).block)) a) (out : List (List ℕ)) (new : Core) (below : new.below ≡ core.below) (frame_is : SameFrame core.registers new.registers)
+      (a : Answer) (nameless : InAnswer (BlockIsSeen (scopes_of tree) ((instance_at w part.instance).block)) a) (out : List (List ℕ)) (new : Core) (below : new.below ≡ core.below) (frame_is : SameFrame core.registers new.registers)
       (known : List Known) (known_are : AreKnown (scopes_of tree) w lay (IsInReach w (part ∷ outer)) part.instance known)
       (pc : ℕ) (slots : List Slot) (there : CoreAt (scopes_of tree) known code (text_in tree texts w part) (level_in tree w part) pc slots new) (few : length slots ≤ most_in tree w part)
       (comes : ComesTo (scopes_of tree) (context_in tree code texts w part s.stands.frame.gives) (text_in tree texts w part) (level_in tree w part) (most_in tree w part) (resume (scopes_of tree) part.rest a) pc slots)
@@ -146,7 +146,7 @@ module _ (tree : PProgram) (code : Code) (texts : Texts) (fragments : FragmentsA
   open actor use {w, lay, img, p, q, part, outer, core, s}
 
   module _ (unmade : all_left_to_make part.rest ≡ all_to_make part.rest)
-      (a : Answer) (nameless : InAnswer (IsSeen (scopes_of tree) ((instance_at w part.instance).block)) a) (out : List (List ℕ)) (new : Core) (below : new.below ≡ core.below) (frame_is : SameFrame core.registers new.registers)
+      (a : Answer) (nameless : InAnswer (BlockIsSeen (scopes_of tree) ((instance_at w part.instance).block)) a) (out : List (List ℕ)) (new : Core) (below : new.below ≡ core.below) (frame_is : SameFrame core.registers new.registers)
       (known : List Known) (known_are : AreKnown (scopes_of tree) w lay (IsInReach w (part ∷ outer)) part.instance known)
       (pc : ℕ) (slots : List Slot) (there : CoreAt (scopes_of tree) known code (text_in tree texts w part) (level_in tree w part) pc slots new) (few : length slots ≤ most_in tree w part)
       (comes : ComesTo (scopes_of tree) (context_in tree code texts w part s.stands.frame.gives) (text_in tree texts w part) (level_in tree w part) (most_in tree w part) (resume (scopes_of tree) part.rest a) pc slots) where

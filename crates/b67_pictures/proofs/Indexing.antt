@@ -13,7 +13,7 @@ use Rattle.b67_table.specs.Effect as effects
 use Rattle.b67_table.specs.Outcome as outcomes
 use Rattle.b67_table.specs.Table.{table, raw, class_at}
 use Rattle.b67_letters.specs.Letters.{letter_by}
-use Rattle.b67_standing.specs.Stepping.{Held, row}
+use Rattle.b67_standing.specs.Stepping.{HeldWord, row}
 use Rattle.b67_standing.specs.Standing.{ElementIndexAt, RowIndexAt}
 use Rattle.b67_rows.proofs.IndexRows.{index_gives, index_faults, index_raw, index_class, mother_gives, mother_faults, mother_raw, mother_class}
 use Rattle.b67_frames.specs.Arrays.{row_length, row_copy, element_copy, IsRow}
@@ -80,7 +80,7 @@ module _ (tree : PProgram) (code : Code) (texts : Texts) (nested : AreNested (sc
 
       -- one within them: the word of a descriptor comes in place of the two
       module _ (mother : Bool) (moved_subscript : ℤ) (d : Descriptor) (below : List Slot) (f : Finds tree code texts nested (actor_of s) mother moved_subscript d below)
-          (k : ℕ) (e : subscript_place ((use_of sc n).sort) h.cell ks z ≡ Some k) (held : Held) (word : Word) (held_is : HeldIs sc w lay (IsInReach w (part ∷ outer)) part.instance held word)
+          (k : ℕ) (e : subscript_place ((use_of sc n).sort) h.cell ks z ≡ Some k) (held : HeldWord) (word : Word) (held_is : HeldIs sc w lay (IsInReach w (part ∷ outer)) part.instance held word)
           (comes : ComesTo sc (context_in tree code texts w part s.stands.frame.gives) text level (most_in tree w part) (resume sc part.rest (place (element_of home (ks ++ k ∷ [])))) next (descriptor held ∷ below))
           (class_is : class_at op core.registers.place ≡ classes.Action) (raw_is : raw code img p ≡ effects.gives (with_core img p (with_one core word f.words next)))
           (acts : (after : Image) → (letter_by (outcomes.gives after) (operator_letter op img core.registers)) ≡ Some Index) where

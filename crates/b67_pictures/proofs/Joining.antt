@@ -1,6 +1,6 @@
 -- A code in which a program stands whose blocks lie in one another, and which is short and can be listed, is faithful to it.
 use Rattle.std.proofs.Common.{◌≡◌, sym, ◌∙◌, ℕ, ◌≤◌, List, [], ◌∷◌, length, Option, None}
-use Rattle.b67_pictures.proofs.Prelude.{All, EventDeed, block_numbered, PProgram, PPair, PBody, scopes_of, Kind, Named, reads_element, indexes, leaves, enters, passes, stores, goes_to, enters_block, starts, makes_arrays, makes_event, event_deed, ask, element_of, Given, done, value, cell, Value, Reference, World, instance_at, Part, RestsKeepToTheirText, AllIsMadeInOrder, JumpsKeepToTheirText, first_world_stands, IsOk, IsWhole, Code, Segment, segment_limit, HasNames, AreNested, LiesNested, Texts, ProgramAt, blocks_start, RestsGoOn, blocks_begin, fragments_are_performed, HasFormats, IsShort, Faithful, FramesClose, asks_as_own, frame_gives, block_small, of_own, of_lent, scene_of, Scene, actor_of, narrow_of, Does, NestedProgramsAreFaithful, IsListable, outmost_actor}
+use Rattle.b67_pictures.proofs.Prelude.{All, EventDeed, block_numbered, PProgram, PPair, PBody, scopes_of, Kind, Named, reads_element, indexes, leaves, enters, passes, stores, goes_to, enters_block, starts, makes_arrays, makes_event, event_deed, ask, element_of, Given, done, value, cell, Value, Reference, World, instance_at, Part, RestsKeepToTheirText, AllIsMadeInOrder, JumpsKeepToTheirText, first_world_stands, IsOk, IsWholeInstance, Code, Segment, segment_limit, HasNames, AreNested, LiesNested, Texts, ProgramAt, blocks_start, RestsGoOn, blocks_begin, fragments_are_performed, HasFormats, IsShortSegment, Faithful, FramesClose, asks_as_own, frame_gives, block_small, of_own, of_lent, scene_of, Scene, actor_of, narrow_of, Does, NestedProgramsAreFaithful, IsListable, outmost_actor}
 use Rattle.b67_scenes.proofs.Scene.{able_actor}
 use Rattle.algol_tree.specs.Plain as plain
 use Rattle.algol_meaning.specs.Rest.{Place, place, entered}
@@ -53,7 +53,7 @@ pub record EventsAreDone (tree : PProgram) (code : Code) (texts : Texts) : Type 
 abbrev pub ProcessesAreDone : PProgram → Code → Texts → Type 0
 ProcessesAreDone tree code texts = (n : Named) (gs : List Given) (task : Option Named) → IsDone tree code texts (starts n gs task)
 
-module _ (keeps : RestsKeepToTheirText) (order : AllIsMadeInOrder) (jumps_keep : JumpsKeepToTheirText) (closing : FramesClose) (tree : PProgram) (code : Code) (names : HasNames tree) (lies : LiesNested tree) (fit : HasTexts tree) (short : IsShort tree code)
+module _ (keeps : RestsKeepToTheirText) (order : AllIsMadeInOrder) (jumps_keep : JumpsKeepToTheirText) (closing : FramesClose) (tree : PProgram) (code : Code) (names : HasNames tree) (lies : LiesNested tree) (fit : HasTexts tree) (short : IsShortSegment tree code)
     (segments : All (λ (segment : Segment). length segment.words ≤ segment_limit) code.segments) (at : ProgramAt code tree) (apart : StandApart tree code at.texts)
     (arrays : ArraysAreDone tree code at.texts) (events : EventsAreDone tree code at.texts) (processes : ProcessesAreDone tree code at.texts) where
   abbrev texts : Texts
@@ -157,7 +157,7 @@ module _ (keeps : RestsKeepToTheirText) (order : AllIsMadeInOrder) (jumps_keep :
         have_room = actuals_fit tree names lies.nested;
       }
 
-  settled_act : (w : World) → IsOk (scopes_of tree) IsWhole w → SettledAct tree code texts w
+  settled_act : (w : World) → IsOk (scopes_of tree) IsWholeInstance w → SettledAct tree code texts w
   settled_act w ok lay img p q by at_p able_is able_p l has =
       let s = scene_of tree code texts w lay img p q (narrow_of tree code texts w lay img by ok p q at_p) ok by at_p l has in
       scene_settled tree code texts lies actuals_are_entered fragments_are_performed keeps order rests_go_on others events.freeing ends_freed (able_actor s.2 able_is able_p)
@@ -184,18 +184,18 @@ ProcessesStandApart = (tree : PProgram) (code : Code) (texts : Texts) → AreNes
 
 -- Where the blocks of a program lie in one another, a code in which it stands is faithful to it.
 pub nested_programs_follow : RestsKeepToTheirText → AllIsMadeInOrder → JumpsKeepToTheirText → FramesClose → ProcessesStandApart →
-    ((tree : PProgram) (code : Code) (at : ProgramAt code tree) → LiesNested tree → IsShort tree code → ArraysAreDone tree code at.texts) →
+    ((tree : PProgram) (code : Code) (at : ProgramAt code tree) → LiesNested tree → IsShortSegment tree code → ArraysAreDone tree code at.texts) →
     ((tree : PProgram) (code : Code) (at : ProgramAt code tree) → LiesNested tree → EventsAreDone tree code at.texts) →
-    ((tree : PProgram) (code : Code) (at : ProgramAt code tree) → LiesNested tree → HasNames tree → IsShort tree code → ProcessesAreDone tree code at.texts) → NestedProgramsAreFaithful
+    ((tree : PProgram) (code : Code) (at : ProgramAt code tree) → LiesNested tree → HasNames tree → IsShortSegment tree code → ProcessesAreDone tree code at.texts) → NestedProgramsAreFaithful
 nested_programs_follow keeps in_order jumps_keep closing apart arrays events processes tree code lies names fit at formats short listable =
     program_is_faithful keeps in_order jumps_keep closing tree code names lies fit short (within_limit code.segments listable.segments) at (apart tree code at.texts lies.nested rests_go_on) (arrays tree code at lies short) (events tree code at lies) (processes tree code at lies names short) formats listable
 
 -- .. and its stacks stay own
 pub nested_stacks_stay : RestsKeepToTheirText → AllIsMadeInOrder → JumpsKeepToTheirText → FramesClose → ProcessesStandApart →
     ((tree : PProgram) (code : Code) (texts : Texts) → AreNested (scopes_of tree) → RestsGoOn → StacksApart tree code texts) →
-    ((tree : PProgram) (code : Code) (at : ProgramAt code tree) → LiesNested tree → IsShort tree code → ArraysAreDone tree code at.texts) →
+    ((tree : PProgram) (code : Code) (at : ProgramAt code tree) → LiesNested tree → IsShortSegment tree code → ArraysAreDone tree code at.texts) →
     ((tree : PProgram) (code : Code) (at : ProgramAt code tree) → LiesNested tree → EventsAreDone tree code at.texts) →
-    ((tree : PProgram) (code : Code) (at : ProgramAt code tree) → LiesNested tree → HasNames tree → IsShort tree code → ProcessesAreDone tree code at.texts) → NestedStacksStayOwn
+    ((tree : PProgram) (code : Code) (at : ProgramAt code tree) → LiesNested tree → HasNames tree → IsShortSegment tree code → ProcessesAreDone tree code at.texts) → NestedStacksStayOwn
 nested_stacks_stay keeps in_order jumps_keep closing apart stacks arrays events processes tree code lies names fit at formats short listable =
     program_stacks_stay keeps in_order jumps_keep closing tree code names lies fit short (within_limit code.segments listable.segments) at (apart tree code at.texts lies.nested rests_go_on) (arrays tree code at lies short) (events tree code at lies) (processes tree code at lies names short)
     (stacks tree code at.texts lies.nested rests_go_on)

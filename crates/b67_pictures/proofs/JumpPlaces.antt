@@ -1,6 +1,6 @@
 -- Where GO TO leads: the frame of the label's instance, and from the branch for the label on where the machine stands for the statements after it.
 use Rattle.std.proofs.Common.{◌≡◌, refl, sym, ap, ◌∙◌, subst, ℕ, ◌+◌, ◌-◌, ◌<◌, ◌≤◌, false, inl, List, [], ◌∷◌, length, Some, arith}
-use Rattle.b67_pictures.proofs.Prelude.{recursion_from_All, All, reverse, numbered, Block, block_numbered, around, level_of, PProgram, Scopes, scopes_of, use_of, Named, goes_to, ask, is_evaluation, settle_items, items_from, Instance, instance_at, or_no_instance, ancestor, IsSeen, IsSeenAround, IsInner, segment_of, IsStanding, IsOwn, OUTER_LEVEL, Code, Segment, place, segment_limit, end_of_code, display_at, stmts_depth, HasNames, LiesNested, Texts, context_of, JumpsStand, ActionAt, ComesTo, segment_low, HasText, HaveTexts, FramesClose, complete_of, begins_core, owned_frame, asks_as_own, up_complete, IsParent, most_around, IsComplete, ItemsStand, Owned, Found, Way, named_parent, named_seen, named_shown, scene_placed, part_there, Actor, Seen, weight_of, text_in, level_in, context_in, most_in, names_in}
+use Rattle.b67_pictures.proofs.Prelude.{recursion_from_All, All, reverse, numbered, Block, block_numbered, around, level_of, PProgram, Scopes, scopes_of, use_of, Named, goes_to, ask, is_evaluation, settle_items, items_from, Instance, instance_at, or_no_instance, ancestor, BlockIsSeen, IsSeenAround, IsInner, segment_of, IsStanding, IsOwn, OUTER_LEVEL, Code, Segment, place, segment_limit, end_of_code, display_at, stmts_depth, HasNames, LiesNested, Texts, context_of, JumpsStand, ActionAt, ComesTo, segment_low, HasText, HaveTexts, FramesClose, complete_of, begins_core, owned_frame, asks_as_own, up_complete, IsParent, most_around, IsComplete, ItemsStand, Owned, Found, Way, named_parent, named_seen, named_shown, scene_placed, part_there, Actor, Seen, weight_of, text_in, level_in, context_in, most_in, names_in}
 use Rattle.b67_table.specs.Limits.{segment_numbers}
 use Rattle.b67_templates.specs.Labels.{label_number, table_place, LabelAt}
 use Rattle.b67_templates.specs.Programs.{text_of}
@@ -56,8 +56,8 @@ module _ (tree : PProgram) (code : Code) (texts : Texts) (lies : LiesNested tree
 
     -- ---- the instance
 
-    seen_there : IsSeen sc block n
-    seen_there = goes_seen (IsSeen sc block) (IsInner sc block) (IsSeenAround sc block) n part.rest asks s.stands.frame.text
+    seen_there : BlockIsSeen sc block n
+    seen_there = goes_seen (BlockIsSeen sc block) (IsInner sc block) (IsSeenAround sc block) n part.rest asks s.stands.frame.text
 
     pub own_part : is_evaluation part.purpose ≡ false
     own_part = asks_as_own tree code texts w lay p part outer core.below s.stands.frame (goes_to n) asks (λ e. e)

@@ -1,6 +1,6 @@
 -- GO TO: all frames above that of the label's instance are left, and its part goes on with the statements from the label on.
 use Rattle.std.proofs.Common.{◌≡◌, ◌≢◌, ◌⊎◌, refl, sym, ap, ◌∙◌, subst, ℕ, ◌+◌, ◌≤◌, Bool, true, false, List, [], ◌∷◌, length, length-append, Option, Some, None, arith, Ok, ◌<◌}
-use Rattle.b67_pictures.proofs.Prelude.{if◌then◌else◌, ◌==◌, All, pos, slice_get, numbered, set_numbered, block_numbered, level_of, PProgram, Scopes, scopes_of, use_of, Named, Ask, goes_to, ask, Choice, choice, choice_of, gone_to, fails, is_evaluation, own_instances, leave, cut_at, settle_items, items_from, Value, number, Instance, Process, Part, World, instance_at, or_no_instance, with_process, ancestor, KeepsToText, RestsKeepToTheirText, JumpsKeepToTheirText, segment_of, IsStanding, IsOwn, Place, place_at, GoTo, Code, Segment, stack_limit, place, rebuilt, Image, segment_limit, is_critical, seen, frame, display_at, at_or, Change, live_criticals, operator_at, simple_cells, made_of, in_routine, Yields, yields_of, HasNames, LiesNested, Texts, context_of, JumpsStand, ActionAt, AreNumbers, ComesTo, Core, size, IsCore, HasCore, with_core, CoreAt, FragmentsArePerformed, length_set_numbered, weight, has_now, others_have, system_stays, shown, shown_top, rebuilt_seen, enter_class, numbered_set, IsSameBut, action_not_plain, action_is, HasText, HaveTexts, arrays_unchanged, FramesClose, IsElsewhere, HasFacts, facts_of, Hangs, hangs, KeepsArrays, Linked, Begins_with, begins_core, begins_front, StayBelow, part_stands, owned_frame, frame_gives, runs_at, StandOn, framed_cells, EventsAre, IsChained, most_around, IsComplete, Frame, Owned, of_own, run_level, all_laid, IsCall, call, operator_there, Way, AreAlike, steps_none, living_of, frame_is, AbleActor, actor_of, choice_is, gives_within, goes_on, weight_of, text_in, level_in, context_in, most_in, names_in, frame_low, FrameStill, frame_still, still_low, same_weight, task_stays, state_stays, held_of, Living, Pictures, PicturesBy, Does, gave}
+use Rattle.b67_pictures.proofs.Prelude.{if◌then◌else◌, ◌==◌, All, pos, slice_get, numbered, set_numbered, block_numbered, level_of, PProgram, Scopes, scopes_of, use_of, Named, Ask, goes_to, ask, Choice, choice, choice_of, gone_to, fails, is_evaluation, own_instances, leave, cut_at, settle_items, items_from, Value, number, Instance, Process, Part, World, instance_at, or_no_instance, with_process, ancestor, KeepsToText, RestsKeepToTheirText, JumpsKeepToTheirText, segment_of, IsStanding, IsOwn, Place, place_at, GoTo, Code, Segment, stack_limit, place, rebuilt, Image, segment_limit, is_critical, look_seen, frame, display_at, at_or, Change, live_criticals, operator_at, simple_cells, made_of, in_routine, Yields, yields_of, HasNames, LiesNested, Texts, context_of, JumpsStand, ActionAt, AreNumbers, ComesTo, Core, size, IsCore, HasCore, with_core, CoreAt, FragmentsArePerformed, length_set_numbered, weight, has_now, others_have, system_stays, shown, shown_top, rebuilt_seen, enter_class, numbered_set, IsSameBut, action_not_plain, action_is, HasText, HaveTexts, arrays_unchanged, FramesClose, IsElsewhere, HasFacts, facts_of, Hangs, hangs, KeepsArrays, Linked, Begins_with, begins_core, begins_front, StayBelow, part_stands, owned_frame, frame_gives, runs_at, StandOn, framed_cells, EventsAre, IsChained, most_around, IsComplete, Frame, Owned, of_own, run_level, all_laid, IsCall, call, operator_there, Way, AreAlike, steps_none, living_of, frame_is, AbleActor, actor_of, choice_is, gives_within, goes_on, weight_of, text_in, level_in, context_in, most_in, names_in, frame_low, FrameStill, frame_still, still_low, same_weight, task_stays, state_stays, held_of, Living, Pictures, PicturesBy, Does, gave}
 use Rattle.b67_num.specs.declared.FaultKind.TheVariants as fault
 use Rattle.b67_deeds.specs.declared.Letter.TheVariants as act
 use Rattle.algol_meaning.specs.Choice.{gone}
@@ -108,7 +108,7 @@ module _ (tree : PProgram) (code : Code) (texts : Texts) (lies : LiesNested tree
     deep : told_level ≡ length hung.more + 2
     deep = level_there ∙ sym names_there ∙ runs_at target (names_in tree w target) down.owns ∙ hung.level_is
 
-    rebuilt_there : seen img.stacks (rebuilt (place p at) told_level) ≡ Ok display
+    rebuilt_there : look_seen img.stacks (rebuilt (place p at) told_level) ≡ Ok display
     rebuilt_there =
         rebuilt_seen (place p at) hung.home hung.more told_level
         (subst (λ (l : ℕ). IsEntered img.stacks (place p at) hung.home l) (sym deep) hung.entered) hung.links deep
@@ -146,10 +146,10 @@ module _ (tree : PProgram) (code : Code) (texts : Texts) (lies : LiesNested tree
     here : (X : ℕ → Type 0) → X p → X core.registers.stack
     here X x = subst X (sym s.has.own) x
 
-    passes_there : seen img.stacks (passing (frame core.registers + 1) p at (record { frame = frame core.registers; cells = core.registers.cells })) ≡ Ok (record { frames = down.passed; cells = length down.frame.cells })
+    passes_there : look_seen img.stacks (passing (frame core.registers + 1) p at (record { frame = frame core.registers; cells = core.registers.cells })) ≡ Ok (record { frames = down.passed; cells = length down.frame.cells })
     passes_there =
-        ap (λ (f : ℕ). seen img.stacks (passing (frame core.registers + 1) p at (record { frame = f; cells = core.registers.cells }))) frame_there
-        ∙ ap (λ (k : ℕ). seen img.stacks (passing (frame core.registers + 1) p at (record { frame = length s.stands.frame.lower; cells = k }))) s.stands.counted
+        ap (λ (f : ℕ). look_seen img.stacks (passing (frame core.registers + 1) p at (record { frame = f; cells = core.registers.cells }))) frame_there
+        ∙ ap (λ (k : ℕ). look_seen img.stacks (passing (frame core.registers + 1) p at (record { frame = length s.stands.frame.lower; cells = k }))) s.stands.counted
         ∙ down.passes (frame core.registers + 1) (omega (arith, frame_there))
 
     abbrev jumps : Jumps img core down.front down.rest at (length down.frame.cells) a.2.target a.2.segment a.2.entry display down.passed
@@ -164,9 +164,9 @@ module _ (tree : PProgram) (code : Code) (texts : Texts) (lies : LiesNested tree
           segment_small = places.segment_small tree code texts lies named stand labels short jump closing (actor_of s) n asks a;
           pointer_small = places.pointer_small tree code texts lies named stand labels short jump closing (actor_of s) n asks a;
           passes = here
-              (λ (k : ℕ). seen img.stacks (passing (frame core.registers + 1) k at (record { frame = frame core.registers; cells = core.registers.cells })) ≡ Ok (record { frames = down.passed; cells = length down.frame.cells }))
+              (λ (k : ℕ). look_seen img.stacks (passing (frame core.registers + 1) k at (record { frame = frame core.registers; cells = core.registers.cells })) ≡ Ok (record { frames = down.passed; cells = length down.frame.cells }))
               passes_there;
-          shows = here (λ (k : ℕ). seen img.stacks (rebuilt (place k at) told_level) ≡ Ok display) rebuilt_there;
+          shows = here (λ (k : ℕ). look_seen img.stacks (rebuilt (place k at) told_level) ≡ Ok display) rebuilt_there;
           rows = closed.rows;
           closed = here (λ (k : ℕ). (m : ℕ) (next : Change) → changed m (frames_left k (stack_of core) down.passed next) img ≡ changed m next (image_left img closed.rows k down.passed)) closed.changes;
         }

@@ -1,6 +1,6 @@
 -- What lies under a frame that is left: the words of the part around, with what is given on top.
 use Rattle.std.proofs.Common.{◌≡◌, inl, refl, sym, ap, ◌∙◌, subst, ℕ, ◌+◌, ◌≤◌, List, [], ◌∷◌, ◌++◌, length, Option, Some, None, Ok, arith}
-use Rattle.b67_pictures.proofs.Prelude.{reverse, PProgram, Scopes, scopes_of, Kind, Named, Answer, done, value, Value, InAnswer, IsStanding, Word, Place, place_at, Code, Rows, stack_limit, place, rebuilt, with_rows, arrays_closed, seen, Change, Below, Yields, Texts, pushed, IsFound, held_at, Slot, slots_length, ValueIs, Known, newest, SlotsAre, shown, shown_top, rebuilt_seen, Leaves, facts_of, Hangs, hangs, Linked, Begins_with, begins_core, part_stands, Waits, frame_is, actor_of, InnerActor, level_in, most_in}
+use Rattle.b67_pictures.proofs.Prelude.{reverse, PProgram, Scopes, scopes_of, Kind, Named, Answer, done, value, Value, InAnswer, IsStanding, Word, Place, place_at, Code, Rows, stack_limit, place, rebuilt, with_rows, arrays_closed, look_seen, Change, Below, Yields, Texts, pushed, PlaceIsFound, held_at, Slot, slots_length, ValueIs, Known, newest, SlotsAre, shown, shown_top, rebuilt_seen, Leaves, facts_of, Hangs, hangs, Linked, Begins_with, begins_core, part_stands, Waits, frame_is, actor_of, InnerActor, level_in, most_in}
 use Rattle.algol_meaning.specs.Rest as rests
 use Rattle.algol_paths.specs.Texts.{InPlace}
 use Rattle.b67_table.specs.Chains.{left_to}
@@ -16,7 +16,7 @@ use Rattle.b67_pictures.proofs.Indexing.{more_known}
 pub data IsGiven : Yields → Answer → Option Word → Type 0 where
   nothing_given : IsGiven yielding.nothing done None
   value_given : (kind : Kind) (v : Value) (x : Word) → ValueIs v x → IsGiven (yielding.value kind) (value v) (Some x)
-  place_given : (kind : Kind) (at : rests.Place) (x : Word) → IsFound at → IsGiven (yielding.element kind) (rests.place at) (Some x)
+  place_given : (kind : Kind) (at : rests.Place) (x : Word) → PlaceIsFound at → IsGiven (yielding.element kind) (rests.place at) (Some x)
 
 -- what is then known of that word
 abbrev pub known_given : Yields → Answer → Option Word → List Known
@@ -24,7 +24,7 @@ known_given (yielding.element kind) (rests.place at) (Some x) = record { held = 
 known_given _ _ _ = []
 
 -- a place that was found has no name of the part
-found_nameless : (P : Named → Type 0) (at : rests.Place) → IsFound at → InPlace P at
+found_nameless : (P : Named → Type 0) (at : rests.Place) → PlaceIsFound at → InPlace P at
 found_nameless P (rests.own n) found = absurd found
 found_nameless P (rests.there r) found = tt
 found_nameless P (rests.element_of r ks) found = tt
@@ -87,13 +87,13 @@ module _ (tree : PProgram) (code : Code) (texts : Texts) (actor : InnerActor tre
   abbrev pub b : Below
   b = record { mark = newest home (length u.below) u.slots; frame = home; control = u.back }
 
-  left_there : seen img.stacks (left_to (place p f)) ≡ Ok b
+  left_there : look_seen img.stacks (left_to (place p f)) ≡ Ok b
   left_there = under.leads_down tree code texts w lay p img.stacks part next parts core.below s.stands.frame s.around begins core_small
 
   abbrev pub display : List (Option Place)
   display = shown (place p home) hung.more
 
-  rebuilt_there : seen img.stacks (rebuilt (place p home) u.back.caller_level) ≡ Ok display
+  rebuilt_there : look_seen img.stacks (rebuilt (place p home) u.back.caller_level) ≡ Ok display
   rebuilt_there =
       rebuilt_seen (place p home) hung.home hung.more u.back.caller_level
       (subst (λ (n : ℕ). IsEntered img.stacks (place p home) hung.home n) (sym (u.level_is ∙ hung.level_is)) hung.entered) hung.links (u.level_is ∙ hung.level_is)
@@ -113,8 +113,8 @@ module _ (tree : PProgram) (code : Code) (texts : Texts) (actor : InnerActor tre
           counted = s.stands.counted;
           rows = rows;
           closed = closed;
-          left_to = subst (λ (n : ℕ). seen img.stacks (left_to (place n f')) ≡ Ok b) (sym s.has.own) (subst (λ (n : ℕ). seen img.stacks (left_to (place p n)) ≡ Ok b) same_f left_there);
-          rebuilt = subst (λ (n : ℕ). seen img.stacks (rebuilt (place n home) u.back.caller_level) ≡ Ok display) (sym s.has.own) rebuilt_there;
+          left_to = subst (λ (n : ℕ). look_seen img.stacks (left_to (place n f')) ≡ Ok b) (sym s.has.own) (subst (λ (n : ℕ). look_seen img.stacks (left_to (place p n)) ≡ Ok b) same_f left_there);
+          rebuilt = subst (λ (n : ℕ). look_seen img.stacks (rebuilt (place n home) u.back.caller_level) ≡ Ok display) (sym s.has.own) rebuilt_there;
         }
 
     pub rows_are : leaves_so.rows ≡ rows

@@ -1,7 +1,7 @@
 -- A process that is released from a wait leaves all events for which it waits: its image without it in any list of an event, with its woken number,
 -- pictures the world after that.
 use Rattle.std.proofs.Common.{◌≡◌, ◌≢◌, ◌⊎◌, inl, inr, refl, sym, ap, ◌∙◌, subst, ℕ, zero, suc, List, [], ◌∷◌, length, Option, Some, None, true}
-use Rattle.b67_pictures.proofs.Prelude.{map, numbered, set_numbered, EventState, left_by, IsListed, PProgram, Scopes, scopes_of, change_event, event_at, list_in, all_withdrawn, Reference, event, Process, able, lives, World, cell_at, process_at, with_process, set_able, set_all_able, Instance, or_no_instance, cell_in, IsOwn, Place, Code, Event, waiters_at, is_among, with_state, list_of, unlisted, Image, woken_number, with_events, able_again, told_positions, Texts, Core, HasCore, length_set_numbered, some_same, none_some, same_or_not, numbered_set, numbered_other, numbered_beyond, HasFacts, Layout, EventsAre, numbered_swap, process_is, EventsStay, event_stays, number_by, number_is, list_stays, still_awaiting, IsEventAt, Pictured, living, dead, PicturesBy, AreAwaiting, ListIs}
+use Rattle.b67_pictures.proofs.Prelude.{map, numbered, set_numbered, EventState, left_by, IsListed, PProgram, Scopes, scopes_of, change_event, event_at, list_in, all_withdrawn, Reference, event, Process, able, lives, World, cell_at, process_at, with_process, set_able, set_all_able, Instance, or_no_instance, cell_in, IsOwn, Place, Code, Event, waiters_at, event_is_among, with_state, list_of, unlisted, Image, woken_number, with_events, able_again, told_positions, Texts, Core, HasCore, length_set_numbered, some_same, none_some, same_or_not, numbered_set, numbered_other, numbered_beyond, HasFacts, Layout, EventsAre, numbered_swap, process_is, EventsStay, event_stays, number_by, number_is, list_stays, still_awaiting, IsEventAt, Pictured, living, dead, PicturesBy, AreAwaiting, ListIs}
 use Rattle.b67_deeds.specs.Listed.{AreOnce}
 use Rattle.algol_meaning.specs.World.{or_no_process}
 use Rattle.algol_meaning.specs.Events.{forgotten, told_number, woken_by, withdrawn}
@@ -276,8 +276,8 @@ module _ (tree : PProgram) (code : Code) (texts : Texts) (lay : Layout) where
   forgotten_pictured k (r ∷ rs) [] w img by facts is owned = absurd is
   forgotten_pictured k (r ∷ rs) (at ∷ ats) w img by facts is owned =
       let next : World = moved_world tree code texts w lay img by facts r at is.0 owned.0 (left_by k) in
-      let now : Image = with_events img (kernel.changed at (with_state (left_by k)) img.events) in
-      subst (λ (u : World). PicturesBy tree code texts (forgotten u k rs) lay (with_events img (walked k ats (kernel.changed at (with_state (left_by k)) img.events))) × HasFacts (forgotten u k rs))
+      let now : Image = with_events img (kernel.event_changed at (with_state (left_by k)) img.events) in
+      subst (λ (u : World). PicturesBy tree code texts (forgotten u k rs) lay (with_events img (walked k ats (kernel.event_changed at (with_state (left_by k)) img.events))) × HasFacts (forgotten u k rs))
       (sym (moved_is tree code texts w lay img by facts r at is.0 owned.0 (left_by k)))
       (forgotten_pictured k rs ats next now
       (moved_pictured tree code texts w lay img by facts r at is.0 owned.0 (left_by k) (still_awaiting img now by.waits.awaiting (λ m to listed. step_fewer k at img.events m to listed) refl refl))
@@ -290,7 +290,7 @@ module _ (tree : PProgram) (code : Code) (texts : Texts) (lay : Layout) where
     pub is : numbered w.processes k ≡ Some process
     pub alive : lives process.state ≡ true
     pub owned : AllOwned w (list_in process.state)
-    pub within : (to : Place) → IsListed (waiters_at to img.events) k → is_among (list_of k img.lists) to ≡ true
+    pub within : (to : Place) → IsListed (waiters_at to img.events) k → event_is_among (list_of k img.lists) to ≡ true
 
   module _ (w : World) (img : Image) (by : PicturesBy tree code texts w lay img) (facts : HasFacts w) (r : Reference) (at : Place) (lies : IsEventAt (scopes_of tree) w lay r at) (o : IsOwned w r.instance)
       (k : ℕ) (h : IsWaiter w img k) (position : Option ℕ) (position_is : position ≡ position_of at img.lists k) where
@@ -382,7 +382,7 @@ module _ (tree : PProgram) (code : Code) (texts : Texts) (lay : Layout) where
           is = other_there w r k q h.is m x.process other x.is;
           alive = x.alive;
           owned = all_owned w (let_go_one w r k) (owned_then w r k q h.is) (list_in (x.process).state) x.owned;
-          within = λ to listed. ap (λ (ls : List Place). is_among ls to) (list_beside img.lists k m [] (λ (e : m ≡ k). other (sym e))) ∙ x.within to (fewer m to listed);
+          within = λ to listed. ap (λ (ls : List Place). event_is_among ls to) (list_beside img.lists k m [] (λ (e : m ≡ k). other (sym e))) ∙ x.within to (fewer m to listed);
         }
 
   -- each is let go, one after the other; the lists in which their positions are found are those before

@@ -1,6 +1,6 @@
 -- What a block declares is made: ENTR leaves words in place of the mark and what lies above it, and PUSH makes cells of them.
 use Rattle.std.proofs.Common.{◌≡◌, ◌≢◌, ◌⊎◌, inl, inr, refl, sym, ap, ◌∙◌, subst, ℕ, ◌+◌, ◌<◌, ◌≤◌, List, [], ◌∷◌, ◌++◌, length, Option, Some, None, Ok, false, arith, length-append}
-use Rattle.b67_pictures.proofs.Prelude.{reverse-reverse, length-reverse, numbered, IsListed, Letter, block_numbered, level_of, PProgram, Scopes, scopes_of, resume, Choice, choice, is_evaluation, done, NamedCell, Process, Part, World, instance_at, or_no_instance, Instance, Made, all_to_make, all_left_to_make, RestsKeepToTheirText, AllIsMadeInOrder, segment_of, IsLow, IsStanding, IsAmong, Word, Place, place_at, Registers, Intrinsic, Placed, Code, Rows, stack_limit, Event, waiters_at, Image, woken_number, frame, plain, operator_at, letter_of, made_base, in_routine, Has, AreNested, Texts, context_of, ComesTo, Slot, Core, size, IsCore, HasCore, with_core, Known, SlotsAre, CoreAt, FragmentsArePerformed, CellsAreMade, length_set_numbered, weight, has_now, others_have, system_stays, enter_class, same_or_not, most_or_more, action_not_plain, action_is, made_many, HasFacts, facts_of, KeepsArrays, keeps_same, below_frame, StandOn, Allotted, Layout, AreMade, ArraysAre, EventsAre, most_around, IsChained, Frame, Owned, run_level, all_laid, IsEntered, operator_there, AreAlike, living_of, AbleActor, actor_of, gives_within, limit_beyond, goes_on, text_in, level_in, context_in, most_in, names_in, changed_at, others_at, task_stays, state_stays, Living, Pictures, PicturesBy, MayAct, Does, gave, stopped}
+use Rattle.b67_pictures.proofs.Prelude.{reverse-reverse, length-reverse, numbered, IsListed, Letter, block_numbered, level_of, PProgram, Scopes, scopes_of, resume, Choice, choice, is_evaluation, done, NamedCell, Process, Part, World, instance_at, or_no_instance, Instance, Made, all_to_make, all_left_to_make, RestsKeepToTheirText, AllIsMadeInOrder, segment_of, IsLow, IsStanding, IsAmongParts, Word, Place, place_at, Registers, Intrinsic, Placed, Code, Rows, stack_limit, Event, waiters_at, Image, woken_number, frame, plain, operator_at, letter_of, made_base, in_routine, Has, AreNested, Texts, context_of, ComesTo, Slot, Core, size, IsCore, HasCore, with_core, Known, SlotsAre, CoreAt, FragmentsArePerformed, CellsAreMade, length_set_numbered, weight, has_now, others_have, system_stays, enter_class, same_or_not, most_or_more, action_not_plain, action_is, made_many, HasFacts, facts_of, KeepsArrays, keeps_same, below_frame, StandOn, Allotted, Layout, AreMade, ArraysAre, EventsAre, most_around, IsChained, Frame, Owned, run_level, all_laid, IsEntered, operator_there, AreAlike, living_of, AbleActor, actor_of, gives_within, limit_beyond, goes_on, text_in, level_in, context_in, most_in, names_in, changed_at, others_at, task_stays, state_stays, Living, Pictures, PicturesBy, MayAct, Does, gave, stopped}
 use Rattle.algol_standing.specs.Lows.{IsMaking}
 use Rattle.b67_ops.specs.declared.Operator.TheVariants as ops
 use Rattle.b67_ops.specs.declared.PlainKind.TheVariants as kinds
@@ -8,7 +8,7 @@ use Rattle.b67_table.specs.Effect as effects
 use Rattle.b67_table.specs.Limits.{most_cells}
 use Rattle.b67_table.specs.Outcome as outcomes
 use Rattle.b67_table.specs.Table.{table, raw}
-use Rattle.b67_cores.specs.Stretches.{IsAt, Becomes}
+use Rattle.b67_cores.specs.Stretches.{CoreIsAt, Becomes}
 use Rattle.b67_frames.proofs.MakingRow.{with_descriptors}
 use Rattle.b67_scenes.specs.Reaches as reaching
 use Rattle.b67_scenes.specs.Reaches.{words_from_entry}
@@ -101,7 +101,7 @@ module _ (tree : PProgram) (code : Code) (texts : Texts) (nested : AreNested (sc
     abbrev bound' : ℕ
     bound' = bound + n
 
-    new_at : IsAt code ps level made new
+    new_at : CoreIsAt code ps level made new
     new_at =
         record {
           segment = s.stands.there.segment;
@@ -229,7 +229,7 @@ module _ (tree : PProgram) (code : Code) (texts : Texts) (nested : AreNested (sc
             process = q;
             part = part;
             is = s.at;
-            among = subst (λ (parts : List Part). IsAmong parts part) (sym s.todo) (inl refl);
+            among = subst (λ (parts : List Part). IsAmongParts parts part) (sym s.todo) (inl refl);
             owns = owns;
             instance_is = refl;
             makes = λ none_made. some_made (sym makes ∙ none_made);

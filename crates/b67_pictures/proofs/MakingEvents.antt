@@ -3,7 +3,7 @@ use Rattle.std.proofs.Common.{◌≡◌, ◌≢◌, ◌⊎◌, inl, inr, refl, s
 use Rattle.b67_pictures.proofs.Prelude.{slice_get, EventState, Block, block_numbered, PProgram, Scopes, scopes_of, Named, Ask, makes_event, ask, resume, choice, choice_of, is_evaluation, Answer, done, ArrayCell, event, array, NamedCell, Instance, Part, World, or_no_instance, with_instance, with_process, Made, an_event, all_to_make, all_left_to_make, RestsKeepToTheirText, AllIsMadeInOrder, IsOwn, Place, event_word, Code, get_within, place, frame, operator_at, simple_cells, made_base, AreNested, Texts, ActionAt, Acted, ComesTo, Slot, intrinsic, mark, SlotsAre, FragmentsArePerformed, CellsAreMade, made_many, IsElsewhere, asks_as_own, below_frame, cells_length, Allotted, Layout, AreMade, ArraysAre, HasEvent, EventsAre, Framed, IsEntered, entered_with, operator_there, AbleActor, actor_of, choice_is, text_in, level_in, context_in, most_in, held_of, Does}
 use Rattle.b67_deeds.specs.declared.Letter.TheVariants.{MakeEvent}
 use Rattle.b67_deeds.specs.Events.{fresh_state}
-use Rattle.b67_events.specs.Events.{opened}
+use Rattle.b67_events.specs.Events.{event_opened}
 use Rattle.b67_ops.specs.declared.Operator.TheVariants as ops
 use Rattle.b67_ops.specs.declared.PlainKind.TheVariants as kinds
 use Rattle.b67_ops.specs.declared.intrinsic.Intrinsic.TheVariants.{Event}
@@ -165,9 +165,9 @@ module _ (tree : PProgram) (code : Code) (texts : Texts) (nested : AreNested (sc
             omega (arith, low.1, ap (λ (z : Place). z.at) same, high)
         by_place (inr elsewhere) same = elsewhere h.frame h.laid (ap (λ (z : Place). z.stack) (sym h.at_is ∙ same))
 
-    events_now : EventsAre sc w' lay' (opened (place core.registers.stack core.registers.f) img.events)
+    events_now : EventsAre sc w' lay' (event_opened (place core.registers.stack core.registers.f) img.events)
     events_now =
-        subst (λ (z : Place). EventsAre sc w' lay' (opened z img.events)) (sym here_is)
+        subst (λ (z : Place). EventsAre sc w' lay' (event_opened z img.events)) (sym here_is)
         (events_made sc w w' lay lay' i x n.name number framed.is refl many (λ j f laid. laid) (place p (length s.stands.frame.lower)) framed.laid img.events below_here s.by.events)
 
     -- ---- the action
@@ -176,6 +176,6 @@ module _ (tree : PProgram) (code : Code) (texts : Texts) (nested : AreNested (sc
     making_event =
         cells_are_made tree code texts nested fragments cells_made keeps order actor owns ms made_first (one ∷ []) (none_allotted ∷ []) (event_word (record {}) ∷ []) added Event
         (intrinsic Event ∷ mark ∷ []) a.1.lies [] entered a.1.made a.0 a.1.stands a.1.push (answered done a.0 [] (refl, refl)) (omega arith) (omega (arith, ap length a.1.lies, s.stands.few)) img.rows
-        (opened (place core.registers.stack core.registers.f) img.events) arrays_now events_now
+        (event_opened (place core.registers.stack core.registers.f) img.events) arrays_now events_now
         (λ m there listed. fewer_opened (place core.registers.stack core.registers.f) img.events m there listed) MakeEvent refl
         (event_raw code img p core s.has a.1.made there entered.reference entered.marked entered.others none entered.calls) chosen

@@ -1,6 +1,6 @@
 -- The frames that the words of parameters name are those of the instances to which their cells refer.
 use Rattle.std.proofs.Common.{◌≡◌, inl, inr, refl, sym, ap, ◌∙◌, subst, ℕ, ◌+◌, ◌^◌, ◌<◌, ◌≤◌, List, [], ◌∷◌, ◌++◌, length, Option, Some, arith}
-use Rattle.b67_pictures.proofs.Prelude.{numbered, block_numbered, PProgram, Scopes, scopes_of, Parameter, MOST_BLOCK_CELLS, referred_in, referred_by, Cell, simple, event, array, named, Instance, World, instance_at, or_no_instance, an_array, an_event, numbered_small, IsOk, IsIn, IsStanding, IsWhole, Word, Place, as_sirw, Sirw, Code, get_within, place, Image, cell_word, named_frames, Simple, Wanted, simple_cells, actuals_of, made_of, AreNested, Texts, some_same, IsAmongPlaces, value_tag, no_sirw, block_few, LeadAll, found_low, Layout, Denotes, CellsAre, Found as FoundFrame, find, found_laid, two_below, PicturesBy}
+use Rattle.b67_pictures.proofs.Prelude.{numbered, block_numbered, PProgram, Scopes, scopes_of, Parameter, MOST_BLOCK_CELLS, referred_in, referred_by, Cell, simple, event, array, named, Instance, World, instance_at, or_no_instance, an_array, an_event, numbered_small, IsOk, IsInSkeleton, IsStanding, IsWholeInstance, Word, Place, as_sirw, Sirw, Code, get_within, place, Image, cell_word, named_frames, Simple, Wanted, simple_cells, actuals_of, made_of, AreNested, Texts, some_same, IsAmongPlaces, value_tag, no_sirw, block_few, LeadAll, found_low, Layout, Denotes, CellsAre, Found as FoundFrame, find, found_laid, two_below, PicturesBy}
 use Rattle.algol_meaning.specs.Instances as instances
 use Rattle.algol_meaning.specs.Value.{reference}
 use Rattle.b67_table.specs.Starting.{sirw_frame}
@@ -9,7 +9,7 @@ use Rattle.b67_frames.specs.Frames.{CellIs, Refers}
 use Rattle.b67_frames.proofs.MadeArrays.{low_made}
 use Rattle.b67_scenes.proofs.ArrayPlaces.{cell_read}
 
-module _ (tree : PProgram) (code : Code) (texts : Texts) (nested : AreNested (scopes_of tree)) (w : World) (lay : Layout) (img : Image) (by : PicturesBy tree code texts w lay img) (ok : IsOk (scopes_of tree) IsWhole w)
+module _ (tree : PProgram) (code : Code) (texts : Texts) (nested : AreNested (scopes_of tree)) (w : World) (lay : Layout) (img : Image) (by : PicturesBy tree code texts w lay img) (ok : IsOk (scopes_of tree) IsWholeInstance w)
     (Stand : ℕ → Type 0) (stands : (i : ℕ) → Stand i → IsStanding w i) where
   abbrev sc : Scopes
   sc = scopes_of tree
@@ -122,14 +122,14 @@ module _ (tree : PProgram) (code : Code) (texts : Texts) (nested : AreNested (sc
   all_listed (s ∷ ss) (q ∷ ps) (c ∷ cells) (x ∷ words) many are lead =
       one_listed s.wanted c x are.1 lead.0 (referred_by cells) (named_frames words) (all_listed ss ps cells words (omega (arith, many)) are.2 lead.1)
 
-  pub listed_to : (is : List ℕ) (gs : List Place) → AreListed is gs → (i : ℕ) (g : Place) → IsIn is i → numbered lay.places i ≡ Some g → IsAmongPlaces gs g
+  pub listed_to : (is : List ℕ) (gs : List Place) → AreListed is gs → (i : ℕ) (g : Place) → IsInSkeleton is i → numbered lay.places i ≡ Some g → IsAmongPlaces gs g
   listed_to [] [] are i g m laid = absurd m
   listed_to [] (h ∷ gs) are i g m laid = absurd are
   listed_to (j ∷ is) [] are i g m laid = absurd are
   listed_to (j ∷ is) (h ∷ gs) are i g (inl e) laid = inl (some_same (sym are.1 ∙ ap (λ (k : ℕ). numbered lay.places k) e ∙ laid))
   listed_to (j ∷ is) (h ∷ gs) are i g (inr m) laid = inr (listed_to is gs are.2 i g m laid)
 
-  pub listed_back : (is : List ℕ) (gs : List Place) → AreListed is gs → (g : Place) → IsAmongPlaces gs g → (i : ℕ) × IsIn is i × IsStanding w i × (numbered lay.places i ≡ Some g)
+  pub listed_back : (is : List ℕ) (gs : List Place) → AreListed is gs → (g : Place) → IsAmongPlaces gs g → (i : ℕ) × IsInSkeleton is i × IsStanding w i × (numbered lay.places i ≡ Some g)
   listed_back [] [] are g m = absurd m
   listed_back [] (h ∷ gs) are g m = absurd are
   listed_back (j ∷ is) [] are g m = absurd are

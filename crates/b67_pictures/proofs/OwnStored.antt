@@ -1,7 +1,7 @@
 -- A process goes on in its innermost part, after a store into a cell of one of its own instances: of a variable, whose word in its stack is another one, or
 -- of an array or an event, whose word stays.
 use Rattle.std.proofs.Common.{◌≡◌, refl, sym, ap, ◌∙◌, subst, ℕ, suc, ◌+◌, ◌<◌, ◌≤◌, List, ◌∷◌, ◌++◌, length, Option, Some, arith}
-use Rattle.b67_pictures.proofs.Prelude.{numbered, block_numbered, level_of, PProgram, Scopes, scopes_of, resume, is_evaluation, Answer, NamedCell, Instance, Process, Part, State, World, instance_at, with_process, Made, all_to_make, all_left_to_make, IsSeen, RestsKeepToTheirText, AllIsMadeInOrder, segment_of, InAnswer, IsIn, referred_in_cells, IsOwn, Word, place_at, Registers, Code, stack_limit, place, Image, frame, simple_cells, in_routine, Yields, Texts, context_of, ComesTo, Slot, Core, size, over, HasCore, newest, SlotsAre, CoreAt, FragmentsArePerformed, weight, numbered_set, HasFacts, KeepsArrays, StayBelow, known_after, StandOn, frame_resumed, AreMade, AreKnown, IsInReach, CellsAre, most_around, IsChained, Frame, Stands, run_level, AreLaid, steps_none, living_of, CanClimb, Actor, weight_of, text_in, level_in, context_in, most_in, names_in, same_weight, FrameStill, frame_still, still_low, IsStored, put, length_put, stored_world, same_of, ChangedCells, EventsStay, task_stays, CriticalIs, TaskIs, Living}
+use Rattle.b67_pictures.proofs.Prelude.{numbered, block_numbered, level_of, PProgram, Scopes, scopes_of, resume, is_evaluation, Answer, NamedCell, Instance, Process, Part, State, World, instance_at, with_process, Made, all_to_make, all_left_to_make, BlockIsSeen, RestsKeepToTheirText, AllIsMadeInOrder, segment_of, InAnswer, IsInSkeleton, referred_in_cells, IsOwn, Word, place_at, Registers, Code, stack_limit, place, Image, frame, simple_cells, in_routine, Yields, Texts, context_of, ComesTo, Slot, Core, size, over, HasCore, newest, SlotsAre, CoreAt, FragmentsArePerformed, weight, numbered_set, HasFacts, KeepsArrays, StayBelow, known_after, StandOn, frame_resumed, AreMade, AreKnown, IsInReach, CellsAre, most_around, IsChained, Frame, FrameStands, run_level, AreLaid, steps_none, living_of, CanClimb, Actor, weight_of, text_in, level_in, context_in, most_in, names_in, same_weight, FrameStill, frame_still, still_low, IsStored, put, length_put, stored_world, same_of, ChangedCells, EventsStay, task_stays, CriticalIs, TaskIs, Living}
 use Rattle.b67_scenes.specs.Reaches as reaching
 use Rattle.b67_scenes.proofs.Staying.{IsAsHeavy}
 use Rattle.b67_scenes.proofs.StoringFrames.{same_ancestors, as_heavy, Stored, known_stored, onward_from, frame_stored}
@@ -10,10 +10,10 @@ use Rattle.b67_pictures.proofs.InFrame.{SameFrame}
 module _ (tree : PProgram) (code : Code) (texts : Texts) (fragments : FragmentsArePerformed) (kept : RestsKeepToTheirText) (order : AllIsMadeInOrder) (actor : Actor tree code texts) where
   open actor use {w, lay, p, q, part, outer, bound, core, s}
 
-  module _ (unmade : all_left_to_make part.rest ≡ all_to_make part.rest) (answer : Answer) (nameless : InAnswer (IsSeen (scopes_of tree) ((instance_at w part.instance).block)) answer)
+  module _ (unmade : all_left_to_make part.rest ≡ all_to_make part.rest) (answer : Answer) (nameless : InAnswer (BlockIsSeen (scopes_of tree) ((instance_at w part.instance).block)) answer)
       (i : ℕ) (x : Instance) (at : numbered w.instances i ≡ Some x) (with_cells : List NamedCell) (high : ℕ) (laid : numbered lay.places i ≡ Some (place p high)) (far k : ℕ) (place_is : k ≡ high + 2 + far)
       (word : Option Word) (many : length with_cells ≡ length x.cells) (short : IsStored word → far < length (simple_cells (scopes_of tree) (block_numbered (scopes_of tree).blocks x.block)))
-      (keeps : KeepsArrays (scopes_of tree) w (stored_world w i x at with_cells) lay lay i) (facts : HasFacts w) (fewer : (r : ℕ) → IsIn (referred_in_cells with_cells) r → IsIn (referred_in_cells x.cells) r)
+      (keeps : KeepsArrays (scopes_of tree) w (stored_world w i x at with_cells) lay lay i) (facts : HasFacts w) (fewer : (r : ℕ) → IsInSkeleton (referred_in_cells with_cells) r → IsInSkeleton (referred_in_cells x.cells) r)
       (changes : (simple : List NamedCell) (values : List Word) (arrays : List NamedCell) (declared : List Made) (descriptors : List Word) →
       CellsAre (simple_cells (scopes_of tree) (block_numbered (scopes_of tree).blocks x.block)) simple values → AreMade declared arrays (lay.rows i) descriptors → x.cells ≡ simple ++ arrays →
       ChangedCells (simple_cells (scopes_of tree) (block_numbered (scopes_of tree).blocks x.block)) (lay.rows i) with_cells simple values (put word values far) declared descriptors)
@@ -30,7 +30,7 @@ module _ (tree : PProgram) (code : Code) (texts : Texts) (fragments : FragmentsA
     abbrev level : ℕ
     level = run_level (is_evaluation part.purpose) (level_of (block_numbered sc.blocks b))
 
-    abbrev st : Stands tree code texts w lay p part outer core
+    abbrev st : FrameStands tree code texts w lay p part outer core
     st = s.stands
 
     abbrev part' : Part
@@ -112,7 +112,7 @@ module _ (tree : PProgram) (code : Code) (texts : Texts) (fragments : FragmentsA
       still = frame_still tree code texts stored w' lay lay p (suc (length frames.frame.lower)) stay part outer new.below frames.frame frames.around frame_low
 
       abbrev frame' : Frame tree code texts w' lay p part' outer new.below
-      frame' = frame_resumed tree code texts w' lay p kept order part outer new.below new.below still.frame refl unmade answer (subst (λ (m : ℕ). InAnswer (IsSeen (scopes_of tree) m) answer) block_is nameless)
+      frame' = frame_resumed tree code texts w' lay p kept order part outer new.below new.below still.frame refl unmade answer (subst (λ (m : ℕ). InAnswer (BlockIsSeen (scopes_of tree) m) answer) block_is nameless)
 
       -- what is known of descriptors and references holds as it did
       known_now : AreKnown sc w' lay (IsInReach w' (part' ∷ outer)) part.instance st.held

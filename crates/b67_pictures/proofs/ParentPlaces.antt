@@ -1,11 +1,11 @@
 -- The frame of an instance that stands, from which another instance is entered: it lies in whatever stack, as low as stacks are, and its display can be rebuilt.
 use Rattle.std.proofs.Common.{◌≡◌, sym, ap, ◌∙◌, subst, ℕ, ◌<◌, ◌≤◌, length, arith}
-use Rattle.b67_pictures.proofs.Prelude.{PProgram, Scopes, scopes_of, Instance, World, numbered_small, IsOk, IsStanding, IsWhole, Place, Code, stack_limit, place, Image, most_processes, Texts, some_same, Linked, OwnCells, HasCells, framed_cells, Layout, Found, found_laid, two_below, find, PicturesBy}
+use Rattle.b67_pictures.proofs.Prelude.{PProgram, Scopes, scopes_of, Instance, World, numbered_small, IsOk, IsStanding, IsWholeInstance, Place, Code, stack_limit, place, Image, most_processes, Texts, some_same, Linked, OwnCells, HasCells, framed_cells, Layout, Found, found_laid, two_below, find, PicturesBy}
 use Rattle.b67_frames.proofs.Linked.{linked}
 use Rattle.b67_scenes.proofs.Finding.{entered_of}
 use Rattle.b67_scenes.proofs.Worlds.{placed_of}
 
-module _ (tree : PProgram) (code : Code) (texts : Texts) (w : World) (lay : Layout) (img : Image) (by : PicturesBy tree code texts w lay img) (ok : IsOk (scopes_of tree) IsWhole w) (i : ℕ) (st : IsStanding w i) where
+module _ (tree : PProgram) (code : Code) (texts : Texts) (w : World) (lay : Layout) (img : Image) (by : PicturesBy tree code texts w lay img) (ok : IsOk (scopes_of tree) IsWholeInstance w) (i : ℕ) (st : IsStanding w i) where
   abbrev sc : Scopes
   sc = scopes_of tree
 

@@ -1,6 +1,6 @@
 -- The part around a frame that was left goes on, with what is given.
 use Rattle.std.proofs.Common.{◌≡◌, refl, sym, ap, ◌∙◌, subst, ℕ, ◌+◌, ◌≤◌, List, ◌∷◌, length, Option, Some, arith, ◌<◌}
-use Rattle.b67_pictures.proofs.Prelude.{slice_get, numbered, block_numbered, level_of, PProgram, Scopes, scopes_of, resume, is_evaluation, Answer, Process, Part, World, instance_at, ancestor, IsSeen, RestsKeepToTheirText, AllIsMadeInOrder, segment_of, Word, Place, place_at, Code, stack_limit, place, Image, frame, at_or, in_routine, Yields, Texts, context_of, Gives, ComesTo, Slot, Core, size, HasCore, Known, newest, SlotsAre, CoreAt, FragmentsArePerformed, weight, IsSameBut, HasText, HaveTexts, makes, unmade, StayBelow, known_after, frame_resumed, AreKnown, IsInReach, IsChained, most_around, Frame, Waits, run_level, all_laid, steps_none, living_of, CanClimb, InnerActor, weight_of, text_in, level_in, most_in, FrameStill, frame_still, still_low, same_weight, context_in, names_in, task_stays, Living}
+use Rattle.b67_pictures.proofs.Prelude.{slice_get, numbered, block_numbered, level_of, PProgram, Scopes, scopes_of, resume, is_evaluation, Answer, Process, Part, World, instance_at, ancestor, BlockIsSeen, RestsKeepToTheirText, AllIsMadeInOrder, segment_of, Word, Place, place_at, Code, stack_limit, place, Image, frame, at_or, in_routine, Yields, Texts, context_of, Gives, ComesTo, Slot, Core, size, HasCore, Known, newest, SlotsAre, CoreAt, FragmentsArePerformed, weight, IsSameBut, HasText, HaveTexts, makes, unmade, StayBelow, known_after, frame_resumed, AreKnown, IsInReach, IsChained, most_around, Frame, Waits, run_level, all_laid, steps_none, living_of, CanClimb, InnerActor, weight_of, text_in, level_in, most_in, FrameStill, frame_still, still_low, same_weight, context_in, names_in, task_stays, Living}
 use Rattle.b67_rows.proofs.LeaveRow.{without_frame}
 use Rattle.b67_scenes.specs.Reaches as reaching
 use Rattle.b67_scenes.proofs.Tasks.{events_left}
@@ -108,7 +108,7 @@ module _ (tree : PProgram) (code : Code) (texts : Texts) (stand : HaveTexts tree
           (λ up h. (hung tree code texts actor).chained up h ∙ ap (λ (j : ℕ). numbered lay.places j) (sym (same_up up next.instance)))
 
       abbrev frame_there : Frame tree code texts w' lay p part' parts u.below
-      frame_there = frame_resumed tree code texts w' lay p keeps order next parts u.below u.below still.frame refl (unmade next.rest (ap makes u.waits)) r (nameless tree code texts actor r given g (IsSeen sc ((instance_at w' next.instance).block)))
+      frame_there = frame_resumed tree code texts w' lay p keeps order next parts u.below u.below still.frame refl (unmade next.rest (ap makes u.waits)) r (nameless tree code texts actor r given g (BlockIsSeen sc ((instance_at w' next.instance).block)))
 
       top_now : place_at display (level_in tree w' next) ≡ Some (place p (length still.frame.lower))
       top_now =

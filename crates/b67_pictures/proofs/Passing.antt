@@ -1,6 +1,6 @@
 -- The passing of a parameter that stands for an array, for an event, for a variable or for an actual: what its cell has is given on.
 use Rattle.std.proofs.Common.{◌≡◌, inl, refl, sym, ap, ◌∙◌, subst, ℕ, ◌+◌, ◌≤◌, List, ◌∷◌, length, Some, Ok, arith}
-use Rattle.b67_pictures.proofs.Prelude.{PProgram, Scopes, scopes_of, Kind, Named, Ask, passes, ask, resume, choice_of, goes, Answer, cell, Cell, Reference, World, instance_at, cell_at, Shape, IsSeen, IsSeenAround, IsInner, RestsKeepToTheirText, AllIsMadeInOrder, Word, Place, as_irw, as_sirw, Sirw, Placed, Code, word_at, place, frame, display_at, operator_at, Wanted, Agrees, AreNested, Texts, ActionAt, Acted, ComesTo, Slot, reference as reference_slot, descriptor, passed as passed_held, Core, with_core, Known, newest, CoreAt, FragmentsArePerformed, array_asked, array_seen, action_not_plain, action_is, Top, top_slot, with_other, NearCell, makes, unmade, reference_read, Layout, LeadsTo, Denotes, named_from, IsInReach, array_index, cell_there, operator_there, NameCellHome, NameStands, for_variable, for_actual, LeadsOn, leads_on, name_stands, AbleActor, Actor, actor_of, choice_is, text_in, level_in, context_in, most_in, Does}
+use Rattle.b67_pictures.proofs.Prelude.{PProgram, Scopes, scopes_of, Kind, Named, Ask, passes, ask, resume, choice_of, goes, Answer, cell, Cell, Reference, World, instance_at, cell_at, Shape, BlockIsSeen, IsSeenAround, IsInner, RestsKeepToTheirText, AllIsMadeInOrder, Word, Place, as_irw, as_sirw, Sirw, Placed, Code, word_at, place, frame, display_at, operator_at, Wanted, ShapeAgrees, AreNested, Texts, ActionAt, Acted, ComesTo, Slot, reference as reference_slot, descriptor, passed as passed_held, Core, with_core, Known, newest, CoreAt, FragmentsArePerformed, array_asked, array_seen, action_not_plain, action_is, Top, top_slot, with_other, NearCell, makes, unmade, reference_read, Layout, ReferenceLeadsTo, Denotes, named_from, IsInReach, array_index, cell_there, operator_there, NameCellHome, NameStands, for_variable, for_actual, LeadsOn, leads_on, name_stands, AbleActor, Actor, actor_of, choice_is, text_in, level_in, context_in, most_in, Does}
 use Rattle.algol_meaning.specs.Value as cells
 use Rattle.algol_meaning.specs.Value.{reference}
 use Rattle.b67_deeds.specs.declared.Letter.TheVariants.{Pass}
@@ -17,8 +17,8 @@ use Rattle.b67_pictures.proofs.Indexing.{more_known}
 use Rattle.b67_pictures.proofs.InFrame.{does_in_frame}
 
 -- a reference that leads to an array leads to it for each shape with which all agree that agree with the first
-leads_so : (sc : Scopes) (w : World) (lay : Layout) (Stand : ℕ → Type 0) (shape shape' : Shape) → ((a : Shape) → Agrees shape a → Agrees shape' a) → (r : Reference) (word : Word) →
-    LeadsTo sc w lay Stand shape r word → LeadsTo sc w lay Stand shape' r word
+leads_so : (sc : Scopes) (w : World) (lay : Layout) (Stand : ℕ → Type 0) (shape shape' : Shape) → ((a : Shape) → ShapeAgrees shape a → ShapeAgrees shape' a) → (r : Reference) (word : Word) →
+    ReferenceLeadsTo sc w lay Stand shape r word → ReferenceLeadsTo sc w lay Stand shape' r word
 leads_so sc w lay Stand shape shape' agree r word h =
     record {
       own = h.own;
@@ -58,9 +58,9 @@ module _ (tree : PProgram) (code : Code) (texts : Texts) (nested : AreNested (sc
       pub top : Top (scopes_of tree) s.stands.held (level_in tree w part) (frame core.registers) (length core.below) (reference_slot found.couple) below core.words
       pub names : as_irw top.word ≡ Some (record { level = found.couple.level; index = found.couple.index })
 
-    seen : IsSeen (scopes_of tree) block n
+    seen : BlockIsSeen (scopes_of tree) block n
     seen =
-        (array_seen (IsSeen (scopes_of tree) block) n (IsInner (scopes_of tree) block) (IsSeenAround (scopes_of tree) block) (λ (around_it : IsSeenAround (scopes_of tree) block n). around_it.0) part.rest
+        (array_seen (BlockIsSeen (scopes_of tree) block) n (IsInner (scopes_of tree) block) (IsSeenAround (scopes_of tree) block) (λ (around_it : IsSeenAround (scopes_of tree) block n). around_it.0) part.rest
         (ap array_asked asks) s.stands.frame.text).seen
 
     on_top : Top (scopes_of tree) s.stands.held (level_in tree w part) (frame core.registers) (length core.below) (reference_slot found.couple) below core.words
@@ -69,7 +69,7 @@ module _ (tree : PProgram) (code : Code) (texts : Texts) (nested : AreNested (sc
         s.stands.there.words_are found.lies
 
     -- an array that agrees with what is wanted
-    finds_array : (shape actual : Shape) → wanted ≡ wants.array shape → Agrees shape actual → FormalHome tree code texts nested actor n actual found.couple → FindsFormal
+    finds_array : (shape actual : Shape) → wanted ≡ wants.array shape → ShapeAgrees shape actual → FormalHome tree code texts nested actor n actual found.couple → FindsFormal
     finds_array shape actual e agrees h =
         record {
           given = reference h.r;

@@ -33,12 +33,12 @@ pub use Rattle.algol_meaning.specs.Critical.{first_on_path, is_evaluation, is_th
 pub use Rattle.algol_meaning.specs.Events.{all_withdrawn, caused_by_end, change_event, event_at, list_in, same_reference, set_event}
 pub use Rattle.algol_meaning.specs.Instances.{cut_at, fresh_cells, leave}
 pub use Rattle.algol_meaning.specs.Rest.{Answer, Given, Rest, cell, done, element_of, own, there, value}
-pub use Rattle.algol_meaning.specs.Settle.{block_of, settle_actual_place}
+pub use Rattle.algol_meaning.specs.Settle.{block_of_sort, settle_actual_place}
 pub use Rattle.algol_meaning.specs.Statements.{items_from, items_of, settle_items}
 pub use Rattle.algol_meaning.specs.Value.{ArrayCell, Bounds, Cell, Reference, Value, array, event, named, number, simple, truth, whole_of}
 pub use Rattle.algol_meaning.specs.World.{Instance, NamedCell, Part, Process, Purpose, State, World, able, ancestor, array_in, by_cell, cell_at, cell_in, cells_with, ended, event_in, followed, instance_at, is_able, lives, name_place, or_no_instance, process_at, procures, set_able, set_all_able, set_cell, value_in, waits_any, waits_for, with_instance, with_process}
 pub use Rattle.algol_paths.specs.Arrays.{DeclaredArray, Made, Shape, all_left_to_make, all_to_make, an_array, an_event, shape_of}
-pub use Rattle.algol_paths.specs.Blocks.{IsInner, IsSeen, IsSeenAround}
+pub use Rattle.algol_paths.specs.Blocks.{IsInner, BlockIsSeen, IsSeenAround}
 pub use Rattle.algol_paths.specs.Laws.{AllIsMadeInOrder, JumpsKeepToTheirText, KeepsToText, RestsKeepToTheirText}
 pub use Rattle.algol_paths.specs.Segments.{is_procedure, segment_of}
 pub use Rattle.algol_paths.specs.Texts.{InAnswer, InGivens, InName, InRest}
@@ -51,8 +51,8 @@ pub use Rattle.algol_standing.proofs.Worlds.{first_world_stands}
 pub use Rattle.algol_standing.specs.Fitting.{IsOk}
 pub use Rattle.algol_standing.specs.Laws.{referred_by_start}
 pub use Rattle.algol_standing.specs.Lows.{CellLow, CellsLow, InstanceLow, IsLow, WorldLow}
-pub use Rattle.algol_standing.specs.Skeleton.{Home, IsIn, Stack}
-pub use Rattle.algol_standing.specs.Worlds.{AreListed, Awaits, IsAmong, IsNoBlock, IsOnPath, IsOwn, IsStanding, IsWhole, newest_own, referred_in_cells, skeleton, stack_of}
+pub use Rattle.algol_standing.specs.Skeleton.{Home, IsInSkeleton, Stack}
+pub use Rattle.algol_standing.specs.Worlds.{WaitersAreListed, Awaits, IsAmongParts, IsNoBlock, IsOnPath, IsOwn, IsStanding, IsWholeInstance, newest_own, referred_in_cells, skeleton, stack_of}
 pub use Rattle.b67_word.specs.Word.{Word}
 pub use Rattle.b67_word.specs.declared.Place.{Place}
 pub use Rattle.b67_control.proofs.ControlLaws.{as_pcw-pcw_word, as_sirw-other, irw_laws, kind_of-pcw_word, sirw_laws}
@@ -76,7 +76,7 @@ pub use Rattle.b67_segment.specs.declared.code.Segment.{Segment}
 pub use Rattle.b67_store.specs.Store.{Row, Rows, Stacks, row_at, stack_at, stack_limit, with_word, word_at, words_of, words_or}
 pub use Rattle.b67_events.proofs.EventLaws.{one_event}
 pub use Rattle.b67_events.proofs.Listed.{same_place-self, same_place-true}
-pub use Rattle.b67_events.specs.Events.{Event, changed, closed_from, is_among, is_from, is_open, list_of, same_place, unlisted, waiters_at, with_state}
+pub use Rattle.b67_events.specs.Events.{Event, event_changed, closed_from, event_is_among, is_from, is_open, list_of, same_place, unlisted, waiters_at, with_state}
 pub use Rattle.b67_table.proofs.Lists.{get_within, numbered_within}
 pub use Rattle.b67_table.specs.Arrays.{as_indexed, index_in}
 pub use Rattle.b67_table.specs.Chains.{place, rebuilt}
@@ -85,14 +85,14 @@ pub use Rattle.b67_table.specs.Ending.{failed}
 pub use Rattle.b67_table.specs.Image.{Image, is_live, with_events, with_rows, with_stacks, woken_number}
 pub use Rattle.b67_table.specs.Limits.{end_of_code, most_processes, segment_limit}
 pub use Rattle.b67_table.specs.Linkage.{arrays_closed, control_word, entered_mark, is_critical}
-pub use Rattle.b67_table.specs.Look.{seen, valid, ◌>->◌}
+pub use Rattle.b67_table.specs.Look.{look_seen, valid, ◌>->◌}
 pub use Rattle.b67_table.specs.Outcome.{Outcome, faults, limit}
 pub use Rattle.b67_table.specs.Private.{at_or, display_at, floor, frame}
 pub use Rattle.b67_table.specs.Program.{Change, Program, answer, asked, see, ◌>>=◌}
 pub use Rattle.b67_table.specs.Questions.{live_criticals}
 pub use Rattle.b67_table.specs.References.{cell_of, cell_place, cell_word, couple_cell, irw_or_sirw, reached_in}
 pub use Rattle.b67_table.specs.Rows.{is_result, level_below}
-pub use Rattle.b67_table.specs.Runs.{Acts, Plains, go, stay}
+pub use Rattle.b67_table.specs.Runs.{ProcessActs, Plains, go, stay}
 pub use Rattle.b67_table.specs.Sound.{Lives, OperatorTouches}
 pub use Rattle.b67_table.specs.Starting.{frames_with, named_frames, place_of}
 pub use Rattle.b67_table.specs.Table.{operator_at, plain}
@@ -106,7 +106,7 @@ pub use Rattle.b67_table.specs.declared.Reached.{Reached}
 pub use Rattle.b67_letters.specs.Letters.{element_or_not, letter, letter_of, operator_letter, stored_letter, told_by}
 pub use Rattle.b67_letters.specs.Releases.{registers_releases, released_by, releases}
 pub use Rattle.b67_templates.proofs.Few.{actuals_are_few}
-pub use Rattle.b67_templates.specs.Cells.{Agrees, IsDeclaredArray, IsDeclaredEvent, IsProcedure, IsRead, IsVariable, Simple, Wanted, actuals_of, has_place, made_base, made_of, of_formal, of_variable, parameter_cells, parameter_wants, procedures, result_of, simple_cells, variables, zero_cells}
+pub use Rattle.b67_templates.specs.Cells.{ShapeAgrees, IsDeclaredArray, IsDeclaredEvent, IsProcedure, IsRead, IsVariable, Simple, Wanted, actuals_of, has_place, made_base, made_of, of_formal, of_variable, parameter_cells, parameter_wants, procedures, result_cells_of, simple_cells, variables, zero_cells}
 pub use Rattle.b67_templates.specs.Code.{CellsAt, in_routine, stmts_count}
 pub use Rattle.b67_templates.specs.Contexts.{Context, Yields, yields_of}
 pub use Rattle.b67_templates.specs.Depths.{decls_depth, depth, stmts_depth}
@@ -117,8 +117,8 @@ pub use Rattle.b67_templates.specs.Programs.{BodyAt, ProgramAt, Texts, context_o
 pub use Rattle.b67_standing.proofs.OnEvents.{ActsAt}
 pub use Rattle.b67_standing.proofs.Starting.{blocks_start}
 pub use Rattle.b67_standing.specs.Laws.{BlocksStart, JumpsStand, RestsGoOn}
-pub use Rattle.b67_standing.specs.Standing.{Acted, ActionAt, ActsOnAt, AreNumbers, ComesTo, ElementReadAt, Entered, Gives, GoesOn, IsTask, StartsAt, given_slots, of_element, of_row, operands, pushed, selected, start_begun}
-pub use Rattle.b67_standing.specs.Stepping.{IsFound, Slot, control, descriptor, element, held_at, intrinsic, mark, operand, passed, reference, variable}
+pub use Rattle.b67_standing.specs.Standing.{Acted, ActionAt, ActsOnAt, AreNumbers, ComesTo, ElementReadAt, Entered, Gives, CodeGoesOn, IsTask, StartsAt, given_slots, of_element, of_row, operands, pushed, selected, start_begun}
+pub use Rattle.b67_standing.specs.Stepping.{PlaceIsFound, Slot, control, descriptor, element, held_at, intrinsic, mark, operand, passed, reference, variable}
 pub use Rattle.b67_cores.proofs.Beginnings.{blocks_begin}
 pub use Rattle.b67_cores.proofs.Moving.{slots_length}
 pub use Rattle.b67_cores.proofs.Placing.{fragments_are_performed}
@@ -127,7 +127,7 @@ pub use Rattle.b67_cores.specs.Slots.{Known, SlotIs, SlotsAre, ValueIs, newest}
 pub use Rattle.b67_cores.specs.Stretches.{BlocksBegin, CellsAreMade, CoreAt, FragmentsArePerformed, StepsArePerformed, StepsComeToLimit, control_words}
 pub use Rattle.b67_faithful.proofs.Choices.{ReleasesNone, length_set_numbered}
 pub use Rattle.b67_faithful.proofs.Contradictions.{none_some, some_same, true_false}
-pub use Rattle.b67_faithful.specs.Faithful.{Faithful, HasFormats, IsShort}
+pub use Rattle.b67_faithful.specs.Faithful.{Faithful, HasFormats, IsShortSegment}
 pub use Rattle.b67_faithful.specs.Simulation.{AreFew}
 pub use Rattle.b67_faithful.specs.Weight.{part_weight, parts_weight, tokens_around, weight}
 pub use Rattle.b67_rows.proofs.Asked.{reads_seen, stores_seen}
@@ -194,9 +194,9 @@ pub use Rattle.b67_frames.proofs.TouchingCalls.{call_names, over_top, under_top}
 pub use Rattle.b67_frames.proofs.TouchingWords.{found_low, procedure_fits}
 pub use Rattle.b67_frames.proofs.VariablesGiven.{variable_leads}
 pub use Rattle.b67_frames.proofs.Zeros.{cells_length, zero_word}
-pub use Rattle.b67_frames.specs.Arrays.{Allotted, AreKnown, AreMade, ArraysAre, Denotes, HeldIs, HoldElements, IsElement, IsNamed, Layout, LeadsTo, LeadsToEvent, LeadsToVariable, named_from}
+pub use Rattle.b67_frames.specs.Arrays.{Allotted, AreKnown, AreMade, ArraysAre, Denotes, HeldIs, HoldElements, IsElement, IsNamed, Layout, ReferenceLeadsTo, LeadsToEvent, LeadsToVariable, named_from}
 pub use Rattle.b67_frames.specs.Events.{EventsAre, HasEvent, event_there}
-pub use Rattle.b67_frames.specs.Frames.{ArePlaced, Around, CellsAre, Frame, Framed, IsChained, IsComplete, IsInReach, ItemsStand, Owned, Stands, Waits, block_controls, controls_count, home_of, most_around, of_lent, of_own, run_level}
+pub use Rattle.b67_frames.specs.Frames.{ArePlaced, Around, CellsAre, Frame, Framed, IsChained, IsComplete, IsInReach, ItemsStand, Owned, FrameStands, Waits, block_controls, controls_count, home_of, most_around, of_lent, of_own, run_level}
 pub use Rattle.b67_frames.specs.Lent.{Lent}
 pub use Rattle.b67_scenes.proofs.ActualEntries.{Takes}
 pub use Rattle.b67_scenes.proofs.ActualHomes.{routine_of}

@@ -1,6 +1,6 @@
 -- A procedure is entered.
 use Rattle.std.proofs.Common.{◌≡◌, ◌⊎◌, inl, inr, refl, sym, ap, ◌∙◌, ℕ, ◌+◌, ◌*◌, ◌≤◌, ◌<◌, List, ◌∷◌, length, Some, None, true, false, arith}
-use Rattle.b67_pictures.proofs.Prelude.{Block, block_numbered, level_of, PProgram, PBody, Scopes, scopes_of, use_of, Sort, is_variable, is_formal, Kind, Named, Ask, nothing, enters, ask, resume, choice_of, given_cells, Answer, Given, block_of, Cell, instance_at, ancestor, DeclaredArray, Shape, shape_of, IsSeen, IsSeenAround, IsInner, RestsKeepToTheirText, AllIsMadeInOrder, is_procedure, segment_of, IsStanding, Word, as_sirw-other, as_pcw-pcw_word, kind_of-pcw_word, as_irw, as_sirw, pcw_word, Pcw, Couple, Code, get_within, frame, actuals_are_few, Simple, parameter_cells, parameter_wants, procedures, Agrees, IsVariable, IsDeclaredArray, IsDeclaredEvent, IsProcedure, Yields, yields_of, Context, decls_depth, stmts_depth, code_at, LiesNested, AreParameters, Texts, context_of, BodyAt, ProgramAt, BlocksStart, ActionAt, Entered, Gives, pushed, ComesTo, Slot, reference, mark, SlotIs, BlocksBegin, FragmentsArePerformed, IsShort, tokens_around, InReferred, enters_seen, AreFit, are_fit, fit_many, ActualsAre, length_mapped, makes, unmade, reference_read, controls_fit, AreGivenCells, given_are, simple_many, IsSeenMade, both_seen, up_complete, named_leads, event_leads, HasCells, variable_leads, named_from, LeadsTo, LeadsToEvent, LeadsToVariable, IsNamed, IsInReach, ArePlaced, block_controls, controls_count, most_around, IsComplete, Calls, part_there, scene_placed, made_or_around, AbleActor, actor_of, choice_is, text_in, level_in, context_in, most_in, names_in, Does}
+use Rattle.b67_pictures.proofs.Prelude.{Block, block_numbered, level_of, PProgram, PBody, Scopes, scopes_of, use_of, Sort, is_variable, is_formal, Kind, Named, Ask, nothing, enters, ask, resume, choice_of, given_cells, Answer, Given, block_of_sort, Cell, instance_at, ancestor, DeclaredArray, Shape, shape_of, BlockIsSeen, IsSeenAround, IsInner, RestsKeepToTheirText, AllIsMadeInOrder, is_procedure, segment_of, IsStanding, Word, as_sirw-other, as_pcw-pcw_word, kind_of-pcw_word, as_irw, as_sirw, pcw_word, Pcw, Couple, Code, get_within, frame, actuals_are_few, Simple, parameter_cells, parameter_wants, procedures, ShapeAgrees, IsVariable, IsDeclaredArray, IsDeclaredEvent, IsProcedure, Yields, yields_of, Context, decls_depth, stmts_depth, code_at, LiesNested, AreParameters, Texts, context_of, BodyAt, ProgramAt, BlocksStart, ActionAt, Entered, Gives, pushed, ComesTo, Slot, reference, mark, SlotIs, BlocksBegin, FragmentsArePerformed, IsShortSegment, tokens_around, InReferred, enters_seen, AreFit, are_fit, fit_many, ActualsAre, length_mapped, makes, unmade, reference_read, controls_fit, AreGivenCells, given_are, simple_many, IsSeenMade, both_seen, up_complete, named_leads, event_leads, HasCells, variable_leads, named_from, ReferenceLeadsTo, LeadsToEvent, LeadsToVariable, IsNamed, IsInReach, ArePlaced, block_controls, controls_count, most_around, IsComplete, Calls, part_there, scene_placed, made_or_around, AbleActor, actor_of, choice_is, text_in, level_in, context_in, most_in, names_in, Does}
 use Rattle.algol_meaning.specs.Rest.{entered}
 use Rattle.algol_meaning.specs.World.{procedure}
 use Rattle.algol_meaning.specs.Choice.{entered_procedure}
@@ -19,7 +19,7 @@ HasRoomFor tree =
     (j : ℕ) → j < length (scopes_of tree).blocks → (j ≡ 0) ⊎ (is_procedure (block_numbered (scopes_of tree).blocks j) ≡ true) →
     needs (block_numbered (scopes_of tree).blocks j) ≤ 4 * tokens_around tree j
 
-module _ (tree : PProgram) (code : Code) (program : ProgramAt code tree) (nested : LiesNested tree) (short : IsShort tree code) (small : HasRoomFor tree)
+module _ (tree : PProgram) (code : Code) (program : ProgramAt code tree) (nested : LiesNested tree) (short : IsShortSegment tree code) (small : HasRoomFor tree)
     (fragments : FragmentsArePerformed) (begins_so : BlocksBegin) (starts : BlocksStart) (keeps : RestsKeepToTheirText) (order : AllIsMadeInOrder)
     (actor : AbleActor tree code program.texts) where
   open actor use {w, lay, img, p, q, part, outer, core, s}
@@ -75,17 +75,17 @@ module _ (tree : PProgram) (code : Code) (program : ProgramAt code tree) (nested
     h = ancestor w up part.instance
 
     -- the procedure is seen, and so are the arrays that are given to it
-    all_seen : InEntry (IsSeen sc block) n gs
-    all_seen = enters_seen (IsSeen sc block) n gs (IsInner sc block) (IsSeenAround sc block) (λ m (seen : IsSeenAround sc block m). seen.0) part.rest asks s.stands.frame.text
+    all_seen : InEntry (BlockIsSeen sc block) n gs
+    all_seen = enters_seen (BlockIsSeen sc block) n gs (IsInner sc block) (IsSeenAround sc block) (λ m (seen : IsSeenAround sc block m). seen.0) part.rest asks s.stands.frame.text
 
-    seen_there : IsSeen sc block n
+    seen_there : BlockIsSeen sc block n
     seen_there = all_seen.0
 
     -- all is made there, or they are around
     in_bound : IsComplete sc w lay part.instance ⊎ InEntry (IsSeenAround sc block) n gs
     in_bound =
         made_or_around tree code texts (actor_of s)
-        (entered_in_bound (IsSeen sc block) n gs (IsInner sc block) (IsSeenAround sc block) part.rest asks s.stands.frame.text)
+        (entered_in_bound (BlockIsSeen sc block) n gs (IsInner sc block) (IsSeenAround sc block) part.rest asks s.stands.frame.text)
         (λ text. enters_seen (IsSeenAround sc block) n gs (λ (b : PBody). ⊥) (IsSeenAround sc block) (λ m (seen : IsSeenAround sc block m). seen) part.rest asks text)
 
     arrays_seen : InReferred (IsSeenMade tree w lay part) gs
@@ -212,8 +212,8 @@ module _ (tree : PProgram) (code : Code) (program : ProgramAt code tree) (nested
     each : (j : ℕ) → IsStanding w j → HasCells sc w lay j
     each j st = standing_cells tree code texts w lay img s.by s.ok j st
 
-    arrays_lead : (m : Named) → IsSeenMade tree w lay part m → (shape : Shape) (d : DeclaredArray) (y : Couple) → IsDeclaredArray sc names m d y → Agrees shape (shape_of d) → (x : Word) → IsNamed sc w lay Reached part.instance m x →
-        LeadsTo sc w lay Reached shape (named_from sc w lay part.instance m) x
+    arrays_lead : (m : Named) → IsSeenMade tree w lay part m → (shape : Shape) (d : DeclaredArray) (y : Couple) → IsDeclaredArray sc names m d y → ShapeAgrees shape (shape_of d) → (x : Word) → IsNamed sc w lay Reached part.instance m x →
+        ReferenceLeadsTo sc w lay Reached shape (named_from sc w lay part.instance m) x
     arrays_lead m seen shape d y v agrees x h = named_leads tree w lay placed each part here_stands Reached names m seen shape d y v agrees x h
 
     variables_lead : (m : Named) → IsSeenMade tree w lay part m → (kind : Kind) (y : Couple) → IsVariable sc names m kind y → (x : Word) → IsNamed sc w lay Reached part.instance m x →
@@ -239,4 +239,4 @@ module _ (tree : PProgram) (code : Code) (program : ProgramAt code tree) (nested
         behind (given_cells sc w p q part outer gs) cells_there
         (choice_is sc w p q part outer s.at s.todo
         ∙ ap (λ (k : Ask). choice_of sc w p q part outer k) asks
-        ∙ ap (λ (x : Sort). entered_procedure sc w p q part outer (block_of x) h (given_cells sc w p q part outer gs)) named.sort_is)
+        ∙ ap (λ (x : Sort). entered_procedure sc w p q part outer (block_of_sort x) h (given_cells sc w p q part outer gs)) named.sort_is)

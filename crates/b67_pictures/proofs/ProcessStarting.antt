@@ -1,6 +1,6 @@
 -- A process is started, or there are as many as there may be.
 use Rattle.std.proofs.Common.{◌≡◌, ◌≢◌, ◌⊎◌, inl, inr, refl, sym, ap, ◌∙◌, subst, ℕ, ◌+◌, ◌<◌, ◌≤◌, List, [], ◌∷◌, ◌++◌, length, Option, Some, Bool, false, Ok, arith, length-append}
-use Rattle.b67_pictures.proofs.Prelude.{if◌then◌else◌, numbered, set_numbered, block_numbered, PProgram, Scopes, scopes_of, Sort, Named, Ask, starts, ask, resume, Choice, choice, choice_of, home, given_cells, task_of, own_instances, newest_first, first_on_path, referred_by, referred_by_task, fresh_cells, Answer, Given, done, block_of, Reference, Cell, Instance, Process, Part, able, World, RestsKeepToTheirText, AllIsMadeInOrder, starts_lie_on_paths, path_first, IsOk, referred_by_start, IsIn, newest_own, skeleton, IsOnPath, IsWhole, Word, Place, Pcw, Registers, Start, Code, stack_limit, place, failed, Image, most_processes, operator_at, parameter_wants, simple_cells, Texts, ActionAt, Acted, ComesTo, StartsAt, given_slots, start_begun, Slot, Core, size, HasCore, with_core, FragmentsArePerformed, length_set_numbered, has_now, others_have, system_stays, below_is, numbered_before, numbered_earlier, without_call, enter_class, most_or_more, numbered_set, action_not_plain, fault_not_plain, action_is, begins_with, first_stack, not_below, makes, unmade, no_elements, no_rows, arrays_joined, events_joined, HasFacts, facts_of, StandOn, cells_length, Layout, CellsAre, AreLaid, all_laid, IsEntered, operator_there, LeavesAlone, AbleActor, actor_of, gives_within, faults_so, choice_is, faulted, Refers, started_world, started_layout, rows_before, text_in, level_in, context_in, most_in, events_before, Living, Pictures, PicturesBy, Does, gave, failed_by}
+use Rattle.b67_pictures.proofs.Prelude.{if◌then◌else◌, numbered, set_numbered, block_numbered, PProgram, Scopes, scopes_of, Sort, Named, Ask, starts, ask, resume, Choice, choice, choice_of, home, given_cells, task_of, own_instances, newest_first, first_on_path, referred_by, referred_by_task, fresh_cells, Answer, Given, done, block_of_sort, Reference, Cell, Instance, Process, Part, able, World, RestsKeepToTheirText, AllIsMadeInOrder, starts_lie_on_paths, path_first, IsOk, referred_by_start, IsInSkeleton, newest_own, skeleton, IsOnPath, IsWholeInstance, Word, Place, Pcw, Registers, Start, Code, stack_limit, place, failed, Image, most_processes, operator_at, parameter_wants, simple_cells, Texts, ActionAt, Acted, ComesTo, StartsAt, given_slots, start_begun, Slot, Core, size, HasCore, with_core, FragmentsArePerformed, length_set_numbered, has_now, others_have, system_stays, below_is, numbered_before, numbered_earlier, without_call, enter_class, most_or_more, numbered_set, action_not_plain, fault_not_plain, action_is, begins_with, first_stack, not_below, makes, unmade, no_elements, no_rows, arrays_joined, events_joined, HasFacts, facts_of, StandOn, cells_length, Layout, CellsAre, AreLaid, all_laid, IsEntered, operator_there, LeavesAlone, AbleActor, actor_of, gives_within, faults_so, choice_is, faulted, Refers, started_world, started_layout, rows_before, text_in, level_in, context_in, most_in, events_before, Living, Pictures, PicturesBy, Does, gave, failed_by}
 use Rattle.std.specs.Prelude.{nat_lt}
 use Rattle.b67_num.specs.declared.FaultKind.TheVariants.{ProcessLimit}
 use Rattle.algol_meaning.specs.declared.TheConstants.{MOST_STARTED}
@@ -24,15 +24,15 @@ use Rattle.b67_pictures.proofs.GoingOn.{goes_along}
 use Rattle.b67_pictures.proofs.StartingFree.{all_stand_on, left_alone}
 
 -- a process with a part has a newest instance
-pub newest_there : (sc : Scopes) (w : World) (ok : IsOk sc IsWhole w) (p : ℕ) (q : Process) (part : Part) (outer : List Part) → numbered w.processes p ≡ Some q → q.todo ≡ part ∷ outer →
+pub newest_there : (sc : Scopes) (w : World) (ok : IsOk sc IsWholeInstance w) (p : ℕ) (q : Process) (part : Part) (outer : List Part) → numbered w.processes p ≡ Some q → q.todo ≡ part ∷ outer →
     (older : List ℕ) × (own_instances q.todo ≡ newest_own (part ∷ outer) ∷ older)
 newest_there sc w ok p q part outer is todo = by (own_head (part ∷ outer))
   where
-    inside : IsIn (own_instances q.todo) (newest_own (part ∷ outer))
+    inside : IsInSkeleton (own_instances q.todo) (newest_own (part ∷ outer))
     inside = ((references_lie_on_paths sc w ok).parts p q [] outer part part.instance is todo (inl refl)).0
 
     by : (own_instances (part ∷ outer) ≡ []) ⊎ ((r : List ℕ) × (own_instances (part ∷ outer) ≡ newest_own (part ∷ outer) ∷ r)) → (older : List ℕ) × (own_instances q.todo ≡ newest_own (part ∷ outer) ∷ older)
-    by (inl none) = absurd (subst (λ (xs : List ℕ). IsIn xs (newest_own (part ∷ outer))) (ap own_instances todo ∙ none) inside)
+    by (inl none) = absurd (subst (λ (xs : List ℕ). IsInSkeleton xs (newest_own (part ∷ outer))) (ap own_instances todo ∙ none) inside)
     by (inr some) = (some.0, ap own_instances todo ∙ some.1)
 
 module _ (tree : PProgram) (code : Code) (texts : Texts) (fragments : FragmentsArePerformed) (keeps : RestsKeepToTheirText) (order : AllIsMadeInOrder) (actor : AbleActor tree code texts) where
@@ -120,7 +120,7 @@ module _ (tree : PProgram) (code : Code) (texts : Texts) (fragments : FragmentsA
     chosen_by =
         choice_is sc w p q part outer s.at s.todo
         ∙ ap (λ (k : Ask). choice_of sc w p q part outer k) asks
-        ∙ ap (λ (x : Sort). if nat_lt MOST_STARTED (length w.processes) then choices.fails sc w p q part outer ProcessLimit else choices.starts sc w p q part outer (block_of x) parent given tasked) at.procedure.sort_is
+        ∙ ap (λ (x : Sort). if nat_lt MOST_STARTED (length w.processes) then choices.fails sc w p q part outer ProcessLimit else choices.starts sc w p q part outer (block_of_sort x) parent given tasked) at.procedure.sort_is
 
     -- ---- there are as many processes as there may be
 

@@ -1,6 +1,6 @@
 -- A read of a variable, or of the variable that a parameter by name stands for.
 use Rattle.std.proofs.Common.{◌≡◌, refl, ap, ◌∙◌, ℕ, ◌+◌, List, ◌∷◌, length, Option, Some, Ok, arith}
-use Rattle.b67_pictures.proofs.Prelude.{Read, PProgram, Scopes, scopes_of, Named, Ask, reads, ask, resume, choice_of, read_of, goes, Answer, value, Value, Cell, instance_at, cell_at, value_in, IsSeen, IsSeenAround, IsInner, RestsKeepToTheirText, AllIsMadeInOrder, Word, Place, Code, place, couple_cell, operator_at, IsVariable, HasKind, AreNested, Texts, ActionAt, Acted, ComesTo, Slot, operand, Core, IsCore, with_core, ValueIs, CoreAt, FragmentsArePerformed, reads_seen, Reaches, reached_through, with_top, value_reached_class, action_not_plain, action_is, makes, unmade, value_tag, no_sirw, no_pcw, named_from, Found, operator_there, NameHome, ActualNamed, NameStands, for_variable, for_actual, name_stands, AbleActor, actor_of, choice_is, text_in, level_in, context_in, most_in, names_in, VariableHome, Does}
+use Rattle.b67_pictures.proofs.Prelude.{Read, PProgram, Scopes, scopes_of, Named, Ask, reads, ask, resume, choice_of, read_of, goes, Answer, value, Value, Cell, instance_at, cell_at, value_in, BlockIsSeen, IsSeenAround, IsInner, RestsKeepToTheirText, AllIsMadeInOrder, Word, Place, Code, place, couple_cell, operator_at, IsVariable, HasKind, AreNested, Texts, ActionAt, Acted, ComesTo, Slot, operand, Core, IsCore, with_core, ValueIs, CoreAt, FragmentsArePerformed, reads_seen, Reaches, reached_through, with_top, value_reached_class, action_not_plain, action_is, makes, unmade, value_tag, no_sirw, no_pcw, named_from, Found, operator_there, NameHome, ActualNamed, NameStands, for_variable, for_actual, name_stands, AbleActor, actor_of, choice_is, text_in, level_in, context_in, most_in, names_in, VariableHome, Does}
 use Rattle.b67_ops.specs.declared.Operator.TheVariants as ops
 use Rattle.b67_templates.specs.Cells.{IsFormalName}
 use Rattle.b67_table.specs.declared.Cell as cells
@@ -28,9 +28,9 @@ module _ (tree : PProgram) (code : Code) (texts : Texts) (fragments : FragmentsA
     there : operator_at code core.registers ≡ Ok (ops.Valc a.2.0, a.1)
     there = operator_there sc s.stands.held code (text_in tree texts w part) (level_in tree w part) s.stands.pc s.stands.slots core (ops.Valc a.2.0) a.1 s.stands.there a.2.2
 
-    seen : IsSeen sc ((instance_at w part.instance).block) n
+    seen : BlockIsSeen sc ((instance_at w part.instance).block) n
     seen =
-        reads_seen (IsSeen sc ((instance_at w part.instance).block)) n (IsInner sc ((instance_at w part.instance).block)) (IsSeenAround sc ((instance_at w part.instance).block))
+        reads_seen (BlockIsSeen sc ((instance_at w part.instance).block)) n (IsInner sc ((instance_at w part.instance).block)) (IsSeenAround sc ((instance_at w part.instance).block))
         (λ (is : IsSeenAround sc ((instance_at w part.instance).block) n). is.0) part.rest asks s.stands.frame.text
 
     abbrev meant : Cell

@@ -1,6 +1,6 @@
 -- The read of a procedure's result, at its end.
 use Rattle.std.proofs.Common.{◌≡◌, refl, sym, ap, ◌∙◌, subst, ℕ, suc, ◌+◌, List, [], ◌∷◌, ◌++◌, length, Option, Some, None, Bool, true, false, Ok, arith}
-use Rattle.b67_pictures.proofs.Prelude.{if◌then◌else◌, slice_get, Read, Block, block_numbered, PProgram, Scopes, scopes_of, same_name, Kind, Ask, reads_result, ask, resume, choice_of, goes, is_evaluation, Answer, value, Cell, simple, NamedCell, Instance, instance_at, or_no_instance, cell_at, cell_in, value_in, RestsKeepToTheirText, AllIsMadeInOrder, Word, Code, word_at, place, display_at, operator_at, Simple, parameter_cells, result_of, variables, simple_cells, yields_of, AreNested, Texts, ActionAt, Acted, ComesTo, Slot, operand, Core, IsCore, with_core, CoreAt, FragmentsArePerformed, with_top, action_not_plain, action_is, get-front, get-behind, makes, unmade, value_tag, no_sirw, no_pcw, result_given, begins_core, owned_frame, asks_as_own, frame_gives, Owned, operator_there, shown_frame, AbleActor, actor_of, choice_is, text_in, level_in, context_in, most_in, Does}
+use Rattle.b67_pictures.proofs.Prelude.{if◌then◌else◌, slice_get, Read, Block, block_numbered, PProgram, Scopes, scopes_of, same_name, Kind, Ask, reads_result, ask, resume, choice_of, goes, is_evaluation, Answer, value, Cell, simple, NamedCell, Instance, instance_at, or_no_instance, cell_at, cell_in, value_in, RestsKeepToTheirText, AllIsMadeInOrder, Word, Code, word_at, place, display_at, operator_at, Simple, parameter_cells, result_cells_of, variables, simple_cells, yields_of, AreNested, Texts, ActionAt, Acted, ComesTo, Slot, operand, Core, IsCore, with_core, CoreAt, FragmentsArePerformed, with_top, action_not_plain, action_is, get-front, get-behind, makes, unmade, value_tag, no_sirw, no_pcw, result_given, begins_core, owned_frame, asks_as_own, frame_gives, Owned, operator_there, shown_frame, AbleActor, actor_of, choice_is, text_in, level_in, context_in, most_in, Does}
 use Rattle.algol_meaning.proofs.Naming.{same_name-itself}
 use Rattle.b67_ops.specs.declared.Operator.TheVariants as ops
 use Rattle.b67_table.specs.Effect as effects
@@ -30,9 +30,9 @@ result_found : (sc : Scopes) (b : Block) (kind : Kind) → found_from 0 (paramet
 result_found sc b kind apart typed =
     let far = length (parameter_cells sc b) in
     ap (λ (ss : List Simple). found_from 0 ss b.name) (cells_joined sc b)
-    ∙ found_behind 0 (parameter_cells sc b) (result_of b.result b.name ++ variables b.decls) b.name (record { number = far; cell = record { name = b.name; wanted = wants.value kind } }) apart
-    (ap (λ (n : ℕ). found_from n (result_of b.result b.name ++ variables b.decls) b.name) (let same : 0 + far ≡ far = omega arith in same)
-    ∙ ap (λ (o : Option Kind). found_from far (result_of o b.name ++ variables b.decls) b.name) typed
+    ∙ found_behind 0 (parameter_cells sc b) (result_cells_of b.result b.name ++ variables b.decls) b.name (record { number = far; cell = record { name = b.name; wanted = wants.value kind } }) apart
+    (ap (λ (n : ℕ). found_from n (result_cells_of b.result b.name ++ variables b.decls) b.name) (let same : 0 + far ≡ far = omega arith in same)
+    ∙ ap (λ (o : Option Kind). found_from far (result_cells_of o b.name ++ variables b.decls) b.name) typed
     ∙ ap (λ (t : Bool). if t then Some (record { number = far; cell = record { name = b.name; wanted = wants.value kind } }) else found_from (far + 1) (variables b.decls) b.name) (same_name-itself b.name))
 
 module _ (tree : PProgram) (code : Code) (texts : Texts) (nested : AreNested (scopes_of tree)) (fragments : FragmentsArePerformed) (keeps : RestsKeepToTheirText) (order : AllIsMadeInOrder) (actor : AbleActor tree code texts) where

@@ -1,7 +1,7 @@
 -- A parameter by name is resolved. Of one that stands for a variable, the reference to the variable's cell comes in place of that to the parameter's.
 -- An actual that is not subscripted has no place: that is a fault.
 use Rattle.std.proofs.Common.{◌≡◌, inl, refl, sym, ap, ◌∙◌, subst, ℕ, ◌+◌, ◌≤◌, List, [], ◌∷◌, length, Option, Some, None, Bool, true, false, Ok, arith}
-use Rattle.b67_pictures.proofs.Prelude.{if◌then◌else◌, NotAVariable, Fault, PProgram, Scopes, scopes_of, Kind, Named, Ask, resolves, ask, resume, located_of, Choice, choice, choice_of, resolved_of, is_subscripted, opens, fails, Answer, settle_actual_place, Cell, name_place, World, instance_at, IsSeen, IsSeenAround, IsInner, RestsKeepToTheirText, AllIsMadeInOrder, Word, Place, as_pcw-pcw_word, as_irw, as_sirw, pcw_word, Irw, Pcw, Couple, Placed, Code, place, failed, frame, display_at, cell_word, irw_or_sirw, cell_of, operator_at, AreNested, Texts, ActionAt, Acted, ComesTo, Slot, reference as reference_slot, descriptor, variable, Core, with_core, Known, newest, CoreAt, FragmentsArePerformed, array_asked, array_seen, place_reached_class, Reaches, reached_through, action_not_plain, fault_not_plain, action_is, Top, top_slot, with_other, makes, unmade, value_tag, no_sirw, no_pcw, pcw_refers_nothing, reference_read, LeadsToVariable, IsInReach, routine_of, Found, operator_there, NameCellHome, NameHome, ActualNamed, NameStands, for_variable, for_actual, name_stands, AbleActor, Actor, actor_of, faults_so, choice_is, faulted, text_in, level_in, context_in, most_in, VariableHome, Pictures, Does, failed_by}
+use Rattle.b67_pictures.proofs.Prelude.{if◌then◌else◌, NotAVariable, Fault, PProgram, Scopes, scopes_of, Kind, Named, Ask, resolves, ask, resume, located_of, Choice, choice, choice_of, resolved_of, is_subscripted, opens, fails, Answer, settle_actual_place, Cell, name_place, World, instance_at, BlockIsSeen, IsSeenAround, IsInner, RestsKeepToTheirText, AllIsMadeInOrder, Word, Place, as_pcw-pcw_word, as_irw, as_sirw, pcw_word, Irw, Pcw, Couple, Placed, Code, place, failed, frame, display_at, cell_word, irw_or_sirw, cell_of, operator_at, AreNested, Texts, ActionAt, Acted, ComesTo, Slot, reference as reference_slot, descriptor, variable, Core, with_core, Known, newest, CoreAt, FragmentsArePerformed, array_asked, array_seen, place_reached_class, Reaches, reached_through, action_not_plain, fault_not_plain, action_is, Top, top_slot, with_other, makes, unmade, value_tag, no_sirw, no_pcw, pcw_refers_nothing, reference_read, LeadsToVariable, IsInReach, routine_of, Found, operator_there, NameCellHome, NameHome, ActualNamed, NameStands, for_variable, for_actual, name_stands, AbleActor, Actor, actor_of, faults_so, choice_is, faulted, text_in, level_in, context_in, most_in, VariableHome, Pictures, Does, failed_by}
 use Rattle.algol_meaning.specs.Rest as rests
 use Rattle.algol_meaning.specs.Rest.{place as given_place}
 use Rattle.b67_deeds.specs.declared.Letter.TheVariants.{Resolve}
@@ -32,7 +32,7 @@ module _ (tree : PProgram) (code : Code) (texts : Texts) (nested : AreNested (sc
     pub resolved_name : NameStands tree code texts nested actor n kind found.couple
     resolved_name =
         let sc : Scopes = scopes_of tree in
-        let seen : IsSeen sc block n = (array_seen (IsSeen sc block) n (IsInner sc block) (IsSeenAround sc block) (λ (around_it : IsSeenAround sc block n). around_it.0) part.rest (ap array_asked asks) s.stands.frame.text).seen in
+        let seen : BlockIsSeen sc block n = (array_seen (BlockIsSeen sc block) n (IsInner sc block) (IsSeenAround sc block) (λ (around_it : IsSeenAround sc block n). around_it.0) part.rest (ap array_asked asks) s.stands.frame.text).seen in
         name_stands tree code texts nested actor n kind found.couple seen found.is_formal
 
     -- on top the reference to its cell

@@ -60,12 +60,12 @@ module _ (tree : PProgram) (code : Code) (texts : Texts) (w : World) (lay : Layo
     same_there = alike (same_reference s r) (same_place there at) forth back
 
   -- it is among events as its place is among theirs
-  pub among_there : (rs : List Reference) (ats : List Place) → ListIs (scopes_of tree) w lay rs ats → AllOwned w rs → meant.is_among rs r ≡ kernel.is_among ats at
+  pub among_there : (rs : List Reference) (ats : List Place) → ListIs (scopes_of tree) w lay rs ats → AllOwned w rs → meant.reference_is_among rs r ≡ kernel.event_is_among ats at
   among_there [] [] is owned = refl
   among_there [] (b ∷ ats) is owned = absurd is
   among_there (s ∷ rs) [] is owned = absurd is
   among_there (s ∷ rs) (b ∷ ats) is owned =
-      ap (λ (t : Bool). t || meant.is_among rs r) (same_there s b is.0 owned.0) ∙ ap (λ (t : Bool). same_place b at || t) (among_there rs ats is.1 owned.1)
+      ap (λ (t : Bool). t || meant.reference_is_among rs r) (same_there s b is.0 owned.0) ∙ ap (λ (t : Bool). same_place b at || t) (among_there rs ats is.1 owned.1)
 
   -- and has the same position
   pub position_there : (n : ℕ) (rs : List Reference) (ats : List Place) → ListIs (scopes_of tree) w lay rs ats → AllOwned w rs →

@@ -1,9 +1,9 @@
 -- Worlds that differ in the states and the woken numbers of their processes, and in what their events are: what stands in the one stands in the
 -- other, and the same paths lead from it.
 use Rattle.std.proofs.Common.{◌≡◌, refl, sym, ap, ◌∙◌, subst, inl, inr, ℕ, zero, suc, ◌+◌, ◌≤◌, List, [], ◌∷◌, ◌++◌, Option, Some, None, Bool, true, false}
-use Rattle.b67_pictures.proofs.Prelude.{slice_get, slice_set, map, if◌then◌else◌, numbered, set_numbered, EventState, IsListed, block_numbered, level_of, Scopes, same_name, referred_in, own_instances, set_event, Reference, Cell, simple, event, array, named, NamedCell, Instance, Part, Process, State, able, lives, World, instance_at, or_no_instance, ancestor, cell_in, cell_at, cells_with, set_able, set_all_able, CellLow, CellsLow, InstanceLow, WorldLow, IsLow, Stack, Home, IsIn, referred_in_cells, IsAmong, IsStanding, IsOnPath, stack_of, skeleton, OUTER_LEVEL, some_same, none_some, HasFacts, IsStandingOrNone, LivesIn, CanClimb, process_is, EventsStay}
+use Rattle.b67_pictures.proofs.Prelude.{slice_get, slice_set, map, if◌then◌else◌, numbered, set_numbered, EventState, IsListed, block_numbered, level_of, Scopes, same_name, referred_in, own_instances, set_event, Reference, Cell, simple, event, array, named, NamedCell, Instance, Part, Process, State, able, lives, World, instance_at, or_no_instance, ancestor, cell_in, cell_at, cells_with, set_able, set_all_able, CellLow, CellsLow, InstanceLow, WorldLow, IsLow, Stack, Home, IsInSkeleton, referred_in_cells, IsAmongParts, IsStanding, IsOnPath, stack_of, skeleton, OUTER_LEVEL, some_same, none_some, HasFacts, IsStandingOrNone, LivesIn, CanClimb, process_is, EventsStay}
 use Rattle.algol_meaning.specs.Value.{reference}
-use Rattle.algol_standing.specs.Skeleton.{Skeleton, Stands, OnPath}
+use Rattle.algol_standing.specs.Skeleton.{Skeleton, SkeletonStands, OnPath}
 use Rattle.algol_standing.specs.Worlds.{parent_in, held_by, home_of}
 use Rattle.algol_standing.specs.Lows.{LeadsLow, PartLow}
 use Rattle.b67_scenes.proofs.Freeing.{lives_then}
@@ -322,10 +322,10 @@ module _ (w w' : World) (same : IsSameShape w w') where
       ∙ ap (λ (hs : List Home). record (skeleton w) { homes = record { refs = []; process = 0 } ∷ hs }) (homes_same w.instances w'.instances same.instances)
 
   stand_before : (j : ℕ) → IsStanding w' j → IsStanding w j
-  stand_before j st = subst (λ (s : Skeleton). Stands s j) skeleton_same st
+  stand_before j st = subst (λ (s : Skeleton). SkeletonStands s j) skeleton_same st
 
   stand_later : (j : ℕ) → IsStanding w j → IsStanding w' j
-  stand_later j st = subst (λ (s : Skeleton). Stands s j) (sym skeleton_same) st
+  stand_later j st = subst (λ (s : Skeleton). SkeletonStands s j) (sym skeleton_same) st
 
   path_later : (a b : ℕ) → IsOnPath w a b → IsOnPath w' a b
   path_later a b path = subst (λ (s : Skeleton). OnPath s a b) (sym skeleton_same) path
@@ -357,7 +357,7 @@ module _ (w w' : World) (same : IsSameShape w w') where
         stands = λ j y is stands. let x = there_before j y is in stand_later j (facts.stands j x.0 x.1 (sym (x.2).left ∙ stands));
         parents = λ j st. subst (λ n. IsStandingOrNone w' n) (sym (instance_moves j).parent) (later (facts.parents j (stand_before j st)));
         cells = λ j r st inside.
-            stand_later r (facts.cells j r (stand_before j st) (subst (λ (ns : List ℕ). IsIn ns r) (cells_refer ((instance_at w j).cells) ((instance_at w' j).cells) (instance_moves j).cells) inside));
+            stand_later r (facts.cells j r (stand_before j st) (subst (λ (ns : List ℕ). IsInSkeleton ns r) (cells_refer ((instance_at w j).cells) ((instance_at w' j).cells) (instance_moves j).cells) inside));
         on_path = λ a b st path. stand_later b (facts.on_path a b (stand_before a st) (path_before a b path));
       }
     where
@@ -393,11 +393,11 @@ module _ (w w' : World) (same : IsSameShape w w') where
         tasks = task_low;
       }
     where
-      part_low : (p : ℕ) (q : Process) (part : Part) → numbered w'.processes p ≡ Some q → IsAmong q.todo part → PartLow sc b i part
+      part_low : (p : ℕ) (q : Process) (part : Part) → numbered w'.processes p ≡ Some q → IsAmongParts q.todo part → PartLow sc b i part
       part_low zero q part is among = none_some is
       part_low (suc k) q part is among =
           let o : WasThere w.processes k q = was_in w.processes w'.processes k q same.processes is in
-          l.parts (suc k) o.before part o.is (subst (λ (ps : List Part). IsAmong ps part) (sym o.todo) among)
+          l.parts (suc k) o.before part o.is (subst (λ (ps : List Part). IsAmongParts ps part) (sym o.todo) among)
 
       task_low : (p : ℕ) (q : Process) (r : Reference) → numbered w'.processes p ≡ Some q → q.task ≡ Some r → LeadsLow sc b i r
       task_low zero q r is task = none_some is

@@ -1,7 +1,7 @@
 -- Where a process stands at its action, its operator is that action, and releases whom that releases.
 use Rattle.b67_deeds.specs.Deeds as deeds
 use Rattle.std.proofs.Common.{◌≡◌, refl, sym, ◌∙◌, subst, ℕ, List, [], ◌∷◌, Option, Some, None, true}
-use Rattle.b67_pictures.proofs.Prelude.{EventAct, PProgram, scopes_of, Named, Ask, nothing, reads, reads_element, indexes, enters, passes, resolves, reads_result, leaves, stores, selects, turns, goes_to, enters_block, starts, writes, makes_arrays, makes_event, ask, event_deed, Choice, choice, choice_of, Answer, Reference, Process, Part, lives, World, RestsKeepToTheirText, AllIsMadeInOrder, Code, Image, releases, LiesNested, Texts, RestsGoOn, GoesOn, Core, FragmentsArePerformed, ReleasesNone, Layout, Scene, AbleActor, OutmostActor, actor_of, choice_is, text_in, level_in, context_in, most_in, TaskIs, Does, outmost_actor}
+use Rattle.b67_pictures.proofs.Prelude.{EventAct, PProgram, scopes_of, Named, Ask, nothing, reads, reads_element, indexes, enters, passes, resolves, reads_result, leaves, stores, selects, turns, goes_to, enters_block, starts, writes, makes_arrays, makes_event, ask, event_deed, Choice, choice, choice_of, Answer, Reference, Process, Part, lives, World, RestsKeepToTheirText, AllIsMadeInOrder, Code, Image, releases, LiesNested, Texts, RestsGoOn, CodeGoesOn, Core, FragmentsArePerformed, ReleasesNone, Layout, Scene, AbleActor, OutmostActor, actor_of, choice_is, text_in, level_in, context_in, most_in, TaskIs, Does, outmost_actor}
 use Rattle.algol_meaning.specs.Asks.{fails}
 use Rattle.b67_faithful.proofs.Choices.{NoEvent, NoTask, frees}
 use Rattle.b67_pictures.proofs.Dispatching.{OthersAreDone, scene_does}
@@ -86,7 +86,7 @@ module _ (tree : PProgram) (code : Code) (texts : Texts) (lies : LiesNested tree
 
   pub scene_settled : Settled tree code texts w img p
   scene_settled =
-      let on : GoesOn (scopes_of tree) (context_in tree code texts w part s.stands.frame.gives) (text_in tree texts w part) (level_in tree w part) (most_in tree w part) part.rest s.stands.pc s.stands.slots =
+      let on : CodeGoesOn (scopes_of tree) (context_in tree code texts w part s.stands.frame.gives) (text_in tree texts w part) (level_in tree w part) (most_in tree w part) part.rest s.stands.pc s.stands.slots =
       rests (scopes_of tree) (context_in tree code texts w part s.stands.frame.gives) (text_in tree texts w part) (level_in tree w part) (most_in tree w part) part.rest s.stands.pc s.stands.slots s.stands.stands s.stands.asks in
       record {
         does = done_there;

@@ -19,7 +19,7 @@ use Rattle.b67_table.specs.Effect as effects
 use Rattle.b67_table.specs.Outcome as outcomes
 use Rattle.b67_table.specs.PrivateRows as rows
 use Rattle.b67_table.specs.Table.{table}
-use Rattle.b67_templates.specs.Fragments.{IsWhole}
+use Rattle.b67_templates.specs.Fragments.{IsWholeNumber}
 use Rattle.b67_standing.specs.Standing.{references}
 use Rattle.b67_standing.proofs.OnEvents.{couples-length, acted_on-length}
 use Rattle.b67_frames.proofs.SeveralRows.{number_core, woken_raw, gone_raw, waiting_raw}
@@ -39,7 +39,7 @@ first_few passes k n (r ∷ rs) e = by_test (passes r) e (first_few passes (k + 
     by_test true here rest = let same : k ≡ n = some_same here in omega (arith, same)
     by_test false there rest = omega (arith, rest there)
 
-pub few_whole : (n : ℕ) → n ≤ MOST_EVENTS → IsWhole (pos n)
+pub few_whole : (n : ℕ) → n ≤ MOST_EVENTS → IsWholeNumber (pos n)
 few_whole n few = let eight : MOST_EVENTS ≤ most = lit≤ tt in omega (arith, few, eight)
 
 module _ (tree : PProgram) (code : Code) (texts : Texts) (nested : AreNested (scopes_of tree)) (fragments : FragmentsArePerformed) (keeps : RestsKeepToTheirText) (order : AllIsMadeInOrder)
@@ -168,7 +168,7 @@ module _ (tree : PProgram) (code : Code) (texts : Texts) (nested : AreNested (sc
 
     module _ (woken : q.woken ≡ 0) where
       -- an event has happened
-      goes_first : (n : ℕ) → kernel.first_happened ats img.events ≡ Some n → Does tree code texts w img p
+      goes_first : (n : ℕ) → kernel.first_event_happened ats img.events ≡ Some n → Does tree code texts w img p
       goes_first n found =
           does_in_frame tree code texts fragments keeps order actor (unmade part.rest (ap makes asks)) (value (number (pos n))) tt w.output (core_of n) refl (record { is = refl }) s.stands.held
           s.stands.held_are next (operand (number (pos n)) ∷ below) (core_at n small) (few_slots n) (comes n small) waits_letter not_plain
@@ -183,7 +183,7 @@ module _ (tree : PProgram) (code : Code) (texts : Texts) (nested : AreNested (sc
           small = omega (arith, first_few (λ (r : Reference). deeds.answers test.WaitAny (meant.event_at w r)) 1 n rs found_there, length-map ns (λ (n : Named). followed w (named_from (scopes_of tree) w lay part.instance n)), (acts_at.many).1)
 
       -- none has
-      waits_now : kernel.first_happened ats img.events ≡ None → Does tree code texts w img p
+      waits_now : kernel.first_event_happened ats img.events ≡ None → Does tree code texts w img p
       waits_now found =
           gave after not_plain table_is (letter_is after waits_letter 0 woken refl table_is ∙ ap (λ (c : Choice). Some c.action) (sym chosen))
           (λ may. subst (λ (u : World). Pictures tree code texts u after) (sym (ap (λ (c : Choice). c.world) chosen)) (
@@ -205,12 +205,12 @@ module _ (tree : PProgram) (code : Code) (texts : Texts) (nested : AreNested (sc
           chosen : choice sc w p ≡ waits_for_any sc w p q part outer rs None
           chosen = chosen_by 0 woken ∙ ap (λ (o : Option ℕ). waits_for_any sc w p q part outer rs o) (sym (first_there tree code texts w lay img s.by (facts_of sc w s.ok) 1 rs ats on.list_is owned) ∙ found)
 
-      goes_or_waits : (o : Option ℕ) → kernel.first_happened ats img.events ≡ o → Does tree code texts w img p
+      goes_or_waits : (o : Option ℕ) → kernel.first_event_happened ats img.events ≡ o → Does tree code texts w img p
       goes_or_waits (Some n) found = goes_first n found
       goes_or_waits None found = waits_now found
 
     by_woken : (k : ℕ) → q.woken ≡ k → Does tree code texts w img p
-    by_woken zero woken = goes_or_waits woken (kernel.first_happened ats img.events) refl
+    by_woken zero woken = goes_or_waits woken (kernel.first_event_happened ats img.events) refl
     by_woken (suc n) woken = goes_woken n woken
 
     pub waiting_for_any : Does tree code texts w img p

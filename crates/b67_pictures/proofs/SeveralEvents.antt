@@ -1,6 +1,6 @@
 -- Several events are told in the image as in the world.
 use Rattle.std.proofs.Common.{◌≡◌, refl, sym, ap, ◌∙◌, ℕ, ◌+◌, List, [], ◌∷◌, Option, Some, Bool}
-use Rattle.b67_pictures.proofs.Prelude.{if◌then◌else◌, answers, EventState, PProgram, scopes_of, event_at, Reference, World, event_in, IsOk, IsWhole, Place, Code, Event, Image, Texts, HasFacts, Layout, PicturesBy, ListIs}
+use Rattle.b67_pictures.proofs.Prelude.{if◌then◌else◌, answers, EventState, PProgram, scopes_of, event_at, Reference, World, event_in, IsOk, IsWholeInstance, Place, Code, Event, Image, Texts, HasFacts, Layout, PicturesBy, ListIs}
 use Rattle.b67_deeds.specs.declared.EventTest.TheVariants as test
 use Rattle.algol_meaning.specs.Events as meant
 use Rattle.b67_events.specs.Events as kernel
@@ -10,7 +10,7 @@ use Rattle.b67_pictures.proofs.SameEvents.{AllOwned}
 use Rattle.b67_pictures.proofs.Waiters.{owned_standing}
 
 -- what stands is owned by processes that live
-module _ (tree : PProgram) (code : Code) (texts : Texts) (w : World) (lay : Layout) (img : Image) (by : PicturesBy tree code texts w lay img) (ok : IsOk (scopes_of tree) IsWhole w) where
+module _ (tree : PProgram) (code : Code) (texts : Texts) (w : World) (lay : Layout) (img : Image) (by : PicturesBy tree code texts w lay img) (ok : IsOk (scopes_of tree) IsWholeInstance w) where
   pub all_standing : (rs : List Reference) → AllStanding w rs → AllOwned w rs
   all_standing [] stand = tt
   all_standing (r ∷ rs) stand = (owned_standing tree code texts w lay img by ok r.instance stand.0, all_standing rs stand.1)

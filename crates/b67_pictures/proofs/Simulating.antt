@@ -1,6 +1,6 @@
 -- Images that picture worlds go with the source through every operator.
 use Rattle.std.proofs.Common.{◌≡◌, refl, ap, subst, ℕ, ◌<◌, ◌≤◌, List, length, Option, Some, None, arith, true}
-use Rattle.b67_pictures.proofs.Prelude.{numbered, FaultKind, PProgram, scopes_of, choice, Process, World, is_able, process_at, first_world_stands, IsOk, IsWhole, Place, Registers, Code, stack_limit, failed, Image, is_live, Outcome, faults, limit, Plains, Acts, Lives, OperatorTouches, IsPrivate, Texts, StepsArePerformed, StepsComeToLimit, true_false, HasFormats, IsShort, Faithful, AreFew, weight, numbered_beyond, Layout, Pictured, living, dead, PicturesBy, Pictures, MayAct, Does, gave, failed_by, stopped, IsListable}
+use Rattle.b67_pictures.proofs.Prelude.{numbered, FaultKind, PProgram, scopes_of, choice, Process, World, is_able, process_at, first_world_stands, IsOk, IsWholeInstance, Place, Registers, Code, stack_limit, failed, Image, is_live, Outcome, faults, limit, Plains, ProcessActs, Lives, OperatorTouches, IsPrivate, Texts, StepsArePerformed, StepsComeToLimit, true_false, HasFormats, IsShortSegment, Faithful, AreFew, weight, numbered_beyond, Layout, Pictured, living, dead, PicturesBy, Pictures, MayAct, Does, gave, failed_by, stopped, IsListable}
 use Rattle.algol_meaning.specs.Run.{start, may_go}
 use Rattle.algol_calls.specs.Texts.{AreTexts, HasOuterBlock}
 use Rattle.algol_standing.proofs.LowLaws.{others_keep_low, making_is_low}
@@ -14,7 +14,7 @@ use Rattle.b67_table.specs.Runs as runs
 use Rattle.b67_faithful.proofs.Choices.{processes_stay}
 use Rattle.b67_faithful.specs.Agreement.{Shows}
 use Rattle.b67_faithful.specs.Faithful.{HasSegments}
-use Rattle.b67_faithful.specs.Simulation.{Acted, Comes, acts, stops, Simulates}
+use Rattle.b67_faithful.specs.Simulation.{Acted, ProcessComes, acts, stops, Simulates}
 use Rattle.b67_faithful.proofs.Contradictions.{gives_same, faults_same, gives_faults}
 use Rattle.b67_faithful.proofs.Counting.{simulations_are_faithful}
 use Rattle.b67_faithful.proofs.Following.{related, tails_through}
@@ -43,17 +43,17 @@ faults_limit x y = cc
 
 -- An image pictures a world in which there is a process 1, and which is as worlds are.
 abbrev pub PicturesSome : PProgram → Code → Texts → World → Image → Type 0
-PicturesSome tree code texts w img = Pictures tree code texts w img × (1 ≤ length w.processes) × IsOk (scopes_of tree) IsWhole w
+PicturesSome tree code texts w img = Pictures tree code texts w img × (1 ≤ length w.processes) × IsOk (scopes_of tree) IsWholeInstance w
 
 -- what no operator of a pictured image touches: a word in another process's private part
 abbrev pub StandApart : PProgram → Code → Texts → Type 0
 StandApart tree code texts =
-    (w : World) (lay : Layout) (a : Image) → PicturesBy tree code texts w lay a → IsOk (scopes_of tree) IsWhole w → (p q : ℕ) (x : Place) (r : Registers) → OperatorTouches code a p x → Lives a q r → IsPrivate r x → p ≡ q
+    (w : World) (lay : Layout) (a : Image) → PicturesBy tree code texts w lay a → IsOk (scopes_of tree) IsWholeInstance w → (p q : ℕ) (x : Place) (r : Registers) → OperatorTouches code a p x → Lives a q r → IsPrivate r x → p ≡ q
 
 -- nor the stack of another process on which nobody depends
 abbrev pub StacksApart : PProgram → Code → Texts → Type 0
 StacksApart tree code texts =
-    (w : World) (lay : Layout) (a : Image) → PicturesBy tree code texts w lay a → IsOk (scopes_of tree) IsWhole w → (p q : ℕ) (r : Registers) (x : Place) → Lives a p r
+    (w : World) (lay : Layout) (a : Image) → PicturesBy tree code texts w lay a → IsOk (scopes_of tree) IsWholeInstance w → (p q : ℕ) (r : Registers) (x : Place) → Lives a p r
     → NobodyDepends a r.stack → OperatorTouches code a q x → x.stack ≡ r.stack → q ≡ p
 
 -- the plain operators of a process of a pictured image are few
@@ -62,7 +62,7 @@ OperatorsAreFew tree code texts =
     (w : World) (lay : Layout) (a : Image) → PicturesBy tree code texts w lay a → (b : Image) (p n : ℕ) → Plains code p a n b → AreFew code p n b
 
 module _ (tree : PProgram) (code : Code) (texts : Texts) (performed : StepsArePerformed) (limits : StepsComeToLimit)
-    (fit : AreTexts (scopes_of tree)) (settled_does : (w : World) → IsOk (scopes_of tree) IsWhole w → SettledAct tree code texts w) where
+    (fit : AreTexts (scopes_of tree)) (settled_does : (w : World) → IsOk (scopes_of tree) IsWholeInstance w → SettledAct tree code texts w) where
   abbrev Pic : World → Image → Type 0
   Pic w img = PicturesSome tree code texts w img
 
@@ -71,7 +71,7 @@ module _ (tree : PProgram) (code : Code) (texts : Texts) (performed : StepsArePe
 
   -- ---- an able process
 
-  module _ (w : World) (ok : IsOk (scopes_of tree) IsWhole w) (lay : Layout) (a : Image) (by : PicturesBy tree code texts w lay a) (p : ℕ) where
+  module _ (w : World) (ok : IsOk (scopes_of tree) IsWholeInstance w) (lay : Layout) (a : Image) (by : PicturesBy tree code texts w lay a) (p : ℕ) where
     operator_of : IsAble tree code texts w lay a by p → Operator w lay a p
     operator_of one = operates tree code texts performed limits w (settled_does w ok) lay p one.process one.at one.able_is a by one.able_p one.lives_so
 
@@ -80,7 +80,7 @@ module _ (tree : PProgram) (code : Code) (texts : Texts) (performed : StepsArePe
     some_after some = omega (arith, some, processes_stay (scopes_of tree) w p)
 
     -- and the world is as worlds are
-    acted : {b : Image} → 1 ≤ length (choice (scopes_of tree) w p).world.processes → MayAct (scopes_of tree) w p → (one : IsAble tree code texts w lay a by p) → Acts code p a b → Operator w lay a p →
+    acted : {b : Image} → 1 ≤ length (choice (scopes_of tree) w p).world.processes → MayAct (scopes_of tree) w p → (one : IsAble tree code texts w lay a by p) → ProcessActs code p a b → Operator w lay a p →
         Acted tree code Pic w p a b
     acted some may one (runs.acts np t) (plainly after e t') = true_false e np
     acted some may one (runs.acts np t) (acting (gave after np' t' action by') freed) =
@@ -126,12 +126,12 @@ module _ (tree : PProgram) (code : Code) (texts : Texts) (performed : StepsArePe
         found (Some q) at = by_picture q at (by.each p q at)
         found None gone = no_limit code a p (ap is_live (numbered_beyond w.processes a.states p by.states gone)) t
 
-    comes_to : {n : ℕ} {quiet : Image} → Plains code p a n quiet → Does tree code texts w quiet p → Comes tree code Pic p a
+    comes_to : {n : ℕ} {quiet : Image} → Plains code p a n quiet → Does tree code texts w quiet p → ProcessComes tree code Pic p a
     comes_to plains (gave after np t action by') = acts plains (runs.acts np t)
     comes_to plains (failed_by kind np t action by') = acts plains (runs.fails kind t)
     comes_to plains (stopped np t heavy) = stops plains t
 
-    comes : IsAble tree code texts w lay a by p → Comes tree code Pic p a
+    comes : IsAble tree code texts w lay a by p → ProcessComes tree code Pic p a
     comes one =
         let s : Settles tree code texts w lay a p = settles tree code texts performed limits w (settled_does w ok) lay p one.process one.at one.able_is a by one.able_p one.lives_so in
         comes_to s.plains s.does
@@ -185,7 +185,7 @@ module _ (tree : PProgram) (code : Code) (texts : Texts) (performed : StepsArePe
         }
 
     -- so the code is faithful to the source
-    pub code_is_faithful : HasSegments tree code → HasFormats tree code → IsShort tree code → IsListable code → Faithful tree code
+    pub code_is_faithful : HasSegments tree code → HasFormats tree code → IsShortSegment tree code → IsListable code → Faithful tree code
     code_is_faithful = simulations_are_faithful tree code (PicturesSome tree code texts) simulation
 
     -- each image to which a run leads pictures some world

@@ -1,7 +1,7 @@
 -- What a process is started with, where its starter stands at the call: the frame that holds the procedure, the cells of what is given, the task,
 -- and the critical frame.
 use Rattle.std.proofs.Common.{◌≡◌, ◌⊎◌, inl, inr, refl, sym, ap, ◌∙◌, subst, ℕ, suc, ◌+◌, ◌<◌, ◌^◌, List, [], ◌∷◌, ◌++◌, length, Option, Some, None, Bool, true, arith}
-use Rattle.b67_pictures.proofs.Prelude.{slice_get, pos, numbered, Block, block_numbered, level_of, PProgram, Scopes, scopes_of, use_of, Parameter, Kind, Named, starts, ask, home, given_cells, task_of, newest_first, first_on_path, referred_by, referred_by_task, Given, number, Instance, Part, lives, instance_at, or_no_instance, ancestor, cell_in as world_cell, DeclaredArray, Shape, shape_of, IsSeen, IsSeenAround, IsInner, is_procedure, segment_of, InGivens, InName, InRest, starts_lie_on_paths, in_either, referred_by_start, IsIn, IsStanding, IsNoBlock, newest_own, Word, Place, as_irw, as_sirw, event_word, Irw, Pcw, Registers, Sirw, Couple, Start, Code, Segment, one_event, Event, is_open, get_within, place, gives, Image, ◌>->◌, valid, frame, asked, see, ◌>>=◌, cell_place, irw_or_sirw, reached_in, place_of, frames_with, named_frames, Reached, Simple, parameter_cells, parameter_wants, procedures, made_base, made_of, Agrees, IsVariable, IsDeclaredArray, IsDeclaredEvent, IsProcedure, Context, code_at, LiesNested, AreParameters, Texts, ProgramAt, IsTask, StartsAt, Slot, reference, operand, intrinsic, mark, SlotIs, some_same, InReferred, IsAmongPlaces, FirstDown, AreFit, are_fit, fit_many, length_mapped, Top, reference_read, event_refers_nothing, AreGivenCells, given_are, simple_many, Linked, Begins_with, begins_core, begins_front, IsSeenMade, both_seen, named_leads, event_leads, HasCells, IsParent, variable_leads, named_from, LeadsTo, LeadsToEvent, LeadsToVariable, IsNamed, IsInReach, ArePlaced, IsComplete, EventHome, cell_there, has_there, Found, found_laid, part_there, named_parent, scene_placed, reached_stands, made_or_around, Actor, frame_is, Refers, text_in, level_in, context_in, most_in, names_in, frame_low, IsEventAt, TaskIs}
+use Rattle.b67_pictures.proofs.Prelude.{slice_get, pos, numbered, Block, block_numbered, level_of, PProgram, Scopes, scopes_of, use_of, Parameter, Kind, Named, starts, ask, home, given_cells, task_of, newest_first, first_on_path, referred_by, referred_by_task, Given, number, Instance, Part, lives, instance_at, or_no_instance, ancestor, cell_in as world_cell, DeclaredArray, Shape, shape_of, BlockIsSeen, IsSeenAround, IsInner, is_procedure, segment_of, InGivens, InName, InRest, starts_lie_on_paths, in_either, referred_by_start, IsInSkeleton, IsStanding, IsNoBlock, newest_own, Word, Place, as_irw, as_sirw, event_word, Irw, Pcw, Registers, Sirw, Couple, Start, Code, Segment, one_event, Event, is_open, get_within, place, gives, Image, ◌>->◌, valid, frame, asked, see, ◌>>=◌, cell_place, irw_or_sirw, reached_in, place_of, frames_with, named_frames, Reached, Simple, parameter_cells, parameter_wants, procedures, made_base, made_of, ShapeAgrees, IsVariable, IsDeclaredArray, IsDeclaredEvent, IsProcedure, Context, code_at, LiesNested, AreParameters, Texts, ProgramAt, IsTask, StartsAt, Slot, reference, operand, intrinsic, mark, SlotIs, some_same, InReferred, IsAmongPlaces, FirstDown, AreFit, are_fit, fit_many, length_mapped, Top, reference_read, event_refers_nothing, AreGivenCells, given_are, simple_many, Linked, Begins_with, begins_core, begins_front, IsSeenMade, both_seen, named_leads, event_leads, HasCells, IsParent, variable_leads, named_from, ReferenceLeadsTo, LeadsToEvent, LeadsToVariable, IsNamed, IsInReach, ArePlaced, IsComplete, EventHome, cell_there, has_there, Found, found_laid, part_there, named_parent, scene_placed, reached_stands, made_or_around, Actor, frame_is, Refers, text_in, level_in, context_in, most_in, names_in, frame_low, IsEventAt, TaskIs}
 use Rattle.b67_templates.specs.Cells.{made_from}
 use Rattle.b67_templates.specs.Nested.{AreTold}
 use Rattle.b67_rows.proofs.Words.{event_read}
@@ -10,9 +10,9 @@ use Rattle.algol_standing.proofs.Asking.{Sees, rest_sees}
 use Rattle.b67_table.specs.PrivateRows as private_rows
 use Rattle.std.specs.Option.{is_some}
 use Rattle.b67_control.specs.declared.EventWord.{EventWord}
-use Rattle.b67_table.specs.Arguments.{if_open, event_in, event_of}
+use Rattle.b67_table.specs.Arguments.{if_open, reached_event_in, event_of}
 use Rattle.b67_table.specs.declared.Cell.{Cell as MachineCell}
-use Rattle.b67_table.specs.Program.{is_event}
+use Rattle.b67_table.specs.Program.{test_is_event}
 use Rattle.b67_table.specs.References.{cell_in, reached, one_sirw, no_second}
 use Rattle.b67_table.specs.Starting as starting
 use Rattle.b67_word.specs.Word.{as_whole}
@@ -36,13 +36,13 @@ use Rattle.b67_pictures.proofs.StartAsked.{none_to_make}
 event_given : (img : Image) (p : ℕ) (r : Registers) (word : Word) (c : MachineCell) → FindsEvent img p r word c → is_open (cell_place c) img.events ≡ true → asked img (event_of r word) ≡ gives c
 event_given img p r word c (directly level names shown lies) there_open = rows.declared_event img r word c level names shown lies there_open
 event_given img p r word c (by_reference level index home first names shown lies refers there) there_open =
-    ap (λ (o : Option Irw). asked img (see (reached (irw_or_sirw r o (as_sirw word))) >>= event_in)) names
-    ∙ ap (λ (o : Option Place). asked img (see (reached (cell_in o index)) >>= event_in)) shown
-    ∙ ap (λ (o : Option Word). asked img (see (reached_in (record { frame = home; index = index }) o >-> (λ (w : Reached). one_sirw (as_sirw w.word) w)) >>= event_in)) lies
-    ∙ ap (λ (o : Option Sirw). asked img (see (one_sirw o (record { word = first; cell = record { frame = home; index = index } })) >>= event_in)) refers
-    ∙ ap (λ (o : Option Word). asked img (see (reached_in c o >-> (λ (v : Reached). no_second (as_sirw v.word) v)) >>= event_in)) there
-    ∙ ap (λ (o : Option Sirw). asked img (see (no_second o (record { word = event_word (record {}); cell = c })) >>= event_in)) event_refers_nothing
-    ∙ ap (λ (o : Option EventWord). asked img (see (valid o) >>= (λ (e : EventWord). is_event (cell_place c) (λ (b : Bool). if_open b c)))) event_read
+    ap (λ (o : Option Irw). asked img (see (reached (irw_or_sirw r o (as_sirw word))) >>= reached_event_in)) names
+    ∙ ap (λ (o : Option Place). asked img (see (reached (cell_in o index)) >>= reached_event_in)) shown
+    ∙ ap (λ (o : Option Word). asked img (see (reached_in (record { frame = home; index = index }) o >-> (λ (w : Reached). one_sirw (as_sirw w.word) w)) >>= reached_event_in)) lies
+    ∙ ap (λ (o : Option Sirw). asked img (see (one_sirw o (record { word = first; cell = record { frame = home; index = index } })) >>= reached_event_in)) refers
+    ∙ ap (λ (o : Option Word). asked img (see (reached_in c o >-> (λ (v : Reached). no_second (as_sirw v.word) v)) >>= reached_event_in)) there
+    ∙ ap (λ (o : Option Sirw). asked img (see (no_second o (record { word = event_word (record {}); cell = c })) >>= reached_event_in)) event_refers_nothing
+    ∙ ap (λ (o : Option EventWord). asked img (see (valid o) >>= (λ (e : EventWord). test_is_event (cell_place c) (λ (b : Bool). if_open b c)))) event_read
     ∙ ap (λ (b : Bool). asked img (if_open b c)) there_open
 
 module _ (tree : PProgram) (code : Code) (program : ProgramAt code tree) (nested : LiesNested tree)
@@ -91,12 +91,12 @@ module _ (tree : PProgram) (code : Code) (program : ProgramAt code tree) (nested
     abbrev AllSeen : (Named → Type 0) → Type 0
     AllSeen P = P n × InGivens P gs × InName P task
 
-    all_seen : AllSeen (IsSeen sc block)
+    all_seen : AllSeen (BlockIsSeen sc block)
     all_seen =
-        subst (λ y. Sees (IsSeen sc block) (IsInner sc block) y) asks
-        (rest_sees (IsSeen sc block) (IsInner sc block) (IsSeenAround sc block) (λ m (seen : IsSeenAround sc block m). seen.0) part.rest s.stands.frame.text)
+        subst (λ y. Sees (BlockIsSeen sc block) (IsInner sc block) y) asks
+        (rest_sees (BlockIsSeen sc block) (IsInner sc block) (IsSeenAround sc block) (λ m (seen : IsSeenAround sc block m). seen.0) part.rest s.stands.frame.text)
 
-    pub seen_there : IsSeen sc block n
+    pub seen_there : BlockIsSeen sc block n
     seen_there = all_seen.0
 
     -- all is made there, or they are around
@@ -109,7 +109,7 @@ module _ (tree : PProgram) (code : Code) (program : ProgramAt code tree) (nested
     in_bound = made_or_around tree code texts actor (inl (none_to_make n gs task part.rest asks)) around_seen
 
     arrays_seen : InReferred (IsSeenMade tree w lay part) gs
-    arrays_seen = both_seen tree w lay part gs (all_referred (IsSeen sc block) gs all_seen.1) (given_in_bound in_bound)
+    arrays_seen = both_seen tree w lay part gs (all_referred (BlockIsSeen sc block) gs all_seen.1) (given_in_bound in_bound)
       where
         given_in_bound : IsComplete sc w lay part.instance ⊎ AllSeen (IsSeenAround sc block) → IsComplete sc w lay part.instance ⊎ InReferred (IsSeenAround sc block) gs
         given_in_bound (inl whole) = inl whole
@@ -172,8 +172,8 @@ module _ (tree : PProgram) (code : Code) (program : ProgramAt code tree) (nested
     abbrev each : (j : ℕ) → IsStanding w j → HasCells sc w lay j
     each j st = standing_cells tree code texts w lay img s.by s.ok j st
 
-    abbrev arrays_lead : (m : Named) → IsSeenMade tree w lay part m → (shape : Shape) (d : DeclaredArray) (y : Couple) → IsDeclaredArray sc names m d y → Agrees shape (shape_of d) → (x : Word) → IsNamed sc w lay InReach part.instance m x →
-        LeadsTo sc w lay InReach shape (named_from sc w lay part.instance m) x
+    abbrev arrays_lead : (m : Named) → IsSeenMade tree w lay part m → (shape : Shape) (d : DeclaredArray) (y : Couple) → IsDeclaredArray sc names m d y → ShapeAgrees shape (shape_of d) → (x : Word) → IsNamed sc w lay InReach part.instance m x →
+        ReferenceLeadsTo sc w lay InReach shape (named_from sc w lay part.instance m) x
     arrays_lead m seen shape d y v agrees x h = named_leads tree w lay placed each part here_stands InReach names m seen shape d y v agrees x h
 
     abbrev variables_lead : (m : Named) → IsSeenMade tree w lay part m → (kind : Kind) (y : Couple) → IsVariable sc names m kind y → (x : Word) → IsNamed sc w lay InReach part.instance m x →
@@ -237,7 +237,7 @@ module _ (tree : PProgram) (code : Code) (program : ProgramAt code tree) (nested
           listed = tt;
         }
 
-    module _ (m : Named) (y : Couple) (v : IsDeclaredEvent sc names m y) (same : at.tasked ≡ reference y) (is_seen : IsSeen sc block m) (made : IsComplete sc w lay part.instance ⊎ IsSeenAround sc block m)
+    module _ (m : Named) (y : Couple) (v : IsDeclaredEvent sc names m y) (same : at.tasked ≡ reference y) (is_seen : BlockIsSeen sc block m) (made : IsComplete sc w lay part.instance ⊎ IsSeenAround sc block m)
         (around_it : InRest (IsSeenAround sc block) IsNoBlock (IsSeenAround sc block) part.rest → IsSeenAround sc block m) where
       abbrev home_m : EventHome tree code texts nested.nested actor (named_from sc w lay part.instance m) y
       home_m = declared_home tree code texts nested.nested actor m y is_seen made around_it v
@@ -293,7 +293,7 @@ module _ (tree : PProgram) (code : Code) (program : ProgramAt code tree) (nested
             listed = (reached_stands tree code texts actor i home_m.own, found_laid tree code texts w lay img i found_m, tt);
           }
 
-    task_for : (t : Option Named) → IsTask sc context t at.tasked → InName (IsSeen sc block) t → IsComplete sc w lay part.instance ⊎ InName (IsSeenAround sc block) t →
+    task_for : (t : Option Named) → IsTask sc context t at.tasked → InName (BlockIsSeen sc block) t → IsComplete sc w lay part.instance ⊎ InName (IsSeenAround sc block) t →
         (InRest (IsSeenAround sc block) IsNoBlock (IsSeenAround sc block) part.rest → InName (IsSeenAround sc block) t) → TaskThere t
     task_for None is is_seen made around_it = no_task_there is
     task_for (Some m) is is_seen made around_it = task_m m is.0 is.1 is.2 is_seen made around_it
@@ -339,12 +339,12 @@ module _ (tree : PProgram) (code : Code) (program : ProgramAt code tree) (nested
     with_given None gs' g m = m
     with_given (Some c) gs' g m = inr m
 
-    in_front : (xs ys : List ℕ) (i : ℕ) → IsIn xs i → IsIn (xs ++ ys) i
+    in_front : (xs ys : List ℕ) (i : ℕ) → IsInSkeleton xs i → IsInSkeleton (xs ++ ys) i
     in_front (x ∷ xs) ys i (inl e) = inl e
     in_front (x ∷ xs) ys i (inr m) = inr (in_front xs ys i m)
     in_front [] ys i m = absurd m
 
-    in_back : (xs ys : List ℕ) (i : ℕ) → IsIn ys i → IsIn (xs ++ ys) i
+    in_back : (xs ys : List ℕ) (i : ℕ) → IsInSkeleton ys i → IsInSkeleton (xs ++ ys) i
     in_back [] ys i m = m
     in_back (x ∷ xs) ys i m = inr (in_back xs ys i m)
 
@@ -354,25 +354,25 @@ module _ (tree : PProgram) (code : Code) (program : ProgramAt code tree) (nested
     abbrev task_refs : List ℕ
     task_refs = referred_by_task (task_of sc w p q part outer task)
 
-    abbrev to_place : (is : List ℕ) (ps : List Place) → Listed is ps → (i : ℕ) (g : Place) → IsIn is i → numbered lay.places i ≡ Some g → IsAmongPlaces ps g
+    abbrev to_place : (is : List ℕ) (ps : List Place) → Listed is ps → (i : ℕ) (g : Place) → IsInSkeleton is i → numbered lay.places i ≡ Some g → IsAmongPlaces ps g
     to_place = listed_to tree code texts nested.nested w lay img s.by s.ok InReach (reached_stands tree code texts actor)
 
-    abbrev back_place : (is : List ℕ) (ps : List Place) → Listed is ps → (g : Place) → IsAmongPlaces ps g → (i : ℕ) × IsIn is i × IsStanding w i × (numbered lay.places i ≡ Some g)
+    abbrev back_place : (is : List ℕ) (ps : List Place) → Listed is ps → (g : Place) → IsAmongPlaces ps g → (i : ℕ) × IsInSkeleton is i × IsStanding w i × (numbered lay.places i ≡ Some g)
     back_place = listed_back tree code texts nested.nested w lay img s.by s.ok InReach (reached_stands tree code texts actor)
 
-    to : (i : ℕ) (g : Place) → IsIn refs i → numbered lay.places i ≡ Some g → IsAmongPlaces wanted g
+    to : (i : ℕ) (g : Place) → IsInSkeleton refs i → numbered lay.places i ≡ Some g → IsAmongPlaces wanted g
     to i g (inl e) laid = inl (some_same (sym linked.laid ∙ ap (λ (k : ℕ). numbered lay.places k) e ∙ laid))
     to i g (inr m) laid = inr (either (in_either given_refs task_refs i m))
       where
-        either : IsIn given_refs i ⊎ IsIn task_refs i → IsAmongPlaces (frames_with cell (named_frames words)) g
+        either : IsInSkeleton given_refs i ⊎ IsInSkeleton task_refs i → IsAmongPlaces (frames_with cell (named_frames words)) g
         either (inl k) = with_given cell (named_frames words) g (to_place given_refs (named_frames words) given_listed i g k laid)
         either (inr k) = with_task cell (named_frames words) g (to_place task_refs (frames_with cell []) task_found.listed i g k laid)
 
-    back : (g : Place) → IsAmongPlaces wanted g → (i : ℕ) × IsIn refs i × IsStanding w i × (numbered lay.places i ≡ Some g)
+    back : (g : Place) → IsAmongPlaces wanted g → (i : ℕ) × IsInSkeleton refs i × IsStanding w i × (numbered lay.places i ≡ Some g)
     back g (inl e) = (h, inl refl, parent.stands, linked.laid ∙ ap (λ (x : Place). Some x) e)
     back g (inr m) = either (among_with cell (named_frames words) g m)
       where
-        either : IsAmongPlaces (frames_with cell []) g ⊎ IsAmongPlaces (named_frames words) g → (i : ℕ) × IsIn refs i × IsStanding w i × (numbered lay.places i ≡ Some g)
+        either : IsAmongPlaces (frames_with cell []) g ⊎ IsAmongPlaces (named_frames words) g → (i : ℕ) × IsInSkeleton refs i × IsStanding w i × (numbered lay.places i ≡ Some g)
         either (inl k) = let x = back_place task_refs (frames_with cell []) task_found.listed g k in (x.0, inr (in_back given_refs task_refs x.0 x.1), x.2, x.3)
         either (inr k) = let x = back_place given_refs (named_frames words) given_listed g k in (x.0, inr (in_front given_refs task_refs x.0 x.1), x.2, x.3)
 

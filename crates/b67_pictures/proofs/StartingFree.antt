@@ -1,6 +1,6 @@
 -- A process that starts another leaves the others alone: on the newest instance of another process nobody depends who did not.
 use Rattle.std.proofs.Common.{◌≡◌, ◌≢◌, inl, refl, sym, ap, ◌∙◌, subst, ℕ, ◌+◌, List, [], ◌∷◌, ◌++◌, length, Option, Some, true, false}
-use Rattle.b67_pictures.proofs.Prelude.{◌&&◌, ◌||◌, slice_get, numbered, set_numbered, Scopes, is_this, some_depends, own_instances, Instance, Process, lives, World, or_no_instance, stack_forth, IsOk, Home, IsIn, stack_of, skeleton, IsOnPath, IsStanding, IsWhole, place, numbered_before, HasFacts, facts_of, KeepsArrays, keeps_same, StandOn, Layout, AreLaid, LeavesAlone, started_world, started_layout, rows_before}
+use Rattle.b67_pictures.proofs.Prelude.{◌&&◌, ◌||◌, slice_get, numbered, set_numbered, Scopes, is_this, some_depends, own_instances, Instance, Process, lives, World, or_no_instance, stack_forth, IsOk, Home, IsInSkeleton, stack_of, skeleton, IsOnPath, IsStanding, IsWholeInstance, place, numbered_before, HasFacts, facts_of, KeepsArrays, keeps_same, StandOn, Layout, AreLaid, LeavesAlone, started_world, started_layout, rows_before}
 use Rattle.std.specs.Prelude.{Bool}
 use Rattle.algol_standing.proofs.Lists.{some_same}
 use Rattle.algol_standing.proofs.Standing.{home_stands}
@@ -22,7 +22,7 @@ none_depends (q ∷ qs) new i c critical other free = by (lives q.state && is_th
     by true e again = e
     by false e again = again e
 
-module _ (sc : Scopes) (w : World) (lay : Layout) (ok : IsOk sc IsWhole w) (p : ℕ) (q q' : Process) (at : numbered w.processes p ≡ Some q) (critical_is : q'.critical ≡ q.critical) (alive : lives q'.state ≡ true → lives q.state ≡ true)
+module _ (sc : Scopes) (w : World) (lay : Layout) (ok : IsOk sc IsWholeInstance w) (p : ℕ) (q q' : Process) (at : numbered w.processes p ≡ Some q) (critical_is : q'.critical ≡ q.critical) (alive : lives q'.state ≡ true → lives q.state ≡ true)
     (top : ℕ) (older : List ℕ) (own : own_instances q.todo ≡ top ∷ older) (made : Instance) (new : Process) (c : ℕ) (critical : new.critical ≡ Some c) (path : IsOnPath w top c) where
   facts : HasFacts w
   facts = facts_of sc w ok
@@ -31,13 +31,13 @@ module _ (sc : Scopes) (w : World) (lay : Layout) (ok : IsOk sc IsWhole w) (p : 
   w' = started_world w p q' made new
 
   abbrev top_stands : IsStanding w top
-  top_stands = record { number = p; stack = stack_of q; is = stack_forth w p q at; inside = subst (λ (xs : List ℕ). IsIn xs top) (sym own) (inl refl) }
+  top_stands = record { number = p; stack = stack_of q; is = stack_forth w p q at; inside = subst (λ (xs : List ℕ). IsInSkeleton xs top) (sym own) (inl refl) }
 
   -- the newest of another process, on whom nobody depends, is not the critical one of the new process
   is_other : (k : ℕ) (o : Process) (i : ℕ) (rest : List ℕ) → k ≢ p → numbered w.processes k ≡ Some o → own_instances o.todo ≡ i ∷ rest → some_depends w.processes i ≡ false → c ≢ i
   is_other k o i rest apart is newest free same =
       let top_is : top ≡ i = newest_alone sc w k o i rest ok is newest free top (subst (λ (x : ℕ). IsOnPath w top x) same path) in
-      let stands : IsStanding w i = record { number = k; stack = stack_of o; is = stack_forth w k o is; inside = subst (λ (xs : List ℕ). IsIn xs i) (sym newest) (inl refl) } in
+      let stands : IsStanding w i = record { number = k; stack = stack_of o; is = stack_forth w k o is; inside = subst (λ (xs : List ℕ). IsInSkeleton xs i) (sym newest) (inl refl) } in
       let f = home_stands (skeleton w) ok.sound.skeleton_ok i stands in
       let g = home_stands (skeleton w) ok.sound.skeleton_ok top top_stands in
       let home : f.0 ≡ g.0 = some_same f.1 (ap (λ (x : ℕ). slice_get (skeleton w).homes x) (sym top_is) ∙ g.1) in

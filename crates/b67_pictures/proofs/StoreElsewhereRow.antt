@@ -1,6 +1,6 @@
 -- STOD on a cell of another stack than the process's own, which the reference under the top names.
 use Rattle.std.proofs.Common.{◌≡◌, ◌≢◌, refl, ap, ◌∙◌, ℕ, ◌+◌, ◌-◌, List, [], ◌∷◌, ◌++◌, take, Option, Some, None, Bool, false, Ok, arith}
-use Rattle.b67_pictures.proofs.Prelude.{if◌then◌else◌, ◌==◌, reverse, slice_set, Store, ElementStore, Word, Place, Descriptor, Registers, Code, Stacks, words_or, words_of, word_at, with_word, as_indexed, gives, Image, with_stacks, ◌>->◌, valid, seen, floor, Program, asked, see, answer, ◌>>=◌, cell_of, cell_place, reached_in, operator_at, Reached, told_by, element_or_not, stored_letter, operator_letter, Core, HasCore, with_core, stack_other, without_two, most_is}
+use Rattle.b67_pictures.proofs.Prelude.{if◌then◌else◌, ◌==◌, reverse, slice_set, Store, ElementStore, Word, Place, Descriptor, Registers, Code, Stacks, words_or, words_of, word_at, with_word, as_indexed, gives, Image, with_stacks, ◌>->◌, valid, look_seen, floor, Program, asked, see, answer, ◌>>=◌, cell_of, cell_place, reached_in, operator_at, Reached, told_by, element_or_not, stored_letter, operator_letter, Core, HasCore, with_core, stack_other, without_two, most_is}
 use Rattle.b67_ops.specs.declared.Operator.TheVariants as ops
 use Rattle.b67_ops.specs.declared.PlainKind.TheVariants as kinds
 use Rattle.b67_store.specs.Store.{with_stack, with_cut}
@@ -70,9 +70,9 @@ module _ (code : Code) (img : Image) (p : ℕ) (core : Core) (has : HasCore img 
 
   pub stores_elsewhere : operator_letter (ops.Plain kinds.Stod) img core.registers ≡ Some Store
   stores_elsewhere =
-      ap (λ (b : Bool). told_by stored_letter (seen img.stacks ((if b then from_top r 0 else stops StackUnderflow) >-> under))) (most_is (floor r + 2) r.s (omega (arith, words_long img p core has x y words top, has.is.bottom)))
-      ∙ ap (λ (o : Option Word). told_by stored_letter (seen img.stacks (valid o >-> under))) (top_word img p core has x y words top)
-      ∙ ap (λ (o : Option Word). told_by stored_letter (seen img.stacks (valid o >-> (λ (b : Word). found (two x b))))) (under_word img p core has x y words top)
+      ap (λ (b : Bool). told_by stored_letter (look_seen img.stacks ((if b then from_top r 0 else stops StackUnderflow) >-> under))) (most_is (floor r + 2) r.s (omega (arith, words_long img p core has x y words top, has.is.bottom)))
+      ∙ ap (λ (o : Option Word). told_by stored_letter (look_seen img.stacks (valid o >-> under))) (top_word img p core has x y words top)
+      ∙ ap (λ (o : Option Word). told_by stored_letter (look_seen img.stacks (valid o >-> (λ (b : Word). found (two x b))))) (under_word img p core has x y words top)
       ∙ ap (λ (d : Option Descriptor). Some (element_or_not ElementStore Store d)) plain_word
 
   pub store_elsewhere_raw : raw code img p ≡ gives (with_core (with_stacks img (with_word img.stacks (cell_place (record { frame = frame; index = index })) x)) p (without_two core words next))

@@ -1,6 +1,6 @@
 -- A store into a variable that the part names.
 use Rattle.std.proofs.Common.{◌≡◌, refl, ap, ◌∙◌, ℕ, ◌+◌, ◌<◌, ◌^◌, List, ◌∷◌, length, Option, Some, Ok}
-use Rattle.b67_pictures.proofs.Prelude.{block_numbered, level_of, PProgram, Scopes, scopes_of, use_of, Named, stores, ask, resume, is_evaluation, Answer, done, own, Value, instance_at, ancestor, IsSeen, IsSeenAround, IsInner, RestsKeepToTheirText, AllIsMadeInOrder, segment_of, Word, Place, as_irw, as_sirw, Irw, Couple, Placed, Code, as_indexed, place, frame, irw_or_sirw, cell_of, operator_at, Texts, ActionAt, Acted, ComesTo, Slot, operand, reference, ValueIs, SlotsAre, FragmentsArePerformed, stores_seen, Top, top_slot, reference_read, Stands, run_level, operator_there, AbleActor, actor_of, text_in, level_in, context_in, most_in, Does}
+use Rattle.b67_pictures.proofs.Prelude.{block_numbered, level_of, PProgram, Scopes, scopes_of, use_of, Named, stores, ask, resume, is_evaluation, Answer, done, own, Value, instance_at, ancestor, BlockIsSeen, IsSeenAround, IsInner, RestsKeepToTheirText, AllIsMadeInOrder, segment_of, Word, Place, as_irw, as_sirw, Irw, Couple, Placed, Code, as_indexed, place, frame, irw_or_sirw, cell_of, operator_at, Texts, ActionAt, Acted, ComesTo, Slot, operand, reference, ValueIs, SlotsAre, FragmentsArePerformed, stores_seen, Top, top_slot, reference_read, FrameStands, run_level, operator_there, AbleActor, actor_of, text_in, level_in, context_in, most_in, Does}
 use Rattle.b67_table.specs.References.{cell_in}
 use Rattle.b67_ops.specs.declared.Operator.TheVariants as ops
 use Rattle.b67_ops.specs.declared.PlainKind.TheVariants as kinds
@@ -36,7 +36,7 @@ module _ (tree : PProgram) (code : Code) (texts : Texts) (fragments : FragmentsA
     abbrev couple : Couple
     couple = a.2.couple
 
-    abbrev st : Stands tree code texts w lay p part outer core
+    abbrev st : FrameStands tree code texts w lay p part outer core
     st = s.stands
 
     abbrev i : ℕ
@@ -49,7 +49,7 @@ module _ (tree : PProgram) (code : Code) (texts : Texts) (fragments : FragmentsA
     IsHome = Home tree code texts (actor_of s) n a.2.kind couple
 
     found : IsHome
-    found = home tree code texts (actor_of s) n a.2.kind couple (stores_seen (IsSeen sc b) n (IsInner sc b) (IsSeenAround sc b) (λ (seen : IsSeenAround sc b n). seen.0) part.rest v asks st.frame.text) a.2.variable
+    found = home tree code texts (actor_of s) n a.2.kind couple (stores_seen (BlockIsSeen sc b) n (IsInner sc b) (IsSeenAround sc b) (λ (seen : IsSeenAround sc b n). seen.0) part.rest v asks st.frame.text) a.2.variable
 
     module _ (f : IsHome) (low : couple.level < 32) (little : couple.index < 2 ^ 14) (x y : Word) (words : List Word) (top : core.words ≡ x ∷ y ∷ words) (x_is : ValueIs v x) (y_is : y ≡ rows.reference couple)
         (left_are : SlotsAre sc st.held level (frame core.registers) (length core.below) a.1 words) where

@@ -2,7 +2,7 @@
 use Rattle.algol_standing.proofs.Pairs.{stack_back}
 use Rattle.b67_pictures.proofs.Deeds.{waiting_not_able}
 use Rattle.std.proofs.Common.{◌≡◌, ◌≢◌, ◌⊎◌, inl, inr, refl, sym, ap, ◌∙◌, subst, ℕ, ◌+◌, List, [], ◌∷◌, length, Option, Some, None, true, false, arith, Bool}
-use Rattle.b67_pictures.proofs.Prelude.{option_map, if◌then◌else◌, numbered, set_numbered, EventState, caused, IsListed, End, block_numbered, PProgram, Scopes, scopes_of, leaves, ask, Choice, choice, ended_releasing, some_depends, is_evaluation, own_instances, event_at, set_event, caused_by_end, list_in, all_withdrawn, leave, done, Reference, event, NamedCell, Instance, Process, Part, is_able, lives, World, instance_at, or_no_instance, process_at, with_process, cell_in, cell_at, event_in, cells_with, set_all_able, stack_forth, IsIn, Stack, AreListed, IsOwn, IsStanding, IsOnPath, referred_in_cells, newest_own, stack_of, Place, Code, same_place-true, same_place-self, Event, waiters_at, closed_from, changed as with_event, with_state, list_of, place, Image, is_critical, Outcome, live_criticals, able_again, told_positions, ProcessState, Ended, registers_releases, released_by, releases, made_base, Texts, ActionAt, Core, HasCore, length_set_numbered, some_same, true_false, same_or_not, numbered_set, numbered_other, IsSameBut, action_not_plain, arrays_unchanged, FramesClose, events_unchanged, exit_class, exit_action, HasFacts, facts_of, StandOn, OwnCells, framed_cells, OwnEvent, known_event, event_there, EventsAre, AreLaid, all_laid, Found, found_laid, find, numbered_swap, idle_list, idle_nowhere, LeavesAlone, alike_but, OutmostActor, process_is, gives_within, text_in, level_in, context_in, most_in, stored_world, others_at, same_of, stored_on, others_stored, EventsStay, event_stays, waits_still, awaiting_beside, fewer_closed, own_listed, IsEventAt, Pictured, dead, Pictures, PicturesBy, ListIs, WaitsAre, MayAct, Does, gave}
+use Rattle.b67_pictures.proofs.Prelude.{option_map, if◌then◌else◌, numbered, set_numbered, EventState, caused, IsListed, End, block_numbered, PProgram, Scopes, scopes_of, leaves, ask, Choice, choice, ended_releasing, some_depends, is_evaluation, own_instances, event_at, set_event, caused_by_end, list_in, all_withdrawn, leave, done, Reference, event, NamedCell, Instance, Process, Part, is_able, lives, World, instance_at, or_no_instance, process_at, with_process, cell_in, cell_at, event_in, cells_with, set_all_able, stack_forth, IsInSkeleton, Stack, WaitersAreListed, IsOwn, IsStanding, IsOnPath, referred_in_cells, newest_own, stack_of, Place, Code, same_place-true, same_place-self, Event, waiters_at, closed_from, event_changed, with_state, list_of, place, Image, is_critical, Outcome, live_criticals, able_again, told_positions, ProcessState, Ended, registers_releases, released_by, releases, made_base, Texts, ActionAt, Core, HasCore, length_set_numbered, some_same, true_false, same_or_not, numbered_set, numbered_other, IsSameBut, action_not_plain, arrays_unchanged, FramesClose, events_unchanged, exit_class, exit_action, HasFacts, facts_of, StandOn, OwnCells, framed_cells, OwnEvent, known_event, event_there, EventsAre, AreLaid, all_laid, Found, found_laid, find, numbered_swap, idle_list, idle_nowhere, LeavesAlone, alike_but, OutmostActor, process_is, gives_within, text_in, level_in, context_in, most_in, stored_world, others_at, same_of, stored_on, others_stored, EventsStay, event_stays, waits_still, awaiting_beside, fewer_closed, own_listed, IsEventAt, Pictured, dead, Pictures, PicturesBy, ListIs, WaitsAre, MayAct, Does, gave}
 use Rattle.algol_standing.specs.Skeleton as skeletons
 use Rattle.b67_events.specs.Events as kernel
 use Rattle.b67_ops.specs.declared.Operator.TheVariants as ops
@@ -172,7 +172,7 @@ module _ (tree : PProgram) (code : Code) (texts : Texts) (closing : FramesClose)
 
     -- ---- who waits for it
 
-    listed : AreListed w r c
+    listed : WaitersAreListed w r c
     listed = s.ok.sound.listed r c t.stands (ap (λ (cells : List NamedCell). cell_in cells r.name) (sym (same j).cells) ∙ means)
 
     waiter_apart : is_able ((process_at w p).state) ≡ true → IsListed c.waiters p → ⊥
@@ -201,7 +201,7 @@ module _ (tree : PProgram) (code : Code) (texts : Texts) (closing : FramesClose)
     -- ---- the picture before they are released
 
     abbrev now : Image
-    now = record before { events = with_event at (with_state caused) open_events }
+    now = record before { events = event_changed at (with_state caused) open_events }
 
     same_core : (m : ℕ) (k : Core) → HasCore before m k → HasCore now m k
     same_core m k has = record { live = has.live; registers = has.registers; own = has.own; stack = has.stack; is = has.is }
@@ -216,7 +216,7 @@ module _ (tree : PProgram) (code : Code) (texts : Texts) (closing : FramesClose)
     laid_before : AreLaid w lay
     laid_before = all_laid w lay facts s.by.laid
 
-    fewer : (k : ℕ) → IsIn (referred_in_cells (cells_with x.cells r.name (event later))) k → IsIn (referred_in_cells x.cells) k
+    fewer : (k : ℕ) → IsInSkeleton (referred_in_cells (cells_with x.cells r.name (event later))) k → IsInSkeleton (referred_in_cells x.cells) k
     fewer = refers_fewer x.cells r.name (event later) refl
 
     on_first : StandOn sc w u lay lay
@@ -402,17 +402,17 @@ module _ (tree : PProgram) (code : Code) (texts : Texts) (closing : FramesClose)
     owned_then : (k : ℕ) → IsStanding caused_world k → IsOwned caused_world k
     owned_then k st = by (stack_back caused_world st.number st.stack st.is)
       where
-        by_process : (y : Process) → numbered caused_world.processes st.number ≡ Some y → IsIn (own_instances y.todo) k → (p ≡ st.number) ⊎ (p ≢ st.number) → IsOwned caused_world k
+        by_process : (y : Process) → numbered caused_world.processes st.number ≡ Some y → IsInSkeleton (own_instances y.todo) k → (p ≡ st.number) ⊎ (p ≢ st.number) → IsOwned caused_world k
         by_process y is inside (inl same_p) =
             let ended_one : q' ≡ y = some_same (sym (numbered_set w.processes p q q' s.at) ∙ ap (λ (n : ℕ). numbered caused_world.processes n) same_p ∙ is) in
-            absurd (subst (λ (z : Process). IsIn (own_instances z.todo) k) (sym ended_one) inside)
+            absurd (subst (λ (z : Process). IsInSkeleton (own_instances z.todo) k) (sym ended_one) inside)
         by_process y is inside (inr other) =
             let before_is : numbered w.processes st.number ≡ Some y = sym (numbered_other w.processes p st.number q' other) ∙ is in
             record { number = st.number; process = y; is = is; alive = owner_lives tree code texts w lay img s.by s.ok st.number y before_is k inside; own = own_listed y.todo k inside }
 
         by : ((st.stack.own ≡ []) × (st.stack.evaluations ≡ []) × (st.stack.live ≡ false)) ⊎ ((y : Process) × (numbered caused_world.processes st.number ≡ Some y) × (st.stack ≡ stack_of y)) → IsOwned caused_world k
-        by (inl f) = absurd (subst (λ (ks : List ℕ). IsIn ks k) f.0 st.inside)
-        by (inr f) = by_process f.0 f.1 (subst (λ (z : Stack). IsIn z.own k) f.2 st.inside) (same_or_not p st.number)
+        by (inl f) = absurd (subst (λ (ks : List ℕ). IsInSkeleton ks k) f.0 st.inside)
+        by (inr f) = by_process f.0 f.1 (subst (λ (z : Stack). IsInSkeleton z.own k) f.2 st.inside) (same_or_not p st.number)
 
     waits_then : (IsListed c.waiters p → ⊥) → IsAfter sc w caused_world p → (k : ℕ) → IsListed c.waiters k → IsWaiter tree code texts lay caused_world now k
     waits_then none after_it k m =
@@ -459,7 +459,7 @@ module _ (tree : PProgram) (code : Code) (texts : Texts) (closing : FramesClose)
     abbrev image_by : Place → List ℕ → List ProcessState → Image
     image_by y ws states =
         record before {
-          events = kernel.withdrawn ws (with_event y (with_state caused) open_events);
+          events = kernel.withdrawn ws (event_changed y (with_state caused) open_events);
           lists = kernel.unlisted ws img.lists;
           states = states;
           numbers = told_positions task img.lists ws img.numbers;

@@ -1,6 +1,6 @@
 -- No operator of a pictured image reads or writes a word in the private part of another process.
 use Rattle.std.proofs.Common.{◌≡◌, ◌⊎◌, inl, inr, refl, sym, ap, ◌∙◌, subst, ℕ, ◌+◌, ◌-◌, ◌<◌, ◌≤◌, List, [], ◌∷◌, length, Some, None, Bool, true, false, arith, ◌^◌, ◌++◌}
-use Rattle.b67_pictures.proofs.Prelude.{if◌then◌else◌, pos, numbered, PProgram, PStmts, PDecls, Scopes, scopes_of, Spot, Kind, Named, PhraseText, Ask, nothing, reads, reads_element, indexes, enters, passes, resolves, reads_result, leaves, stores, selects, turns, goes_to, enters_block, starts, writes, makes_arrays, makes_event, ask, event_deed, is_evaluation, own, there, element_of, Given, done, value, cell, Value, Reference, number, Process, Part, World, instance_at, IsSeen, IsSeenAround, IsInner, IsOk, IsWhole, Word, Place, as_pcw-pcw_word, as_sirw-other, irw_laws, as_irw, as_sirw, as_pcw, pcw_word, Pcw, Registers, Brun, Couple, Operator, Intrinsic, Placed, Code, word_at, place, Image, display_at, frame, level_below, Lives, OperatorTouches, IsPrivate, Wanted, parameter_wants, IsRead, of_variable, of_formal, stmts_count, Context, Has, operator_for, code_at, AreNested, Texts, RestsGoOn, ActionAt, GoesOn, given_slots, operands, Slot, control, intrinsic, mark, operand, reference, slots_length, Core, HasCore, CoreStep, CoreSteps, onward, newest, SlotIs, SlotsAre, some_same, none_some, reads_seen, stores_seen, enters_seen, AreFit, none_wanted, are_fit, Taken, Top, top_slot, cell_named, StandsNear, no_sirw, reference_read, result_given, asks_as_own, frame_gives, runs_low, runs_deep, under_top, over_top, call_names, procedure_fits, Layout, Found, NameCellHome, NameStands, LeadsOn, leads_on, name_stands, Scene, scene_of, shown_frame, actor_of, text_in, level_in, context_in, most_in, names_in, IsEntry, Names, procedure_there, by_names, narrow_of, Living, PicturesBy}
+use Rattle.b67_pictures.proofs.Prelude.{if◌then◌else◌, pos, numbered, PProgram, PStmts, PDecls, Scopes, scopes_of, Spot, Kind, Named, PhraseText, Ask, nothing, reads, reads_element, indexes, enters, passes, resolves, reads_result, leaves, stores, selects, turns, goes_to, enters_block, starts, writes, makes_arrays, makes_event, ask, event_deed, is_evaluation, own, there, element_of, Given, done, value, cell, Value, Reference, number, Process, Part, World, instance_at, BlockIsSeen, IsSeenAround, IsInner, IsOk, IsWholeInstance, Word, Place, as_pcw-pcw_word, as_sirw-other, irw_laws, as_irw, as_sirw, as_pcw, pcw_word, Pcw, Registers, Brun, Couple, Operator, Intrinsic, Placed, Code, word_at, place, Image, display_at, frame, level_below, Lives, OperatorTouches, IsPrivate, Wanted, parameter_wants, IsRead, of_variable, of_formal, stmts_count, Context, Has, operator_for, code_at, AreNested, Texts, RestsGoOn, ActionAt, CodeGoesOn, given_slots, operands, Slot, control, intrinsic, mark, operand, reference, slots_length, Core, HasCore, CoreStep, CoreSteps, onward, newest, SlotIs, SlotsAre, some_same, none_some, reads_seen, stores_seen, enters_seen, AreFit, none_wanted, are_fit, Taken, Top, top_slot, cell_named, StandsNear, no_sirw, reference_read, result_given, asks_as_own, frame_gives, runs_low, runs_deep, under_top, over_top, call_names, procedure_fits, Layout, Found, NameCellHome, NameStands, LeadsOn, leads_on, name_stands, Scene, scene_of, shown_frame, actor_of, text_in, level_in, context_in, most_in, names_in, IsEntry, Names, procedure_there, by_names, narrow_of, Living, PicturesBy}
 use Rattle.std.specs.Prelude.{nat_le}
 use Rattle.algol_tree.specs.Plain as tree_forms
 use Rattle.algol_meaning.specs.Rest.{Place as FoundPlace, place as at_place, entered}
@@ -104,10 +104,10 @@ module _ (tree : PProgram) (code : Code) (texts : Texts) (nested : AreNested (sc
 
     read_near : (n : Named) → ask part.rest ≡ reads n → At (reads n) → Comes
     read_near n e a =
-        let seen : IsSeen sc block n = reads_seen (IsSeen sc block) n (IsInner sc block) (IsSeenAround sc block) (λ (seen : IsSeenAround sc block n). seen.0) part.rest e s.stands.frame.text in
+        let seen : BlockIsSeen sc block n = reads_seen (BlockIsSeen sc block) n (IsInner sc block) (IsSeenAround sc block) (λ (seen : IsSeenAround sc block n). seen.0) part.rest e s.stands.frame.text in
         by_read seen a.2.1
       where
-        by_read : IsSeen sc block n → IsRead sc named_level n a.0 a.2.0 → Comes
+        by_read : BlockIsSeen sc block n → IsRead sc named_level n a.0 a.2.0 → Comes
         by_read seen (of_variable v) = operand_near a.2.0 a.1 a.2.2 (variable_there tree code texts nested (actor_of s) n a.0 a.2.0 seen v)
         by_read seen (of_formal v) = name_near n a.0 a.2.0 a.1 a.2.2 (name_stands tree code texts nested (actor_of s) n a.0 a.2.0 seen v)
 
@@ -120,7 +120,7 @@ module _ (tree : PProgram) (code : Code) (texts : Texts) (nested : AreNested (sc
 
     stored_near : (n : Named) (v : Value) → ask part.rest ≡ stores (own n) v → At (stores (own n) v) → Comes
     stored_near n v e a =
-        let seen : IsSeen sc block n = stores_seen (IsSeen sc block) n (IsInner sc block) (IsSeenAround sc block) (λ (seen : IsSeenAround sc block n). seen.0) part.rest v e s.stands.frame.text in
+        let seen : BlockIsSeen sc block n = stores_seen (BlockIsSeen sc block) n (IsInner sc block) (IsSeenAround sc block) (λ (seen : IsSeenAround sc block n). seen.0) part.rest v e s.stands.frame.text in
         let couple : Couple = a.2.couple in
         let first : Top sc s.stands.held level (frame r) (length core.below) (operand v) (reference couple ∷ a.1) core.words =
         top_slot sc s.stands.held level (frame r) (length core.below) s.stands.slots (operand v) (reference couple ∷ a.1) core.words s.stands.there.words_are a.2.lies in
@@ -221,7 +221,7 @@ module _ (tree : PProgram) (code : Code) (texts : Texts) (nested : AreNested (sc
 
     called_near : (n : Named) (gs : List Given) → ask part.rest ≡ enters n gs → At (enters n gs) → Comes
     called_near n gs e a =
-        let seen : IsSeen sc block n = (enters_seen (IsSeen sc block) n gs (IsInner sc block) (IsSeenAround sc block) (λ m (seen : IsSeenAround sc block m). seen.0) part.rest e s.stands.frame.text).0 in
+        let seen : BlockIsSeen sc block n = (enters_seen (BlockIsSeen sc block) n gs (IsInner sc block) (IsSeenAround sc block) (λ m (seen : IsSeenAround sc block m). seen.0) part.rest e s.stands.frame.text).0 in
         let couple : Couple = a.3.couple in
         let fits : (couple.level < 32) × (couple.index < 2 ^ 14) = procedure_fits sc nested named_level n a.0 couple a.3.procedure known in
         let above = above_mark (parameter_wants sc a.0) gs (are_fit sc context (parameter_wants sc a.0) gs a.3.fit) (reference couple) a.2 a.3.lies refl in
@@ -262,13 +262,13 @@ module _ (tree : PProgram) (code : Code) (texts : Texts) (nested : AreNested (sc
 
     pub standing_near : Comes
     standing_near =
-        let on : GoesOn sc context text level (most_in tree w part) part.rest s.stands.pc s.stands.slots =
+        let on : CodeGoesOn sc context text level (most_in tree w part) part.rest s.stands.pc s.stands.slots =
         rests sc context text level (most_in tree w part) part.rest s.stands.pc s.stands.slots s.stands.stands s.stands.asks in
         by_ask (ask part.rest) refl on.action
 
   -- ---- a process that lives
 
-  module _ (by : PicturesBy tree code texts w lay img) (ok : IsOk (scopes_of tree) IsWhole w) where
+  module _ (by : PicturesBy tree code texts w lay img) (ok : IsOk (scopes_of tree) IsWholeInstance w) where
     operator_near : (p : ℕ) (q : Process) → numbered w.processes p ≡ Some q → (l : Living tree code texts w lay img p q) → StandsNear code p img l.core.registers
     operator_near p q at l = by_steps l.steps refl refl
       where
@@ -309,12 +309,12 @@ module _ (tree : PProgram) (code : Code) (texts : Texts) (nested : AreNested (sc
 
 -- no operator of a pictured image touches the stack of another process on which nobody depends
 pub stacks_apart : (tree : PProgram) (code : Code) (texts : Texts) → AreNested (scopes_of tree) → RestsGoOn →
-    (w : World) (lay : Layout) (a : Image) → PicturesBy tree code texts w lay a → IsOk (scopes_of tree) IsWhole w → (p q : ℕ) (r : Registers) (x : Place) → Lives a p r → NobodyDepends a r.stack
+    (w : World) (lay : Layout) (a : Image) → PicturesBy tree code texts w lay a → IsOk (scopes_of tree) IsWholeInstance w → (p q : ℕ) (r : Registers) (x : Place) → Lives a p r → NobodyDepends a r.stack
     → OperatorTouches code a q x → x.stack ≡ r.stack → q ≡ p
 stacks_apart tree code texts nested rests w lay a by ok p q r x lives nobody touches same = touches_own tree code texts nested rests w lay a by ok p q r x lives nobody touches same
 
 -- no operator of a pictured image reads or writes a word in the private part of another process
 pub processes_apart : (tree : PProgram) (code : Code) (texts : Texts) → AreNested (scopes_of tree) → RestsGoOn →
-    (w : World) (lay : Layout) (a : Image) → PicturesBy tree code texts w lay a → IsOk (scopes_of tree) IsWhole w → (p q : ℕ) (x : Place) (r : Registers) → OperatorTouches code a p x → Lives a q r → IsPrivate r x → p ≡ q
+    (w : World) (lay : Layout) (a : Image) → PicturesBy tree code texts w lay a → IsOk (scopes_of tree) IsWholeInstance w → (p q : ℕ) (x : Place) (r : Registers) → OperatorTouches code a p x → Lives a q r → IsPrivate r x → p ≡ q
 processes_apart tree code texts nested rests w lay a by ok p q x r touches lives private =
     others_stay_private code a p x (own_stacks tree code texts w lay a by) (leads_below tree code texts nested rests w lay a by ok p) touches q r lives private

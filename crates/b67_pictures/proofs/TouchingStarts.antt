@@ -1,6 +1,6 @@
 -- What the start of a process reaches: the cells that its words name are near, and lead no further.
 use Rattle.std.proofs.Common.{◌≡◌, ◌⊎◌, inl, inr, refl, sym, ap, ◌∙◌, subst, ℕ, ◌+◌, ◌<◌, ◌≤◌, ◌^◌, List, [], ◌∷◌, ◌++◌, length, Option, Some, None, true, false, arith, lit<, append_assoc}
-use Rattle.b67_pictures.proofs.Prelude.{reverse-reverse, slice_get, reverse, pos, PProgram, Scopes, scopes_of, use_of, is_variable, is_formal, Named, Ask, starts, ask, is_evaluation, Given, Reference, Cell, number, Bounds, Part, instance_at, DeclaredArray, Shape, IsSeen, IsSeenAround, InGivens, InName, InRest, CellLow, IsLow, IsStanding, IsAmong, IsNoBlock, Word, Place, as_sirw-other, irw_laws, sirw_laws, as_irw, as_sirw, event_word, Descriptor, Irw, Sirw, Couple, Start, Code, words_or, word_at, place, display_at, frame, cell_place, cell_word, irw_or_sirw, cell_of, Wanted, IsDeclaredArray, parameter_wants, Context, AreNested, Texts, ActionAt, StartsAt, IsTask, start_begun, Slot, reference, intrinsic, mark, passed as passed_held, slots_length, newest, SlotIs, some_same, none_some, AreFit, none_wanted, are_fit, Taken, ActualsAre, words_are, Top, top_slot, NearCell, StandsNear, no_sirw, value_tag, event_refers_nothing, reference_read, known_is, runs_low, runs_deep, named_leads, event_leads, HasCells, under_top, procedure_fits, variable_leads, Allotted, LeadsTo, LeadsToEvent, Denotes, named_from, IsComplete, IsInReach, ArePlaced, array_index, cell_there, scene_placed, part_there, LeadsOn, Actor, Seen, text_in, level_in, names_in, context_in, most_in, IsEntry, Names, procedure_there, by_names}
+use Rattle.b67_pictures.proofs.Prelude.{reverse-reverse, slice_get, reverse, pos, PProgram, Scopes, scopes_of, use_of, is_variable, is_formal, Named, Ask, starts, ask, is_evaluation, Given, Reference, Cell, number, Bounds, Part, instance_at, DeclaredArray, Shape, BlockIsSeen, IsSeenAround, InGivens, InName, InRest, CellLow, IsLow, IsStanding, IsAmongParts, IsNoBlock, Word, Place, as_sirw-other, irw_laws, sirw_laws, as_irw, as_sirw, event_word, Descriptor, Irw, Sirw, Couple, Start, Code, words_or, word_at, place, display_at, frame, cell_place, cell_word, irw_or_sirw, cell_of, Wanted, IsDeclaredArray, parameter_wants, Context, AreNested, Texts, ActionAt, StartsAt, IsTask, start_begun, Slot, reference, intrinsic, mark, passed as passed_held, slots_length, newest, SlotIs, some_same, none_some, AreFit, none_wanted, are_fit, Taken, ActualsAre, words_are, Top, top_slot, NearCell, StandsNear, no_sirw, value_tag, event_refers_nothing, reference_read, known_is, runs_low, runs_deep, named_leads, event_leads, HasCells, under_top, procedure_fits, variable_leads, Allotted, ReferenceLeadsTo, LeadsToEvent, Denotes, named_from, IsComplete, IsInReach, ArePlaced, array_index, cell_there, scene_placed, part_there, LeadsOn, Actor, Seen, text_in, level_in, names_in, context_in, most_in, IsEntry, Names, procedure_there, by_names}
 use Rattle.algol_meaning.specs.Value as cells
 use Rattle.algol_standing.specs.Worlds.{held_in_rest, held_in_givens}
 use Rattle.algol_standing.specs.Lows.{AllLow}
@@ -9,7 +9,7 @@ use Rattle.algol_standing.proofs.Holding.{AreAll}
 use Rattle.b67_control.specs.Control.{descriptor_word}
 use Rattle.b67_ops.specs.declared.Operator.TheVariants as ops
 use Rattle.b67_ops.specs.declared.PlainKind.TheVariants as kinds
-use Rattle.b67_ops.specs.Intrinsics.{number_of, couple_of_intrinsic}
+use Rattle.b67_ops.specs.Intrinsics.{intrinsic_number_of, couple_of_intrinsic}
 use Rattle.b67_table.specs.declared.Cell.{Cell as MachineCell}
 use Rattle.b67_table.specs.Beginning.{intrinsic_pcw}
 use Rattle.b67_table.specs.References.{sirw_cell}
@@ -92,7 +92,7 @@ module _ (tree : PProgram) (code : Code) (texts : Texts) (nested : AreNested (sc
 
   -- ---- references to arrays and to events
 
-  array_on : (shape : Shape) (r : Reference) (x : Word) → LeadsTo sc w lay Reached shape r x → Led r → Leads x
+  array_on : (shape : Shape) (r : Reference) (x : Word) → ReferenceLeadsTo sc w lay Reached shape r x → Led r → Leads x
   array_on shape r x leads led =
       let h : ArrayPlace tree code texts actor r.instance r.name leads.declared leads.cell leads.allotted leads.array =
       array_place tree code texts actor nested r.instance r.name led leads.declared leads.cell leads.allotted leads.array in
@@ -193,7 +193,7 @@ module _ (tree : PProgram) (code : Code) (texts : Texts) (nested : AreNested (sc
   then_made (inl whole) = inl whole
   then_made (inr x) = inr x.1
 
-  given_ends : {wanted : List Wanted} {gs : List Given} → AreFit sc context wanted gs → InGivens (IsSeen sc block) gs → IsComplete sc w lay part.instance ⊎ Around gs → (Narrow → Around gs) → AllHeld (held_in_givens gs) →
+  given_ends : {wanted : List Wanted} {gs : List Given} → AreFit sc context wanted gs → InGivens (BlockIsSeen sc block) gs → IsComplete sc w lay part.instance ⊎ Around gs → (Narrow → Around gs) → AllHeld (held_in_givens gs) →
       (ws : List Word) → ActualsAre sc s.stands.held level own base wanted gs ws → Each NamesEnds ws
   given_ends none_wanted is made keeps lows [] are = tt
   given_ends none_wanted is made keeps lows (x ∷ ws) are = absurd are
@@ -209,7 +209,7 @@ module _ (tree : PProgram) (code : Code) (texts : Texts) (nested : AreNested (sc
   )
   given_ends (a_cell shape r rest) is made keeps lows [] are = absurd are
   given_ends (a_cell shape r rest) is made keeps lows (x ∷ ws) are =
-      let leads : LeadsTo sc w lay Reached shape r x = known_is sc w lay Reached part.instance s.stands.held s.stands.held_are (passed_held (wants.array shape) (cells.reference r)) x are.0 in
+      let leads : ReferenceLeadsTo sc w lay Reached shape r x = known_is sc w lay Reached part.instance s.stands.held s.stands.held_are (passed_held (wants.array shape) (cells.reference r)) x are.0 in
       (led_ends x (array_on shape r x leads (held_led r leads.own (λ i low. (lows i low).0))), given_ends rest is made keeps (λ i low. (lows i low).1) ws are.1)
   given_ends (an_event_name n c v rest) is made keeps lows [] are = absurd are
   given_ends (an_event_name n c v rest) is made keeps lows (x ∷ ws) are = (
@@ -270,7 +270,7 @@ module _ (tree : PProgram) (code : Code) (texts : Texts) (nested : AreNested (sc
     start_top : Top sc s.stands.held level own base (intrinsic Start) (mark ∷ a.2) procedure_top.words_below
     start_top = top_slot sc s.stands.held level own base (intrinsic Start ∷ mark ∷ a.2) (intrinsic Start) (mark ∷ a.2) procedure_top.words_below procedure_top.are refl
 
-    all_seen : AreNamedThere (IsSeen sc block) n gs task
+    all_seen : AreNamedThere (BlockIsSeen sc block) n gs task
     all_seen = start_seen tree code texts actor n gs task asks
 
     made : IsComplete sc w lay part.instance ⊎ AreNamedThere (IsSeenAround sc block) n gs task
@@ -283,7 +283,7 @@ module _ (tree : PProgram) (code : Code) (texts : Texts) (nested : AreNested (sc
     lows i is_low =
         subst (λ (k : Ask). AskHolds (CellLow sc ((instance_at w i).block) i) k) asks
         (rest_asks (CellLow sc ((instance_at w i).block) i) part.rest
-        (all_hold sc ((instance_at w i).block) i (held_in_rest part.rest) (is_low.parts p q part s.at (subst (λ (ps : List Part). IsAmong ps part) (sym s.todo) (inl refl))).holds))
+        (all_hold sc ((instance_at w i).block) i (held_in_rest part.rest) (is_low.parts p q part s.at (subst (λ (ps : List Part). IsAmongParts ps part) (sym s.todo) (inl refl))).holds))
 
     actuals_made : IsComplete sc w lay part.instance ⊎ Around gs
     actuals_made = by_text made
@@ -322,7 +322,7 @@ module _ (tree : PProgram) (code : Code) (texts : Texts) (nested : AreNested (sc
     task_ends : NamesEnds task_top.word
     task_ends = by_task task at.tasked at.task_is all_seen.2 task_made (λ text. (around text).2) task_top.word task_top.slot_is
       where
-        by_task : (t : Option Named) (slot : Slot) → IsTask sc context t slot → InName (IsSeen sc block) t → IsComplete sc w lay part.instance ⊎ InName (IsSeenAround sc block) t → (Narrow → InName (IsSeenAround sc block) t) →
+        by_task : (t : Option Named) (slot : Slot) → IsTask sc context t slot → InName (BlockIsSeen sc block) t → IsComplete sc w lay part.instance ⊎ InName (IsSeenAround sc block) t → (Narrow → InName (IsSeenAround sc block) t) →
             (x : Word) → SlotThere slot x → NamesEnds x
         by_task None slot is there in_bound keeps x slot_is = operand_ends x (value_tag (number (pos 0)) x (subst (λ (t : Slot). SlotThere t x) is slot_is))
         by_task (Some m) slot is there in_bound keeps x slot_is =
@@ -354,9 +354,9 @@ module _ (tree : PProgram) (code : Code) (texts : Texts) (nested : AreNested (sc
         by_names tree code texts nested actor (ops.Plain kinds.Entr) a.1 at.stands
         (entry_names_above p img core.registers start_top.word
         (under_top img p core s.has arguments start_top.word start_top.words_below whole (core.registers.f + 1) (omega (arith, f, many)))
-        (record { level = 0; index = number_of Start }) (ap as_irw start_top.slot_is ∙ reference_read (couple_of_intrinsic Start) (lit< tt) (numbers_small Start)) (place 0 0) s.sees
-        (system_cell p img (record { frame = place 0 0; index = number_of Start }) refl) (intrinsic_pcw (number_of Start))
-        (ap (λ (o : Option (List Word)). slice_get (words_or o) (0 + number_of Start)) s.by.system ∙ lies_there Start) (pcw_no_sirw Start) Ends
+        (record { level = 0; index = intrinsic_number_of Start }) (ap as_irw start_top.slot_is ∙ reference_read (couple_of_intrinsic Start) (lit< tt) (numbers_small Start)) (place 0 0) s.sees
+        (system_cell p img (record { frame = place 0 0; index = intrinsic_number_of Start }) refl) (intrinsic_pcw (intrinsic_number_of Start))
+        (ap (λ (o : Option (List Word)). slice_get (words_or o) (0 + intrinsic_number_of Start)) s.by.system ∙ lies_there Start) (pcw_no_sirw Start) Ends
         (λ k u d after lies e.
         above_others NamesEnds core.below arguments (start_top.word ∷ start_top.words_below) all_end k u (omega (arith, f, many, after))
         (ap (λ (ws : List Word). slice_get ws k) (sym (words_are img p core s.has ∙ ap (λ (ws : List Word). core.below ++ reverse ws) whole)) ∙ lies) d e)

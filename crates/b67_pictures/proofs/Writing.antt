@@ -14,7 +14,7 @@ use Rattle.b67_segment.specs.declared.code.Phrase.TheVariants as parts
 use Rattle.b67_table.specs.Effect as effects
 use Rattle.b67_table.specs.Lines.{before, format_line, line_by, line_for}
 use Rattle.b67_table.specs.Outcome as outcomes
-use Rattle.b67_templates.specs.Code.{IsPart, text, word, AreParts, numbers_in, FormatIs}
+use Rattle.b67_templates.specs.Code.{IsCodePart, text, word, AreParts, numbers_in, FormatIs}
 use Rattle.b67_rows.proofs.IntrinsicRows.{write_raw}
 use Rattle.b67_pictures.proofs.InFrame.{does_in_frame}
 
@@ -31,7 +31,7 @@ shows_word true width ts more shows [] e = absurd (omega (arith, e))
 shows_word true width ts more shows (v ∷ vs) e = ap (before (justified width (whole_of v))) (shows vs (omega (arith, e)))
 shows_word false width ts more shows vs e = ap (before (replicate width 32)) (shows vs e)
 
-shows_part : (t : PhraseText) (part : Phrase) (ts : List PhraseText) (more : List Phrase) → IsPart t part → Shows ts more → Shows (t ∷ ts) (part ∷ more)
+shows_part : (t : PhraseText) (part : Phrase) (ts : List PhraseText) (more : List Phrase) → IsCodePart t part → Shows ts more → Shows (t ∷ ts) (part ∷ more)
 shows_part t part ts more (text bytes) shows vs e = ap (before bytes) (shows vs e)
 shows_part t part ts more (word []) shows vs e = ap (before []) (shows vs e)
 shows_part t part ts more (word (first ∷ digits)) shows vs e = shows_word (first == 73) (value_of digits) ts more shows vs e

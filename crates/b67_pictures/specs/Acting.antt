@@ -6,7 +6,7 @@ use Rattle.algol_tree.specs.Plain.{PProgram}
 use Rattle.algol_tree.specs.Scopes.{Scopes, scopes_of}
 use Rattle.algol_meaning.specs.World.{World, is_able, process_at, instance_at}
 use Rattle.algol_meaning.specs.Choice.{choice}
-use Rattle.algol_standing.specs.Worlds.{IsStanding, IsWhole}
+use Rattle.algol_standing.specs.Worlds.{IsStanding, IsWholeInstance}
 use Rattle.algol_standing.specs.Fitting.{IsOk}
 use Rattle.algol_standing.specs.Lows.{IsLow, IsMaking}
 use Rattle.b67_segment.specs.declared.code.Code.{Code}
@@ -23,7 +23,7 @@ use Rattle.b67_scenes.specs.Pictures.{Pictures}
 -- nor to what has been made by the action in one that has something to make.
 pub record MayAct (sc : Scopes) (w : World) (p : ℕ) : Type 0 where
   pub able : is_able ((process_at w p).state) ≡ true
-  pub ok : IsOk sc IsWhole ((choice sc w p).world)
+  pub ok : IsOk sc IsWholeInstance ((choice sc w p).world)
   pub others : (i : ℕ) → IsStanding w i → ((instance_at w i).process ≡ p → ⊥) → IsLow sc w i → IsLow sc ((choice sc w p).world) i
   pub making : (i : ℕ) → IsMaking w i → IsLow sc ((choice sc w p).world) i
 

@@ -15,7 +15,7 @@ use Rattle.b67_stands.specs.Running.{Running, answer_of}
 use Rattle.b67_stands.specs.Picked.{Pick}
 use Rattle.b67_stands.specs.Placing.{holder_of}
 use Rattle.b67_stands.specs.Stands.{Stands}
-use Rattle.b67_stands.specs.Calls.{TakesOne, is_action, Records}
+use Rattle.b67_stands.specs.Calls.{TakesOne, done_is_action, Records}
 use Rattle.b67_stands.specs.Turns.{ActsOn, ActsAgain, stay, go, ActsMany, StandsOut}
 use Rattle.b67_stands.specs.Shared.{Shared, begin, take as takes, land as lands, run as runs, act as acts_once, leave as leaves, IsFree, with_acts}
 use Rattle.b67_stands.proofs.Firsts.{none_out}
@@ -107,7 +107,7 @@ module _ (code : Code) (budget : ℕ) (pick : Pick) (processors : ℕ) where
       let at : (x : ℕ) → holder_of s.out x ≡ me → holder_of old.out x ≡ me = λ x h. sym (ap (λ (y : Running). holder_of y.out x) k.new_is) ∙ h in
       only_out before old shared me p q one (at p e) (at q f)
   only_out acts s (acts_once {acts = before} {old = old} by r performed shared going some most mine a) me p q one e f =
-      only_out before old shared me p q one (acted_holder (is_action performed.done) old r s a.records p me one e) (acted_holder (is_action performed.done) old r s a.records q me one f)
+      only_out before old shared me p q one (acted_holder (done_is_action performed.done) old r s a.records p me one e) (acted_holder (done_is_action performed.done) old r s a.records q me one f)
   only_out acts s (leaves {old = old} shared ended l) me p q one e f =
       let at : (x : ℕ) → holder_of s.out x ≡ me → holder_of old.out x ≡ me = λ x h. sym (ap (λ (y : Running). holder_of y.out x) l) ∙ h in
       only_out acts old shared me p q one (at p e) (at q f)
@@ -133,12 +133,12 @@ module _ (code : Code) (budget : ℕ) (pick : Pick) (processors : ℕ) where
         let acted : Running = more.acted in
         let stands : Stands code budget acted = acts_keep code budget b acted p more.performed sound out.stands out.going out.out more.valid more.acts in
         let gone : holder_of acted.out p ≢ me = waits_free acted p me stands more.going one (pick (length acted.waiting) acted.takes) more.takes.picked in
-        let done : is_action more.performed.done ≡ true = is_acted (is_action more.performed.done) b p acted more.acts.records me mine gone in
-        let counted : n + one_if (is_action more.performed.done) ≡ suc n = omega (arith, ap one_if done) in
-        let free : IsFree me acted = frees (with_acts acts me n) b shared me p one mine (is_action more.performed.done) acted more.acts.records gone in
+        let done : done_is_action more.performed.done ≡ true = is_acted (done_is_action more.performed.done) b p acted more.acts.records me mine gone in
+        let counted : n + one_if (done_is_action more.performed.done) ≡ suc n = omega (arith, ap one_if done) in
+        let free : IsFree me acted = frees (with_acts acts me n) b shared me p one mine (done_is_action more.performed.done) acted more.acts.records gone in
         let number = taken_number code budget acted stands (pick (length acted.waiting) acted.takes) p more.going more.takes.picked in (
           subst (λ (xs : List ℕ). Shared code budget pick processors xs c)
-              (acts_twice acts me n (one_if (is_action more.performed.done)) ∙ ap (with_acts acts me) counted)
+              (acts_twice acts me n (one_if (done_is_action more.performed.done)) ∙ ap (with_acts acts me) counted)
               (takes me p (acts_once me p more.performed shared out.going one most mine more.acts) more.going one most free more.takes),
           ap (λ (s : Running). holder_of s.out p) more.takes.new_is ∙ holder_own acted.out p me number.0 (omega (arith, number.1, stands.holders)),
         )
@@ -162,16 +162,16 @@ module _ (code : Code) (budget : ℕ) (pick : Pick) (processors : ℕ) where
       then : StandsOut code budget p many.between
       then = stands_on code budget pick me p turns old many.between sound one out on
 
-      pub many_on : Shared code budget pick processors (with_acts acts me (turns + one_if (is_action performed.done))) new
+      pub many_on : Shared code budget pick processors (with_acts acts me (turns + one_if (done_is_action performed.done))) new
       many_on =
-          subst (λ (xs : List ℕ). Shared code budget pick processors xs new) (acts_twice acts me turns (one_if (is_action performed.done)))
+          subst (λ (xs : List ℕ). Shared code budget pick processors xs new) (acts_twice acts me turns (one_if (done_is_action performed.done)))
           (acts_once me p performed before.0 then.going one most before.1 many.last)
 
       -- and where an action was performed last, nobody is out with the processor
-      pub free_then : 1 ≤ p → p ≤ most_processes → is_action performed.done ≡ true → IsFree me new
+      pub free_then : 1 ≤ p → p ≤ most_processes → done_is_action performed.done ≡ true → IsFree me new
       free_then some within done =
-          let back = is_back (is_action performed.done) many.between p new done many.last.records some (omega (arith, within, then.stands.holders)) in
-          frees (with_acts acts me turns) many.between before.0 me p one before.1 (is_action performed.done) new many.last.records (λ e. omega (arith, back, e, one))
+          let back = is_back (done_is_action performed.done) many.between p new done many.last.records some (omega (arith, within, then.stands.holders)) in
+          frees (with_acts acts me turns) many.between before.0 me p one before.1 (done_is_action performed.done) new many.last.records (λ e. omega (arith, back, e, one))
 
   -- ---- the calls
 
@@ -202,10 +202,10 @@ module _ (code : Code) (budget : ℕ) (pick : Pick) (processors : ℕ) where
     share_taken : Shared code budget pick processors acts taken
     share_taken = takes me p shared going one most free takes_one
 
-    pub turn_on : Shared code budget pick processors (with_acts acts me (turns + one_if (is_action performed.done))) new
+    pub turn_on : Shared code budget pick processors (with_acts acts me (turns + one_if (done_is_action performed.done))) new
     turn_on = many_on sound me p one most turns acts taken performed new is_out mine share_taken many
 
-    pub turn_frees : is_action performed.done ≡ true → IsFree me new
+    pub turn_frees : done_is_action performed.done ≡ true → IsFree me new
     turn_frees =
         let number = taken_number code budget old stands (pick (length old.waiting) old.takes) p going takes_one.picked in
         free_then sound me p one most turns acts taken performed new is_out mine share_taken many number.0 number.1

@@ -7,22 +7,22 @@ use Rattle.b67_letters.specs.Entries.{letters}
 use Rattle.b67_table.specs.Image.{Image}
 use Rattle.b67_table.specs.Runs.{Runs, begin, entry}
 use Rattle.b67_list.specs.Numbered.{set_numbered}
-use Rattle.b67_schedule.specs.Schedules.{entries, Kept as Schedule}
+use Rattle.b67_schedule.specs.Schedules.{entries, ScheduleModel}
 use Rattle.b67_segment.specs.declared.code.Code.{Code}
 use Rattle.b67_limits.specs.declared.TheConstants.{MOST_BUDGET}
 use Rattle.b67_table.specs.Limits.{most_processes}
 use Rattle.b67_table.specs.Sound.{Sound}
 use Rattle.b67_table.specs.Valid.{IsValid}
 use Rattle.b67_machine.specs.declared.entry.Performed.{Performed}
-use Rattle.b67_machine.specs.Kept.{Kept, counted}
-use Rattle.b67_machine.specs.Stepping.{Performs}
+use Rattle.b67_machine.specs.Kept.{MachineModel, operators_counted}
+use Rattle.b67_machine.specs.Stepping.{MachinePerforms}
 use Rattle.b67_stands.specs.Running.{Running, answer_of}
 use Rattle.b67_action.specs.Able.{one_if}
 use Rattle.b67_joining.specs.Joining.{joining}
 use Rattle.b67_joining.proofs.Joining.{released_few}
 use Rattle.b67_stands.specs.Placing.{holder_of}
 use Rattle.b67_stands.specs.Stands.{Stands}
-use Rattle.b67_stands.specs.Calls.{is_action, Noted, Records, ActsOnce}
+use Rattle.b67_stands.specs.Calls.{done_is_action, LetterNoted, Records, ActsOnce}
 use Rattle.b67_stands.proofs.Tails.{tail_most}
 use Rattle.b67_stands.proofs.Counts.{count_most, entries_few}
 use Rattle.b67_stands.proofs.Places.{held_able}
@@ -52,7 +52,7 @@ letters_entries code budget old s =
     ap length s.letters ∙ length-map {A = Letter} {B = Option Letter} (reverse old.schedule.letters) Some in
     omega (arith, letters_long r.runs, each, length-reverse old.schedule.letters, ap length r.order, length-reverse r.history)
 
-pub counted_spent : (code : Code) (budget : ℕ) (old : Running) (p : ℕ) → Stands code budget old → counted old.machine.counts p ≤ old.spent + old.spent
+pub counted_spent : (code : Code) (budget : ℕ) (old : Running) (p : ℕ) → Stands code budget old → operators_counted old.machine.counts p ≤ old.spent + old.spent
 counted_spent code budget old p s =
     let r = s.leads.run in
     omega (arith, s.counts p, count_most p r.history r.counts, tail_most s.tails p, s.spends)
@@ -66,11 +66,11 @@ held_number code budget old p s going h =
 
 -- ---- an act
 
-pub once : (budget : ℕ) (old : Running) (p : ℕ) (performed : Performed) (new : Running) (b : ℕ) → b ≡ budget → Performs old.machine p (b - old.spent) performed new.machine
-    → (x : Bool) → is_action performed.done ≡ x → new.spent ≡ old.spent + performed.plain + one_if x → Records x old p new → new.takes ≡ old.takes → new.leaves ≡ old.leaves
+pub once : (budget : ℕ) (old : Running) (p : ℕ) (performed : Performed) (new : Running) (b : ℕ) → b ≡ budget → MachinePerforms old.machine p (b - old.spent) performed new.machine
+    → (x : Bool) → done_is_action performed.done ≡ x → new.spent ≡ old.spent + performed.plain + one_if x → Records x old p new → new.takes ≡ old.takes → new.leaves ≡ old.leaves
     → ActsOnce budget old p performed new
 once budget old p performed new b e k x f spent records takes leaves = record {
-  machine = subst (λ (n : ℕ). Performs old.machine p (n - old.spent) performed new.machine) e k;
+  machine = subst (λ (n : ℕ). MachinePerforms old.machine p (n - old.spent) performed new.machine) e k;
   spent = spent ∙ ap (λ (y : Bool). old.spent + performed.plain + one_if y) (sym f);
   records = subst (λ (y : Bool). Records y old p new) (sym f) records;
   takes = takes;
@@ -83,12 +83,12 @@ given code budget old p performed new sound stands going held valid acts =
     record { sound = sound; stands = stands; going = going; held = held; valid = valid; acts = acts }
 
 -- the queue after the action, as it was filled
-pub queue_is : (old : Running) (m : Kept) (p before : ℕ) (waiting : List ℕ) → before ≡ old.machine.image.started
+pub queue_is : (old : Running) (m : MachineModel) (p before : ℕ) (waiting : List ℕ) → before ≡ old.machine.image.started
     → waiting ≡ old.waiting ++ joining before m.image p m.released → waiting ≡ old.waiting ++ joining old.machine.image.started m.image p m.released
 queue_is old m p before waiting e f = f ∙ ap (λ (k : ℕ). old.waiting ++ joining k m.image p m.released) e
 
 -- the plant after an action
-abbrev pub entered : Running → ℕ → Performed → Kept → Schedule → ℕ → Running
+abbrev pub entered : Running → ℕ → Performed → MachineModel → ScheduleModel → ℕ → Running
 entered old p performed m schedule acts = record old {
   machine = m;
   waiting = old.waiting ++ joining old.machine.image.started m.image p m.released;
@@ -98,14 +98,14 @@ entered old p performed m schedule acts = record old {
   acts = acts;
 }
 
-pub entered_once : (budget : ℕ) (old : Running) (p : ℕ) (performed : Performed) (m : Kept) (schedule : Schedule) (acts b : ℕ) → b ≡ budget
-    → Performs old.machine p (b - old.spent) performed m → is_action performed.done ≡ true → entries schedule.runs ≡ entries old.schedule.runs ++ p ∷ []
-    → Noted old.schedule.letters m.letter schedule.letters → acts ≡ old.acts + 1 → ActsOnce budget old p performed (entered old p performed m schedule acts)
+pub entered_once : (budget : ℕ) (old : Running) (p : ℕ) (performed : Performed) (m : MachineModel) (schedule : ScheduleModel) (acts b : ℕ) → b ≡ budget
+    → MachinePerforms old.machine p (b - old.spent) performed m → done_is_action performed.done ≡ true → entries schedule.runs ≡ entries old.schedule.runs ++ p ∷ []
+    → LetterNoted old.schedule.letters m.letter schedule.letters → acts ≡ old.acts + 1 → ActsOnce budget old p performed (entered old p performed m schedule acts)
 entered_once budget old p performed m schedule acts b e k f added noted counted' =
     once budget old p performed (entered old p performed m schedule acts) b e k true f refl (record { schedule = added; letter = noted; out = refl; waiting = refl; acts = counted' }) refl refl
 
 -- and as its fields were written
-pub entered_is : (old : Running) (p : ℕ) (performed : Performed) (m : Kept) (schedule : Schedule) (acts before takes leaves : ℕ) (waiting out : List ℕ) → 1 ≤ p
+pub entered_is : (old : Running) (p : ℕ) (performed : Performed) (m : MachineModel) (schedule : ScheduleModel) (acts before takes leaves : ℕ) (waiting out : List ℕ) → 1 ≤ p
     → before ≡ old.machine.image.started → waiting ≡ old.waiting ++ joining before m.image p m.released
     → out ≡ slice_set old.out (p - 1) 0 → takes ≡ old.takes → leaves ≡ old.leaves
     → record {
@@ -125,8 +125,8 @@ entered_is old p performed m schedule acts before takes leaves waiting out one e
     ∙ ap (λ (x : ℕ). record (entered old p performed m schedule acts) { leaves = x }) l
 
 -- there is room in the queue
-pub queue_fits : (code : Code) (budget : ℕ) (old : Running) (p : ℕ) (performed : Performed) (m : Kept) (schedule : Schedule) (acts : ℕ)
-    → Given code budget old p performed (entered old p performed m schedule acts) → is_action performed.done ≡ true → length old.waiting + length m.released ≤ most_processes
+pub queue_fits : (code : Code) (budget : ℕ) (old : Running) (p : ℕ) (performed : Performed) (m : MachineModel) (schedule : ScheduleModel) (acts : ℕ)
+    → Given code budget old p performed (entered old p performed m schedule acts) → done_is_action performed.done ≡ true → length old.waiting + length m.released ≤ most_processes
 queue_fits code budget old p performed m schedule acts x e =
     let new : Running = entered old p performed m schedule acts in
     let few = waiting_few m.code m.image new.waiting new.out x.valid (placed_then code budget old p performed new x e) in

@@ -4,7 +4,7 @@ use Rattle.std.proofs.Common.{◌≡◌, sym, ap, subst, ◌∙◌, ℕ, zero, s
 use Rattle.b67_list.specs.Numbered.{set_numbered}
 use Rattle.b67_segment.specs.declared.code.Code.{Code}
 use Rattle.b67_table.specs.Limits.{most_processes}
-use Rattle.b67_ready.specs.Ready.{Ready, Takes, counted_on}
+use Rattle.b67_ready.specs.Ready.{Ready, ReadyTakes, counted_on}
 use Rattle.b67_stands.specs.Running.{Running, answer_of}
 use Rattle.b67_stands.specs.Stands.{Stands}
 use Rattle.b67_stands.specs.Placing.{holder_of}
@@ -13,10 +13,10 @@ use Rattle.b67_stands.proofs.Places.{holder_own}
 use Rattle.b67_stands.proofs.Taking.{taken_number, takes_keep}
 
 -- what the dispatcher answers
-pub dispatched : {P : Type 0} (pick : P → ℕ → ℕ → ℕ) (old new : Ready P) (o : Option ℕ) (p : ℕ) → o ≡ Some p → Takes pick old new o
+pub dispatched : {P : Type 0} (pick : P → ℕ → ℕ → ℕ) (old new : Ready P) (o : Option ℕ) (p : ℕ) → o ≡ Some p → ReadyTakes pick old new o
     → (slice_get old.waiting (pick old.rule (length old.waiting) old.takes) ≡ Some p)
     × (new ≡ record old { waiting = remove old.waiting (pick old.rule (length old.waiting) old.takes); takes = counted_on old.takes })
-dispatched pick old new o p e t = subst (Takes pick old new) e t
+dispatched pick old new o p e t = subst (ReadyTakes pick old new) e t
 
 pub set_is : (xs : List ℕ) (p x : ℕ) → 1 ≤ p → slice_set xs (p - 1) x ≡ set_numbered xs p x
 set_is xs zero x h = absurd (omega (arith, h))
@@ -26,7 +26,7 @@ set_is xs (suc k) x h = let same : suc k - 1 ≡ k = omega arith in ap (λ (n : 
 module _ {P : Type 0} (choose : P → ℕ → ℕ → ℕ) (pick : ℕ → ℕ → ℕ) (code : Code) (budget : ℕ) (old : Running) (ready after : Ready P) (p me : ℕ)
     (stands : Stands code budget old) (going : answer_of budget old ≡ None) (some : 1 ≤ me)
     (waits : old.waiting ≡ ready.waiting) (taken_so : old.takes ≡ ready.takes) (chosen : (n takes : ℕ) → choose ready.rule n takes ≡ pick n takes)
-    (answer : Option ℕ) (is : answer ≡ Some p) (takes : Takes choose ready after answer) where
+    (answer : Option ℕ) (is : answer ≡ Some p) (takes : ReadyTakes choose ready after answer) where
   k : ℕ
   k = pick (length old.waiting) old.takes
 

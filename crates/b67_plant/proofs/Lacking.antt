@@ -3,8 +3,8 @@ use Rattle.std.proofs.Common.{◌≡◌, ◌⊎◌, refl, ap, sym, subst, ◌∙
 use Rattle.std.specs.Prelude.{◌-◌, nat_le}
 use Rattle.b67_action.specs.declared.done.Done.{Done}
 use Rattle.b67_machine.specs.declared.entry.Performed.{Performed}
-use Rattle.b67_machine.specs.Kept.{Kept}
-use Rattle.b67_machine.specs.Stepping.{StepsBy, Follows, Performs}
+use Rattle.b67_machine.specs.Kept.{MachineModel}
+use Rattle.b67_machine.specs.Stepping.{StepsBy, MachineFollows, MachinePerforms}
 use Rattle.b67_action.specs.declared.done.Done.TheVariants as dones
 use Rattle.b67_machine.specs.declared.replay.Replayed.{Replayed}
 use Rattle.b67_machine.specs.declared.replay.Replayed.TheVariants.{Ended, BudgetSpent, NoMemory}
@@ -18,14 +18,14 @@ use Rattle.b67_plant.specs.declared.taking.Taken.TheVariants as taken
 use Rattle.b67_plant.specs.declared.taking.PlantLanding.{PlantLanding}
 use Rattle.b67_plant.specs.declared.taking.PlantLanding.TheVariants as landings
 use Rattle.b67_parcel.specs.Parcels.{Stretch}
-use Rattle.b67_plant.specs.Calls.{lacks_in, Acts, Takes, Lands, LeavesOr, HasLacked, IsOver, answer_to, refusal}
+use Rattle.b67_plant.specs.Calls.{lacks_in, PlantActs, PlantTakes, Lands, LeavesOr, HasLacked, IsOver, answer_to, refusal}
 
-module _ (old new : Kept) (p most : ℕ) (performed : Performed) (none : old.lacked ≡ false) (performs : Performs old p most performed new) where
+module _ (old new : MachineModel) (p most : ℕ) (performed : Performed) (none : old.lacked ≡ false) (performs : MachinePerforms old p most performed new) where
   between : performs.between.lacked ≡ false
-  between = ap (λ (k : Kept). k.lacked) performs.plains.others ∙ none
+  between = ap (λ (k : MachineModel). k.lacked) performs.plains.others ∙ none
 
-  by : (o : Option Done) → Follows performs.between p performed.plain most o new → new.lacked ≡ lacks_in o
-  by None f = ap (λ (k : Kept). k.lacked) f.1 ∙ between
+  by : (o : Option Done) → MachineFollows performs.between p performed.plain most o new → new.lacked ≡ lacks_in o
+  by None f = ap (λ (k : MachineModel). k.lacked) f.1 ∙ between
   by (Some done) f = (subst (λ (b : Bool). StepsBy b performs.between p done new) between f.2).lacked
 
   pub lacked_after : new.lacked ≡ lacks_in performed.done
@@ -34,14 +34,14 @@ module _ (old new : Kept) (p most : ℕ) (performed : Performed) (none : old.lac
 -- ---- a machine that lacks memory
 
 -- an operator that finds none leaves it so
-lacks_now : (b : Bool) (old new : Kept) (p : ℕ) → b ≡ old.lacked → StepsBy b old p dones.NoMemory new → new.lacked ≡ true
-lacks_now true old new p is steps = ap (λ (k : Kept). k.lacked) steps.1 ∙ sym is
+lacks_now : (b : Bool) (old new : MachineModel) (p : ℕ) → b ≡ old.lacked → StepsBy b old p dones.NoMemory new → new.lacked ≡ true
+lacks_now true old new p is steps = ap (λ (k : MachineModel). k.lacked) steps.1 ∙ sym is
 lacks_now false old new p is steps = steps.lacked
 
-found_none : (old new : Kept) (p most : ℕ) (performed : Performed) → acted.NoMemory ≡ answer_to performed.done → Performs old p most performed new → new.lacked ≡ true
+found_none : (old new : MachineModel) (p most : ℕ) (performed : Performed) → acted.NoMemory ≡ answer_to performed.done → MachinePerforms old p most performed new → new.lacked ≡ true
 found_none old new p most performed e performs = by performed.done e performs.then
   where
-    by : (o : Option Done) → acted.NoMemory ≡ answer_to o → Follows performs.between p performed.plain most o new → new.lacked ≡ true
+    by : (o : Option Done) → acted.NoMemory ≡ answer_to o → MachineFollows performs.between p performed.plain most o new → new.lacked ≡ true
     by None e f = cc
     by (Some dones.NoMemory) e f = lacks_now performs.between.lacked performs.between new p refl f.2
     by (Some dones.Went) e f = cc
@@ -63,7 +63,7 @@ refused (Some Ended) e = cc
 refused (Some BudgetSpent) e = cc
 refused (Some other) e = cc
 
-pub an_act_lacks : (budget me p : ℕ) (old new : Running) → Acts budget me p old acted.NoMemory new → HasLacked budget new
+pub an_act_lacks : (budget me p : ℕ) (old new : Running) → PlantActs budget me p old acted.NoMemory new → HasLacked budget new
 an_act_lacks budget me p old new (inl (e, same)) = ap (answer_of budget) same ∙ refused (answer_of budget old) e
 an_act_lacks budget me p old new (inr (inl (going, other, same, e))) = cc
 an_act_lacks budget me p old new (inr (inr (going, mine, (performed, acts, e)))) =
@@ -86,7 +86,7 @@ over budget s lacked ended = absurd (by (answer_of budget s) lacked ended)
     by (Some answer) lacked (inl ended) = cc
     by (Some answer) lacked (inr ended) = cc
 
-pub acts_lacking : (budget me p : ℕ) (old : Running) (answer : Acted) (new : Running) → HasLacked budget old → Acts budget me p old answer new → (answer ≡ acted.NoMemory) × (new ≡ old)
+pub acts_lacking : (budget me p : ℕ) (old : Running) (answer : Acted) (new : Running) → HasLacked budget old → PlantActs budget me p old answer new → (answer ≡ acted.NoMemory) × (new ≡ old)
 acts_lacking budget me p old answer new lacked (inl (e, same)) = (by answer (sym e ∙ ap refusal lacked), same)
   where
     by : (answer : Acted) → Some answer ≡ Some acted.NoMemory → answer ≡ acted.NoMemory
@@ -94,7 +94,7 @@ acts_lacking budget me p old answer new lacked (inl (e, same)) = (by answer (sym
 acts_lacking budget me p old answer new lacked (inr (inl (going, other, same, e))) = going_on budget old lacked going
 acts_lacking budget me p old answer new lacked (inr (inr (going, mine, acts))) = going_on budget old lacked going
 
-pub takes_lacking : (pick : Pick) (budget me : ℕ) (old : Running) (answer : Taken) (p : ℕ) (new : Running) → HasLacked budget old → Takes pick budget me old answer p new → (answer ≡ taken.Lacked) × (new ≡ old)
+pub takes_lacking : (pick : Pick) (budget me : ℕ) (old : Running) (answer : Taken) (p : ℕ) (new : Running) → HasLacked budget old → PlantTakes pick budget me old answer p new → (answer ≡ taken.Lacked) × (new ≡ old)
 takes_lacking pick budget me old taken.Work p new lacked takes = going_on budget old lacked takes.0
 takes_lacking pick budget me old taken.Idle p new lacked takes = going_on budget old lacked takes.0
 takes_lacking pick budget me old taken.Over p new lacked takes = over budget old lacked takes.0

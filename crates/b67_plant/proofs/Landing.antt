@@ -10,14 +10,14 @@ use Rattle.b67_table.specs.declared.Private.{Private}
 use Rattle.b67_table.specs.Image.{Image, is_live}
 use Rattle.b67_table.specs.Limits.{most_processes}
 use Rattle.b67_table.specs.Private.{floor}
-use Rattle.b67_table.specs.Privacy.{Keeps}
+use Rattle.b67_table.specs.Privacy.{RegistersStay}
 use Rattle.b67_private.specs.Parts.{PlainParts}
 use Rattle.b67_action.specs.declared.running.Ran.{Ran}
 use Rattle.b67_machine.specs.declared.reads.End.{End}
-use Rattle.b67_machine.specs.Kept.{Kept, counted}
+use Rattle.b67_machine.specs.Kept.{MachineModel, operators_counted}
 use Rattle.b67_machine.specs.Reads.{machine_end}
-use Rattle.b67_machine.specs.Stepping.{Goes}
-use Rattle.b67_ready.specs.Ready.{Ready, Puts}
+use Rattle.b67_machine.specs.Stepping.{MachineGoes}
+use Rattle.b67_ready.specs.Ready.{Ready, ReadyPuts}
 use Rattle.b67_stands.specs.Running.{Running, answer_by, answer_of}
 use Rattle.b67_stands.specs.Placing.{IsOut}
 use Rattle.b67_stands.specs.Stands.{Stands}
@@ -48,7 +48,7 @@ module _ (code : Code) (budget : ℕ) (old : Running) (p : ℕ) (stands : Stands
   pub few_wait : length old.waiting ≤ most_processes
   few_wait = waiting_few code old.machine.image old.waiting old.out stands.valid (stands.placed going)
 
-  module _ {P : Type 0} (ready after : Ready P) (waits : old.waiting ≡ ready.waiting) (taken_so : old.takes ≡ ready.takes) (puts : Puts ready p after) where
+  module _ {P : Type 0} (ready after : Ready P) (waits : old.waiting ≡ ready.waiting) (taken_so : old.takes ≡ ready.takes) (puts : ReadyPuts ready p after) where
     pub goes_back : (out : List ℕ) → out ≡ slice_set old.out (p - 1) 0 → GoesBack old p (record old { waiting = after.waiting; takes = after.takes; out = out })
     goes_back out e =
         ap (λ (w : List ℕ). record old { waiting = w; takes = after.takes; out = out }) (puts.waiting ∙ ap (λ (w : List ℕ). w ++ p ∷ []) (sym waits))
@@ -66,11 +66,11 @@ module _ (code : Code) (budget : ℕ) (old : Running) (p : ℕ) (stands : Stands
       able_lives (numbered old.machine.image.states p) (held_able old.machine.image old.waiting old.out p (stands.placed going) held)
 
   -- its count has room
-  pub few_counted : (n b : ℕ) → n ≤ MOST_STRETCH → b ≡ budget → b ≤ MOST_BUDGET → counted old.machine.counts p + n < 2 ^ 64
+  pub few_counted : (n b : ℕ) → n ≤ MOST_STRETCH → b ≡ budget → b ≤ MOST_BUDGET → operators_counted old.machine.counts p + n < 2 ^ 64
   few_counted n b few e small =
       omega (arith, counted_spent code budget old p stands, (goes_on budget old going).less, few, e, small, budget_is)
 
-  module _ (m : Kept) (n : ℕ) (few : n ≤ MOST_STRETCH) (goes : Goes old.machine p n m) where
+  module _ (m : MachineModel) (n : ℕ) (few : n ≤ MOST_STRETCH) (goes : MachineGoes old.machine p n m) where
     pub lands_once : LandsOnce old p n (record old { machine = m; spent = old.spent + n })
     lands_once = record { machine = goes; new_is = refl }
 
@@ -79,7 +79,7 @@ module _ (code : Code) (budget : ℕ) (old : Running) (p : ℕ) (stands : Stands
         lands_keep code budget old (record old { machine = m; spent = old.spent + n }) p n stands going held (omega (arith, few, (goes_on budget old going).less)) lands_once
 
     pub still_lacks : m.lacked ≡ old.machine.lacked
-    still_lacks = ap (λ (k : Kept). k.lacked) goes.others
+    still_lacks = ap (λ (k : MachineModel). k.lacked) goes.others
 
 -- ---- of a parcel
 
@@ -107,15 +107,15 @@ private_performs code s none is = plain_of s.room code s none is.performed
 pub count_is : (code : Code) (s : Stretch) (n : ℕ) → IsPlain code s → n ≡ s.ran.operators + s.ran.plain → n ≡ s.ran.plain
 count_is code s n is e = omega (arith, e, ap (λ (r : Ran). r.operators) is.only)
 
-pub plains : (code : Code) (m : Kept) (s : Stretch) (p n : ℕ) (end : Private) → m.code ≡ code → s.room ≡ 0 → IsPlain code s → StartsAs m.image s → p ≡ s.process → n ≡ s.ran.plain
-    → end ≡ s.end → IfSome (private_part m.image p) (λ kept. PlainParts m.code kept n end × Keeps kept.regs end.regs)
+pub plains : (code : Code) (m : MachineModel) (s : Stretch) (p n : ℕ) (end : Private) → m.code ≡ code → s.room ≡ 0 → IsPlain code s → StartsAs m.image s → p ≡ s.process → n ≡ s.ran.plain
+    → end ≡ s.end → IfSome (private_part m.image p) (λ kept. PlainParts m.code kept n end × RegistersStay kept.regs end.regs)
 plains code m s p n end same none is starts e f g =
     let there : private_part m.image p ≡ Some s.start = ap (private_part m.image) e ∙ part_private s.room m.image s.process s.start none starts in
     let performed : PlainParts m.code s.start n end =
     subst (λ (c : Code). PlainParts c s.start n end) (sym same)
     (subst (λ (k : ℕ). PlainParts code s.start k end) (sym f) (subst (λ (x : Private). PlainParts code s.start s.ran.plain x) (sym g) is.performed)) in
-    let keeps : Keeps s.start.regs end.regs = subst (λ (x : Private). Keeps s.start.regs x.regs) (sym g) is.keeps in
-    subst (λ (o : Option Private). IfSome o (λ kept. PlainParts m.code kept n end × Keeps kept.regs end.regs)) (sym there) (performed, keeps)
+    let keeps : RegistersStay s.start.regs end.regs = subst (λ (x : Private). RegistersStay s.start.regs x.regs) (sym g) is.keeps in
+    subst (λ (o : Option Private). IfSome o (λ kept. PlainParts m.code kept n end × RegistersStay kept.regs end.regs)) (sym there) (performed, keeps)
 
 puts_plain : (n budget : ℕ) (s : Stretch) (old new : Running) → n ≡ 0 → LandsOnce old s.process s.ran.plain new → PutsParcel n budget s old new
 puts_plain zero budget s old new e l = l

@@ -10,7 +10,7 @@ use Rattle.b67_segment.specs.declared.code.Code.{Code}
 use Rattle.b67_action.specs.declared.done.Done.{Done}
 use Rattle.b67_action.specs.declared.done.Done.TheVariants as dones
 use Rattle.b67_action.specs.Able.{one_if}
-use Rattle.b67_machine.specs.Kept.{or_none, counted}
+use Rattle.b67_machine.specs.Kept.{or_none, operators_counted}
 use Rattle.b67_machine.specs.declared.replay.Replayed.{Replayed}
 use Rattle.b67_machine.specs.declared.replay.Replayed.TheVariants.{Ended, Ran, Illegal, BudgetSpent, NoMemory, Differs}
 use Rattle.b67_processors.specs.Acts.{IsActed}
@@ -18,7 +18,7 @@ use Rattle.b67_processors.specs.declared.Acted.{Acted}
 use Rattle.b67_processors.specs.declared.Acted.TheVariants as acted
 use Rattle.b67_stands.specs.Running.{Running}
 use Rattle.b67_stands.specs.Picked.{Pick}
-use Rattle.b67_stands.specs.Calls.{is_action, Records}
+use Rattle.b67_stands.specs.Calls.{done_is_action, Records}
 use Rattle.b67_stands.specs.Shared.{Shared, begin, take as takes, land as lands, run as runs, act as acts_once, leave as leaves, with_acts, ByProcessors}
 use Rattle.b67_stands.proofs.Places.{length_set}
 use Rattle.b67_plant.specs.Calls.{answer_to, acts_in, refusal}
@@ -65,7 +65,7 @@ refused_none (Some (Illegal entry)) answer e = let is : answer ≡ acted.Over = 
 refused_none (Some (Differs entry)) answer e = let is : answer ≡ acted.Over = cc in ap acts_in is
 
 -- else one exactly where an action was performed
-pub action_counts : (done : Option Done) → acts_in (answer_to done) ≡ one_if (is_action done)
+pub action_counts : (done : Option Done) → acts_in (answer_to done) ≡ one_if (done_is_action done)
 action_counts None = refl
 action_counts (Some dones.Went) = refl
 action_counts (Some dones.Waits) = refl
@@ -92,10 +92,10 @@ acted_further acted.Over before now more e = omega (arith, e)
 acted_further acted.NoMemory before now more e = omega (arith, e)
 
 -- where an act was counted, an action was performed
-pub counted_action : (done : Option Done) (answer : Acted) → answer ≡ answer_to done → 1 ≤ acts_in answer → is_action done ≡ true
-counted_action done answer e some = by (is_action done) refl
+pub counted_action : (done : Option Done) (answer : Acted) → answer ≡ answer_to done → 1 ≤ acts_in answer → done_is_action done ≡ true
+counted_action done answer e some = by (done_is_action done) refl
   where
-    by : (b : Bool) → is_action done ≡ b → b ≡ true
+    by : (b : Bool) → done_is_action done ≡ b → b ≡ true
     by true same = refl
     by false same = absurd (omega (arith, some, ap acts_in e ∙ action_counts done ∙ ap one_if same))
 
@@ -113,9 +113,9 @@ module _ (code : Code) (budget : ℕ) (pick : Pick) (processors : ℕ) where
   each_made acts s (takes {old = old} me p shared going one most free t) = each_made acts old shared
   each_made acts s (lands {old = old} p n shared going out l) = each_made acts old shared
   each_made acts s (runs {acts = before} {old = old} me p letters operators shared going one most mine r) =
-      length_set before me (counted before me + length letters) ∙ each_made before old shared
+      length_set before me (operators_counted before me + length letters) ∙ each_made before old shared
   each_made acts s (acts_once {acts = before} {old = old} me p performed shared going one most mine a) =
-      length_set before me (counted before me + one_if (is_action performed.done)) ∙ each_made before old shared
+      length_set before me (operators_counted before me + one_if (done_is_action performed.done)) ∙ each_made before old shared
   each_made acts s (leaves {old = old} shared ended l) = each_made acts old shared
 
   -- and together they are the book of acts
@@ -127,8 +127,8 @@ module _ (code : Code) (budget : ℕ) (pick : Pick) (processors : ℕ) where
       let more = sum_more before me (length letters) one (omega (arith, most, each_made before old shared)) in
       omega (arith, more, all_made before old shared, ap (λ (x : Running). x.acts) r.new_is)
   all_made acts s (acts_once {acts = before} {old = old} me p performed shared going one most mine a) =
-      let more = sum_more before me (one_if (is_action performed.done)) one (omega (arith, most, each_made before old shared)) in
-      let then = book (is_action performed.done) old p s a.records in
+      let more = sum_more before me (one_if (done_is_action performed.done)) one (omega (arith, most, each_made before old shared)) in
+      let then = book (done_is_action performed.done) old p s a.records in
       omega (arith, more, all_made before old shared, then)
   all_made acts s (leaves {old = old} shared ended l) = all_made acts old shared ∙ sym (ap (λ (r : Running). r.acts) l)
 

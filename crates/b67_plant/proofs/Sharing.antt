@@ -18,7 +18,7 @@ use Rattle.b67_plant.specs.declared.taking.Taken.TheVariants as taken
 use Rattle.b67_plant.specs.declared.taking.PlantLanding.{PlantLanding}
 use Rattle.b67_plant.specs.declared.taking.PlantLanding.TheVariants as landings
 use Rattle.b67_parcel.specs.Parcels.{Stretch}
-use Rattle.b67_plant.specs.Calls.{Takes, MayLand, PutsParcel, entries_in, LandsOrStays, LeavesOr}
+use Rattle.b67_plant.specs.Calls.{PlantTakes, MayLand, PutsParcel, entries_in, LandsOrStays, LeavesOr}
 use Rattle.b67_plant.proofs.Made.{no_acts}
 
 -- ---- the calls
@@ -31,7 +31,7 @@ module _ (code : Code) (budget : ℕ) (pick : Pick) (processors : ℕ) (acts : L
   no_more me made none is =
       subst (λ (xs : List ℕ). Shared code budget pick processors xs new) (sym (no_acts acts me) ∙ ap (with_acts acts me) (sym none)) is
 
-  pub taken_on : (me : ℕ) (answer : Taken) (p : ℕ) → 1 ≤ me → me ≤ processors → IsFree me old → Takes pick budget me old answer p new
+  pub taken_on : (me : ℕ) (answer : Taken) (p : ℕ) → 1 ≤ me → me ≤ processors → IsFree me old → PlantTakes pick budget me old answer p new
       → Shared code budget pick processors acts new
   taken_on me taken.Work p one most free t = take me p shared t.0 one most free t.1
   taken_on me taken.Idle p one most free t = as_it_was t.2

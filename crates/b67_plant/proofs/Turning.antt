@@ -10,7 +10,7 @@ use Rattle.b67_stands.specs.Running.{Running, answer_of}
 use Rattle.b67_stands.specs.Placing.{holder_of}
 use Rattle.b67_stands.specs.Picked.{Pick}
 use Rattle.b67_stands.specs.Stands.{Stands}
-use Rattle.b67_stands.specs.Calls.{TakesOne, is_action, ActsOnce}
+use Rattle.b67_stands.specs.Calls.{TakesOne, done_is_action, ActsOnce}
 use Rattle.b67_stands.specs.Alone.{ByOne, KeepsByOne}
 use Rattle.b67_stands.specs.Turns.{ActsOn, ActsMany, TakenByOne}
 use Rattle.b67_stands.proofs.Alone.{turns_keep_by_one}
@@ -50,7 +50,7 @@ module _ (code : Code) (budget : ℕ) (pick : Pick) (old between : Running) (p :
     pub turn_by_one : ByOne code budget pick new
     turn_by_one = keeps.by_one
 
-    spent_more : (b : Bool) → is_action once.0.done ≡ b → answer_of budget new ≡ None → old.spent < new.spent
+    spent_more : (b : Bool) → done_is_action once.0.done ≡ b → answer_of budget new ≡ None → old.spent < new.spent
     spent_more false e none = absurd (keeps.ended e none)
     spent_more true e none =
         let same : between.spent ≡ old.spent = ap (λ (s : Running). s.spent) takes_one.new_is in
@@ -60,7 +60,7 @@ module _ (code : Code) (budget : ℕ) (pick : Pick) (old between : Running) (p :
     pub turn_less : left_of budget new < left_of budget old
     turn_less =
         let was : left_of budget old ≡ budget - old.spent = left_going (answer_of budget old) budget old.spent going in
-        let less = less_by (answer_of budget new) budget new.spent old.spent (goes_on budget old going).less (spent_more (is_action once.0.done) refl) in
+        let less = less_by (answer_of budget new) budget new.spent old.spent (goes_on budget old going).less (spent_more (done_is_action once.0.done) refl) in
         omega (arith, was, less)
 
 -- many turns of one process

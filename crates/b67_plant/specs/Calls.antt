@@ -35,11 +35,11 @@ abbrev pub Picks : Pick → ℕ → Running → Option ℕ → Running → Type 
 Picks pick me old (Some p) new = TakesOne pick me old p new
 Picks pick me old None new = (old.waiting ≡ []) × (new ≡ old)
 
-abbrev pub Takes : Pick → ℕ → ℕ → Running → Taken → ℕ → Running → Type 0
-Takes pick budget me old taken.Work p new = (answer_of budget old ≡ None) × TakesOne pick me old p new
-Takes pick budget me old taken.Idle p new = (answer_of budget old ≡ None) × (old.waiting ≡ []) × (new ≡ old)
-Takes pick budget me old taken.Over p new = IsOver budget old × (new ≡ old)
-Takes pick budget me old taken.Lacked p new = (answer_of budget old ≡ Some NoMemory) × (new ≡ old)
+abbrev pub PlantTakes : Pick → ℕ → ℕ → Running → Taken → ℕ → Running → Type 0
+PlantTakes pick budget me old taken.Work p new = (answer_of budget old ≡ None) × TakesOne pick me old p new
+PlantTakes pick budget me old taken.Idle p new = (answer_of budget old ≡ None) × (old.waiting ≡ []) × (new ≡ old)
+PlantTakes pick budget me old taken.Over p new = IsOver budget old × (new ≡ old)
+PlantTakes pick budget me old taken.Lacked p new = (answer_of budget old ≡ Some NoMemory) × (new ≡ old)
 
 -- ---- land
 
@@ -143,8 +143,8 @@ refusal (Some NoMemory) = Some acted.NoMemory
 refusal (Some answer) = Some acted.Over
 
 -- The run has ended; or the process is not out with the processor; or it acts.
-abbrev pub Acts : ℕ → ℕ → ℕ → Running → Acted → Running → Type 0
-Acts budget me p old answer new =
+abbrev pub PlantActs : ℕ → ℕ → ℕ → Running → Acted → Running → Type 0
+PlantActs budget me p old answer new =
     ((refusal (answer_of budget old) ≡ Some answer) × (new ≡ old))
     ⊎ ((answer_of budget old ≡ None) × (holder_of old.out p ≢ me) × (new ≡ old) × (answer ≡ acted.NotOut))
     ⊎ ((answer_of budget old ≡ None) × (holder_of old.out p ≡ me) × ((performed : Performed) × ActsOnce budget old p performed new × (answer ≡ answer_to performed.done)))
@@ -171,10 +171,10 @@ HasLacked budget s = answer_of budget s ≡ Some NoMemory
 
 pub record LackingIsKept : Type 0 where
   -- an act that finds no memory leaves the plant so
-  pub lacks : (budget me p : ℕ) (old new : Running) → Acts budget me p old acted.NoMemory new → HasLacked budget new
+  pub lacks : (budget me p : ℕ) (old new : Running) → PlantActs budget me p old acted.NoMemory new → HasLacked budget new
   -- and then each call says it, and all is as it was
-  pub act : (budget me p : ℕ) (old : Running) (answer : Acted) (new : Running) → HasLacked budget old → Acts budget me p old answer new → (answer ≡ acted.NoMemory) × (new ≡ old)
-  pub take : (pick : Pick) (budget me : ℕ) (old : Running) (answer : Taken) (p : ℕ) (new : Running) → HasLacked budget old → Takes pick budget me old answer p new → (answer ≡ taken.Lacked) × (new ≡ old)
+  pub act : (budget me p : ℕ) (old : Running) (answer : Acted) (new : Running) → HasLacked budget old → PlantActs budget me p old answer new → (answer ≡ acted.NoMemory) × (new ≡ old)
+  pub take : (pick : Pick) (budget me : ℕ) (old : Running) (answer : Taken) (p : ℕ) (new : Running) → HasLacked budget old → PlantTakes pick budget me old answer p new → (answer ≡ taken.Lacked) × (new ≡ old)
   pub land : (budget me : ℕ) (s : Stretch) (old : Running) (answer : PlantLanding) (new : Running) → HasLacked budget old → Lands budget me s old answer new → (answer ≡ landings.Lacked) × (new ≡ old)
   -- but that processors leave
   pub leave : (budget : ℕ) (old : Running) (has_left : Bool) (new : Running) → HasLacked budget old → LeavesOr has_left old new → HasLacked budget new × (new.machine ≡ old.machine)

@@ -4,7 +4,7 @@ ghost use Rattle.b67_list.specs.Numbered.{numbered};
 ghost use Rattle.b67_table.specs.Image.{is_able};
 ghost use Rattle.b67_table.specs.Valid.{IsValid};
 ghost use Rattle.b67_machine.specs.Entries.{PerformsEntries};
-ghost use Rattle.b67_machine.specs.Kept.{counted};
+ghost use Rattle.b67_machine.specs.Kept.{operators_counted};
 ghost use Rattle.b67_machine.specs.Reads.{machine_end};
 ghost use Rattle.b67_machine.specs.declared.entry.Performed.{Performed as ThePerformed};
 ghost use Rattle.b67_processors.specs.Acts.{IsActed};
@@ -36,7 +36,7 @@ fn perform_most<C: Core>(
 ) -> Entered
     requires able { is_able (numbered machine.old.image.states process) ≡ true }
     requires going { machine_end machine.old ≡ None }
-    requires count { counted machine.old.counts process + left < 2 ^ 64 }
+    requires count { operators_counted machine.old.counts process + left < 2 ^ 64 }
     requires some { 1 ≤ most }
     requires room { most ≤ length notes.old }
     ensures performs { PerformsEntries machine.old process left result (take most notes.new) machine.new }

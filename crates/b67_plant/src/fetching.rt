@@ -5,7 +5,7 @@ ghost use Rattle.b67_stands.specs.Placing.{holder_of};
 ghost use Rattle.b67_stands.specs.Running.{answer_of};
 ghost use Rattle.b67_stands.specs.Shared.{IsFree};
 ghost use Rattle.b67_stands.specs.Stands.{Stands};
-ghost use Rattle.b67_plant.specs.Calls.{Takes};
+ghost use Rattle.b67_plant.specs.Calls.{PlantTakes};
 ghost use Rattle.b67_limits.specs.declared.TheConstants.{MOST_LETTERS};
 
 use crate::{Ahead, Named, Plant, Taken};
@@ -55,7 +55,7 @@ impl<N: Named, L: Ledger, C: Core, P: Rule> Plant<N, L, C, P> {
     pub fn take_ahead(&mut self, me: u32, ahead: &mut Ahead<N>) -> Taken
         requires me { 1 ≤ me }
         requires free { ahead.old.is_there ≡ false }
-        ensures taken { Takes N.pick N.budget me self.old result ahead.new.process self.new }
+        ensures taken { PlantTakes N.pick N.budget me self.old result ahead.new.process self.new }
         ensures there { result ≡ Taken.Work → ahead.new.is_there ≡ true }
         ensures part { result ≡ Taken.Work → part_for ahead.new.room self.new.machine.image ahead.new.process ≡ Some ahead.new.part }
         ensures other { result ≢ Taken.Work → ahead.new ≡ ahead.old }

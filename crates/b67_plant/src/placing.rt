@@ -1,6 +1,6 @@
 // What a processor is answered after an action.
 ghost use Rattle.std.specs.Prelude.{◌≡◌};
-ghost use Rattle.b67_stands.specs.Calls.{is_action};
+ghost use Rattle.b67_stands.specs.Calls.{done_is_action};
 ghost use Rattle.b67_plant.specs.Calls.{lacks_in, refusal, answer_to, acts_in};
 
 use b67_action::Done;
@@ -9,7 +9,7 @@ use b67_processors::Acted;
 
 /// Tests that an action was performed.
 pub fn is_action(done: Option<Done>) -> bool
-    ensures { result ≡ is_action done }
+    ensures { result ≡ done_is_action done }
 {
     match done {
         Some(Done::Went | Done::Waits | Done::Ended | Done::Fault(_)) => true,

@@ -1,6 +1,6 @@
 // Whole runs, from a machine that has performed nothing to the end.
 ghost use Rattle.std.specs.Prelude.{◌≡◌, ◌≢◌, ℕ, ◌<◌, ◌≤◌, ◌^◌, [], All, IfOk, OnErr, Some, None, length, map, sum, vec_capacity};
-ghost use Rattle.b67_ready.specs.Orders.{place_of};
+ghost use Rattle.b67_ready.specs.Orders.{order_place_of};
 ghost use Rattle.b67_schedule.specs.Schedules.{entries};
 ghost use Rattle.b67_segment.specs.declared.TheConstants.{MOST_SEGMENT_WORDS};
 ghost use Rattle.b67_table.specs.Sound.{Sound};
@@ -121,7 +121,7 @@ pub fn run_by_caller<C: Core>(
     requires sound { Sound machine.code }
     requires segments { All (λ segment. length segment.words ≤ MOST_SEGMENT_WORDS) machine.code.segments }
     requires budget { (1 ≤ budget) × (budget ≤ MOST_BUDGET) }
-    ensures { IfOk result (λ ran. HasRunAlone machine.code budget (place_of order) ran.machine ran.schedule ran.answer) }
+    ensures { IfOk result (λ ran. HasRunAlone machine.code budget (order_place_of order) ran.machine ran.schedule ran.answer) }
 {
     run_named_alone::<Brand, Brand, C, Order>(
         alloc,
@@ -220,7 +220,7 @@ pub fn run_by_processors<C: Core + Send, G: Gate + Sync, R: Threads + Wait + Syn
     requires processors { (1 ≤ processors) × (processors ≤ MOST_PROCESSORS) }
     requires none { counts.old.items ≡ [] }
     requires room { processors ≤ vec_capacity counts.old }
-    ensures ran { IfOk result (λ ran. HasRunShared machine.code budget (place_of order) processors ran.machine ran.schedule ran.answer counts.new.items) }
+    ensures ran { IfOk result (λ ran. HasRunShared machine.code budget (order_place_of order) processors ran.machine ran.schedule ran.answer counts.new.items) }
     ensures each { IfOk result (λ ran. length counts.new.items ≡ processors) }
     ensures all { IfOk result (λ ran. sum counts.new.items ≡ length (entries ran.schedule.runs)) }
     ensures numbers { IfOk result (λ ran. All (λ count. count < 2 ^ 64) counts.new.items) }

@@ -3,7 +3,7 @@ ghost use Rattle.std.specs.Prelude.{◌≡◌, ◌≢◌, ◌+◌, ◌-◌, ◌<
 ghost use Rattle.b67_processors.specs.Acts.{IsActed};
 ghost use Rattle.b67_table.specs.Limits.{most_processes};
 ghost use Rattle.b67_table.specs.Sound.{Sound};
-ghost use Rattle.b67_plant.specs.Calls.{Picks, Takes, Acts, ActsThen, LeavesOr, LackingIsKept};
+ghost use Rattle.b67_plant.specs.Calls.{Picks, PlantTakes, PlantActs, ActsThen, LeavesOr, LackingIsKept};
 ghost use Rattle.b67_limits.specs.declared.TheConstants.{MOST_LETTERS};
 ghost use Rattle.b67_parcel.specs.Parcels.{IsCopied};
 ghost use Rattle.b67_stands.specs.Placing.{holder_of};
@@ -134,7 +134,7 @@ impl<N: Named, L: Ledger, C: Core, P: Rule> Plant<N, L, C, P> {
     /// memory.
     pub fn take(&mut self, me: u32, parcel: &mut Parcel<N>) -> Taken
         requires { 1 ≤ me }
-        ensures taken { Takes N.pick N.budget me self.old result parcel.new.process self.new }
+        ensures taken { PlantTakes N.pick N.budget me self.old result parcel.new.process self.new }
         ensures copied { result ≡ Taken.Work → IsCopied self.new.machine.image parcel.new }
         ensures other { result ≢ Taken.Work → parcel.new ≡ parcel.old }
         ensures stands { Stands N.code N.budget self.old }
@@ -157,7 +157,7 @@ impl<N: Named, L: Ledger, C: Core, P: Rule> Plant<N, L, C, P> {
     /// schedule. Whom it released, whom it started, and the process itself where it is able, go to the rear of the queue.
     pub fn act(&mut self, me: u32, process: u32, seat: &mut Seat<N, L>) -> Acted
         requires { 1 ≤ me }
-        ensures acts { Acts N.budget me process self.old result self.new }
+        ensures acts { PlantActs N.budget me process self.old result self.new }
         ensures count { IsActed result seat.old.count seat.new.count }
         ensures fits { seat.new.count < 2 ^ 64 }
         ensures leaves { seat.new.left ≡ seat.old.left }

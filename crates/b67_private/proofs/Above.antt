@@ -9,21 +9,21 @@ use Rattle.b67_segment.specs.declared.code.Code.{Code}
 use Rattle.b67_store.specs.Store.{stack_limit, left_in}
 use Rattle.b67_table.specs.declared.Private.{Private}
 use Rattle.b67_table.specs.Limits.{segment_limit}
-use Rattle.b67_table.specs.Privacy.{Keeps}
-use Rattle.b67_private.specs.Parts.{own_next, is_plain, PlainParts, stay, go, part_with, part_in, IsPart, HasPart, AreReady}
+use Rattle.b67_table.specs.Privacy.{RegistersStay}
+use Rattle.b67_private.specs.Parts.{own_next, is_plain, PlainParts, stay, go, part_with, part_in, IsPrivatePart, HasPart, AreReady}
 use Rattle.b67_private.proofs.Deeper.{is_short, deep, not_short}
 use Rattle.b67_private.proofs.Rooms.{upper_in, from_base, left_is}
 use Rattle.b67_private.proofs.Stepping.{Leaves, leaves, kept_all}
 use Rattle.b67_private.proofs.Stretching.{own_next_deep, plain_deep, from_deeper}
 
 -- no word is missed in a part
-enough : (a : Private) → IsPart a → is_short a ≡ false
+enough : (a : Private) → IsPrivatePart a → is_short a ≡ false
 enough a k = not_short a (inr (omega (arith, k.low, k.size)))
 
-pub has_part : (a : Private) → IsPart a → HasPart a
+pub has_part : (a : Private) → IsPrivatePart a → HasPart a
 has_part a k = record { upper = a; lower = []; is = ap (λ (ws : List Word). record a { words = ws }) (sym (append-nil a.words)); part = k }
 
-pub ready_part : (a : Private) → IsPart a → AreReady a.regs
+pub ready_part : (a : Private) → IsPrivatePart a → AreReady a.regs
 ready_part a k = record { room = k.room; seen = k.seen; level = k.level }
 
 pub ready : (a : Private) → HasPart a → AreReady a.regs
@@ -45,7 +45,7 @@ pub record Rest (code : Code) (p : Private) (n : ℕ) (whole : Private) (r : Reg
 
 module _ (code : Code) (small : All (λ (s : Segment). length s.words ≤ segment_limit) code.segments) where
   -- what so many plain operators leave
-  pub all_leave : (a b : Private) (n : ℕ) → IsPart a → PlainParts code a n b → Leaves a b
+  pub all_leave : (a b : Private) (n : ℕ) → IsPrivatePart a → PlainParts code a n b → Leaves a b
   all_leave a b n k stay = record { part = k; keeps = (refl, refl, refl, refl, refl, refl) }
   all_leave a b n k (go {b = c} e rest) =
       let one = leaves code small a c k e in
@@ -58,7 +58,7 @@ module _ (code : Code) (small : All (λ (s : Segment). length s.words ≤ segmen
     pub plains : PlainParts code a n upper
     pub is : b ≡ deep lower upper
 
-  pub above : (lower : List Word) (a x b : Private) (n : ℕ) → IsPart a → x ≡ deep lower a → PlainParts code x n b → Above lower a b n
+  pub above : (lower : List Word) (a x b : Private) (n : ℕ) → IsPrivatePart a → x ≡ deep lower a → PlainParts code x n b → Above lower a b n
   above lower a x b n k e stay = record { upper = a; plains = stay; is = e }
   above lower a x b n k e (go {b = c} g rest) =
       let one = from_deeper lower (own_next code a) c (sym (own_next_deep lower code a (enough a k)) ∙ ap (own_next code) (sym e) ∙ g) in
@@ -66,13 +66,13 @@ module _ (code : Code) (small : All (λ (s : Segment). length s.words ≤ segmen
       record { upper = more.upper; plains = go one.1 more.plains; is = more.is }
 
   -- and then the next operator is plain for both alike
-  pub above_plain : (lower : List Word) (a b : Private) (n : ℕ) → IsPart a → (s : Above lower a b n) → is_plain code b ≡ is_plain code s.upper
+  pub above_plain : (lower : List Word) (a b : Private) (n : ℕ) → IsPrivatePart a → (s : Above lower a b n) → is_plain code b ≡ is_plain code s.upper
   above_plain lower a b n k s = ap (is_plain code) s.is ∙ plain_deep lower code s.upper (enough s.upper (all_leave a s.upper n k s.plains).part)
 
   -- what they leave, where nothing is known of the words below
   pub record Still (a b : Private) : Type 0 where
     pub ready : AreReady b.regs
-    pub keeps : Keeps a.regs b.regs
+    pub keeps : RegistersStay a.regs b.regs
 
   pub still : (a b : Private) (n : ℕ) → HasPart a → PlainParts code a n b → Still a b
   still a b n k plains =
@@ -80,12 +80,12 @@ module _ (code : Code) (small : All (λ (s : Segment). length s.words ≤ segmen
       let left = all_leave k.upper s.upper n k.part s.plains in
       record {
         ready = ready b (record { upper = s.upper; lower = k.lower; is = s.is; part = left.part });
-        keeps = subst (λ (p : Private). Keeps p.regs b.regs) (sym k.is) (subst (λ (p : Private). Keeps k.upper.regs p.regs) (sym s.is) left.keeps);
+        keeps = subst (λ (p : Private). RegistersStay p.regs b.regs) (sym k.is) (subst (λ (p : Private). RegistersStay k.upper.regs p.regs) (sym s.is) left.keeps);
       }
 
   -- ---- a part whose words stand in a room
 
-  module _ (p : Private) (k : IsPart p) (base : ℕ) (room : List Word) (on : StandsIn p base room) where
+  module _ (p : Private) (k : IsPrivatePart p) (base : ℕ) (room : List Word) (on : StandsIn p base room) where
     in_room : part_in p.regs room ≡ deep (reverse (take base room)) p
     in_room =
         ap (part_with p.regs)

@@ -20,9 +20,9 @@ use Rattle.b67_table.specs.declared.InterruptKind.TheVariants.{StackUnderflow, I
 use Rattle.b67_table.specs.declared.Private.{Private}
 use Rattle.b67_table.specs.Effect.{Effect, gives, faults, interrupts, ◌>>=◌}
 use Rattle.b67_table.specs.Limits.{most_cells}
-use Rattle.b67_table.specs.Private.{floor, frame, top, with_words, pop, push, whole_of, bits_of}
+use Rattle.b67_table.specs.Private.{floor, frame, top, with_words, pop, push, whole_of_word, bits_of}
 use Rattle.b67_table.specs.PrivateRows.{pointed, onward, wholes, arithmetic, relation, negated, logic, agreement, complemented, dropped, exchanged, doubled, stuffed, stuff, reference, open_mark, marked_at, mark, make_cells, by_bit, branch}
-use Rattle.b67_table.specs.Rows.{private_part, row, plain_row, acts, turn}
+use Rattle.b67_table.specs.Rows.{private_part, row, plain_row, acts, branch_turn}
 use Rattle.b67_table.specs.Table.{part_by, private_op}
 use Rattle.b67_table.proofs.Keeping.{Gives}
 
@@ -159,7 +159,7 @@ module _ (lower : List Word) where
   unfolding Deep
   wholes_deep made m =
       pop_then m _ _ (λ x. pop_last x.1 _ _ (λ y.
-      value_then (whole_of y.0) _ _ (λ a. value_then (whole_of x.0) _ _ (λ b. value_then (made a b) _ _ (λ w. refl)))))
+      value_then (whole_of_word y.0) _ _ (λ a. value_then (whole_of_word x.0) _ _ (λ b. value_then (made a b) _ _ (λ w. refl)))))
 
   logic_deep : (op : ℕ → ℕ → ℕ) → Deep (logic op)
   unfolding Deep
@@ -168,7 +168,7 @@ module _ (lower : List Word) where
 
   negated_deep : Deep negated
   unfolding Deep
-  negated_deep m = by_one m (negated (deep m)) (negated m) (pop_last m _ _ (λ x. value_then (whole_of x.0) _ _ (λ a. refl)))
+  negated_deep m = by_one m (negated (deep m)) (negated m) (pop_last m _ _ (λ x. value_then (whole_of_word x.0) _ _ (λ a. refl)))
 
   complemented_deep : Deep complemented
   unfolding Deep
@@ -277,7 +277,7 @@ module _ (lower : List Word) where
   plain_deep kinds.Load next m = inl refl
   plain_deep kinds.Noop next m = onward_deep gives next nothing_deep m
 
-  forward_deep : (b : Bool) (kind : BranchKind) (target next : ℕ) → Deep (part_by (cond b (private_part (branch kind target)) (acts (turn kind target))) next)
+  forward_deep : (b : Bool) (kind : BranchKind) (target next : ℕ) → Deep (part_by (cond b (private_part (branch kind target)) (acts (branch_turn kind target))) next)
   unfolding Deep
   forward_deep true kind target next m = branch_deep kind target next m
   forward_deep false kind target next m = inl refl

@@ -18,9 +18,9 @@ use Rattle.b67_table.specs.declared.InterruptKind.TheVariants.{StackUnderflow, I
 use Rattle.b67_table.specs.declared.Private.{Private}
 use Rattle.b67_table.specs.Effect.{Effect, gives, interrupts, ◌>>=◌}
 use Rattle.b67_table.specs.Limits.{most_cells}
-use Rattle.b67_table.specs.Private.{floor, frame, top, with_words, pop, push, whole_of, bits_of}
+use Rattle.b67_table.specs.Private.{floor, frame, top, with_words, pop, push, whole_of_word, bits_of}
 use Rattle.b67_table.specs.PrivateRows.{onward, wholes, arithmetic, relation, negated, logic, agreement, complemented, dropped, exchanged, doubled, stuffed, stuff, reference, open_mark, marked_at, mark, make_cells, by_bit, branch}
-use Rattle.b67_table.specs.Rows.{private_part, row, plain_row, acts, turn}
+use Rattle.b67_table.specs.Rows.{private_part, row, plain_row, acts, branch_turn}
 use Rattle.b67_table.specs.Table.{part_by, private_op}
 use Rattle.b67_table.proofs.Keeping.{Gives, then_gives, anything, by_test}
 
@@ -49,8 +49,8 @@ module _ (n : ℕ) where
   unfolding Rises
   wholes_rises made m h s =
       then_gives Taken Above (pop m) _ (pop_above m h) (λ x kx. then_gives Taken Above (pop x.1) _ (pop_above x.1 kx) (λ y ky.
-      then_gives (λ (a : ℤ). Unit {0}) Above (whole_of y.0) _ (anything (whole_of y.0)) (λ a u.
-      then_gives (λ (b : ℤ). Unit {0}) Above (whole_of x.0) _ (anything (whole_of x.0)) (λ b v.
+      then_gives (λ (a : ℤ). Unit {0}) Above (whole_of_word y.0) _ (anything (whole_of_word y.0)) (λ a u.
+      then_gives (λ (b : ℤ). Unit {0}) Above (whole_of_word x.0) _ (anything (whole_of_word x.0)) (λ b v.
       then_gives (λ (w : Word). Unit {0}) Above (made a b) _ (anything (made a b)) (λ w i. ky)))))
 
   logic_rises : (op : ℕ → ℕ → ℕ) → Rises (logic op)
@@ -63,7 +63,7 @@ module _ (n : ℕ) where
   negated_rises : Rises negated
   unfolding Rises
   negated_rises m h s =
-      then_gives Taken Above (pop m) _ (pop_above m h) (λ x kx. then_gives (λ (a : ℤ). Unit {0}) Above (whole_of x.0) _ (anything (whole_of x.0)) (λ a u. kx))
+      then_gives Taken Above (pop m) _ (pop_above m h) (λ x kx. then_gives (λ (a : ℤ). Unit {0}) Above (whole_of_word x.0) _ (anything (whole_of_word x.0)) (λ a u. kx))
 
   complemented_rises : Rises complemented
   unfolding Rises
@@ -167,7 +167,7 @@ module _ (n : ℕ) where
   plain_rises kinds.Load next m h s = tt
   plain_rises kinds.Noop next m h s = onward_rises gives next nothing_rises m h s
 
-  forward_rises : (b : Bool) (kind : BranchKind) (target next : ℕ) → Rises (part_by (cond b (private_part (branch kind target)) (acts (turn kind target))) next)
+  forward_rises : (b : Bool) (kind : BranchKind) (target next : ℕ) → Rises (part_by (cond b (private_part (branch kind target)) (acts (branch_turn kind target))) next)
   unfolding Rises
   forward_rises true kind target next m h s = branch_rises kind target next m h s
   forward_rises false kind target next m h s = tt

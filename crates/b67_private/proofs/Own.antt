@@ -15,8 +15,8 @@ use Rattle.b67_table.specs.Effect as effects
 use Rattle.b67_table.specs.Outcome.{Outcome, gives, faults, interrupts, limit, limited}
 use Rattle.b67_table.specs.Private.{floor}
 use Rattle.b67_table.specs.Image.{Image, private_of, with_private, with_effect, is_live}
-use Rattle.b67_table.specs.Privacy.{Stands}
-use Rattle.b67_table.specs.Rows.{Row, private_part, action, row}
+use Rattle.b67_table.specs.Privacy.{ProcessStands}
+use Rattle.b67_table.specs.Rows.{TableRow, private_part, action, row}
 use Rattle.b67_table.specs.Table.{raw, table, plain, operator_at, by_operator, by_registers, by_row, part_by, private_op, class_at, class_by, is_private, private_at, private_in, stack_length, length_in}
 use Rattle.b67_table.specs.Table as tables
 use Rattle.b67_table.proofs.Lists.{numbered_set, numbered_within}
@@ -24,7 +24,7 @@ use Rattle.b67_table.proofs.FirstValid.{counted}
 use Rattle.b67_private.specs.Parts.{length_of, is_new, outcome_by, own_next}
 use Rattle.b67_private.specs.Laws.{IsItsOwn, OperatorsAreOwn}
 
-module _ (code : Code) (img : Image) (p : ℕ) (r : Registers) (s : Stands img p r) where
+module _ (code : Code) (img : Image) (p : ℕ) (r : Registers) (s : ProcessStands img p r) where
   abbrev pub put : Private → Image
   put q = with_private img p (floor r) q
 
@@ -63,7 +63,7 @@ module _ (code : Code) (img : Image) (p : ℕ) (r : Registers) (s : Stands img p
   alike_moved : (whole : Outcome Image) (alone : Outcome Private) → whole ≡ moved alone → Alike true whole alone
   alike_moved whole alone e = (ap tables.is_new e ∙ new_moved alone, λ q f. e ∙ ap moved f)
 
-  row_alike : (w : Row) (next : ℕ) → Alike (is_private (class_by w)) (limited (stack_length p) (by_row w code img p r next)) (limited length_of (part_by w next part))
+  row_alike : (w : TableRow) (next : ℕ) → Alike (is_private (class_by w)) (limited (stack_length p) (by_row w code img p r next)) (limited length_of (part_by w next part))
   row_alike (private_part change) next = alike_moved _ (limited length_of (change next part)) (effect_moved (change next part))
   row_alike (action program) next = (refl, λ q e. cc)
 

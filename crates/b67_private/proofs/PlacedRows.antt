@@ -15,7 +15,7 @@ use Rattle.b67_private.specs.declared.Stop.{Stop}
 use Rattle.b67_private.specs.declared.operators.Row.{Row}
 use Rattle.b67_private.specs.Operating.{IsHeldCouple, effect_by}
 use Rattle.b67_private.specs.Parts.{length_of, own_next}
-use Rattle.b67_private.specs.Performing.{Performs, Steps}
+use Rattle.b67_private.specs.Performing.{PrivatePerforms, Steps}
 use Rattle.b67_private.specs.Prepared.{Operators, AreHeld, Rows, row_at, IsRowOf, AreRows}
 use Rattle.b67_private.proofs.Stepping.{held_operand, fits_found, performed, steps_found}
 
@@ -75,14 +75,14 @@ row_found code segment level place operators o decoded k = subst (λ (f : Option
 -- ---- one operator by its row
 
 by_row : (size : ℕ) (code : Code) (old new : Private) (r : Row) (next : ℕ) (result : Result (Unit {0}) Stop) (o : Option (Operator × ℕ))
-    → found code old.regs.segment old.regs.ll old.regs.place ≡ o → IsRowOf old.regs.place o (r, next) → Performs size (limited length_of (effect_by r next old)) old result new
+    → found code old.regs.segment old.regs.ll old.regs.place ≡ o → IsRowOf old.regs.place o (r, next) → PrivatePerforms size (limited length_of (effect_by r next old)) old result new
     → Steps size (own_next code old) old (is_ok result) new
 by_row size code old new r next result None e k done = absurd k
 by_row size code old new r next result (Some f) e k done =
     steps_found size code old new f result e
-    (performed size f.0 f.1 r old new result k.0 (subst (λ (n : ℕ). Performs size (limited length_of (effect_by r n old)) old result new) k.1 done))
+    (performed size f.0 f.1 r old new result k.0 (subst (λ (n : ℕ). PrivatePerforms size (limited length_of (effect_by r n old)) old result new) k.1 done))
 
 pub steps_by_row : (size : ℕ) (code : Code) (old new : Private) (r : Row) (next : ℕ) (result : Result (Unit {0}) Stop)
-    → IsRowOf old.regs.place (found code old.regs.segment old.regs.ll old.regs.place) (r, next) → Performs size (limited length_of (effect_by r next old)) old result new
+    → IsRowOf old.regs.place (found code old.regs.segment old.regs.ll old.regs.place) (r, next) → PrivatePerforms size (limited length_of (effect_by r next old)) old result new
     → Steps size (own_next code old) old (is_ok result) new
 steps_by_row size code old new r next result k done = by_row size code old new r next result (found code old.regs.segment old.regs.ll old.regs.place) refl k done

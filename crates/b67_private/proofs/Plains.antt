@@ -14,7 +14,7 @@ use Rattle.b67_table.specs.declared.Private.{Private}
 use Rattle.b67_table.specs.Outcome.{gives}
 use Rattle.b67_table.specs.Private.{floor}
 use Rattle.b67_table.specs.Image.{Image, private_of, with_private, is_live}
-use Rattle.b67_table.specs.Privacy.{Keeps, Stands}
+use Rattle.b67_table.specs.Privacy.{RegistersStay, ProcessStands}
 use Rattle.b67_table.specs.Runs.{Plains}
 use Rattle.b67_table.specs.Runs as runs
 use Rattle.b67_table.specs.Table.{private_op, table, plain}
@@ -63,14 +63,14 @@ module _ (code : Code) (img : Image) (p : ℕ) (r : Registers) (v : IsValid code
   -- a part that plain operators have left
   pub record Fine (a : Private) : Type 0 where
     pub part : kept.IsPart (floor r) a
-    pub keeps : Keeps r a.regs
+    pub keeps : RegistersStay r a.regs
     pub room : a.regs.s ≤ stack_limit
     pub low : floor r ≤ floor a.regs
 
-  own_stack : (a : Private) → Keeps r a.regs → a.regs.stack ≡ p
+  own_stack : (a : Private) → RegistersStay r a.regs → a.regs.stack ≡ p
   own_stack a k = k.0 ∙ own.stack
 
-  known : (a : Private) → Keeps r a.regs → a.regs.ll < levels
+  known : (a : Private) → RegistersStay r a.regs → a.regs.ll < levels
   known a k = subst (λ (n : ℕ). n < levels) (sym k.1) own.display.known
 
   under_length : length (take (floor r) (words_of img.stacks p)) ≡ floor r
@@ -132,7 +132,7 @@ module _ (code : Code) (img : Image) (p : ℕ) (r : Registers) (v : IsValid code
     has_x : numbered (set_numbered img.regs p a.regs) p ≡ Some a.regs
     has_x = numbered_set img.regs p a.regs (counted p r img.regs has) (numbered_within img.regs p r has)
 
-    stands_x : Stands (image_of a) p a.regs
+    stands_x : ProcessStands (image_of a) p a.regs
     stands_x = valid_stands code (image_of a) p a.regs valid_x live has_x
 
     words_x : words_of (image_of a).stacks p ≡ take (floor r) (words_of img.stacks p) ++ reverse a.words

@@ -9,7 +9,7 @@ use Rattle.b67_ops.specs.declared.Couple.{Couple}
 use Rattle.b67_ops.specs.declared.Operator.{Operator}
 use Rattle.b67_ops.specs.declared.Operator.TheVariants as ops
 use Rattle.b67_ops.specs.declared.BadCode.{BadCode}
-use Rattle.b67_ops.specs.Spelling.{Fits, FitsAs, IsSeen, level_bits, index_bits}
+use Rattle.b67_ops.specs.Spelling.{Fits, FitsAs, CoupleIsSeen, level_bits, index_bits}
 use Rattle.b67_segment.specs.declared.code.Segment.{Segment}
 use Rattle.b67_segment.specs.declared.code.Code.{Code}
 use Rattle.b67_segment.specs.Fetching.{fetched}
@@ -20,7 +20,7 @@ use Rattle.b67_table.specs.Effect.{Effect}
 use Rattle.b67_table.specs.Effect as effects
 use Rattle.b67_table.specs.Outcome.{Outcome, gives, limit, limited}
 use Rattle.b67_table.specs.Limits.{segment_limit}
-use Rattle.b67_table.specs.Privacy.{Keeps}
+use Rattle.b67_table.specs.Privacy.{RegistersStay}
 use Rattle.b67_table.specs.Table.{private_op, operator_at}
 use Rattle.b67_table.proofs.PrivateKept as kept
 use Rattle.b67_table.proofs.PrivateAll.{private_op_kept}
@@ -30,9 +30,9 @@ use Rattle.b67_segment.proofs.Fetches.{fetched-ok}
 use Rattle.b67_private.specs.declared.Stop.{Stop}
 use Rattle.b67_private.specs.declared.Stop.TheVariants as stops
 use Rattle.b67_private.specs.declared.operators.Row.{Row}
-use Rattle.b67_private.specs.Parts.{length_of, is_new, own_outcome, outcome_by, own_next, is_plain, PlainParts, stay, go, IsPart}
-use Rattle.b67_private.specs.Performing.{Performs, StopsBy, HasPlace, Steps, stopped}
-use Rattle.b67_private.specs.Operating.{effect_by, HasRow, IsHeldCouple}
+use Rattle.b67_private.specs.Parts.{length_of, is_new, own_outcome, outcome_by, own_next, is_plain, PlainParts, stay, go, IsPrivatePart}
+use Rattle.b67_private.specs.Performing.{PrivatePerforms, StopsBy, HasPlace, Steps, stopped}
+use Rattle.b67_private.specs.Operating.{effect_by, PrivateHasRow, IsHeldCouple}
 use Rattle.b67_private.proofs.Floors.{private_op_rises}
 
 -- ---- operands
@@ -41,7 +41,7 @@ few_index_bits : (level : ℕ) → 2 ^ index_bits level ≤ 2 ^ 14
 unfolding level_bits
 few_index_bits level = grind (arith)
 
-held_couple : (level : ℕ) (couple : Couple) → level < levels → IsSeen level couple → IsHeldCouple couple
+held_couple : (level : ℕ) (couple : Couple) → level < levels → CoupleIsSeen level couple → IsHeldCouple couple
 held_couple level couple l f = (omega (arith, l, f.level_seen), omega (arith, f.index_fits, few_index_bits level))
 
 -- what an operator's syllables hold, a reference can hold
@@ -57,10 +57,10 @@ held_operand level (ops.Plain kind) l f = f
 
 -- ---- by its row
 
-pub performed : (size : ℕ) (op : Operator) (next : ℕ) (r : Row) (p new : Private) (result : Result (Unit {0}) Stop) → HasRow op p.regs.place r
-    → Performs size (limited length_of (effect_by r next p)) p result new → Performs size (own_outcome op next p) p result new
+pub performed : (size : ℕ) (op : Operator) (next : ℕ) (r : Row) (p new : Private) (result : Result (Unit {0}) Stop) → PrivateHasRow op p.regs.place r
+    → PrivatePerforms size (limited length_of (effect_by r next p)) p result new → PrivatePerforms size (own_outcome op next p) p result new
 unfolding private_op
-performed size op next r p new result has done = subst (λ (e : Effect Private). Performs size (limited length_of e) p result new) (sym (has next p)) done
+performed size op next r p new result has done = subst (λ (e : Effect Private). PrivatePerforms size (limited length_of e) p result new) (sym (has next p)) done
 
 -- ---- what a plain operator leaves
 
@@ -81,15 +81,15 @@ fetched_of (Ok g) f e = let same : g ≡ f = cc in ap Ok same
 fetched_of (Err bad) f e = cc
 
 pub record Leaves (old new : Private) : Type 0 where
-  pub part : IsPart new
-  pub keeps : Keeps old.regs new.regs
+  pub part : IsPrivatePart new
+  pub keeps : RegistersStay old.regs new.regs
 
 module _ (code : Code) (small : All (λ (s : Segment). length s.words ≤ segment_limit) code.segments) where
   pub fits_of : (r : Registers) (f : Operator × ℕ) → r.ll < levels → found code r.segment r.ll r.place ≡ Some f → Fetched r.ll f.0 f.1
   fits_of r f l e =
       operator_fits code r (omega (arith, l)) f.0 f.1 small (fetched_of (operator_at code r) f e)
 
-  to_kept : (p : Private) (k : IsPart p) → kept.IsPart k.base p
+  to_kept : (p : Private) (k : IsPrivatePart p) → kept.IsPart k.base p
   to_kept p k = record {
     size = k.size;
     words = k.words;
@@ -100,7 +100,7 @@ module _ (code : Code) (small : All (λ (s : Segment). length s.words ≤ segmen
     pointer = k.pointer;
   }
 
-  leaves_by : (old new : Private) (f : Operator × ℕ) → IsPart old → Fetched old.regs.ll f.0 f.1 → own_outcome f.0 f.1 old ≡ gives new → Leaves old new
+  leaves_by : (old new : Private) (f : Operator × ℕ) → IsPrivatePart old → Fetched old.regs.ll f.0 f.1 → own_outcome f.0 f.1 old ≡ gives new → Leaves old new
   leaves_by old new f k fits e =
       let given = given_of (private_op f.0 old.regs.place f.1 old) new e in
       let same = private_keeps f.0 old.regs.place f.1 old new given.0 in
@@ -122,12 +122,12 @@ module _ (code : Code) (small : All (λ (s : Segment). length s.words ≤ segmen
         keeps = same;
       }
 
-  leaves_of : (old new : Private) (o : Option (Operator × ℕ)) → IsPart old → found code old.regs.segment old.regs.ll old.regs.place ≡ o → outcome_by o old ≡ gives new
+  leaves_of : (old new : Private) (o : Option (Operator × ℕ)) → IsPrivatePart old → found code old.regs.segment old.regs.ll old.regs.place ≡ o → outcome_by o old ≡ gives new
       → Leaves old new
   leaves_of old new None k i e = cc
   leaves_of old new (Some f) k i e = leaves_by old new f k (fits_of old.regs f k.level i) e
 
-  pub leaves : (old new : Private) → IsPart old → own_next code old ≡ gives new → Leaves old new
+  pub leaves : (old new : Private) → IsPrivatePart old → own_next code old ≡ gives new → Leaves old new
   unfolding own_next
   leaves old new k e = leaves_of old new (found code old.regs.segment old.regs.ll old.regs.place) k refl e
 
@@ -160,13 +160,13 @@ not_new (stops.Fault kind) = refl
 not_new (stops.Interrupt kind) = refl
 not_new stops.StackLimit = refl
 
-steps_by : (size : ℕ) (outcome : Outcome Private) (old new : Private) (result : Result (Unit {0}) Stop) → Performs size outcome old result new
+steps_by : (size : ℕ) (outcome : Outcome Private) (old new : Private) (result : Result (Unit {0}) Stop) → PrivatePerforms size outcome old result new
     → Steps size outcome old (is_ok result) new
 steps_by size outcome old new (Ok u) e = e
 steps_by size outcome old new (Err stop) e = (λ h. ap is_new (stops_as size outcome old stop e.0 h) ∙ not_new stop, e.1)
 
 pub steps_found : (size : ℕ) (code : Code) (old new : Private) (f : Operator × ℕ) (result : Result (Unit {0}) Stop)
-    → found code old.regs.segment old.regs.ll old.regs.place ≡ Some f → Performs size (own_outcome f.0 f.1 old) old result new
+    → found code old.regs.segment old.regs.ll old.regs.place ≡ Some f → PrivatePerforms size (own_outcome f.0 f.1 old) old result new
     → Steps size (own_next code old) old (is_ok result) new
 unfolding own_next
 steps_found size code old new f result e done =
@@ -189,5 +189,5 @@ pub waits : (size : ℕ) (code : Code) (old new : Private) (b : Bool) → b ≡ 
 waits size code old new true e place h = cc
 waits size code old new false e place h = ap (is_plain code) h.1 ∙ h.0 place
 
-pub kept_all : (a b c : Registers) → Keeps a b → Keeps b c → Keeps a c
+pub kept_all : (a b c : Registers) → RegistersStay a b → RegistersStay b c → RegistersStay a c
 kept_all a b c h k = (k.0 ∙ h.0, k.1 ∙ h.1, k.2 ∙ h.2, k.3 ∙ h.3, k.4 ∙ h.4, k.5 ∙ h.5)

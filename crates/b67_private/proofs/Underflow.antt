@@ -6,7 +6,7 @@ use Rattle.b67_table.specs.declared.InterruptKind.TheVariants.{StackUnderflow}
 use Rattle.b67_table.specs.declared.Private.{Private}
 use Rattle.b67_table.specs.Effect.{Effect, gives, ◌>>=◌}
 use Rattle.b67_table.specs.Outcome.{interrupts, limited}
-use Rattle.b67_table.specs.Private.{push, whole_of, bits_of}
+use Rattle.b67_table.specs.Private.{push, whole_of_word, bits_of}
 use Rattle.b67_table.specs.PrivateRows.{pointed, wholes, logic, exchanged}
 use Rattle.b67_private.specs.Parts.{length_of, part_in}
 use Rattle.b67_private.specs.Performing.{TakesTwo, own_row, two_popped}
@@ -21,7 +21,7 @@ stops p next then none = ap (λ (e : Effect Private). limited length_of (e >>= (
 pub wholes_stop : (made : ℤ → ℤ → Effect Word) (next : ℕ) (r : Registers) (room : List Word) → TakesTwo (part_in r room) None
     → own_row (wholes made) next (part_in r room) ≡ interrupts StackUnderflow
 wholes_stop made next r room none =
-    stops (part_in r room) next (λ x y q. whole_of y >>= (λ (a : ℤ). whole_of x >>= (λ (b : ℤ). made a b >>= (λ (w : Word). gives (push w q))))) none
+    stops (part_in r room) next (λ x y q. whole_of_word y >>= (λ (a : ℤ). whole_of_word x >>= (λ (b : ℤ). made a b >>= (λ (w : Word). gives (push w q))))) none
 
 pub logic_stops : (op : ℕ → ℕ → ℕ) (next : ℕ) (r : Registers) (room : List Word) → TakesTwo (part_in r room) None
     → own_row (logic op) next (part_in r room) ≡ interrupts StackUnderflow

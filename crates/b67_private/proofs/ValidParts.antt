@@ -14,10 +14,10 @@ use Rattle.b67_table.specs.Private.{floor}
 use Rattle.b67_table.specs.Valid.{IsProcess, IsValid}
 use Rattle.b67_table.proofs.FirstValid.{first_is_valid}
 use Rattle.b67_table.proofs.PrivateValid.{part_is}
-use Rattle.b67_private.specs.Parts.{IsPart, part_with}
+use Rattle.b67_private.specs.Parts.{IsPrivatePart, part_with}
 
 pub valid_part : (code : Code) (img : Image) (p : ℕ) (r : Registers) → IsValid code img → is_live (numbered img.states p) ≡ true → numbered img.regs p ≡ Some r
-    → IsPart (private_of img r)
+    → IsPrivatePart (private_of img r)
 valid_part code img p r v live has =
     let own : IsProcess img p r = v.processes p r live has in
     let k = part_is code img p r v live has in
@@ -37,7 +37,7 @@ valid_part code img p r v live has =
 
 -- all the words of its stack with its registers are one too
 pub valid_whole : (code : Code) (img : Image) (p : ℕ) (r : Registers) → IsValid code img → is_live (numbered img.states p) ≡ true → numbered img.regs p ≡ Some r
-    → IsPart (part_with r (reverse (words_of img.stacks r.stack)))
+    → IsPrivatePart (part_with r (reverse (words_of img.stacks r.stack)))
 valid_whole code img p r v live has =
     let own : IsProcess img p r = v.processes p r live has in
     let k = part_is code img p r v live has in
@@ -60,6 +60,6 @@ no_code : Code
 no_code = record { segments = []; formats = [] }
 
 -- the part of the first process, before its first operator
-pub first_part : IsPart (record { regs = first_registers; words = [] })
+pub first_part : IsPrivatePart (record { regs = first_registers; words = [] })
 unfolding first_image no_code
 first_part = valid_part no_code first_image 1 first_registers (first_is_valid no_code (λ k d h. absurd (omega (arith, h)))) refl refl

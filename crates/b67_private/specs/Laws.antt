@@ -7,11 +7,11 @@ use Rattle.b67_table.specs.declared.Private.{Private}
 use Rattle.b67_table.specs.Outcome.{gives}
 use Rattle.b67_table.specs.Private.{floor}
 use Rattle.b67_table.specs.Image.{Image, private_of, with_private, is_live}
-use Rattle.b67_table.specs.Privacy.{Stands}
+use Rattle.b67_table.specs.Privacy.{ProcessStands}
 use Rattle.b67_table.specs.Runs.{Plains}
 use Rattle.b67_table.specs.Table.{table, plain}
 use Rattle.b67_table.specs.Valid.{IsValid}
-use Rattle.b67_private.specs.Parts.{IsPart, own_next, is_plain, PlainParts}
+use Rattle.b67_private.specs.Parts.{IsPrivatePart, own_next, is_plain, PlainParts}
 
 -- the operator that comes next in the private part of a process is the process's own
 pub record IsItsOwn (code : Code) (img : Image) (p : ℕ) (r : Registers) : Type 0 where
@@ -22,12 +22,12 @@ pub record IsItsOwn (code : Code) (img : Image) (p : ℕ) (r : Registers) : Type
 
 -- so it is with each process that lives
 abbrev pub OperatorsAreOwn : Type 0
-OperatorsAreOwn = (code : Code) (img : Image) (p : ℕ) (r : Registers) → Stands img p r → IsItsOwn code img p r
+OperatorsAreOwn = (code : Code) (img : Image) (p : ℕ) (r : Registers) → ProcessStands img p r → IsItsOwn code img p r
 
 -- the private part of a process of a valid image is one that a stretch can begin with
 abbrev pub PartsOfValid : Type 0
 PartsOfValid =
-    (code : Code) (img : Image) (p : ℕ) (r : Registers) → IsValid code img → is_live (numbered img.states p) ≡ true → numbered img.regs p ≡ Some r → IsPart (private_of img r)
+    (code : Code) (img : Image) (p : ℕ) (r : Registers) → IsValid code img → is_live (numbered img.states p) ≡ true → numbered img.regs p ≡ Some r → IsPrivatePart (private_of img r)
 
 -- after so many plain operators of its private part: the process has performed as many, and the new image has the new part; the operator
 -- that comes next is plain for both alike

@@ -43,8 +43,8 @@ effect_by rows.ReturnValue = λ (next : ℕ) (p : Private). interrupts BadCode
 effect_by rows.Enter = λ (next : ℕ) (p : Private). interrupts BadCode
 
 -- an operator at this place has this row in the table
-abbrev pub HasRow : Operator → ℕ → Row → Type 0
-HasRow op here r = (next : ℕ) (p : Private) → part_by (row op here) next p ≡ effect_by r next p
+abbrev pub PrivateHasRow : Operator → ℕ → Row → Type 0
+PrivateHasRow op here r = (next : ℕ) (p : Private) → part_by (row op here) next p ≡ effect_by r next p
 
 abbrev pub HasRowOf : PlainKind → Row → Type 0
 HasRowOf kind r = (next : ℕ) (p : Private) → part_by (plain_row kind) next p ≡ effect_by r next p

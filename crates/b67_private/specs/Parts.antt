@@ -62,7 +62,7 @@ is_plain code p = is_new (own_next code p)
 
 -- A private part as a process of a valid image has it, and as plain operators leave it: the words from some place of the stack up to S. That
 -- place is the floor, or a PUSH has raised the floor above it.
-pub record IsPart (p : Private) : Type 0 where
+pub record IsPrivatePart (p : Private) : Type 0 where
   pub base : ℕ
   pub size : base + length p.words ≡ p.regs.s
   pub room : p.regs.s ≤ stack_limit
@@ -80,7 +80,7 @@ pub record HasPart (p : Private) : Type 0 where
   pub upper : Private
   pub lower : List Word
   pub is : p ≡ record upper { words = upper.words ++ lower }
-  pub part : IsPart upper
+  pub part : IsPrivatePart upper
 
 -- the words that S counts stand in a room, which is no longer than a stack may be
 abbrev pub HasRoom : Registers → List Word → Type 0

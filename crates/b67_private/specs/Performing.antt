@@ -34,9 +34,9 @@ StopsBy size outcome old stops.StackLimit = (size ≤ old.regs.s) × (size ≡ s
 StopsBy size outcome old stop = outcome ≡ stopped stop
 
 -- what comes of an operator in a room of so many words is what the table gives: the new part, which the room holds, or a stop that changes nothing
-abbrev pub Performs : ℕ → Outcome Private → Private → Result (Unit {0}) Stop → Private → Type 0
-Performs size outcome old (Ok _) new = (outcome ≡ gives new) × (new.regs.s ≤ size)
-Performs size outcome old (Err stop) new = StopsBy size outcome old stop × (new ≡ old)
+abbrev pub PrivatePerforms : ℕ → Outcome Private → Private → Result (Unit {0}) Stop → Private → Type 0
+PrivatePerforms size outcome old (Ok _) new = (outcome ≡ gives new) × (new.regs.s ≤ size)
+PrivatePerforms size outcome old (Err stop) new = StopsBy size outcome old stop × (new ≡ old)
 
 -- what a row that leaves the pointer after itself gives, with the limit of a stack
 abbrev pub own_row : (Private → Effect Private) → ℕ → Private → Outcome Private
@@ -67,9 +67,9 @@ bits_by logics.Either = bit_or
 bits_by logics.Agreement = agreement
 
 -- the bits of an operand, or the word is none
-abbrev pub Holds : Word → Option ℕ → Type 0
-Holds w (Some bits) = bits_of w ≡ effects.gives bits
-Holds w None = bits_of w ≡ effects.interrupts InvalidOperand
+abbrev pub OperandHolds : Word → Option ℕ → Type 0
+OperandHolds w (Some bits) = bits_of w ≡ effects.gives bits
+OperandHolds w None = bits_of w ≡ effects.interrupts InvalidOperand
 
 -- what the display of these registers names, a reference can hold
 pub record AreSeen (r : Registers) : Type 0 where

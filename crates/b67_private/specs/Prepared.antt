@@ -5,7 +5,7 @@ use Rattle.b67_ops.specs.Spelling.{FitsAs}
 use Rattle.b67_segment.specs.Decoded.{at_place}
 use Rattle.b67_private.specs.declared.operators.Row.{Row}
 use Rattle.b67_private.specs.Actions.{IsRow, IsHeldRow}
-use Rattle.b67_private.specs.Operating.{HasRow, IsHeldCouple}
+use Rattle.b67_private.specs.Operating.{PrivateHasRow, IsHeldCouple}
 use Rattle.b67_private.specs.Lettered.{HasLetter}
 
 -- by place, an operator with the place after it, and none where no operator stands
@@ -20,18 +20,18 @@ AreHeld operators = (place : ℕ) → IfSome (at_place operators place) (λ f. F
 abbrev pub Rows : Type 0
 Rows = List (Option (Row × ℕ))
 
-abbrev pub flat : Option (Option (Row × ℕ)) → Option (Row × ℕ)
-flat None = None
-flat (Some row) = row
+abbrev pub flat_row : Option (Option (Row × ℕ)) → Option (Row × ℕ)
+flat_row None = None
+flat_row (Some row) = row
 
 -- the row that a list has at a place, none past its end
 abbrev pub row_at : Rows → ℕ → Option (Row × ℕ)
-row_at rows place = flat (slice_get rows place)
+row_at rows place = flat_row (slice_get rows place)
 
 -- what stands at a place is an operator with this row, and with its letter
 abbrev pub IsRowOf : ℕ → Option (Operator × ℕ) → Row × ℕ → Type 0
 IsRowOf place None r = ⊥
-IsRowOf place (Some f) r = HasRow f.0 place r.0 × (r.1 ≡ f.1) × IsRow f.0 place r.0 × IsHeldRow r.0 × HasLetter f.0 place r.0
+IsRowOf place (Some f) r = PrivateHasRow f.0 place r.0 × (r.1 ≡ f.1) × IsRow f.0 place r.0 × IsHeldRow r.0 × HasLetter f.0 place r.0
 
 -- each row that is made ready is that of the operator at its place
 abbrev pub AreRows : Operators → Rows → Type 0

@@ -6,10 +6,10 @@ ghost use Rattle.b67_ops.specs.declared.Operator.TheVariants.{Plain};
 ghost use Rattle.b67_ops.specs.declared.PlainKind.TheVariants.{Entr};
 ghost use Rattle.b67_table.specs.Outcome.{limited};
 ghost use Rattle.b67_private.specs.Parts.{AreReady, HasRoom, length_of, own_outcome, part_in};
-ghost use Rattle.b67_private.specs.Performing.{Performs};
+ghost use Rattle.b67_private.specs.Performing.{PrivatePerforms};
 ghost use Rattle.b67_private.specs.Actions.{IsRow, IsPlainRow, IsHeldRow};
 ghost use Rattle.b67_private.specs.declared.operators.Row.TheVariants.{Enter};
-ghost use Rattle.b67_private.specs.Operating.{effect_by, top_effect, HasRow, HasRowOf, IsHeldCouple};
+ghost use Rattle.b67_private.specs.Operating.{effect_by, top_effect, PrivateHasRow, HasRowOf, IsHeldCouple};
 ghost use Rattle.b67_private.specs.Lettered.{HasLetter, HasLetterOf};
 
 use crate::Stop;
@@ -135,7 +135,7 @@ fn literal(tag: u8, bits: u64) -> Word
 #[inline(always)]
 pub fn row_of(op: &Operator, place: u16) -> Row
     requires { FitsAs IsHeldCouple op.now }
-    ensures part { HasRow op.now place result }
+    ensures part { PrivateHasRow op.now place result }
     ensures row { IsRow op.now place result }
     ensures letter { HasLetter op.now place result }
     ensures held { IsHeldRow result }
@@ -169,7 +169,7 @@ pub fn row_of(op: &Operator, place: u16) -> Row
 fn change_top(regs: &mut Registers, room: &mut [Word], row: TopRow, next: u16) -> Result<(), Stop>
     requires ready { AreReady regs.old }
     requires room { HasRoom regs.old room.old }
-    ensures { Performs (length room.old) (limited length_of (top_effect row next (part_in regs.old room.old))) (part_in regs.old room.old) result (part_in regs.new room.new) }
+    ensures { PrivatePerforms (length room.old) (limited length_of (top_effect row next (part_in regs.old room.old))) (part_in regs.old room.old) result (part_in regs.new room.new) }
 {
     match row {
         TopRow::Negate => negate(regs, room, next),
@@ -187,7 +187,7 @@ fn change_top(regs: &mut Registers, room: &mut [Word], row: TopRow, next: u16) -
 pub fn perform(regs: &mut Registers, room: &mut [Word], row: Row, next: u16) -> Result<(), Stop>
     requires ready { AreReady regs.old }
     requires room { HasRoom regs.old room.old }
-    ensures { Performs (length room.old) (limited length_of (effect_by row next (part_in regs.old room.old))) (part_in regs.old room.old) result (part_in regs.new room.new) }
+    ensures { PrivatePerforms (length room.old) (limited length_of (effect_by row next (part_in regs.old room.old))) (part_in regs.old room.old) result (part_in regs.new room.new) }
 {
     match row {
         Row::Push(word) => push_word(regs, room, word, next),
@@ -217,7 +217,7 @@ pub fn operate(
     requires ready { AreReady regs.old }
     requires room { HasRoom regs.old room.old }
     requires fits { Fits regs.old.ll op.now }
-    ensures { Performs (length room.old) (own_outcome op.now next (part_in regs.old room.old)) (part_in regs.old room.old) result (part_in regs.new room.new) }
+    ensures { PrivatePerforms (length room.old) (own_outcome op.now next (part_in regs.old room.old)) (part_in regs.old room.old) result (part_in regs.new room.new) }
 {
     let row = row_of(op, regs.place);
     perform(regs, room, row, next)

@@ -9,7 +9,7 @@ ghost use Rattle.b67_table.specs.Outcome.{limited};
 ghost use Rattle.b67_table.specs.Private.{push};
 ghost use Rattle.b67_table.specs.PrivateRows.{complement, by_bit, arithmetic, relation as relations, negated, logic, complemented, dropped, exchanged, doubled, stuffed, stuff, mark, make_cells, branch, is_taken};
 ghost use Rattle.b67_private.specs.Parts.{AreReady, HasRoom, length_of, part_in};
-ghost use Rattle.b67_private.specs.Performing.{Performs, own_row, bits_by, Stuffs, Holds, AreSeen, stuffed_in};
+ghost use Rattle.b67_private.specs.Performing.{PrivatePerforms, own_row, bits_by, Stuffs, OperandHolds, AreSeen, stuffed_in};
 
 use crate::Stop;
 use crate::taking::{UNDERFLOW, lower, put_two, replace, top, two};
@@ -46,7 +46,7 @@ pub fn calculate_two(
 ) -> Result<(), Stop>
     requires ready { AreReady regs.old }
     requires room { HasRoom regs.old room.old }
-    ensures { Performs (length room.old) (own_row (arithmetic (calculated calculation)) next (part_in regs.old room.old)) (part_in regs.old room.old) result (part_in regs.new room.new) }
+    ensures { PrivatePerforms (length room.old) (own_row (arithmetic (calculated calculation)) next (part_in regs.old room.old)) (part_in regs.old room.old) result (part_in regs.new room.new) }
 {
     let Some((x, y)) = two(regs, room) else {
         return Err(UNDERFLOW);
@@ -73,7 +73,7 @@ pub fn compare_two(
 ) -> Result<(), Stop>
     requires ready { AreReady regs.old }
     requires room { HasRoom regs.old room.old }
-    ensures { Performs (length room.old) (own_row (relations (related relation)) next (part_in regs.old room.old)) (part_in regs.old room.old) result (part_in regs.new room.new) }
+    ensures { PrivatePerforms (length room.old) (own_row (relations (related relation)) next (part_in regs.old room.old)) (part_in regs.old room.old) result (part_in regs.new room.new) }
 {
     let Some((x, y)) = two(regs, room) else {
         return Err(UNDERFLOW);
@@ -93,7 +93,7 @@ pub fn compare_two(
 pub fn negate(regs: &mut Registers, room: &mut [Word], next: u16) -> Result<(), Stop>
     requires ready { AreReady regs.old }
     requires room { HasRoom regs.old room.old }
-    ensures { Performs (length room.old) (own_row negated next (part_in regs.old room.old)) (part_in regs.old room.old) result (part_in regs.new room.new) }
+    ensures { PrivatePerforms (length room.old) (own_row negated next (part_in regs.old room.old)) (part_in regs.old room.old) result (part_in regs.new room.new) }
 {
     let x = top(regs, room)?;
     let Some(a) = x.as_whole() else {
@@ -108,7 +108,7 @@ pub fn negate(regs: &mut Registers, room: &mut [Word], next: u16) -> Result<(), 
 pub fn push_word(regs: &mut Registers, room: &mut [Word], word: Word, next: u16) -> Result<(), Stop>
     requires ready { AreReady regs.old }
     requires room { HasRoom regs.old room.old }
-    ensures { Performs (length room.old) (own_row (λ q. gives (push word q)) next (part_in regs.old room.old)) (part_in regs.old room.old) result (part_in regs.new room.new) }
+    ensures { PrivatePerforms (length room.old) (own_row (λ q. gives (push word q)) next (part_in regs.old room.old)) (part_in regs.old room.old) result (part_in regs.new room.new) }
 {
     if regs.s as usize >= room.len() {
         return Err(Stop::StackLimit);
@@ -122,7 +122,7 @@ pub fn push_word(regs: &mut Registers, room: &mut [Word], word: Word, next: u16)
 pub fn drop_top(regs: &mut Registers, room: &mut [Word], next: u16) -> Result<(), Stop>
     requires ready { AreReady regs.old }
     requires room { HasRoom regs.old room.old }
-    ensures { Performs (length room.old) (own_row dropped next (part_in regs.old room.old)) (part_in regs.old room.old) result (part_in regs.new room.new) }
+    ensures { PrivatePerforms (length room.old) (own_row dropped next (part_in regs.old room.old)) (part_in regs.old room.old) result (part_in regs.new room.new) }
 {
     let _x = top(regs, room)?;
     lower(regs, room, 1, next);
@@ -135,7 +135,7 @@ pub fn drop_top(regs: &mut Registers, room: &mut [Word], next: u16) -> Result<()
 pub fn exchange(regs: &mut Registers, room: &mut [Word], next: u16) -> Result<(), Stop>
     requires ready { AreReady regs.old }
     requires room { HasRoom regs.old room.old }
-    ensures { Performs (length room.old) (own_row exchanged next (part_in regs.old room.old)) (part_in regs.old room.old) result (part_in regs.new room.new) }
+    ensures { PrivatePerforms (length room.old) (own_row exchanged next (part_in regs.old room.old)) (part_in regs.old room.old) result (part_in regs.new room.new) }
 {
     let Some((x, y)) = two(regs, room) else {
         return Err(UNDERFLOW);
@@ -150,7 +150,7 @@ pub fn exchange(regs: &mut Registers, room: &mut [Word], next: u16) -> Result<()
 pub fn double(regs: &mut Registers, room: &mut [Word], next: u16) -> Result<(), Stop>
     requires ready { AreReady regs.old }
     requires room { HasRoom regs.old room.old }
-    ensures { Performs (length room.old) (own_row doubled next (part_in regs.old room.old)) (part_in regs.old room.old) result (part_in regs.new room.new) }
+    ensures { PrivatePerforms (length room.old) (own_row doubled next (part_in regs.old room.old)) (part_in regs.old room.old) result (part_in regs.new room.new) }
 {
     let x = top(regs, room)?;
     push_word(regs, room, x, next)
@@ -160,7 +160,7 @@ pub fn double(regs: &mut Registers, room: &mut [Word], next: u16) -> Result<(), 
 #[inline(always)]
 pub fn go_on(regs: &mut Registers, next: u16)
     requires { regs.old.s ≤ stack_limit }
-    ensures { (room : List Word) → regs.old.s ≤ length room → Performs (length room) (own_row gives next (part_in regs.old room)) (part_in regs.old room) (Ok tt) (part_in regs.new room) }
+    ensures { (room : List Word) → regs.old.s ≤ length room → PrivatePerforms (length room) (own_row gives next (part_in regs.old room)) (part_in regs.old room) (Ok tt) (part_in regs.new room) }
 {
     regs.place = next;
 }
@@ -168,7 +168,7 @@ pub fn go_on(regs: &mut Registers, next: u16)
 // The bits of an operand.
 #[inline(always)]
 fn bits_of(word: Word) -> Option<u64>
-    ensures value { Holds word result }
+    ensures value { OperandHolds word result }
     ensures bound { IfSome result (λ bits. bits < 2 ^ 48) }
 {
     if word.tag() == 0 {
@@ -223,7 +223,7 @@ pub fn combine_two(
 ) -> Result<(), Stop>
     requires ready { AreReady regs.old }
     requires room { HasRoom regs.old room.old }
-    ensures { Performs (length room.old) (own_row (logic (bits_by kind)) next (part_in regs.old room.old)) (part_in regs.old room.old) result (part_in regs.new room.new) }
+    ensures { PrivatePerforms (length room.old) (own_row (logic (bits_by kind)) next (part_in regs.old room.old)) (part_in regs.old room.old) result (part_in regs.new room.new) }
 {
     let Some((x, y)) = two(regs, room) else {
         return Err(UNDERFLOW);
@@ -243,7 +243,7 @@ pub fn combine_two(
 pub fn complement_top(regs: &mut Registers, room: &mut [Word], next: u16) -> Result<(), Stop>
     requires ready { AreReady regs.old }
     requires room { HasRoom regs.old room.old }
-    ensures { Performs (length room.old) (own_row complemented next (part_in regs.old room.old)) (part_in regs.old room.old) result (part_in regs.new room.new) }
+    ensures { PrivatePerforms (length room.old) (own_row complemented next (part_in regs.old room.old)) (part_in regs.old room.old) result (part_in regs.new room.new) }
 {
     let x = top(regs, room)?;
     let Some(a) = bits_of(x) else {
@@ -280,7 +280,7 @@ fn stuffed(regs: &Registers, word: Word) -> Result<Word, Stop>
 pub fn stuff_top(regs: &mut Registers, room: &mut [Word], next: u16) -> Result<(), Stop>
     requires ready { AreReady regs.old }
     requires room { HasRoom regs.old room.old }
-    ensures { Performs (length room.old) (own_row stuff next (part_in regs.old room.old)) (part_in regs.old room.old) result (part_in regs.new room.new) }
+    ensures { PrivatePerforms (length room.old) (own_row stuff next (part_in regs.old room.old)) (part_in regs.old room.old) result (part_in regs.new room.new) }
 {
     let x = top(regs, room)?;
     let word = stuffed(regs, x)?;
@@ -293,7 +293,7 @@ pub fn stuff_top(regs: &mut Registers, room: &mut [Word], next: u16) -> Result<(
 pub fn mark_stack(regs: &mut Registers, room: &mut [Word], next: u16) -> Result<(), Stop>
     requires ready { AreReady regs.old }
     requires room { HasRoom regs.old room.old }
-    ensures { Performs (length room.old) (own_row mark next (part_in regs.old room.old)) (part_in regs.old room.old) result (part_in regs.new room.new) }
+    ensures { PrivatePerforms (length room.old) (own_row mark next (part_in regs.old room.old)) (part_in regs.old room.old) result (part_in regs.new room.new) }
 {
     let below = wide(regs.f);
     if below >= regs.s {
@@ -318,7 +318,7 @@ pub fn mark_stack(regs: &mut Registers, room: &mut [Word], next: u16) -> Result<
 pub fn make_cells(regs: &mut Registers, next: u16) -> Result<(), Stop>
     requires level { regs.old.ll < levels }
     requires room { regs.old.s ≤ stack_limit }
-    ensures { (room : List Word) → regs.old.s ≤ length room → Performs (length room) (own_row make_cells next (part_in regs.old room)) (part_in regs.old room) result (part_in regs.new room) }
+    ensures { (room : List Word) → regs.old.s ≤ length room → PrivatePerforms (length room) (own_row make_cells next (part_in regs.old room)) (part_in regs.old room) result (part_in regs.new room) }
 {
     let cells = regs.s.saturating_sub(frame(regs) + 2);
     if cells > u32::from(MOST_CELLS) {
@@ -340,7 +340,7 @@ fn branch_by(
 ) -> Result<(), Stop>
     requires ready { AreReady regs.old }
     requires room { HasRoom regs.old room.old }
-    ensures { Performs (length room.old) (limited length_of (by_bit kind target next (part_in regs.old room.old))) (part_in regs.old room.old) result (part_in regs.new room.new) }
+    ensures { PrivatePerforms (length room.old) (limited length_of (by_bit kind target next (part_in regs.old room.old))) (part_in regs.old room.old) result (part_in regs.new room.new) }
 {
     let x = top(regs, room)?;
     let Some(bits) = bits_of(x) else {
@@ -366,7 +366,7 @@ pub fn branch_to(
 ) -> Result<(), Stop>
     requires ready { AreReady regs.old }
     requires room { HasRoom regs.old room.old }
-    ensures { Performs (length room.old) (limited length_of (branch kind target next (part_in regs.old room.old))) (part_in regs.old room.old) result (part_in regs.new room.new) }
+    ensures { PrivatePerforms (length room.old) (limited length_of (branch kind target next (part_in regs.old room.old))) (part_in regs.old room.old) result (part_in regs.new room.new) }
 {
     match kind {
         BranchKind::Brun => {

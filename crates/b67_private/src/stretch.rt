@@ -6,8 +6,8 @@ ghost use Rattle.b67_segment.specs.declared.TheConstants.{MOST_SEGMENT_WORDS};
 ghost use Rattle.b67_segment.specs.declared.code.Code.{Code};
 ghost use Rattle.b67_segment.specs.Decoded.{found, AreDecoded};
 ghost use Rattle.b67_store.specs.Store.{stack_limit};
-ghost use Rattle.b67_table.specs.Privacy.{Keeps};
-ghost use Rattle.b67_private.specs.Parts.{AreReady, HasRoom, HasPart, IsPart, PlainParts, is_plain, own_next, part_in};
+ghost use Rattle.b67_table.specs.Privacy.{RegistersStay};
+ghost use Rattle.b67_private.specs.Parts.{AreReady, HasRoom, HasPart, IsPrivatePart, PlainParts, is_plain, own_next, part_in};
 ghost use Rattle.b67_private.specs.Performing.{Steps};
 ghost use Rattle.b67_private.specs.Prepared.{IsRowOf};
 
@@ -136,15 +136,15 @@ pub fn burst_in_place(
     table: Option<&Prepared>,
     most: u32,
 ) -> u32
-    requires part { IsPart (part_in regs.old room.old) }
+    requires part { IsPrivatePart (part_in regs.old room.old) }
     requires room { length room.old ≡ stack_limit }
     requires segments { All (λ segment. length segment.words ≤ MOST_SEGMENT_WORDS) code.now.segments }
     requires table { IfSome table (λ t. AreDecoded code.now regs.old.segment regs.old.ll t.now) }
     ensures plain { PlainParts code.now (part_in regs.old room.old) result (part_in regs.new room.new) }
     ensures most { result ≤ most }
     ensures stops { result < most → is_plain code.now (part_in regs.new room.new) ≡ false }
-    ensures kept { IsPart (part_in regs.new room.new) }
-    ensures keeps { Keeps regs.old regs.new }
+    ensures kept { IsPrivatePart (part_in regs.new room.new) }
+    ensures keeps { RegistersStay regs.old regs.new }
 {
     perform_many(regs, room, code, table, most)
 }
@@ -156,14 +156,14 @@ pub fn burst_in_place(
 /// The operators are those of the code. Where the part's segment was decoded at the part's level, the table of its
 /// operators saves the decoding.
 pub fn burst(p: &mut Private, code: &Code, table: Option<&Prepared>, most: u32) -> u32
-    requires part { IsPart p.old }
+    requires part { IsPrivatePart p.old }
     requires segments { All (λ segment. length segment.words ≤ MOST_SEGMENT_WORDS) code.now.segments }
     requires table { IfSome table (λ t. AreDecoded code.now p.old.regs.segment p.old.regs.ll t.now) }
     ensures plain { PlainParts code.now p.old result p.new }
     ensures most { result ≤ most }
     ensures stops { result < most → is_plain code.now p.new ≡ false }
-    ensures kept { IsPart p.new }
-    ensures keeps { Keeps p.old.regs p.new.regs }
+    ensures kept { IsPrivatePart p.new }
+    ensures keeps { RegistersStay p.old.regs p.new.regs }
 {
     let base = p.regs.s - p.words.len();
     let room = p.words.room(base);

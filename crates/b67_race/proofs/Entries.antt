@@ -1,6 +1,6 @@
 -- Entries of a list to which one more is added.
 use Rattle.std.proofs.Common.{arith, ◌≡◌, refl, sym, ap, ◌∙◌, ℕ, zero, suc, ◌+◌, ◌<◌, ◌≤◌, List, [], ◌∷◌, ◌++◌, length, Some, slice_get}
-use Rattle.b67_race.specs.Entries.{Done, Is}
+use Rattle.b67_race.specs.Entries.{Done, IsNumberedEntry}
 
 place_bound : (ds : List Done) (k : ℕ) (d : Done) → slice_get ds k ≡ Some d → k < length ds
 place_bound [] zero d e = cc
@@ -23,26 +23,26 @@ place_new : (ds : List Done) (x : Done) → slice_get (ds ++ x ∷ []) (length d
 place_new [] x = refl
 place_new (y ∷ ds) x = let r : length (y ∷ ds) ≡ suc (length ds) = omega arith in ap (λ (n : ℕ). slice_get (y ∷ ds ++ x ∷ []) n) r ∙ place_new ds x
 
-pub is_least : (ds : List Done) (k : ℕ) (d : Done) → Is ds k d → 1 ≤ k
+pub is_least : (ds : List Done) (k : ℕ) (d : Done) → IsNumberedEntry ds k d → 1 ≤ k
 is_least ds zero d e = cc
 is_least ds (suc k) d e = omega arith
 
-pub is_within : (ds : List Done) (k : ℕ) (d : Done) → Is ds k d → k ≤ length ds
+pub is_within : (ds : List Done) (k : ℕ) (d : Done) → IsNumberedEntry ds k d → k ≤ length ds
 is_within ds zero d e = cc
 is_within ds (suc k) d e = let r : k < length ds = place_bound ds k d e in omega (arith, r)
 
-pub is_more : (ds more : List Done) (k : ℕ) (d : Done) → Is ds k d → Is (ds ++ more) k d
+pub is_more : (ds more : List Done) (k : ℕ) (d : Done) → IsNumberedEntry ds k d → IsNumberedEntry (ds ++ more) k d
 is_more ds more zero d e = cc
 is_more ds more (suc k) d e = place_more ds more k d e
 
-pub is_old : (ds more : List Done) (k : ℕ) (d : Done) → k ≤ length ds → Is (ds ++ more) k d → Is ds k d
+pub is_old : (ds more : List Done) (k : ℕ) (d : Done) → k ≤ length ds → IsNumberedEntry (ds ++ more) k d → IsNumberedEntry ds k d
 is_old ds more zero d l e = cc
 is_old ds more (suc k) d l e = let r : k < length ds = omega (arith, l) in place_old ds more k d r e
 
-pub is_new : (ds : List Done) (x : Done) → Is (ds ++ x ∷ []) (length ds + 1) x
-is_new ds x = let r : length ds + 1 ≡ suc (length ds) = omega arith in let e : Is (ds ++ x ∷ []) (suc (length ds)) x = place_new ds x in rw r e
+pub is_new : (ds : List Done) (x : Done) → IsNumberedEntry (ds ++ x ∷ []) (length ds + 1) x
+is_new ds x = let r : length ds + 1 ≡ suc (length ds) = omega arith in let e : IsNumberedEntry (ds ++ x ∷ []) (suc (length ds)) x = place_new ds x in rw r e
 
-pub same_done : (ds : List Done) (k : ℕ) (d e : Done) → Is ds k d → Is ds k e → d ≡ e
+pub same_done : (ds : List Done) (k : ℕ) (d e : Done) → IsNumberedEntry ds k d → IsNumberedEntry ds k e → d ≡ e
 same_done ds k d e p q = let r : Some d ≡ Some e = sym p ∙ q in cc
 
 pub length_more : (ds : List Done) (x : Done) → length (ds ++ x ∷ []) ≡ length ds + 1

@@ -1,10 +1,10 @@
 -- The walk as a function finds the races, and there are no other ones.
 use Rattle.std.proofs.Common.{arith, ◌≡◌, ◌⊎◌, inl, inr, refl, sym, ap, ◌∙◌, subst, ℕ, zero, suc, ◌+◌, ◌<◌, Bool, true, false, List, [], ◌∷◌, ◌++◌, length, Option, Some, None, if◌then◌else◌, append_assoc, append-nil}
-use Rattle.b67_race.specs.Entries.{CellName, Signal, nothing, sets, goes_by, frees, takes, Access, Done, Is}
-use Rattle.b67_race.specs.Clocks.{Becomes, own_clock, joined}
+use Rattle.b67_race.specs.Entries.{CellName, Signal, nothing, sets, goes_by, frees, takes, Access, Done, IsNumberedEntry}
+use Rattle.b67_race.specs.Clocks.{Becomes, own_clock, clock_joined}
 use Rattle.b67_race.specs.Watching.{Covers, Watches, none_yet, rivals}
-use Rattle.b67_race.specs.Cells.{Standing, cell_of, is_cell, number_of, at_of, standing_after}
-use Rattle.b67_race.specs.Races.{Race, IsAmong, Rise, Walks, Finds}
+use Rattle.b67_race.specs.Cells.{Standing, cell_at_key, is_cell, element_number_of, at_of, standing_after}
+use Rattle.b67_race.specs.Races.{Race, IsAmongRaces, Rise, RaceWalks, RaceFinds}
 use Rattle.b67_race.specs.Found.{same_cell, put_at, Walk, first_walk, set_after, freed_after, cells_after, found_after, walked, walked_from, RacesAreComputed, RacesAreOneList}
 use Rattle.b67_race.proofs.Entries.{length_more}
 use Rattle.b67_race.proofs.Keys.{key_of, at_number, is_own_cell, own_cell_is, sets_same, frees_same}
@@ -12,10 +12,10 @@ use Rattle.b67_race.proofs.Walking.{walks_go_on, walks_find_all}
 
 -- ---- cells
 
-cell_of_key : (c : CellName) → cell_of (key_of c) ≡ c
+cell_of_key : (c : CellName) → cell_at_key (key_of c) ≡ c
 cell_of_key c = joined_at (at_number c.at)
   where
-    joined_at : at_of (number_of c.at) ≡ c.at → cell_of (key_of c) ≡ c
+    joined_at : at_of (element_number_of c.at) ≡ c.at → cell_at_key (key_of c) ≡ c
     joined_at e j = record { instance = c.instance; name = c.name; at = e j }
 
 same_is : (c d : CellName) → same_cell c d ≡ true → c ≡ d
@@ -60,7 +60,7 @@ module _ (own : ℕ → ℕ) (old : CellName → ℕ → ℕ) where
 -- ---- one entry more
 
 finds : (n p : ℕ) (o : Option Access) (clock : ℕ → ℕ) (cells : CellName → Standing) (rs : List Race) →
-    Finds n p o clock cells (cells_after n p clock o cells) rs (found_after n clock o cells rs)
+    RaceFinds n p o clock cells (cells_after n p clock o cells) rs (found_after n clock o cells rs)
 finds n p None clock cells rs = (λ c. refl, refl)
 finds n p (Some a) clock cells rs = (put_here a.cell now cells, λ c. by c (same_cell a.cell c) refl, refl)
   where
@@ -72,12 +72,12 @@ finds n p (Some a) clock cells rs = (put_here a.cell now cells, λ c. by c (same
     by c false e = inr (others_differ a.cell c e, put_other a.cell c now cells e)
 
 abbrev Goes : List Done → Walk → Type 0
-Goes ds s = Walks ds s.of_process s.set_by s.freed_by s.cells s.found
+Goes ds s = RaceWalks ds s.of_process s.set_by s.freed_by s.cells s.found
 
 goes_more : (ds : List Done) (d : Done) (s : Walk) → Goes ds s → Goes (ds ++ d ∷ []) (walked (length ds + 1) d s)
 goes_more ds d s h =
     let own = own_clock (length ds + 1) d s.of_process s.set_by s.freed_by in
-    let clock = joined d s.of_process s.set_by s.freed_by in
+    let clock = clock_joined d s.of_process s.set_by s.freed_by in
     let after = walked (length ds + 1) d s in
     walks_go_on ds d s.of_process s.set_by s.freed_by after.of_process after.set_by after.freed_by s.cells after.cells s.found after.found h
     (record {
@@ -96,7 +96,7 @@ goes_all ds (d ∷ es) n s e h =
 
 -- ---- before the first one
 
-no_entry : {A : Type 0} (k : ℕ) (d : Done) → Is [] k d → A
+no_entry : {A : Type 0} (k : ℕ) (d : Done) → IsNumberedEntry [] k d → A
 no_entry zero d e = absurd (no e)
   where
     no : None ≡ Some d → ⊥
@@ -137,13 +137,13 @@ races_are_computed ds =
 not_less : (k : ℕ) → k < k → ⊥
 not_less k l = omega (arith, l)
 
-one_list : (rs ss : List Race) → Rise rs → Rise ss → ((r : Race) → IsAmong rs r → IsAmong ss r) → ((r : Race) → IsAmong ss r → IsAmong rs r) → rs ≡ ss
+one_list : (rs ss : List Race) → Rise rs → Rise ss → ((r : Race) → IsAmongRaces rs r → IsAmongRaces ss r) → ((r : Race) → IsAmongRaces ss r → IsAmongRaces rs r) → rs ≡ ss
 one_list [] [] h g there back = refl
 one_list [] (s ∷ ss) h g there back = absurd (back s (inl refl))
 one_list (r ∷ rs) [] h g there back = absurd (there r (inl refl))
 one_list (r ∷ rs) (s ∷ ss) h g there back = ap (λ (x : Race). x ∷ rs) same ∙ ap (λ (xs : List Race). s ∷ xs) (one_list rs ss h.1 g.1 later earlier)
   where
-    heads : (s ≡ r) ⊎ IsAmong ss r → (r ≡ s) ⊎ IsAmong rs s → r ≡ s
+    heads : (s ≡ r) ⊎ IsAmongRaces ss r → (r ≡ s) ⊎ IsAmongRaces rs s → r ≡ s
     heads (inl e) m = sym e
     heads (inr k) (inl e) = e
     heads (inr k) (inr m) = let a : s.second < r.second = g.0 r k in let b : r.second < s.second = h.0 s m in absurd (omega (arith, a, b))
@@ -152,17 +152,17 @@ one_list (r ∷ rs) (s ∷ ss) h g there back = ap (λ (x : Race). x ∷ rs) sam
     same = heads (there r (inl refl)) (back s (inl refl))
 
     -- what comes after the first is not the first
-    later : (x : Race) → IsAmong rs x → IsAmong ss x
+    later : (x : Race) → IsAmongRaces rs x → IsAmongRaces ss x
     later x m = by (there x (inr m))
       where
-        by : (s ≡ x) ⊎ IsAmong ss x → IsAmong ss x
+        by : (s ≡ x) ⊎ IsAmongRaces ss x → IsAmongRaces ss x
         by (inl e) = absurd (not_less r.second (subst (λ (y : Race). r.second < y.second) (sym (same ∙ e)) (h.0 x m)))
         by (inr k) = k
 
-    earlier : (x : Race) → IsAmong ss x → IsAmong rs x
+    earlier : (x : Race) → IsAmongRaces ss x → IsAmongRaces rs x
     earlier x m = by (back x (inr m))
       where
-        by : (r ≡ x) ⊎ IsAmong rs x → IsAmong rs x
+        by : (r ≡ x) ⊎ IsAmongRaces rs x → IsAmongRaces rs x
         by (inl e) = absurd (not_less s.second (subst (λ (y : Race). s.second < y.second) (sym (sym same ∙ e)) (g.0 x m)))
         by (inr k) = k
 

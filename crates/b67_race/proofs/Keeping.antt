@@ -1,8 +1,8 @@
 -- The clocks stay clocks when an entry is noted.
 use Rattle.std.proofs.Common.{arith, ◌≡◌, ◌⊎◌, inl, inr, refl, sym, ap, ◌∙◌, subst, ℕ, ◌+◌, ◌<◌, ◌≤◌, ◌==◌, ◌||◌, Bool, true, false, List, [], ◌∷◌, length, if◌then◌else◌}
-use Rattle.b67_race.specs.Entries.{Signal, sets, frees, CellName, Done, is_this, is_one_of, touches, Is}
-use Rattle.b67_race.specs.Orders.{IsLast, by_process, one, UpTo}
-use Rattle.b67_race.specs.Clocks.{IsKnown, IsBehind, Tells, Tracks, joined, own_clock, Becomes, process_clock, ClocksStay}
+use Rattle.b67_race.specs.Entries.{Signal, sets, frees, CellName, Done, is_this, entry_is_one_of, touches, IsNumberedEntry}
+use Rattle.b67_race.specs.Orders.{IsLastSignal, by_process, one, UpTo}
+use Rattle.b67_race.specs.Clocks.{IsKnown, IsBehind, ClockTells, Tracks, clock_joined, own_clock, Becomes, process_clock, ClocksStay}
 use Rattle.b67_race.proofs.Entries.{is_within, is_more, is_old, is_new, same_done, length_more}
 use Rattle.b67_race.proofs.Stable.{longer, ordered_are, up_more, up_old}
 use Rattle.b67_race.proofs.Tracking.{above_left, above_right, above_either, known_before, joined_all, joined_only, joined_within}
@@ -22,7 +22,7 @@ or_left false b e = cc
 
 module _ (ds : List Done) (x : Done) where
   -- the new entry, or an earlier one
-  pub new_or_old : (k : ℕ) (d : Done) → Is (longer ds x) k d → ((k ≡ length ds + 1) × (d ≡ x)) ⊎ ((k ≤ length ds) × Is ds k d)
+  pub new_or_old : (k : ℕ) (d : Done) → IsNumberedEntry (longer ds x) k d → ((k ≡ length ds + 1) × (d ≡ x)) ⊎ ((k ≤ length ds) × IsNumberedEntry ds k d)
   new_or_old k d is = on which
     where
       within : k ≤ length (longer ds x)
@@ -34,9 +34,9 @@ module _ (ds : List Done) (x : Done) where
       which : (k ≤ length ds) ⊎ (k ≡ length ds + 1)
       which = grind (arith, within, len)
 
-      on : (k ≤ length ds) ⊎ (k ≡ length ds + 1) → ((k ≡ length ds + 1) × (d ≡ x)) ⊎ ((k ≤ length ds) × Is ds k d)
+      on : (k ≤ length ds) ⊎ (k ≡ length ds + 1) → ((k ≡ length ds + 1) × (d ≡ x)) ⊎ ((k ≤ length ds) × IsNumberedEntry ds k d)
       on (inl l) = inr (l, is_old ds (x ∷ []) k d l is)
-      on (inr e) = inl (e, same_done (longer ds x) k d x is (subst (λ (n : ℕ). Is (longer ds x) n x) (sym e) (is_new ds x)))
+      on (inr e) = inl (e, same_done (longer ds x) k d x is (subst (λ (n : ℕ). IsNumberedEntry (longer ds x) n x) (sym e) (is_new ds x)))
 
   module _ (of_process : ℕ → ℕ → ℕ) (set_by freed_by : CellName → ℕ → ℕ) (t : Tracks ds of_process set_by freed_by) where
     -- ---- the clock of the entry's own process tells the entries up to it
@@ -44,10 +44,10 @@ module _ (ds : List Done) (x : Done) where
     own : ℕ → ℕ
     own = own_clock (length ds + 1) x of_process set_by freed_by
 
-    own_at : (q : ℕ) (b : Bool) → (x.process == q) ≡ b → own_clock (length ds + 1) x of_process set_by freed_by q ≡ (if b then length ds + 1 else joined x of_process set_by freed_by q)
-    own_at q b e = ap (λ (c : Bool). if c then length ds + 1 else joined x of_process set_by freed_by q) e
+    own_at : (q : ℕ) (b : Bool) → (x.process == q) ≡ b → own_clock (length ds + 1) x of_process set_by freed_by q ≡ (if b then length ds + 1 else clock_joined x of_process set_by freed_by q)
+    own_at q b e = ap (λ (c : Bool). if c then length ds + 1 else clock_joined x of_process set_by freed_by q) e
 
-    up_all : (k : ℕ) (d : Done) → Is (longer ds x) k d → UpTo (longer ds x) k (length ds + 1) → k ≤ own_clock (length ds + 1) x of_process set_by freed_by d.process
+    up_all : (k : ℕ) (d : Done) → IsNumberedEntry (longer ds x) k d → UpTo (longer ds x) k (length ds + 1) → k ≤ own_clock (length ds + 1) x of_process set_by freed_by d.process
     up_all k d is up = by (x.process == d.process) refl up
       where
         low : k ≤ length ds + 1
@@ -56,27 +56,27 @@ module _ (ds : List Done) (x : Done) where
         by : (b : Bool) → (x.process == d.process) ≡ b → UpTo (longer ds x) k (length ds + 1) → k ≤ own_clock (length ds + 1) x of_process set_by freed_by d.process
         by true e u = rw (own_at d.process true e) low
         by false e (inl same) =
-            let is_x : Is (longer ds x) k x = subst (λ (n : ℕ). Is (longer ds x) n x) (sym same) (is_new ds x) in
+            let is_x : IsNumberedEntry (longer ds x) k x = subst (λ (n : ℕ). IsNumberedEntry (longer ds x) n x) (sym same) (is_new ds x) in
             let d_is_x : x ≡ d = same_done (longer ds x) k x d is_x is in
             absurd (other_number x.process d.process e (ap (λ (y : Done). y.process) d_is_x))
         by false e (inr o) =
             let less : k < length ds + 1 = (ordered_are (longer ds x) k (length ds + 1) o).less in
-            let is_in : Is ds k d = is_old ds (x ∷ []) k d (omega (arith, less)) is in
+            let is_in : IsNumberedEntry ds k d = is_old ds (x ∷ []) k d (omega (arith, less)) is in
             rw (own_at d.process false e) (joined_all ds x of_process set_by freed_by t k d is_in o)
 
-    up_only : (k : ℕ) (d : Done) → Is (longer ds x) k d → k ≤ own_clock (length ds + 1) x of_process set_by freed_by d.process → UpTo (longer ds x) k (length ds + 1)
+    up_only : (k : ℕ) (d : Done) → IsNumberedEntry (longer ds x) k d → k ≤ own_clock (length ds + 1) x of_process set_by freed_by d.process → UpTo (longer ds x) k (length ds + 1)
     up_only k d is l = on (new_or_old k d is)
       where
-        by : (b : Bool) → (x.process == d.process) ≡ b → k ≤ length ds → Is ds k d → UpTo (longer ds x) k (length ds + 1)
+        by : (b : Bool) → (x.process == d.process) ≡ b → k ≤ length ds → IsNumberedEntry ds k d → UpTo (longer ds x) k (length ds + 1)
         by true e within is_in =
             inr (one (by_process d x is (is_new ds x) (omega (arith, within))
-            (or_left (d.process == x.process) (is_this d.started x.process || is_one_of d.released x.process)
+            (or_left (d.process == x.process) (is_this d.started x.process || entry_is_one_of d.released x.process)
             (subst (λ (p : ℕ). (d.process == p) ≡ true) (sym (same_number x.process d.process e)) (eq_refl d.process)))))
         by false e within is_in =
-            let m : k ≤ joined x of_process set_by freed_by d.process = subst (λ (n : ℕ). k ≤ n) (own_at d.process false e) l in
+            let m : k ≤ clock_joined x of_process set_by freed_by d.process = subst (λ (n : ℕ). k ≤ n) (own_at d.process false e) l in
             inr (joined_only ds x of_process set_by freed_by t k d is_in m)
 
-        on : ((k ≡ length ds + 1) × (d ≡ x)) ⊎ ((k ≤ length ds) × Is ds k d) → UpTo (longer ds x) k (length ds + 1)
+        on : ((k ≡ length ds + 1) × (d ≡ x)) ⊎ ((k ≤ length ds) × IsNumberedEntry ds k d) → UpTo (longer ds x) k (length ds + 1)
         on (inl u) = inl u.0
         on (inr u) = by (x.process == d.process) refl u.0 u.1
 
@@ -93,7 +93,7 @@ module _ (ds : List Done) (x : Done) where
     known_either : (p k : ℕ) → IsKnown (longer ds x) p k → ((touches x p ≡ true) × UpTo (longer ds x) k (length ds + 1)) ⊎ IsKnown ds p k
     known_either p k n = on (new_or_old n.entry n.done n.is)
       where
-        on : ((n.entry ≡ length ds + 1) × (n.done ≡ x)) ⊎ ((n.entry ≤ length ds) × Is ds n.entry n.done) → ((touches x p ≡ true) × UpTo (longer ds x) k (length ds + 1)) ⊎ IsKnown ds p k
+        on : ((n.entry ≡ length ds + 1) × (n.done ≡ x)) ⊎ ((n.entry ≤ length ds) × IsNumberedEntry ds n.entry n.done) → ((touches x p ≡ true) × UpTo (longer ds x) k (length ds + 1)) ⊎ IsKnown ds p k
         on (inl u) = inl (subst (λ (y : Done). touches y p ≡ true) u.1 n.touches, subst (λ (j : ℕ). UpTo (longer ds x) k j) u.0 n.up_to)
         on (inr u) = inr (record { entry = n.entry; done = n.done; is = u.1; touches = n.touches; up_to = up_old ds x k n.entry u.0 n.up_to })
 
@@ -108,7 +108,7 @@ module _ (ds : List Done) (x : Done) where
         by (inl same) = omega (arith, same, high)
         by (inr o) = let less : k < n.entry = (ordered_are ds k n.entry o).less in omega (arith, less, high)
 
-    process_all : (p k : ℕ) (d : Done) (own_process touched : Bool) → (x.process == p) ≡ own_process → touches x p ≡ touched → Is (longer ds x) k d → IsKnown (longer ds x) p k
+    process_all : (p k : ℕ) (d : Done) (own_process touched : Bool) → (x.process == p) ≡ own_process → touches x p ≡ touched → IsNumberedEntry (longer ds x) k d → IsKnown (longer ds x) p k
         → k ≤ process_clock own_process touched (own_clock (length ds + 1) x of_process set_by freed_by) (of_process p) d.process
     process_all p k d own_process touched eo et is n = by own_process touched eo et (known_either p k n)
       where
@@ -126,13 +126,13 @@ module _ (ds : List Done) (x : Done) where
         by false false eo et (inl m) = let e : true ≡ false = sym m.0 ∙ et in cc
         by false false eo et (inr m) = older m
 
-    process_only : (p k : ℕ) (d : Done) (own_process touched : Bool) → (x.process == p) ≡ own_process → touches x p ≡ touched → Is (longer ds x) k d
+    process_only : (p k : ℕ) (d : Done) (own_process touched : Bool) → (x.process == p) ≡ own_process → touches x p ≡ touched → IsNumberedEntry (longer ds x) k d
         → k ≤ process_clock own_process touched (own_clock (length ds + 1) x of_process set_by freed_by) (of_process p) d.process → IsKnown (longer ds x) p k
     process_only p k d true touched eo et is l =
-        known_new p k (or_left (x.process == p) (is_this x.started p || is_one_of x.released p) eo) (up_only k d is l)
+        known_new p k (or_left (x.process == p) (is_this x.started p || entry_is_one_of x.released p) eo) (up_only k d is l)
     process_only p k d false true eo et is l = by (above_either (of_process p d.process) (own_clock (length ds + 1) x of_process set_by freed_by d.process) k l)
       where
-        older : k ≤ of_process p d.process → ((k ≡ length ds + 1) × (d ≡ x)) ⊎ ((k ≤ length ds) × Is ds k d) → IsKnown (longer ds x) p k
+        older : k ≤ of_process p d.process → ((k ≡ length ds + 1) × (d ≡ x)) ⊎ ((k ≤ length ds) × IsNumberedEntry ds k d) → IsKnown (longer ds x) p k
         older m (inl u) = known_new p k et (inl u.0)
         older m (inr u) = known_more p k ((t.processes p).only k d u.1 m)
 
@@ -141,7 +141,7 @@ module _ (ds : List Done) (x : Done) where
         by (inr m) = known_new p k et (up_only k d is m)
     process_only p k d false false eo et is l = on (new_or_old k d is)
       where
-        on : ((k ≡ length ds + 1) × (d ≡ x)) ⊎ ((k ≤ length ds) × Is ds k d) → IsKnown (longer ds x) p k
+        on : ((k ≡ length ds + 1) × (d ≡ x)) ⊎ ((k ≤ length ds) × IsNumberedEntry ds k d) → IsKnown (longer ds x) p k
         on (inl u) = let w : of_process p d.process ≤ length ds = (t.processes p).within d.process in absurd (omega (arith, u.0, w, l))
         on (inr u) = known_more p k ((t.processes p).only k d u.1 l)
 
@@ -151,7 +151,7 @@ module _ (ds : List Done) (x : Done) where
         by : (b : Bool) → (x.process == q) ≡ b → own_clock (length ds + 1) x of_process set_by freed_by q ≤ length ds + 1
         by true e = rw (own_at q true e) (omega arith)
         by false e =
-            let l : joined x of_process set_by freed_by q ≤ length ds = joined_within ds x of_process set_by freed_by t q in
+            let l : clock_joined x of_process set_by freed_by q ≤ length ds = joined_within ds x of_process set_by freed_by t q in
             rw (own_at q false e) (omega (arith, l))
 
     process_within : (p q : ℕ) (own_process touched : Bool) → process_clock own_process touched (own_clock (length ds + 1) x of_process set_by freed_by) (of_process p) q ≤ length ds + 1
@@ -166,7 +166,7 @@ module _ (ds : List Done) (x : Done) where
     at_longer n l = let len : length (longer ds x) ≡ length ds + 1 = length_more ds x in omega (arith, l, len)
 
     process_tells : (clock : ℕ → ℕ) (p : ℕ) → ((q : ℕ) → clock q ≡ process_clock (x.process == p) (touches x p) (own_clock (length ds + 1) x of_process set_by freed_by) (of_process p) q)
-        → Tells (longer ds x) clock (IsKnown (longer ds x) p)
+        → ClockTells (longer ds x) clock (IsKnown (longer ds x) p)
     process_tells clock p is_clock =
         record {
           within = λ q. at_longer (clock q) (rw (is_clock q) (process_within p q (x.process == p) (touches x p)));
@@ -177,7 +177,7 @@ module _ (ds : List Done) (x : Done) where
     -- ---- the clocks of events
 
     module _ (s : Signal) where
-      last_new : x.signal ≡ s → IsLast (longer ds x) s (length ds + 1) (length (longer ds x) + 1)
+      last_new : x.signal ≡ s → IsLastSignal (longer ds x) s (length ds + 1) (length (longer ds x) + 1)
       last_new e =
           let len : length (longer ds x) ≡ length ds + 1 = length_more ds x in
           record {
@@ -188,7 +188,7 @@ module _ (ds : List Done) (x : Done) where
             last = λ i d is did less. omega (arith, len, less);
           }
 
-      last_is_new : (j : ℕ) → x.signal ≡ s → IsLast (longer ds x) s j (length (longer ds x) + 1) → j ≡ length ds + 1
+      last_is_new : (j : ℕ) → x.signal ≡ s → IsLastSignal (longer ds x) s j (length (longer ds x) + 1) → j ≡ length ds + 1
       last_is_new j e l =
           let len : length (longer ds x) ≡ length ds + 1 = length_more ds x in
           let least : length ds + 1 ≤ j = l.last (length ds + 1) x (is_new ds x) e (omega (arith, len)) in
@@ -209,7 +209,7 @@ module _ (ds : List Done) (x : Done) where
             up_to = up_more ds x k b.entry b.up_to;
           }
         where
-          lower : (i : ℕ) (d : Done) → d.signal ≡ s → ((i ≡ length ds + 1) × (d ≡ x)) ⊎ ((i ≤ length ds) × Is ds i d) → i ≤ b.entry
+          lower : (i : ℕ) (d : Done) → d.signal ≡ s → ((i ≡ length ds + 1) × (d ≡ x)) ⊎ ((i ≤ length ds) × IsNumberedEntry ds i d) → i ≤ b.entry
           lower i d did (inl u) = absurd (other (ap (λ (y : Done). y.signal) (sym u.1) ∙ did))
           lower i d did (inr u) = b.last.last i d u.1 did (omega (arith, u.0))
 
@@ -219,7 +219,7 @@ module _ (ds : List Done) (x : Done) where
           len : length (longer ds x) ≡ length ds + 1
           len = length_more ds x
 
-          on : ((b.entry ≡ length ds + 1) × (b.last.done ≡ x)) ⊎ ((b.entry ≤ length ds) × Is ds b.entry b.last.done) → IsBehind ds s k
+          on : ((b.entry ≡ length ds + 1) × (b.last.done ≡ x)) ⊎ ((b.entry ≤ length ds) × IsNumberedEntry ds b.entry b.last.done) → IsBehind ds s k
           on (inl u) = absurd (other (ap (λ (y : Done). y.signal) (sym u.1) ∙ b.last.did))
           on (inr u) =
               record {
@@ -244,8 +244,8 @@ module _ (ds : List Done) (x : Done) where
           by (inl same) = omega (arith, same, high)
           by (inr o) = let less : k < b.entry = (ordered_are ds k b.entry o).less in omega (arith, less, high)
 
-      event_tells : (old clock : ℕ → ℕ) → Tells ds old (IsBehind ds s) → Becomes (x.signal ≡ s) old (own_clock (length ds + 1) x of_process set_by freed_by) clock
-          → Tells (longer ds x) clock (IsBehind (longer ds x) s)
+      event_tells : (old clock : ℕ → ℕ) → ClockTells ds old (IsBehind ds s) → Becomes (x.signal ≡ s) old (own_clock (length ds + 1) x of_process set_by freed_by) clock
+          → ClockTells (longer ds x) clock (IsBehind (longer ds x) s)
       event_tells old clock told (inl b) =
           record {
             within = λ q. at_longer (clock q) (rw (b.1 q) (own_within q));
@@ -263,10 +263,10 @@ module _ (ds : List Done) (x : Done) where
             only = λ k d is l. only_of k d (subst (λ (n : ℕ). k ≤ n) (b.1 d.process) l) (new_or_old k d is);
           }
         where
-          all_of : (k : ℕ) (d : Done) → Is (longer ds x) k d → IsBehind ds s k → k ≤ clock d.process
+          all_of : (k : ℕ) (d : Done) → IsNumberedEntry (longer ds x) k d → IsBehind ds s k → k ≤ clock d.process
           all_of k d is n = rw (b.1 d.process) (told.all k d (is_old ds (x ∷ []) k d (behind_low k n) is) n)
 
-          only_of : (k : ℕ) (d : Done) → k ≤ old d.process → ((k ≡ length ds + 1) × (d ≡ x)) ⊎ ((k ≤ length ds) × Is ds k d) → IsBehind (longer ds x) s k
+          only_of : (k : ℕ) (d : Done) → k ≤ old d.process → ((k ≡ length ds + 1) × (d ≡ x)) ⊎ ((k ≤ length ds) × IsNumberedEntry ds k d) → IsBehind (longer ds x) s k
           only_of k d l (inl u) = let w : old d.process ≤ length ds = told.within d.process in absurd (omega (arith, u.0, w, l))
           only_of k d l (inr u) = behind_more k b.0 (told.only k d u.1 l)
 

@@ -2,10 +2,10 @@
 use Rattle.std.proofs.Common.{arith, ◌≡◌, ◌⊎◌, inl, inr, refl, sym, ap, ◌∙◌, subst, ℕ, zero, suc, ◌+◌, ◌<◌, ◌≤◌, ◌==◌, max, Bool, true, false, List, [], ◌∷◌, ◌++◌, length, map, Some, if◌then◌else◌}
 use Rattle.std.specs.BTreeMap.{BTreeMap}
 use Rattle.b67_race.specs.Entries.{CellName, Done, sets, frees, touches}
-use Rattle.b67_race.specs.Clocks.{Notes, Becomes, joined, own_clock, process_clock}
-use Rattle.b67_race.specs.Cells.{cell_of, is_cell, rival_in, standing_after, standing_in}
+use Rattle.b67_race.specs.Clocks.{Notes, Becomes, clock_joined, own_clock, process_clock}
+use Rattle.b67_race.specs.Cells.{cell_at_key, is_cell, rival_in, standing_after, standing_in}
 use Rattle.b67_race.specs.Races as races
-use Rattle.b67_race.specs.Races.{Walks, Finds, race_by}
+use Rattle.b67_race.specs.Races.{RaceWalks, RaceFinds, race_by}
 use Rattle.b67_race.specs.Noted.{race_of}
 use Rattle.b67_race.specs.declared.cells.Key.{Key}
 use Rattle.b67_race.specs.declared.cells.Kept.{Kept}
@@ -30,26 +30,26 @@ no_race zero j c l = refl
 no_race (suc k) j c l = absurd (omega (arith, l))
 
 other_cells : (k : Key) (old new : BTreeMap Key Kept) → ((c : CellName) → is_cell k c ≡ false → standing_in new c ≡ standing_in old c) → (c : CellName)
-    → (c ≡ cell_of k) ⊎ ((c ≡ cell_of k → ⊥) × (standing_in new c ≡ standing_in old c))
+    → (c ≡ cell_at_key k) ⊎ ((c ≡ cell_at_key k → ⊥) × (standing_in new c ≡ standing_in old c))
 other_cells k old new h c = by (is_cell k c) refl
   where
-    by : (b : Bool) → is_cell k c ≡ b → (c ≡ cell_of k) ⊎ ((c ≡ cell_of k → ⊥) × (standing_in new c ≡ standing_in old c))
+    by : (b : Bool) → is_cell k c ≡ b → (c ≡ cell_at_key k) ⊎ ((c ≡ cell_at_key k → ⊥) × (standing_in new c ≡ standing_in old c))
     by true e = inl (sym (own_cell_is k c e))
     by false e = inr (λ same. let g : true ≡ false = sym (is_own_cell k) ∙ ap (λ (d : CellName). is_cell k d) (sym same) ∙ e in cc, h c e)
 
 pub finds_so :
     (k : Key) (storing : Bool) (clock : ℕ → ℕ) (now : Past) (old new : BTreeMap Key Kept) (r : ℕ) (rs after : List races.Race)
-    → r ≡ rival_in storing clock (standing_in old (cell_of k)) → standing_in new (cell_of k) ≡ standing_after storing clock now (standing_in old (cell_of k))
-    → ((c : CellName) → is_cell k c ≡ false → standing_in new c ≡ standing_in old c) → after ≡ rs ++ race_by r now.entry (cell_of k)
-    → Finds now.entry now.process (Some (record { cell = cell_of k; storing = storing })) clock (standing_in old) (standing_in new) rs after
+    → r ≡ rival_in storing clock (standing_in old (cell_at_key k)) → standing_in new (cell_at_key k) ≡ standing_after storing clock now (standing_in old (cell_at_key k))
+    → ((c : CellName) → is_cell k c ≡ false → standing_in new c ≡ standing_in old c) → after ≡ rs ++ race_by r now.entry (cell_at_key k)
+    → RaceFinds now.entry now.process (Some (record { cell = cell_at_key k; storing = storing })) clock (standing_in old) (standing_in new) rs after
 finds_so k storing clock now old new r rs after e own others a =
-    (own, other_cells k old new others, a ∙ ap (λ (n : ℕ). rs ++ race_by n now.entry (cell_of k)) e)
+    (own, other_cells k old new others, a ∙ ap (λ (n : ℕ). rs ++ race_by n now.entry (cell_at_key k)) e)
 
 -- ---- clocks
 
 module _ (entry : ℕ) (d : Done) (of_process : ℕ → ℕ → ℕ) (set_by freed_by : CellName → ℕ → ℕ) (of_process' : ℕ → ℕ → ℕ) (set_by' freed_by' : CellName → ℕ → ℕ) where
   pub notes_so :
-      (own clock : ℕ → ℕ) → ((q : ℕ) → clock q ≡ joined d of_process set_by freed_by q) → ((q : ℕ) → own q ≡ (if d.process == q then entry else clock q))
+      (own clock : ℕ → ℕ) → ((q : ℕ) → clock q ≡ clock_joined d of_process set_by freed_by q) → ((q : ℕ) → own q ≡ (if d.process == q then entry else clock q))
       → ((p q : ℕ) → of_process' p q ≡ process_clock (d.process == p) (touches d p) own (of_process p) q)
       → ((c : CellName) → Becomes (d.signal ≡ sets c) (set_by c) own (set_by' c)) → ((c : CellName) → Becomes (d.signal ≡ frees c) (freed_by c) own (freed_by' c))
       → Notes entry d of_process set_by freed_by of_process' set_by' freed_by'
@@ -81,17 +81,17 @@ notes_before {A = A} {B = B} P set set' freed freed' a b h = subst (λ (s : A). 
 
 pub goes_on_so :
     (ds : List Done) (d : Done) (n : ℕ) (clock : ℕ → ℕ) (of_process : ℕ → ℕ → ℕ) (set_by freed_by : CellName → ℕ → ℕ) (of_process' : ℕ → ℕ → ℕ) (set_by' freed_by' : CellName → ℕ → ℕ)
-    (old new : BTreeMap Key Kept) (rs rs' : List races.Race) → n ≡ length ds → Walks ds of_process set_by freed_by (standing_in old) rs
-    → ((q : ℕ) → clock q ≡ joined d of_process set_by freed_by q)
-    → (((q : ℕ) → clock q ≡ joined d of_process set_by freed_by q) → Notes (n + 1) d of_process set_by freed_by of_process' set_by' freed_by')
-    → Finds (n + 1) d.process d.access clock (standing_in old) (standing_in new) rs rs' → Walks (ds ++ d ∷ []) of_process' set_by' freed_by' (standing_in new) rs'
+    (old new : BTreeMap Key Kept) (rs rs' : List races.Race) → n ≡ length ds → RaceWalks ds of_process set_by freed_by (standing_in old) rs
+    → ((q : ℕ) → clock q ≡ clock_joined d of_process set_by freed_by q)
+    → (((q : ℕ) → clock q ≡ clock_joined d of_process set_by freed_by q) → Notes (n + 1) d of_process set_by freed_by of_process' set_by' freed_by')
+    → RaceFinds (n + 1) d.process d.access clock (standing_in old) (standing_in new) rs rs' → RaceWalks (ds ++ d ∷ []) of_process' set_by' freed_by' (standing_in new) rs'
 goes_on_so ds d n clock of_process set_by freed_by of_process' set_by' freed_by' old new rs rs' e w h notes finds =
     walks_go_on ds d of_process set_by freed_by of_process' set_by' freed_by' (standing_in old) (standing_in new) rs rs' w
     (subst (λ (m : ℕ). Notes (m + 1) d of_process set_by freed_by of_process' set_by' freed_by') e (notes h))
-    (subst (λ (m : ℕ). Finds (m + 1) d.process d.access (joined d of_process set_by freed_by) (standing_in old) (standing_in new) rs rs') e
-    (subst (λ (f : ℕ → ℕ). Finds (n + 1) d.process d.access f (standing_in old) (standing_in new) rs rs') same finds))
+    (subst (λ (m : ℕ). RaceFinds (m + 1) d.process d.access (clock_joined d of_process set_by freed_by) (standing_in old) (standing_in new) rs rs') e
+    (subst (λ (f : ℕ → ℕ). RaceFinds (n + 1) d.process d.access f (standing_in old) (standing_in new) rs rs') same finds))
   where
-    same : clock ≡ joined d of_process set_by freed_by
+    same : clock ≡ clock_joined d of_process set_by freed_by
     same = λ i q. h q i
 
 pub entries_so : (ds : List Done) (d : Done) (n : ℕ) → n ≡ length ds → n + 1 ≡ length (ds ++ d ∷ [])

@@ -1,14 +1,14 @@
 -- What is ordered stays so when an entry is added, and nothing else of the earlier ones is.
 use Rattle.std.proofs.Common.{arith, inl, inr, refl, sym, subst, ℕ, ◌+◌, ◌<◌, ◌≤◌, List, [], ◌∷◌, ◌++◌, length}
-use Rattle.b67_race.specs.Entries.{Signal, sets, frees, Done, Is}
-use Rattle.b67_race.specs.Orders.{IsLast, Directly, by_process, by_cause, by_liberate, Ordered, one, chain, UpTo}
+use Rattle.b67_race.specs.Entries.{Signal, sets, frees, Done, IsNumberedEntry}
+use Rattle.b67_race.specs.Orders.{IsLastSignal, Directly, by_process, by_cause, by_liberate, Ordered, one, chain, UpTo}
 use Rattle.b67_race.proofs.Entries.{is_within, is_more, is_old}
 
 module _ (ds : List Done) (x : Done) where
   abbrev pub longer : List Done
   longer = ds ++ x ∷ []
 
-  pub last_more : (s : Signal) (k j : ℕ) → j ≤ length ds + 1 → IsLast ds s k j → IsLast longer s k j
+  pub last_more : (s : Signal) (k j : ℕ) → j ≤ length ds + 1 → IsLastSignal ds s k j → IsLastSignal longer s k j
   last_more s k j within l =
       record {
         before = l.before;
@@ -18,7 +18,7 @@ module _ (ds : List Done) (x : Done) where
         last = λ i d is did less. l.last i d (is_old ds (x ∷ []) i d (omega (arith, within, less)) is) did less;
       }
 
-  pub last_old : (s : Signal) (k j : ℕ) → j ≤ length ds + 1 → IsLast longer s k j → IsLast ds s k j
+  pub last_old : (s : Signal) (k j : ℕ) → j ≤ length ds + 1 → IsLastSignal longer s k j → IsLastSignal ds s k j
   last_old s k j within l =
       let less : k < j = l.before in
       record {
@@ -50,9 +50,9 @@ module _ (ds : List Done) (x : Done) where
 pub record AreEntries (ds : List Done) (k j : ℕ) : Type 0 where
   pub less : k < j
   pub first : Done
-  pub first_is : Is ds k first
+  pub first_is : IsNumberedEntry ds k first
   pub second : Done
-  pub second_is : Is ds j second
+  pub second_is : IsNumberedEntry ds j second
 
 pub directly_are : (ds : List Done) (k j : ℕ) → Directly ds k j → AreEntries ds k j
 directly_are ds k j (by_process d e is_d is_e less t) = record { less = less; first = d; first_is = is_d; second = e; second_is = is_e }

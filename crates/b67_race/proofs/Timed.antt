@@ -1,6 +1,6 @@
 -- Clocks of processes.
 use Rattle.std.proofs.Common.{arith, ◌≡◌, refl, ap, sym, ◌∙◌, ℕ, zero, suc, ◌<◌, ◌==◌, max, ◌||◌, Bool, true, false, List, [], ◌∷◌, ◌++◌, length, if◌then◌else◌, get_or, slice_set}
-use Rattle.b67_race.specs.Entries.{is_one_of}
+use Rattle.b67_race.specs.Entries.{entry_is_one_of}
 use Rattle.b67_race.specs.Clocks.{process_clock}
 use Rattle.b67_race.specs.Times.{time_of}
 use Rattle.b67_race.specs.Timed.{time_in, joined_if}
@@ -48,22 +48,22 @@ time_joined before cs process here clock own l a g b p q = time_set cs process c
     by false e = a p q
 
 -- one process more that is released
-pub one_of_more : (qs : List ℕ) (q p : ℕ) → is_one_of (qs ++ q ∷ []) p ≡ (is_one_of qs p || (q == p))
+pub one_of_more : (qs : List ℕ) (q p : ℕ) → entry_is_one_of (qs ++ q ∷ []) p ≡ (entry_is_one_of qs p || (q == p))
 one_of_more [] q p = by (q == p)
   where
     by : (b : Bool) → (b || false) ≡ (false || b)
     by true = refl
     by false = refl
-one_of_more (x ∷ qs) q p = ap (λ (b : Bool). (x == p) || b) (one_of_more qs q p) ∙ assoc (x == p) (is_one_of qs p) (q == p)
+one_of_more (x ∷ qs) q p = ap (λ (b : Bool). (x == p) || b) (one_of_more qs q p) ∙ assoc (x == p) (entry_is_one_of qs p) (q == p)
   where
     assoc : (a b c : Bool) → (a || (b || c)) ≡ ((a || b) || c)
     assoc true b c = refl
     assoc false b c = refl
 
-pub joined_again : (qs : List ℕ) (process p old own now next : ℕ) → now ≡ joined_if (is_one_of qs p) old own
-    → next ≡ (if process == p then max now own else now) → next ≡ joined_if (is_one_of (qs ++ process ∷ []) p) old own
+pub joined_again : (qs : List ℕ) (process p old own now next : ℕ) → now ≡ joined_if (entry_is_one_of qs p) old own
+    → next ≡ (if process == p then max now own else now) → next ≡ joined_if (entry_is_one_of (qs ++ process ∷ []) p) old own
 joined_again qs process p old own now next a b =
-    b ∙ by (is_one_of qs p) (process == p) a ∙ ap (λ (t : Bool). joined_if t old own) (sym (one_of_more qs process p))
+    b ∙ by (entry_is_one_of qs p) (process == p) a ∙ ap (λ (t : Bool). joined_if t old own) (sym (one_of_more qs process p))
   where
     by : (s t : Bool) → now ≡ joined_if s old own → (if t then max now own else now) ≡ joined_if (s || t) old own
     by true true e = omega (arith, e)

@@ -1,8 +1,8 @@
 -- The clocks after one entry more.
 use Rattle.std.proofs.Common.{arith, ◌≡◌, ◌⊎◌, inl, inr, refl, sym, ap, ◌∙◌, subst, ℕ, ◌+◌, ◌<◌, ◌≤◌, max, true, List, [], ◌∷◌, length}
-use Rattle.b67_race.specs.Entries.{Signal, nothing, sets, goes_by, frees, takes, CellName, Done, touches, Is}
+use Rattle.b67_race.specs.Entries.{Signal, nothing, sets, goes_by, frees, takes, CellName, Done, touches, IsNumberedEntry}
 use Rattle.b67_race.specs.Orders.{Directly, by_process, by_cause, by_liberate, Ordered, UpTo}
-use Rattle.b67_race.specs.Clocks.{IsKnown, IsBehind, Tracks, by_signal, joined, ClocksTell}
+use Rattle.b67_race.specs.Clocks.{IsKnown, IsBehind, Tracks, by_signal, clock_joined, ClocksTell}
 use Rattle.b67_race.proofs.Entries.{is_least, is_within, is_more, is_old, is_new, same_done}
 use Rattle.b67_race.proofs.Stable.{longer, up_more, up_old, last_step, from_step, last_more, last_old}
 
@@ -82,17 +82,17 @@ module _ (ds : List Done) (x : Done) where
   -- ---- the clock before the new entry
 
   module _ (of_process : ℕ → ℕ → ℕ) (set_by freed_by : CellName → ℕ → ℕ) (t : Tracks ds of_process set_by freed_by) where
-    signal_all : (s : Signal) (k : ℕ) (d : Done) → Is ds k d → IsBySignal s k → k ≤ by_signal s set_by freed_by d.process
+    signal_all : (s : Signal) (k : ℕ) (d : Done) → IsNumberedEntry ds k d → IsBySignal s k → k ≤ by_signal s set_by freed_by d.process
     signal_all (goes_by c) k d is b = (t.set c).all k d is b
     signal_all (takes c) k d is b = (t.freed c).all k d is b
     signal_all nothing k d is b = absurd b
     signal_all (sets c) k d is b = absurd b
     signal_all (frees c) k d is b = absurd b
 
-    none_below : {A : Type 0} (k : ℕ) (d : Done) → Is ds k d → k ≤ 0 → A
+    none_below : {A : Type 0} (k : ℕ) (d : Done) → IsNumberedEntry ds k d → k ≤ 0 → A
     none_below k d is l = let least : 1 ≤ k = is_least ds k d is in absurd (omega (arith, least, l))
 
-    signal_only : (s : Signal) (k : ℕ) (d : Done) → Is ds k d → k ≤ by_signal s set_by freed_by d.process → IsBySignal s k
+    signal_only : (s : Signal) (k : ℕ) (d : Done) → IsNumberedEntry ds k d → k ≤ by_signal s set_by freed_by d.process → IsBySignal s k
     signal_only (goes_by c) k d is l = (t.set c).only k d is l
     signal_only (takes c) k d is l = (t.freed c).only k d is l
     signal_only nothing k d is l = none_below k d is l
@@ -100,14 +100,14 @@ module _ (ds : List Done) (x : Done) where
     signal_only (frees c) k d is l = none_below k d is l
 
     -- the clock of the process and of its signal tells which entries are ordered before the new one
-    pub joined_all : (k : ℕ) (d : Done) → Is ds k d → Ordered (longer ds x) k (length ds + 1) → k ≤ joined x of_process set_by freed_by d.process
+    pub joined_all : (k : ℕ) (d : Done) → IsNumberedEntry ds k d → Ordered (longer ds x) k (length ds + 1) → k ≤ clock_joined x of_process set_by freed_by d.process
     joined_all k d is o = by (before_new k o)
       where
         by : IsKnown ds x.process k ⊎ IsBySignal x.signal k → k ≤ max (of_process x.process d.process) (by_signal x.signal set_by freed_by d.process)
         by (inl n) = above_left (of_process x.process d.process) (by_signal x.signal set_by freed_by d.process) k ((t.processes x.process).all k d is n)
         by (inr b) = above_right (of_process x.process d.process) (by_signal x.signal set_by freed_by d.process) k (signal_all x.signal k d is b)
 
-    pub joined_only : (k : ℕ) (d : Done) → Is ds k d → k ≤ joined x of_process set_by freed_by d.process → Ordered (longer ds x) k (length ds + 1)
+    pub joined_only : (k : ℕ) (d : Done) → IsNumberedEntry ds k d → k ≤ clock_joined x of_process set_by freed_by d.process → Ordered (longer ds x) k (length ds + 1)
     joined_only k d is l = by (above_either (of_process x.process d.process) (by_signal x.signal set_by freed_by d.process) k l)
       where
         by : (k ≤ of_process x.process d.process) ⊎ (k ≤ by_signal x.signal set_by freed_by d.process) → Ordered (longer ds x) k (length ds + 1)
@@ -121,7 +121,7 @@ module _ (ds : List Done) (x : Done) where
     signal_within (sets c) q = omega arith
     signal_within (frees c) q = omega arith
 
-    pub joined_within : (q : ℕ) → joined x of_process set_by freed_by q ≤ length ds
+    pub joined_within : (q : ℕ) → clock_joined x of_process set_by freed_by q ≤ length ds
     joined_within q =
         let l : of_process x.process q ≤ length ds = (t.processes x.process).within q in
         let m : by_signal x.signal set_by freed_by q ≤ length ds = signal_within x.signal q in

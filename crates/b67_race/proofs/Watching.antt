@@ -1,10 +1,10 @@
 -- The races of a cell when an entry is added.
 use Rattle.std.proofs.Common.{arith, ◌≡◌, ◌≢◌, ◌⊎◌, inl, inr, refl, sym, ap, ◌∙◌, subst, ℕ, ◌+◌, ◌<◌, ◌≤◌, ◌==◌, ◌||◌, Bool, true, false, List, [], ◌∷◌, ◌++◌, length, Option, Some, None}
-use Rattle.b67_race.specs.Entries.{CellName, Access, Done, is_this, is_one_of, Is}
+use Rattle.b67_race.specs.Entries.{CellName, Access, Done, is_this, entry_is_one_of, IsNumberedEntry}
 use Rattle.b67_race.specs.Orders.{Ordered, one, chain, by_process, UpTo}
 use Rattle.b67_race.specs.Racing.{Touches, Conflict, IsRace}
 use Rattle.b67_race.specs.declared.cells.Past.{Past}
-use Rattle.b67_race.specs.Watching.{IsIn, Watch, rivals, latest, noted, watched, IsRival, IsCovered, Covers, Watches, Next, LatestMakeRaces, WatchesStay, Elsewhere, OthersStay, RacesStay, CellsHaveOne}
+use Rattle.b67_race.specs.Watching.{IsInPast, Watch, rivals, latest, read_noted, watched, IsRival, IsCovered, Covers, Watches, WatchNext, LatestMakeRaces, WatchesStay, Elsewhere, OthersStay, RacesStay, CellsHaveOne}
 use Rattle.b67_race.proofs.Entries.{is_least, is_within, is_more, is_old, is_new, same_done}
 use Rattle.b67_race.proofs.Stable.{longer, ordered_are, ordered_more, ordered_old, up_more}
 use Rattle.b67_race.proofs.Keeping.{eq_refl, or_left, new_or_old}
@@ -75,16 +75,16 @@ module _ (ds : List Done) (x : Done) where
 
   -- ---- the next entry accesses the cell
 
-  module _ (c : CellName) (storing : Bool) (clock : ℕ → ℕ) (w : Watch) (h : Watches ds c w) (n : Next ds x c storing clock) where
+  module _ (c : CellName) (storing : Bool) (clock : ℕ → ℕ) (w : Watch) (h : Watches ds c w) (n : WatchNext ds x c storing clock) where
     is_next : Touches (longer ds x) c (length ds + 1) x storing
     is_next = record { is = is_new ds x; access = n.0 }
 
     -- an entry of its process
-    own_before : (k : ℕ) (d : Done) → Is ds k d → d.process ≡ x.process → Ordered (longer ds x) k (length ds + 1)
+    own_before : (k : ℕ) (d : Done) → IsNumberedEntry ds k d → d.process ≡ x.process → Ordered (longer ds x) k (length ds + 1)
     own_before k d is same =
         let within : k ≤ length ds = is_within ds k d is in
         one (by_process d x (is_more ds (x ∷ []) k d is) (is_new ds x) (omega (arith, within))
-        (or_left (d.process == x.process) (is_this d.started x.process || is_one_of d.released x.process)
+        (or_left (d.process == x.process) (is_this d.started x.process || entry_is_one_of d.released x.process)
         (subst (λ (p : ℕ). (d.process == p) ≡ true) same (eq_refl d.process))))
 
     -- an access that its clock does not tell
@@ -154,7 +154,7 @@ module _ (ds : List Done) (x : Done) where
     conflict_last : (i j : ℕ) → Conflict (longer ds x) c i j → j ≡ length ds + 1
     conflict_last i j f = by (new_or_old ds x j f.second f.second_is.is)
       where
-        by : ((j ≡ length ds + 1) × (f.second ≡ x)) ⊎ ((j ≤ length ds) × Is ds j f.second) → j ≡ length ds + 1
+        by : ((j ≡ length ds + 1) × (f.second ≡ x)) ⊎ ((j ≤ length ds) × IsNumberedEntry ds j f.second) → j ≡ length ds + 1
         by (inl u) = u.0
         by (inr u) = absurd (h.quiet i j (conflict_old c i j u.0 f))
 
@@ -199,11 +199,11 @@ module _ (ds : List Done) (x : Done) where
             all = λ i d b t e. all_of i d b t (new_or_old ds x i d t.is);
           }
         where
-          are_of : (y : Past) → IsIn (record { entry = length ds + 1; process = x.process } ∷ []) y → IsRival (longer ds x) c kind y
+          are_of : (y : Past) → IsInPast (record { entry = length ds + 1; process = x.process } ∷ []) y → IsRival (longer ds x) c kind y
           are_of y (inl same) = subst (λ (z : Past). IsRival (longer ds x) c kind z) same (now_rival kind (inl stores))
           are_of y (inr m) = absurd m
 
-          all_of : (i : ℕ) (d : Done) (b : Bool) → Touches (longer ds x) c i d b → ((i ≡ length ds + 1) × (d ≡ x)) ⊎ ((i ≤ length ds) × Is ds i d)
+          all_of : (i : ℕ) (d : Done) (b : Bool) → Touches (longer ds x) c i d b → ((i ≡ length ds + 1) × (d ≡ x)) ⊎ ((i ≤ length ds) × IsNumberedEntry ds i d)
               → IsCovered (longer ds x) (record { entry = length ds + 1; process = x.process } ∷ []) i
           all_of i d b t (inl u) = record { past = record { entry = length ds + 1; process = x.process }; in_it = inl refl; up_to = inl u.0 }
           all_of i d b t (inr u) =
@@ -227,39 +227,39 @@ module _ (ds : List Done) (x : Done) where
             all = λ i d b t e. all_of i d b t e (new_or_old ds x i d t.is);
           }
         where
-          all_of : (i : ℕ) (d : Done) (b : Bool) → Touches (longer ds x) c i d b → (b ≡ true) ⊎ (false ≡ true) → ((i ≡ length ds + 1) × (d ≡ x)) ⊎ ((i ≤ length ds) × Is ds i d)
+          all_of : (i : ℕ) (d : Done) (b : Bool) → Touches (longer ds x) c i d b → (b ≡ true) ⊎ (false ≡ true) → ((i ≡ length ds + 1) × (d ≡ x)) ⊎ ((i ≤ length ds) × IsNumberedEntry ds i d)
               → IsCovered (longer ds x) w.stores i
           all_of i d b t (inr f) u = cc
           all_of i d b t (inl e) (inl u) = absurd (not_stored reads d b u.1 t.access e)
           all_of i d b t (inl e) (inr u) = covered_more w.stores i ((h.covers false).all i d b (touches_old c i d b u.0 t) (inl e))
 
       abbrev after_read : List Past
-      after_read = w.stores ++ noted (record { entry = length ds + 1; process = x.process }) w.reads
+      after_read = w.stores ++ read_noted (record { entry = length ds + 1; process = x.process }) w.reads
 
-      now_in : IsIn after_read (record { entry = length ds + 1; process = x.process })
-      now_in = in_right w.stores (noted (record { entry = length ds + 1; process = x.process }) w.reads) (record { entry = length ds + 1; process = x.process })
+      now_in : IsInPast after_read (record { entry = length ds + 1; process = x.process })
+      now_in = in_right w.stores (read_noted (record { entry = length ds + 1; process = x.process }) w.reads) (record { entry = length ds + 1; process = x.process })
           (noted_now (record { entry = length ds + 1; process = x.process }) w.reads)
 
       read_covers : Covers (longer ds x) c true after_read
       read_covers =
           record {
-            are = λ y m. are_of y (in_either w.stores (noted (record { entry = length ds + 1; process = x.process }) w.reads) y m);
+            are = λ y m. are_of y (in_either w.stores (read_noted (record { entry = length ds + 1; process = x.process }) w.reads) y m);
             all = λ i d b t e. all_of i d b t (new_or_old ds x i d t.is);
           }
         where
-          are_reads : (y : Past) → (record { entry = length ds + 1; process = x.process } ≡ y) ⊎ IsIn w.reads y → IsRival (longer ds x) c true y
+          are_reads : (y : Past) → (record { entry = length ds + 1; process = x.process } ≡ y) ⊎ IsInPast w.reads y → IsRival (longer ds x) c true y
           are_reads y (inl same) = subst (λ (z : Past). IsRival (longer ds x) c true z) same (now_rival true (inr refl))
           are_reads y (inr m) = rival_more c true y ((h.covers true).are y (in_right w.stores w.reads y m))
 
-          are_of : (y : Past) → IsIn w.stores y ⊎ IsIn (noted (record { entry = length ds + 1; process = x.process }) w.reads) y → IsRival (longer ds x) c true y
+          are_of : (y : Past) → IsInPast w.stores y ⊎ IsInPast (read_noted (record { entry = length ds + 1; process = x.process }) w.reads) y → IsRival (longer ds x) c true y
           are_of y (inl m) = rival_more c true y ((h.covers true).are y (in_left w.stores w.reads y m))
           are_of y (inr m) = are_reads y (noted_is (record { entry = length ds + 1; process = x.process }) w.reads y m)
 
-          old_covered : (i : ℕ) (v : IsCovered ds (w.stores ++ w.reads) i) → IsIn w.stores v.past ⊎ IsIn w.reads v.past → IsCovered (longer ds x) after_read i
+          old_covered : (i : ℕ) (v : IsCovered ds (w.stores ++ w.reads) i) → IsInPast w.stores v.past ⊎ IsInPast w.reads v.past → IsCovered (longer ds x) after_read i
           old_covered i v (inl m) =
               record {
                 past = v.past;
-                in_it = in_left w.stores (noted (record { entry = length ds + 1; process = x.process }) w.reads) v.past m;
+                in_it = in_left w.stores (read_noted (record { entry = length ds + 1; process = x.process }) w.reads) v.past m;
                 up_to = up_more ds x i v.past.entry v.up_to;
               }
           old_covered i v (inr m) = on (noted_all (record { entry = length ds + 1; process = x.process }) w.reads v.past m)
@@ -267,7 +267,7 @@ module _ (ds : List Done) (x : Done) where
               rival : IsRival ds c true v.past
               rival = (h.covers true).are v.past v.in_it
 
-              on : (v.past.process ≡ x.process) ⊎ IsIn (noted (record { entry = length ds + 1; process = x.process }) w.reads) v.past → IsCovered (longer ds x) after_read i
+              on : (v.past.process ≡ x.process) ⊎ IsInPast (read_noted (record { entry = length ds + 1; process = x.process }) w.reads) v.past → IsCovered (longer ds x) after_read i
               on (inl same) =
                   record {
                     past = record { entry = length ds + 1; process = x.process };
@@ -278,11 +278,11 @@ module _ (ds : List Done) (x : Done) where
               on (inr k) =
                   record {
                     past = v.past;
-                    in_it = in_right w.stores (noted (record { entry = length ds + 1; process = x.process }) w.reads) v.past k;
+                    in_it = in_right w.stores (read_noted (record { entry = length ds + 1; process = x.process }) w.reads) v.past k;
                     up_to = up_more ds x i v.past.entry v.up_to;
                   }
 
-          all_of : (i : ℕ) (d : Done) (b : Bool) → Touches (longer ds x) c i d b → ((i ≡ length ds + 1) × (d ≡ x)) ⊎ ((i ≤ length ds) × Is ds i d)
+          all_of : (i : ℕ) (d : Done) (b : Bool) → Touches (longer ds x) c i d b → ((i ≡ length ds + 1) × (d ≡ x)) ⊎ ((i ≤ length ds) × IsNumberedEntry ds i d)
               → IsCovered (longer ds x) after_read i
           all_of i d b t (inl u) = record { past = record { entry = length ds + 1; process = x.process }; in_it = now_in; up_to = inl u.0 }
           all_of i d b t (inr u) =
@@ -304,7 +304,7 @@ module _ (ds : List Done) (x : Done) where
     touches_before : (k : ℕ) (d : Done) (b : Bool) → Touches (longer ds x) c k d b → k ≤ length ds
     touches_before k d b t = by (new_or_old ds x k d t.is)
       where
-        by : ((k ≡ length ds + 1) × (d ≡ x)) ⊎ ((k ≤ length ds) × Is ds k d) → k ≤ length ds
+        by : ((k ≡ length ds + 1) × (d ≡ x)) ⊎ ((k ≤ length ds) × IsNumberedEntry ds k d) → k ≤ length ds
         by (inl u) = absurd (other b (subst (λ (y : Done). y.access ≡ Some (record { cell = c; storing = b })) u.1 t.access))
         by (inr u) = u.0
 
@@ -326,7 +326,7 @@ module _ (ds : List Done) (x : Done) where
         greatest = λ i f. r.greatest i (conflict_old c i j (is_within ds j r.conflict.second r.conflict.second_is.is) f);
       }
     where
-      least_of : (i l : ℕ) (f : Conflict (longer ds x) c i l) → ((l ≡ length ds + 1) × (f.second ≡ x)) ⊎ ((l ≤ length ds) × Is ds l f.second) → j ≤ l
+      least_of : (i l : ℕ) (f : Conflict (longer ds x) c i l) → ((l ≡ length ds + 1) × (f.second ≡ x)) ⊎ ((l ≤ length ds) × IsNumberedEntry ds l f.second) → j ≤ l
       least_of i l f (inl u) = let w : j ≤ length ds = is_within ds j r.conflict.second r.conflict.second_is.is in omega (arith, u.0, w)
       least_of i l f (inr u) = r.least i l (conflict_old c i l u.0 f)
 

@@ -13,13 +13,13 @@ use Rattle.b67_race.specs.declared.cells.Kept.{Kept}
 use Rattle.b67_race.specs.declared.cells.Kept.TheVariants as kept
 
 -- the number of an element, from 1; 0 for a cell that is no array
-abbrev pub number_of : Option ℕ → ℕ
-number_of None = 0
-number_of (Some k) = k + 1
+abbrev pub element_number_of : Option ℕ → ℕ
+element_number_of None = 0
+element_number_of (Some k) = k + 1
 
 -- how a cell compares to a key
-abbrev pub order : CellName → Key → Ordering
-order c k = ordering_then (nat_cmp c.instance k.instance) (ordering_then (nat_cmp (number_of c.at) k.element) (slice_cmp nat_cmp c.name k.name.now))
+abbrev pub cell_order : CellName → Key → Ordering
+cell_order c k = ordering_then (nat_cmp c.instance k.instance) (ordering_then (nat_cmp (element_number_of c.at) k.element) (slice_cmp nat_cmp c.name k.name.now))
 
 abbrev pub as_list : Option Past → List Past
 as_list None = []
@@ -39,7 +39,7 @@ standing (Some (kept.Quiet w)) = quiet (watch_of w)
 standing (Some kept.Raced) = raced
 
 abbrev pub standing_in : BTreeMap Key Kept → CellName → Standing
-standing_in cells c = standing (get_by (order c) cells)
+standing_in cells c = standing (get_by (cell_order c) cells)
 
 -- ---- keys
 
@@ -48,12 +48,12 @@ at_of zero = None
 at_of (suc k) = Some k
 
 -- the cell of a key
-abbrev pub cell_of : Key → CellName
-cell_of k = record { instance = k.instance; name = k.name.now; at = at_of k.element }
+abbrev pub cell_at_key : Key → CellName
+cell_at_key k = record { instance = k.instance; name = k.name.now; at = at_of k.element }
 
 -- whether a key is that of a cell
 abbrev pub is_cell : Key → CellName → Bool
-is_cell k c = is_eq (ordering_then (nat_cmp k.instance c.instance) (ordering_then (nat_cmp k.element (number_of c.at)) (slice_cmp nat_cmp k.name.now c.name)))
+is_cell k c = is_eq (ordering_then (nat_cmp k.instance c.instance) (ordering_then (nat_cmp k.element (element_number_of c.at)) (slice_cmp nat_cmp k.name.now c.name)))
 
 -- ---- accesses
 

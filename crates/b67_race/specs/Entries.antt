@@ -35,14 +35,14 @@ abbrev pub is_this : Option ℕ → ℕ → Bool
 is_this None p = false
 is_this (Some q) p = q == p
 
-abbrev pub is_one_of : List ℕ → ℕ → Bool
-is_one_of [] p = false
-is_one_of (q ∷ qs) p = (q == p) || is_one_of qs p
+abbrev pub entry_is_one_of : List ℕ → ℕ → Bool
+entry_is_one_of [] p = false
+entry_is_one_of (q ∷ qs) p = (q == p) || entry_is_one_of qs p
 
 -- whether it is of that process, or starts or releases it
 abbrev pub touches : Done → ℕ → Bool
-touches d p = (d.process == p) || (is_this d.started p || is_one_of d.released p)
+touches d p = (d.process == p) || (is_this d.started p || entry_is_one_of d.released p)
 
 -- Entries are numbered from 1.
-abbrev pub Is : List Done → ℕ → Done → Type 0
-Is ds k d = numbered ds k ≡ Some d
+abbrev pub IsNumberedEntry : List Done → ℕ → Done → Type 0
+IsNumberedEntry ds k d = numbered ds k ≡ Some d

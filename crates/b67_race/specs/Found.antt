@@ -3,15 +3,15 @@ use Rattle.std.specs.Prelude.{◌≡◌, ℕ, ◌+◌, ◌==◌, Bool, true, fal
 use Rattle.std.specs.Ordering.{nat_cmp, ordering_then, is_eq}
 use Rattle.std.specs.Cmp.Lexicographic.{slice_cmp}
 use Rattle.b67_race.specs.Entries.{CellName, Signal, nothing, sets, goes_by, frees, takes, Access, Done, touches}
-use Rattle.b67_race.specs.Clocks.{own_clock, joined, process_clock}
+use Rattle.b67_race.specs.Clocks.{own_clock, clock_joined, process_clock}
 use Rattle.b67_race.specs.Watching.{none_yet}
-use Rattle.b67_race.specs.Cells.{Standing, quiet, number_of, rival_in, standing_after}
+use Rattle.b67_race.specs.Cells.{Standing, quiet, element_number_of, rival_in, standing_after}
 use Rattle.b67_race.specs.Races.{Race, AreRaces, race_by}
 
 -- the same cell
 abbrev pub same_cell : CellName → CellName → Bool
 same_cell c d =
-    is_eq (ordering_then (nat_cmp c.instance d.instance) (ordering_then (nat_cmp (number_of c.at) (number_of d.at)) (slice_cmp nat_cmp c.name d.name)))
+    is_eq (ordering_then (nat_cmp c.instance d.instance) (ordering_then (nat_cmp (element_number_of c.at) (element_number_of d.at)) (slice_cmp nat_cmp c.name d.name)))
 
 -- what is so of a cell, where it becomes another thing for one of them
 abbrev pub put_at : {A : Type 0} → CellName → A → (CellName → A) → CellName → A
@@ -51,8 +51,8 @@ walked n d s =
       of_process = λ p. process_clock (d.process == p) (touches d p) (own_clock n d s.of_process s.set_by s.freed_by) (s.of_process p);
       set_by = set_after d.signal (own_clock n d s.of_process s.set_by s.freed_by) s.set_by;
       freed_by = freed_after d.signal (own_clock n d s.of_process s.set_by s.freed_by) s.freed_by;
-      cells = cells_after n d.process (joined d s.of_process s.set_by s.freed_by) d.access s.cells;
-      found = found_after n (joined d s.of_process s.set_by s.freed_by) d.access s.cells s.found;
+      cells = cells_after n d.process (clock_joined d s.of_process s.set_by s.freed_by) d.access s.cells;
+      found = found_after n (clock_joined d s.of_process s.set_by s.freed_by) d.access s.cells s.found;
     }
 
 abbrev pub walked_from : ℕ → List Done → Walk → Walk
@@ -80,20 +80,20 @@ variable = record { instance = 1; name = codes "N"; at = None }
 abbrev pub event : CellName
 event = record { instance = 1; name = codes "E"; at = None }
 
-abbrev pub does : ℕ → Done
-does p = record { process = p; access = None; signal = nothing; released = []; started = None }
+abbrev pub entry_does : ℕ → Done
+entry_does p = record { process = p; access = None; signal = nothing; released = []; started = None }
 
 abbrev pub reads : ℕ → Done
-reads p = record (does p) { access = Some (record { cell = variable; storing = false }) }
+reads p = record (entry_does p) { access = Some (record { cell = variable; storing = false }) }
 
 abbrev pub stores : ℕ → Done
-stores p = record (does p) { access = Some (record { cell = variable; storing = true }) }
+stores p = record (entry_does p) { access = Some (record { cell = variable; storing = true }) }
 
-abbrev pub starts : ℕ → ℕ → Done
-starts p q = record (does p) { started = Some q }
+abbrev pub entry_starts : ℕ → ℕ → Done
+entry_starts p q = record (entry_does p) { started = Some q }
 
 abbrev pub signals : ℕ → Signal → Done
-signals p s = record (does p) { signal = s }
+signals p s = record (entry_does p) { signal = s }
 
 abbrev pub race : ℕ → ℕ → Race
 race k j = record { first = k; second = j; cell = variable }
@@ -103,12 +103,12 @@ race k j = record { first = k; second = j; cell = variable }
 -- LIBERATE; a store, and the later of two reads; a process that is released.
 abbrev pub SchedulesWithRaces : Type 0
 SchedulesWithRaces =
-    (races_of (stores 1 ∷ starts 1 2 ∷ stores 2 ∷ []) ≡ [])
-    × (races_of (starts 1 2 ∷ stores 1 ∷ stores 2 ∷ stores 1 ∷ []) ≡ race 2 3 ∷ [])
-    × (races_of (starts 1 2 ∷ reads 1 ∷ reads 2 ∷ stores 1 ∷ stores 2 ∷ []) ≡ race 3 4 ∷ [])
-    × (races_of (starts 1 2 ∷ stores 1 ∷ signals 1 (sets event) ∷ signals 2 (goes_by event) ∷ reads 2 ∷ []) ≡ [])
-    × (races_of (starts 1 2 ∷ signals 1 (sets event) ∷ stores 1 ∷ signals 1 (sets event) ∷ signals 2 (goes_by event) ∷ reads 2 ∷ []) ≡ [])
-    × (races_of (starts 1 2 ∷ signals 1 (sets event) ∷ stores 1 ∷ signals 2 (goes_by event) ∷ reads 2 ∷ []) ≡ race 3 5 ∷ [])
-    × (races_of (starts 1 2 ∷ signals 1 (takes event) ∷ stores 1 ∷ signals 1 (frees event) ∷ signals 2 (takes event) ∷ stores 2 ∷ []) ≡ [])
-    × (races_of (starts 1 2 ∷ starts 1 3 ∷ reads 2 ∷ reads 3 ∷ stores 1 ∷ []) ≡ race 4 5 ∷ [])
-    × (races_of (starts 1 2 ∷ does 2 ∷ stores 1 ∷ record (does 1) { released = 2 ∷ [] } ∷ does 2 ∷ reads 2 ∷ []) ≡ [])
+    (races_of (stores 1 ∷ entry_starts 1 2 ∷ stores 2 ∷ []) ≡ [])
+    × (races_of (entry_starts 1 2 ∷ stores 1 ∷ stores 2 ∷ stores 1 ∷ []) ≡ race 2 3 ∷ [])
+    × (races_of (entry_starts 1 2 ∷ reads 1 ∷ reads 2 ∷ stores 1 ∷ stores 2 ∷ []) ≡ race 3 4 ∷ [])
+    × (races_of (entry_starts 1 2 ∷ stores 1 ∷ signals 1 (sets event) ∷ signals 2 (goes_by event) ∷ reads 2 ∷ []) ≡ [])
+    × (races_of (entry_starts 1 2 ∷ signals 1 (sets event) ∷ stores 1 ∷ signals 1 (sets event) ∷ signals 2 (goes_by event) ∷ reads 2 ∷ []) ≡ [])
+    × (races_of (entry_starts 1 2 ∷ signals 1 (sets event) ∷ stores 1 ∷ signals 2 (goes_by event) ∷ reads 2 ∷ []) ≡ race 3 5 ∷ [])
+    × (races_of (entry_starts 1 2 ∷ signals 1 (takes event) ∷ stores 1 ∷ signals 1 (frees event) ∷ signals 2 (takes event) ∷ stores 2 ∷ []) ≡ [])
+    × (races_of (entry_starts 1 2 ∷ entry_starts 1 3 ∷ reads 2 ∷ reads 3 ∷ stores 1 ∷ []) ≡ race 4 5 ∷ [])
+    × (races_of (entry_starts 1 2 ∷ entry_does 2 ∷ stores 1 ∷ record (entry_does 1) { released = 2 ∷ [] } ∷ entry_does 2 ∷ reads 2 ∷ []) ≡ [])

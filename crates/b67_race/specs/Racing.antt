@@ -1,11 +1,11 @@
 -- The races of a schedule.
 use Rattle.std.specs.Prelude.{◌≡◌, ◌≢◌, ◌⊎◌, ℕ, ◌<◌, ◌≤◌, Bool, true, List, Some}
-use Rattle.b67_race.specs.Entries.{CellName, Done, Is}
+use Rattle.b67_race.specs.Entries.{CellName, Done, IsNumberedEntry}
 use Rattle.b67_race.specs.Orders.{Ordered}
 
 -- Entry k reads or stores that cell.
 pub record Touches (ds : List Done) (c : CellName) (k : ℕ) (d : Done) (storing : Bool) : Type 0 where
-  pub is : Is ds k d
+  pub is : IsNumberedEntry ds k d
   pub access : d.access ≡ Some (record { cell = c; storing = storing })
 
 -- Two entries of two processes, the first before the second, read or store the same cell, one at least stores it, and they are not ordered.

@@ -3,7 +3,7 @@ use Rattle.std.specs.Prelude.{ℕ, max, Bool, true, false, List, [], Option, Som
 use Rattle.std.specs.BTreeMap.{BTreeMap, get_by}
 use Rattle.b67_race.specs.Entries.{CellName, Signal, nothing, sets, goes_by, frees, takes}
 use Rattle.b67_race.specs.Times.{time_of}
-use Rattle.b67_race.specs.Cells.{order, cell_of}
+use Rattle.b67_race.specs.Cells.{cell_order, cell_at_key}
 use Rattle.b67_race.specs.declared.cells.Key.{Key}
 use Rattle.b67_race.specs.declared.timing.Event.{Event}
 use Rattle.b67_race.specs.declared.timing.Event.TheVariants as events
@@ -19,14 +19,14 @@ time_in clocks p q = time_of (or_empty (slice_get clocks p)) q
 
 -- what the clock of an event tells
 abbrev pub event_time : BTreeMap Key (List ℕ) → CellName → ℕ → ℕ
-event_time clocks c q = time_of (or_empty (get_by (order c) clocks)) q
+event_time clocks c q = time_of (or_empty (get_by (cell_order c) clocks)) q
 
 abbrev pub signal_of : Event → Signal
 signal_of events.Nothing = nothing
-signal_of (events.Sets k) = sets (cell_of k)
-signal_of (events.GoesBy k) = goes_by (cell_of k)
-signal_of (events.Frees k) = frees (cell_of k)
-signal_of (events.Takes k) = takes (cell_of k)
+signal_of (events.Sets k) = sets (cell_at_key k)
+signal_of (events.GoesBy k) = goes_by (cell_at_key k)
+signal_of (events.Frees k) = frees (cell_at_key k)
+signal_of (events.Takes k) = takes (cell_at_key k)
 
 abbrev pub joined_if : Bool → ℕ → ℕ → ℕ
 joined_if true old own = max old own

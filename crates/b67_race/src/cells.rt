@@ -4,8 +4,8 @@ ghost use Rattle.std.specs.Prelude.{◌≡◌, if◌then◌else◌, Some, false,
 ghost use Rattle.b67_race.specs.Entries.{CellName};
 ghost use Rattle.b67_race.specs.Times.{time_of};
 ghost use Rattle.b67_race.specs.Watching as watching;
-ghost use Rattle.b67_race.specs.Watching.{none_yet, rivals, latest, noted, watched};
-ghost use Rattle.b67_race.specs.Cells.{quiet, cell_of, is_cell, rival_in, standing, standing_after, standing_in, watch_of};
+ghost use Rattle.b67_race.specs.Watching.{none_yet, rivals, latest, read_noted, watched};
+ghost use Rattle.b67_race.specs.Cells.{quiet, cell_at_key, is_cell, rival_in, standing, standing_after, standing_in, watch_of};
 
 use crate::clock::Clock;
 use b67_list::discard;
@@ -64,7 +64,7 @@ fn latest(clock: &Clock, past: &[Past]) -> u32
 
 /// A read comes: it takes the place of that of its process, where there is one.
 fn keep(reads: &mut Vec<Past>, now: Past) -> Result<(), AllocError>
-    ensures { OnOk result (reads.new.items ≡ noted now reads.old.items) }
+    ensures { OnOk result (reads.new.items ≡ read_noted now reads.old.items) }
 {
     let mut at = 0;
     'seeking: while at < reads.len() {
@@ -174,8 +174,8 @@ pub fn note_access<'p>(
     storing: bool,
     now: Past,
 ) -> Result<u32, AllocError>
-    ensures rival { IfOk result (λ r. r ≡ rival_in storing (time_of clock.now) (standing_in cells.old (cell_of key.entry))) }
-    ensures own { OnOk result (standing_in cells.new (cell_of key.entry) ≡ standing_after storing (time_of clock.now) now (standing_in cells.old (cell_of key.entry))) }
+    ensures rival { IfOk result (λ r. r ≡ rival_in storing (time_of clock.now) (standing_in cells.old (cell_at_key key.entry))) }
+    ensures own { OnOk result (standing_in cells.new (cell_at_key key.entry) ≡ standing_after storing (time_of clock.now) now (standing_in cells.old (cell_at_key key.entry))) }
     ensures others { OnOk result ((c : CellName) → is_cell key.entry c ≡ false → standing_in cells.new c ≡ standing_in cells.old c) }
 {
     if let Some(kept) = cells.get_mut(&key) {

@@ -1,10 +1,10 @@
 //! The clocks of processes and of events.
 
 ghost use Rattle.std.specs.Prelude.{◌≡◌, ℕ, ◌<◌, ◌==◌, ◌||◌, max, length, false, if◌then◌else◌, IfOk, OnOk};
-ghost use Rattle.b67_race.specs.Entries.{CellName, frees, is_one_of, is_this, sets};
+ghost use Rattle.b67_race.specs.Entries.{CellName, frees, entry_is_one_of, is_this, sets};
 ghost use Rattle.b67_race.specs.Clocks.{Becomes, by_signal, process_clock};
 ghost use Rattle.b67_race.specs.Times.{time_of};
-ghost use Rattle.b67_race.specs.Cells.{cell_of, is_cell};
+ghost use Rattle.b67_race.specs.Cells.{cell_at_key, is_cell};
 ghost use Rattle.b67_race.specs.Timed.{event_time, joined_if, signal_of, time_in};
 
 use crate::cells::Key;
@@ -96,7 +96,7 @@ fn join_all(
     released: &[usize],
     own: &Clock,
 ) -> Result<(), AllocError>
-    ensures { OnOk result ((p q : ℕ) → time_in clocks.new.items p q ≡ joined_if (is_one_of released.now p) (time_in clocks.old.items p q) (time_of own.now q)) }
+    ensures { OnOk result ((p q : ℕ) → time_in clocks.new.items p q ≡ joined_if (entry_is_one_of released.now p) (time_in clocks.old.items p q) (time_of own.now q)) }
 {
     'joining: for process in released {
         join_clock(alloc, clocks, *process, own)?;
@@ -119,7 +119,7 @@ fn put_event<'p>(events: &mut Events<'p>, key: Key<'p>, clock: Clock) -> Result<
 
 /// All that the clock of an event tells is known to a clock too.
 fn join_event<'p>(clock: &mut Clock, events: &Events<'p>, key: Key<'p>) -> Result<(), AllocError>
-    ensures { OnOk result ((q : ℕ) → time_of clock.new q ≡ max (time_of clock.old q) (event_time events.now (cell_of key.entry) q)) }
+    ensures { OnOk result ((q : ℕ) → time_of clock.new q ≡ max (time_of clock.old q) (event_time events.now (cell_at_key key.entry) q)) }
 {
     match events.get(&key) {
         None => Ok(()),
@@ -207,7 +207,7 @@ pub fn note_processes(
     started: Option<usize>,
     own: Clock,
 ) -> Result<(), AllocError>
-    ensures { OnOk result ((p q : ℕ) → time_in clocks.new.items p q ≡ process_clock (process == p) ((process == p) || (is_this started p || is_one_of released.now p)) (time_of own) (time_in clocks.old.items p) q) }
+    ensures { OnOk result ((p q : ℕ) → time_in clocks.new.items p q ≡ process_clock (process == p) ((process == p) || (is_this started p || entry_is_one_of released.now p)) (time_of own) (time_in clocks.old.items p) q) }
 {
     join_all(alloc, clocks, released, &own)?;
     join_started(alloc, clocks, started, &own)?;

@@ -2,11 +2,11 @@
 
 ghost use Rattle.std.specs.Prelude.{◌≡◌, ℕ, ◌+◌, ◌<◌, ◌≤◌, ◌==◌, ◌^◌, false, List, [], ◌∷◌, ◌++◌, map, Option, IfOk, OnOk};
 ghost use Rattle.b67_race.specs.Entries.{Done};
-ghost use Rattle.b67_race.specs.Clocks.{Notes, joined};
+ghost use Rattle.b67_race.specs.Clocks.{Notes, clock_joined};
 ghost use Rattle.b67_race.specs.Times.{time_of};
 ghost use Rattle.b67_race.specs.Timed.{event_time, time_in, signal_of};
 ghost use Rattle.b67_race.specs.Cells.{standing_in};
-ghost use Rattle.b67_race.specs.Races.{AreRaces, Finds};
+ghost use Rattle.b67_race.specs.Races.{AreRaces, RaceFinds};
 ghost use Rattle.b67_race.specs.Noted.{StandsAfter, access_of, done_of, race_of};
 
 use crate::cells::{Cells, Key, Past, note_access};
@@ -74,7 +74,7 @@ fn note_race<'p>(
     clock: &Clock,
     now: Past,
 ) -> Result<(), AllocError>
-    ensures { OnOk result (Finds now.entry now.process (access_of access.entry) (time_of clock.now) (standing_in cells.old) (standing_in cells.new) (map race_of found.old.items) (map race_of found.new.items)) }
+    ensures { OnOk result (RaceFinds now.entry now.process (access_of access.entry) (time_of clock.now) (standing_in cells.old) (standing_in cells.new) (map race_of found.old.items) (map race_of found.new.items)) }
 {
     let Some(access) = access else {
         return Ok(());
@@ -100,7 +100,7 @@ fn note_clocks<'p>(
 ) -> Result<(), AllocError>
     requires { 1 ≤ done.now.process }
     ensures { OnOk result ((of_process : ℕ → ℕ → ℕ) → ((p q : ℕ) → (done.now.process == p) ≡ false → time_in timing.old.processes.items p q ≡ of_process p q)
-        → ((q : ℕ) → time_of clock q ≡ joined (done_of done.now) of_process (event_time timing.old.set) (event_time timing.old.freed) q)
+        → ((q : ℕ) → time_of clock q ≡ clock_joined (done_of done.now) of_process (event_time timing.old.set) (event_time timing.old.freed) q)
         → Notes entry (done_of done.now) of_process (event_time timing.old.set) (event_time timing.old.freed)
         (time_in timing.new.processes.items) (event_time timing.new.set) (event_time timing.new.freed)) }
 {

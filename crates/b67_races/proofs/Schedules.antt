@@ -6,7 +6,7 @@ use Rattle.algol_meaning.specs.World.{World}
 use Rattle.algol_meaning.specs.Choice.{choice}
 use Rattle.algol_meaning.specs.Run.{may_go, after_entry, run, run_from, start}
 use Rattle.algol_seen.specs.Accesses.{done_of}
-use Rattle.algol_seen.specs.Seen.{told_done, IsSeen}
+use Rattle.algol_seen.specs.Seen.{told_done, ProcessIsSeen}
 use Rattle.algol_seen.specs.declared.seen.Seen.{Seen}
 use Rattle.algol_lean.specs.Beside.{RunsBeside, SeenBeside}
 use Rattle.b67_race.specs.Entries.{Done}
@@ -18,7 +18,7 @@ use Rattle.b67_judge.proofs.Steps.{run_none, run_append, entries_drop}
 use Rattle.b67_race.specs.Races.{Race, AreRaces}
 use Rattle.b67_judge.proofs.Verdicts.{run_is}
 use Rattle.b67_races.specs.Schedules.{all_done_from, AreRacesOf}
-use Rattle.b67_races.specs.Walking.{Stands, Goes}
+use Rattle.b67_races.specs.Walking.{ScheduleStands, WorldGoes}
 
 -- the world after an entry that may go
 after_is : (sc : Scopes) (w : World) (p : ℕ) (h : List ℕ) (v : World) → run_from sc (p ∷ h) (Some w) ≡ Some v → run_from sc h (Some ((choice sc w p).world)) ≡ Some v
@@ -51,10 +51,10 @@ stays_none : (sc : Scopes) (v : World) (p : ℕ) → may_go v p ≡ false → af
 unfolding after_entry
 stays_none sc v p e = ap (λ (b : Bool). if b then Some ((choice sc v p).world) else None) e
 
-module _ (sc : Scopes) (w : World) (given : List ℕ) (now after : World) (walk later : Walk) (p : ℕ) (left : List ℕ) (s : Stands sc w given now walk (p ∷ left)) where
+module _ (sc : Scopes) (w : World) (given : List ℕ) (now after : World) (walk later : Walk) (p : ℕ) (left : List ℕ) (s : ScheduleStands sc w given now walk (p ∷ left)) where
   -- an entry that goes is noted
   pub stands_more : (seen : Seen) → SeenBeside sc s.world p after (Some seen) → ((ds : List Done) → StandsAfter ds walk → StandsAfter (ds ++ told_done p seen ∷ []) later)
-      → Stands sc w given after later left
+      → ScheduleStands sc w given after later left
   stands_more seen b noted =
       record {
         done = s.done ++ p ∷ [];
@@ -68,7 +68,7 @@ module _ (sc : Scopes) (w : World) (given : List ℕ) (now after : World) (walk 
             (noted (all_done_from sc w s.done) s.noted);
       }
     where
-      is : IsSeen sc s.world p b.after seen
+      is : ProcessIsSeen sc s.world p b.after seen
       is = b.step
 
       last : (o : Option World) → o ≡ Some b.after → run_from sc [] o ≡ Some b.after
@@ -92,41 +92,41 @@ split_one (suc n) p left l = let r : n ≡ suc n - 1 = omega arith in ap (λ (k 
 
 module _
     (sc sc' : Scopes) (w : World) (given : List ℕ) (now after : World) (walk later : Walk) (p n : ℕ) (left : List ℕ) (b : Bool) (same : sc' ≡ sc) (more : 0 < n)
-    (s : Stands sc w given now walk (replicate n p ++ left)) (goes : (rest : List ℕ) → Stands sc' w given now walk (p ∷ rest) → Goes sc' w given after later rest b) where
-  one_more : Goes sc w given after later (replicate (n - 1) p ++ left) b
+    (s : ScheduleStands sc w given now walk (replicate n p ++ left)) (goes : (rest : List ℕ) → ScheduleStands sc' w given now walk (p ∷ rest) → WorldGoes sc' w given after later rest b) where
+  one_more : WorldGoes sc w given after later (replicate (n - 1) p ++ left) b
   one_more =
-      subst (λ (k : Scopes). Goes k w given after later (replicate (n - 1) p ++ left) b) same
+      subst (λ (k : Scopes). WorldGoes k w given after later (replicate (n - 1) p ++ left) b) same
       (goes (replicate (n - 1) p ++ left)
-      (subst (λ (k : Scopes). Stands k w given now walk (p ∷ (replicate (n - 1) p ++ left))) (sym same)
-      (subst (λ (xs : List ℕ). Stands sc w given now walk xs) (split_one n p left more) s)))
+      (subst (λ (k : Scopes). ScheduleStands k w given now walk (p ∷ (replicate (n - 1) p ++ left))) (sym same)
+      (subst (λ (xs : List ℕ). ScheduleStands sc w given now walk xs) (split_one n p left more) s)))
 
-  pub one_goes : b ≡ true → Stands sc w given after later (replicate (n - 1) p ++ left)
-  one_goes e = subst (λ (c : Bool). Goes sc w given after later (replicate (n - 1) p ++ left) c) e one_more
+  pub one_goes : b ≡ true → ScheduleStands sc w given after later (replicate (n - 1) p ++ left)
+  one_goes e = subst (λ (c : Bool). WorldGoes sc w given after later (replicate (n - 1) p ++ left) c) e one_more
 
   pub one_stops : b ≡ false → run_from sc given (Some w) ≡ None
-  one_stops e = subst (λ (c : Bool). Goes sc w given after later (replicate (n - 1) p ++ left) c) e one_more
+  one_stops e = subst (λ (c : Bool). WorldGoes sc w given after later (replicate (n - 1) p ++ left) c) e one_more
 
 module _
     (sc sc' : Scopes) (w : World) (given : List ℕ) (now after : World) (walk later : Walk) (runs items : List Run) (i : ℕ) (d : Run) (b : Bool) (is : items ≡ runs)
-    (less : i < length items) (same : sc' ≡ sc) (s : Stands sc w given now walk (entries (drop i runs)))
-    (goes : (rest : List ℕ) → Stands sc' w given now walk (replicate ((get_or items i d).times) ((get_or items i d).process) ++ rest) → Goes sc' w given after later rest b) where
+    (less : i < length items) (same : sc' ≡ sc) (s : ScheduleStands sc w given now walk (entries (drop i runs)))
+    (goes : (rest : List ℕ) → ScheduleStands sc' w given now walk (replicate ((get_or items i d).times) ((get_or items i d).process) ++ rest) → WorldGoes sc' w given after later rest b) where
   this_run : entries (drop i runs) ≡ replicate ((get_or items i d).times) ((get_or items i d).process) ++ entries (drop (i + 1) runs)
   this_run =
       ap (λ (rs : List Run). entries (drop i rs)) (sym is) ∙ entries_drop items i d less
       ∙ ap (λ (rs : List Run). replicate ((get_or items i d).times) ((get_or items i d).process) ++ entries (drop (i + 1) rs)) is
 
-  run_more : Goes sc w given after later (entries (drop (i + 1) runs)) b
+  run_more : WorldGoes sc w given after later (entries (drop (i + 1) runs)) b
   run_more =
-      subst (λ (k : Scopes). Goes k w given after later (entries (drop (i + 1) runs)) b) same
+      subst (λ (k : Scopes). WorldGoes k w given after later (entries (drop (i + 1) runs)) b) same
       (goes (entries (drop (i + 1) runs))
-      (subst (λ (k : Scopes). Stands k w given now walk (replicate ((get_or items i d).times) ((get_or items i d).process) ++ entries (drop (i + 1) runs))) (sym same)
-      (subst (λ (xs : List ℕ). Stands sc w given now walk xs) this_run s)))
+      (subst (λ (k : Scopes). ScheduleStands k w given now walk (replicate ((get_or items i d).times) ((get_or items i d).process) ++ entries (drop (i + 1) runs))) (sym same)
+      (subst (λ (xs : List ℕ). ScheduleStands sc w given now walk xs) this_run s)))
 
-  pub run_goes : b ≡ true → Stands sc w given after later (entries (drop (i + 1) runs))
-  run_goes e = subst (λ (c : Bool). Goes sc w given after later (entries (drop (i + 1) runs)) c) e run_more
+  pub run_goes : b ≡ true → ScheduleStands sc w given after later (entries (drop (i + 1) runs))
+  run_goes e = subst (λ (c : Bool). WorldGoes sc w given after later (entries (drop (i + 1) runs)) c) e run_more
 
   pub run_stops : b ≡ false → run_from sc given (Some w) ≡ None
-  run_stops e = subst (λ (c : Bool). Goes sc w given after later (entries (drop (i + 1) runs)) c) e run_more
+  run_stops e = subst (λ (c : Bool). WorldGoes sc w given after later (entries (drop (i + 1) runs)) c) e run_more
 
 pub is_false : (b : Bool) → not b ≡ true → b ≡ false
 is_false true e = sym e
@@ -142,7 +142,7 @@ no_world : {v : World} → None ≡ Some v → ⊥
 no_world e = cc
 
 module _ (tree : PProgram) (h : List ℕ) (now after : World) (walk : Walk) (rs : List Race) (legal : run tree h ≡ Some after) (found : (ds : List Done) → StandsAfter ds walk → AreRaces ds rs) where
-  races_so : (b : Bool) → Goes (scopes_of tree) (start (scopes_of tree)) h now walk [] b → AreRacesOf tree h rs
+  races_so : (b : Bool) → WorldGoes (scopes_of tree) (start (scopes_of tree)) h now walk [] b → AreRacesOf tree h rs
   races_so true s =
       subst (λ (xs : List ℕ). AreRaces (all_done_from (scopes_of tree) (start (scopes_of tree)) xs) rs) (sym (s.split ∙ append-nil s.done))
       (found (all_done_from (scopes_of tree) (start (scopes_of tree)) s.done) s.noted)
@@ -150,9 +150,9 @@ module _ (tree : PProgram) (h : List ℕ) (now after : World) (walk : Walk) (rs 
 
   pub all_so :
       (sc : Scopes) (v : World) (first : Walk) (b : Bool) → sc ≡ scopes_of tree → RunsBeside sc (start (scopes_of tree)) v → StandsAfter [] first
-      → ((w : World) (given : List ℕ) → Stands sc w given v first h → Goes sc w given now walk [] b) → AreRacesOf tree h rs
+      → ((w : World) (given : List ℕ) → ScheduleStands sc w given v first h → WorldGoes sc w given now walk [] b) → AreRacesOf tree h rs
   all_so sc v first b same beside none goes =
       races_so b
-      (subst (λ (k : Scopes). Goes k (start (scopes_of tree)) h now walk [] b) same
+      (subst (λ (k : Scopes). WorldGoes k (start (scopes_of tree)) h now walk [] b) same
       (goes (start (scopes_of tree)) h
       (record { done = []; split = refl; world = start (scopes_of tree); legal = refl; beside = beside; noted = none })))

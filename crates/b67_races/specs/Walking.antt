@@ -9,7 +9,7 @@ use Rattle.b67_race.specs.declared.walk.Walk.{Walk}
 use Rattle.b67_races.specs.Schedules.{all_done_from}
 
 -- From a world on, some entries of a schedule were made and noted, and these are left; the world after those that were made may go beside `now`.
-pub record Stands (sc : Scopes) (w : World) (given : List ℕ) (now : World) (walk : Walk) (left : List ℕ) : Type 0 where
+pub record ScheduleStands (sc : Scopes) (w : World) (given : List ℕ) (now : World) (walk : Walk) (left : List ℕ) : Type 0 where
   pub done : List ℕ
   pub split : given ≡ done ++ left
   pub world : World
@@ -18,6 +18,6 @@ pub record Stands (sc : Scopes) (w : World) (given : List ℕ) (now : World) (wa
   pub noted : StandsAfter (all_done_from sc w done) walk
 
 -- Either it goes on, or the schedule is not legal.
-abbrev pub Goes : Scopes → World → List ℕ → World → Walk → List ℕ → Bool → Type 0
-Goes sc w given now walk left true = Stands sc w given now walk left
-Goes sc w given now walk left false = run_from sc given (Some w) ≡ None
+abbrev pub WorldGoes : Scopes → World → List ℕ → World → Walk → List ℕ → Bool → Type 0
+WorldGoes sc w given now walk left true = ScheduleStands sc w given now walk left
+WorldGoes sc w given now walk left false = run_from sc given (Some w) ≡ None

@@ -7,11 +7,11 @@ ghost use Rattle.algol_meaning.specs.World as plain;
 ghost use Rattle.algol_seen.specs.Seen as told;
 ghost use Rattle.algol_seen.specs.Seen.{cell_name, told_done};
 ghost use Rattle.b67_race.specs.Entries.{Done};
-ghost use Rattle.b67_race.specs.Cells.{cell_of};
+ghost use Rattle.b67_race.specs.Cells.{cell_at_key};
 ghost use Rattle.b67_race.specs.Timed.{signal_of};
 ghost use Rattle.b67_race.specs.Noted.{StandsAfter, access_of, done_of};
 ghost use Rattle.b67_schedule.specs.Schedules.{entries};
-ghost use Rattle.b67_races.specs.Walking.{Goes, Stands};
+ghost use Rattle.b67_races.specs.Walking.{WorldGoes, ScheduleStands};
 
 use algol_lean::step_seen_lean;
 use algol_seen::{Access as SeenAccess, CellName, Seen, Signal};
@@ -23,7 +23,7 @@ use std::alloc::{AllocError, Global};
 
 /// The key of a cell.
 fn key_of<'p>(c: CellName<'p>) -> Key<'p>
-    ensures { cell_of result ≡ cell_name c.entry }
+    ensures { cell_at_key result ≡ cell_name c.entry }
 {
     Key {
         instance: c.instance,
@@ -99,8 +99,8 @@ fn go<'p>(
 ) -> Result<bool, AllocError>
     requires process { 1 ≤ process }
     requires few { walk.old.entries + 1 < 2 ^ 32 }
-    ensures goes { IfOk result (λ went. (w : plain.World) (given left : List ℕ) → Stands (scoped world.old.scopes) w given (world_of world.old) walk.old (process ∷ left)
-        → Goes (scoped world.old.scopes) w given (world_of world.new) walk.new left went) }
+    ensures goes { IfOk result (λ went. (w : plain.World) (given left : List ℕ) → ScheduleStands (scoped world.old.scopes) w given (world_of world.old) walk.old (process ∷ left)
+        → WorldGoes (scoped world.old.scopes) w given (world_of world.new) walk.new left went) }
     ensures entries { IfOk result (λ went. went ≡ true → walk.new.entries ≡ walk.old.entries + 1) }
     ensures same { world.new.scopes ≡ world.old.scopes }
 {
@@ -125,8 +125,8 @@ fn go_on<'p>(
 ) -> Result<bool, AllocError>
     requires process { 1 ≤ process }
     requires few { walk.old.entries + times + 1 < 2 ^ 32 }
-    ensures goes { IfOk result (λ went. (w : plain.World) (given left : List ℕ) → Stands (scoped world.old.scopes) w given (world_of world.old) walk.old (replicate times process ++ left)
-        → Goes (scoped world.old.scopes) w given (world_of world.new) walk.new left went) }
+    ensures goes { IfOk result (λ went. (w : plain.World) (given left : List ℕ) → ScheduleStands (scoped world.old.scopes) w given (world_of world.old) walk.old (replicate times process ++ left)
+        → WorldGoes (scoped world.old.scopes) w given (world_of world.new) walk.new left went) }
     ensures entries { IfOk result (λ went. went ≡ true → walk.new.entries ≡ walk.old.entries + times) }
     ensures same { world.new.scopes ≡ world.old.scopes }
 {
@@ -148,8 +148,8 @@ pub fn go_all<'p>(
     schedule: &Schedule,
 ) -> Result<bool, AllocError>
     requires few { walk.old.entries + length (entries schedule.now.runs) + 1 < 2 ^ 32 }
-    ensures goes { IfOk result (λ went. (w : plain.World) (given : List ℕ) → Stands (scoped world.old.scopes) w given (world_of world.old) walk.old (entries schedule.now.runs)
-        → Goes (scoped world.old.scopes) w given (world_of world.new) walk.new [] went) }
+    ensures goes { IfOk result (λ went. (w : plain.World) (given : List ℕ) → ScheduleStands (scoped world.old.scopes) w given (world_of world.old) walk.old (entries schedule.now.runs)
+        → WorldGoes (scoped world.old.scopes) w given (world_of world.new) walk.new [] went) }
     ensures same { world.new.scopes ≡ world.old.scopes }
 {
     'runs: for run in schedule.runs() {

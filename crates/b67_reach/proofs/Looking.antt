@@ -13,7 +13,7 @@ use Rattle.b67_table.specs.Effect.{Effect}
 use Rattle.b67_table.specs.Effect as effects
 use Rattle.b67_table.specs.Outcome.{gives, limited}
 use Rattle.b67_table.specs.Image.{Image}
-use Rattle.b67_table.specs.Look.{Look, found, stops, at, several, ◌>->◌, seen}
+use Rattle.b67_table.specs.Look.{Look, found, stops, at, several, ◌>->◌, look_seen}
 use Rattle.b67_table.specs.Program.{Test, answer, interrupt, fault, ask, asked, see, ◌>>=◌, Change, Program, effect_of}
 use Rattle.b67_table.specs.Questions.{told}
 use Rattle.b67_table.specs.References.{named, reached, sirw_cell, one_sirw, no_second}
@@ -21,7 +21,7 @@ use Rattle.b67_table.specs.Table.{stack_length}
 use Rattle.b67_reach.specs.declared.Stop.{Stop}
 use Rattle.b67_reach.specs.declared.Stop.TheVariants.{Interrupt, Fault, StackLimit}
 use Rattle.b67_reach.specs.Images.{Own, with_own}
-use Rattle.b67_reach.specs.Answers.{whole, stopped, answered, looked, Tells, Performs, Acts}
+use Rattle.b67_reach.specs.Answers.{whole_outcome, stopped, outcome_answered, looked, TestTells, ProgramPerforms, ProgramActs}
 
 -- ---- looks
 
@@ -29,7 +29,7 @@ abbrev pub after_found : {A B : Type 0} → Result A InterruptKind → (A → Re
 after_found (Ok a) next = next a
 after_found (Err kind) next = Err kind
 
-pub seen_then : {A B : Type 0} (st : Stacks) (l : Look A) (k : A → Look B) → seen st (l >-> k) ≡ after_found (seen st l) (λ a. seen st (k a))
+pub seen_then : {A B : Type 0} (st : Stacks) (l : Look A) (k : A → Look B) → look_seen st (l >-> k) ≡ after_found (look_seen st l) (λ a. look_seen st (k a))
 seen_then st (found a) k = refl
 seen_then st (stops kind) k = refl
 seen_then st (at place more) k = seen_then st (more (word_at st place)) k
@@ -40,20 +40,20 @@ pub looked_ok : {A : Type 0} (r : Result A InterruptKind) (a : A) → Ok a ≡ l
 looked_ok (Ok b) a e = cc
 looked_ok (Err kind) a e = cc
 
-pub look_then : {A B : Type 0} (st : Stacks) (l : Look A) (k : A → Look B) (a : A) (b : Result B Stop) → Ok a ≡ looked (seen st l)
-    → b ≡ looked (seen st (k a)) → b ≡ looked (seen st (l >-> k))
+pub look_then : {A B : Type 0} (st : Stacks) (l : Look A) (k : A → Look B) (a : A) (b : Result B Stop) → Ok a ≡ looked (look_seen st l)
+    → b ≡ looked (look_seen st (k a)) → b ≡ looked (look_seen st (l >-> k))
 look_then st l k a b e f =
     f
-    ∙ sym (ap looked (seen_then st l k ∙ ap (λ (r : Result _ InterruptKind). after_found r (λ a. seen st (k a))) (looked_ok (seen st l) a e)))
+    ∙ sym (ap looked (seen_then st l k ∙ ap (λ (r : Result _ InterruptKind). after_found r (λ a. look_seen st (k a))) (looked_ok (look_seen st l) a e)))
 
-pub second_is_refused : (st : Stacks) (c : Option Cell) (first second : Reached) (s t : Sirw) → Ok first ≡ looked (seen st (named c))
-    → as_sirw first.word ≡ Some s → Ok second ≡ looked (seen st (named (Some (sirw_cell s)))) → as_sirw second.word ≡ Some t
-    → Err (Interrupt InvalidOperand) ≡ looked (seen st (reached c))
+pub second_is_refused : (st : Stacks) (c : Option Cell) (first second : Reached) (s t : Sirw) → Ok first ≡ looked (look_seen st (named c))
+    → as_sirw first.word ≡ Some s → Ok second ≡ looked (look_seen st (named (Some (sirw_cell s)))) → as_sirw second.word ≡ Some t
+    → Err (Interrupt InvalidOperand) ≡ looked (look_seen st (reached c))
 second_is_refused st c first second s t e f g h =
     look_then st (named c) (λ w. one_sirw (as_sirw w.word) w) first (Err (Interrupt InvalidOperand)) e
     (look_then st (named (Some (sirw_cell s))) (λ v. no_second (as_sirw v.word) v) second (Err (Interrupt InvalidOperand)) g
-    (sym (ap (λ (o : Option Sirw). looked (seen st (no_second o second))) h))
-    ∙ sym (ap (λ (o : Option Sirw). looked (seen st (one_sirw o first))) f))
+    (sym (ap (λ (o : Option Sirw). looked (look_seen st (no_second o second))) h))
+    ∙ sym (ap (λ (o : Option Sirw). looked (look_seen st (one_sirw o first))) f))
 
 -- ---- tests
 
@@ -61,21 +61,21 @@ abbrev pub as_effect : {A : Type 0} → Result A InterruptKind → Effect A
 as_effect (Ok a) = effects.gives a
 as_effect (Err kind) = effects.interrupts kind
 
-pub asked_look : {A : Type 0} (img : Image) (l : Look A) → asked img (see l) ≡ as_effect (seen img.stacks l)
+pub asked_look : {A : Type 0} (img : Image) (l : Look A) → asked img (see l) ≡ as_effect (look_seen img.stacks l)
 asked_look img (found a) = refl
 asked_look img (stops kind) = refl
 asked_look img (at place more) = asked_look img (more (word_at img.stacks place))
 asked_look img (several place n more) = asked_look img (more (take n (drop place.at (words_of img.stacks place.stack))))
 
-whole_of_look : {A : Type 0} (r : Result A InterruptKind) → whole (as_effect r) ≡ answered (looked r)
+whole_of_look : {A : Type 0} (r : Result A InterruptKind) → whole_outcome (as_effect r) ≡ outcome_answered (looked r)
 whole_of_look (Ok a) = refl
 whole_of_look (Err kind) = refl
 
 -- what a look finds, its test is told
-pub tells_look : {A : Type 0} (l : Look A) (stacks : Stacks) (rows : Rows) (r : Result A Stop) → r ≡ looked (seen stacks l) → Tells (see l) stacks rows r
+pub tells_look : {A : Type 0} (l : Look A) (stacks : Stacks) (rows : Rows) (r : Result A Stop) → r ≡ looked (look_seen stacks l) → TestTells (see l) stacks rows r
 tells_look l stacks rows r e = record {
-  told = λ img s t. ap whole (asked_look img l) ∙ ap (λ (z : Stacks). whole (as_effect (seen z l))) s ∙ whole_of_look (seen stacks l)
-      ∙ sym (ap answered e);
+  told = λ img s t. ap whole_outcome (asked_look img l) ∙ ap (λ (z : Stacks). whole_outcome (as_effect (look_seen z l))) s ∙ whole_of_look (look_seen stacks l)
+      ∙ sym (ap outcome_answered e);
 }
 
 abbrev pub after_test : {A B : Type 0} → Image → Effect A → (A → Test B) → Effect B
@@ -89,21 +89,21 @@ asked_then img (interrupt kind) next = refl
 asked_then img (fault kind) next = refl
 asked_then img (ask q more) next = asked_then img (more (told img q)) next
 
-gives_by : {A : Type 0} (e : Effect A) (a : A) → whole e ≡ gives a → e ≡ effects.gives a
+gives_by : {A : Type 0} (e : Effect A) (a : A) → whole_outcome e ≡ gives a → e ≡ effects.gives a
 gives_by (effects.gives b) a e = cc
 gives_by (effects.faults kind) a e = cc
 gives_by (effects.interrupts kind) a e = cc
 
-pub asked_on : {A B : Type 0} (img : Image) (t : Test A) (next : A → Test B) (a : A) → whole (asked img t) ≡ gives a
+pub asked_on : {A B : Type 0} (img : Image) (t : Test A) (next : A → Test B) (a : A) → whole_outcome (asked img t) ≡ gives a
     → asked img (t >>= next) ≡ asked img (next a)
 asked_on img t next a e = asked_then img t next ∙ ap (λ (x : Effect _). after_test img x next) (gives_by (asked img t) a e)
 
 pub tells_then : {A B : Type 0} (t : Test A) (next : A → Test B) (a : A) (stacks : Stacks) (rows : Rows) (r : Result B Stop)
-    → Tells t stacks rows (Ok a) → Tells (next a) stacks rows r → Tells (t >>= next) stacks rows r
-tells_then t next a stacks rows r x y = record { told = λ img e f. ap whole (asked_on img t next a (x.told img e f)) ∙ y.told img e f }
+    → TestTells t stacks rows (Ok a) → TestTells (next a) stacks rows r → TestTells (t >>= next) stacks rows r
+tells_then t next a stacks rows r x y = record { told = λ img e f. ap whole_outcome (asked_on img t next a (x.told img e f)) ∙ y.told img e f }
 
-stops_test : {A B : Type 0} (img : Image) (e : Effect A) (next : A → Test B) (stop : Stop) → whole e ≡ stopped stop
-    → whole (after_test img e next) ≡ stopped stop
+stops_test : {A B : Type 0} (img : Image) (e : Effect A) (next : A → Test B) (stop : Stop) → whole_outcome e ≡ stopped stop
+    → whole_outcome (after_test img e next) ≡ stopped stop
 stops_test img (effects.gives a) next (Interrupt kind) e = cc
 stops_test img (effects.gives a) next (Fault kind) e = cc
 stops_test img (effects.gives a) next StackLimit e = cc
@@ -115,22 +115,22 @@ stops_test img (effects.interrupts k) next (Fault kind) e = cc
 stops_test img (effects.interrupts k) next StackLimit e = cc
 
 pub tells_stop : {A B : Type 0} (t : Test A) (next : A → Test B) (stop : Stop) (stacks : Stacks) (rows : Rows)
-    → Tells t stacks rows (Err stop) → Tells (t >>= next) stacks rows (Err stop)
+    → TestTells t stacks rows (Err stop) → TestTells (t >>= next) stacks rows (Err stop)
 tells_stop t next stop stacks rows x = record {
-  told = λ img e f. ap whole (asked_then img t next) ∙ stops_test img (asked img t) next stop (x.told img e f);
+  told = λ img e f. ap whole_outcome (asked_then img t next) ∙ stops_test img (asked img t) next stop (x.told img e f);
 }
 
 -- ---- programs
 
 pub performs_then : {A B : Type 0} (t : Test A) (next : A → Program) (a : A) (old new : Own) (r : Result B Stop)
-    → Tells t old.stacks old.rows (Ok a) → Performs (next a) old new r → Performs (t >>= next) old new r
+    → TestTells t old.stacks old.rows (Ok a) → ProgramPerforms (next a) old new r → ProgramPerforms (t >>= next) old new r
 performs_then t next a old new r x y = record {
   outcome = λ p img e f g. ap (λ (z : Effect Change). limited (stack_length p) (effect_of p img z)) (asked_on img t next a (x.told img e f))
       ∙ y.outcome p img e f g;
   stays = y.stays;
 }
 
-stops_program : {A : Type 0} (p : ℕ) (img : Image) (e : Effect A) (next : A → Program) (stop : Stop) → whole e ≡ stopped stop
+stops_program : {A : Type 0} (p : ℕ) (img : Image) (e : Effect A) (next : A → Program) (stop : Stop) → whole_outcome e ≡ stopped stop
     → limited (stack_length p) (effect_of p img (after_test img e next)) ≡ stopped stop
 stops_program p img (effects.gives a) next (Interrupt kind) e = cc
 stops_program p img (effects.gives a) next (Fault kind) e = cc
@@ -143,7 +143,7 @@ stops_program p img (effects.interrupts k) next (Fault kind) e = cc
 stops_program p img (effects.interrupts k) next StackLimit e = cc
 
 pub performs_stop : {A B : Type 0} (t : Test A) (next : A → Program) (stop : Stop) (old new : Own)
-    → Tells t old.stacks old.rows (Err stop) → new ≡ old → Performs {A = B} (t >>= next) old new (Err stop)
+    → TestTells t old.stacks old.rows (Err stop) → new ≡ old → ProgramPerforms {A = B} (t >>= next) old new (Err stop)
 performs_stop t next stop old new x same = record {
   outcome = λ p img e f g. ap (λ (z : Effect Change). limited (stack_length p) (effect_of p img z)) (asked_then img t next)
       ∙ stops_program p img (asked img t) next stop (x.told img e f);
@@ -153,14 +153,14 @@ performs_stop t next stop old new x same = record {
 -- ---- programs on one image
 
 pub acts_then : {A B : Type 0} (p : ℕ) (t : Test A) (next : A → Program) (a : A) (old new : Image) (r : Result B Stop)
-    → whole (asked old t) ≡ gives a → Acts p (next a) old new r → Acts p (t >>= next) old new r
+    → whole_outcome (asked old t) ≡ gives a → ProgramActs p (next a) old new r → ProgramActs p (t >>= next) old new r
 acts_then p t next a old new r x y = record {
   outcome = ap (λ (z : Effect Change). limited (stack_length p) (effect_of p old z)) (asked_on old t next a x) ∙ y.outcome;
   stays = y.stays;
 }
 
-pub acts_stop : {A B : Type 0} (p : ℕ) (t : Test A) (next : A → Program) (stop : Stop) (old new : Image) → whole (asked old t) ≡ stopped stop
-    → new ≡ old → Acts {A = B} p (t >>= next) old new (Err stop)
+pub acts_stop : {A B : Type 0} (p : ℕ) (t : Test A) (next : A → Program) (stop : Stop) (old new : Image) → whole_outcome (asked old t) ≡ stopped stop
+    → new ≡ old → ProgramActs {A = B} p (t >>= next) old new (Err stop)
 acts_stop p t next stop old new x same = record {
   outcome = ap (λ (z : Effect Change). limited (stack_length p) (effect_of p old z)) (asked_then old t next)
       ∙ stops_program p old (asked old t) next stop x;
@@ -174,7 +174,7 @@ stays_in p old new img (Err stop) same e = ap (λ (z : Own). with_own z p img) e
 
 -- what a process performs on its own, it performs in the image
 pub acts_by : {A : Type 0} (p : ℕ) (program : Program) (old new : Own) (img : Image) (r : Result A Stop) → img.stacks ≡ old.stacks → img.rows ≡ old.rows
-    → numbered img.regs p ≡ Some old.regs → Performs program old new r → with_own old p img ≡ img → Acts p program img (with_own new p img) r
+    → numbered img.regs p ≡ Some old.regs → ProgramPerforms program old new r → with_own old p img ≡ img → ProgramActs p program img (with_own new p img) r
 acts_by p program old new img r s t u x same = record {
   outcome = x.outcome p img s t u;
   stays = stays_in p old new img r same x.stays;
@@ -183,11 +183,11 @@ acts_by p program old new img r s t u x same = record {
 -- ---- the exit of a question mark
 
 pub exits : {A : Type 0} (program : Program) (old new : Own) (r : Result A Stop) (stop : Stop) → IsErrAnd r (λ e. e ≡ stop)
-    → Performs {A = A} program old new (Err stop) → Performs program old new r
+    → ProgramPerforms {A = A} program old new (Err stop) → ProgramPerforms program old new r
 exits program old new (Ok a) stop e x = absurd e
-exits {A = A} program old new (Err other) stop e x = subst (λ (s : Stop). Performs {A = A} program old new (Err s)) (sym e) x
+exits {A = A} program old new (Err other) stop e x = subst (λ (s : Stop). ProgramPerforms {A = A} program old new (Err s)) (sym e) x
 
 pub tells_exit : {A : Type 0} (t : Test A) (stacks : Stacks) (rows : Rows) (r : Result A Stop) (stop : Stop) → IsErrAnd r (λ e. e ≡ stop)
-    → Tells t stacks rows (Err stop) → Tells t stacks rows r
+    → TestTells t stacks rows (Err stop) → TestTells t stacks rows r
 tells_exit t stacks rows (Ok a) stop e x = absurd e
-tells_exit {A = A} t stacks rows (Err other) stop e x = subst (λ (s : Stop). Tells {A = A} t stacks rows (Err s)) (sym e) x
+tells_exit {A = A} t stacks rows (Err other) stop e x = subst (λ (s : Stop). TestTells {A = A} t stacks rows (Err s)) (sym e) x

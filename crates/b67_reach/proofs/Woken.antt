@@ -4,7 +4,7 @@ use Rattle.std.proofs.lemmas.Bool.{cond-false}
 use Rattle.std.proofs.lemmas.Bool.Decides.{nat_tests}
 use Rattle.b67_list.specs.Numbered.{set_numbered}
 use Rattle.b67_word.specs.declared.Place.{Place}
-use Rattle.b67_events.specs.Events.{same_place, number_of, list_of, first_that, position_of}
+use Rattle.b67_events.specs.Events.{same_place, position_number_of, list_of, first_that, position_of}
 use Rattle.b67_table.specs.Writes.{with_number, told_positions}
 use Rattle.b67_reach.specs.Woken.{told_number, told_numbers}
 
@@ -17,17 +17,17 @@ some_from test n (x ∷ places) m e = by_test (some_from test (n + 1) places m) 
     by_test later true i = let same : n ≡ m = cc in omega arith
     by_test later false i = omega (arith, later i)
 
-one_told : (o : Option ℕ) → ((n : ℕ) → o ≡ Some n → 1 ≤ n) → (p : ℕ) (numbers : List ℕ) → told_number p (number_of o) numbers ≡ with_number o p numbers
+one_told : (o : Option ℕ) → ((n : ℕ) → o ≡ Some n → 1 ≤ n) → (p : ℕ) (numbers : List ℕ) → told_number p (position_number_of o) numbers ≡ with_number o p numbers
 one_told None k p numbers = refl
 one_told (Some n) k p numbers =
     let some = k n refl in
     cond-false (nat_eq n 0) numbers (set_numbered numbers p n) (grind (arith, nat_tests, some))
 
 pub positions_told : (at : Place) (lists : List (List Place)) (ps numbers : List ℕ)
-    → told_numbers ps (map (λ p. number_of (position_of at lists p)) ps) numbers ≡ told_positions at lists ps numbers
+    → told_numbers ps (map (λ p. position_number_of (position_of at lists p)) ps) numbers ≡ told_positions at lists ps numbers
 positions_told at lists [] numbers = refl
 positions_told at lists (p ∷ ps) numbers =
-    positions_told at lists ps (told_number p (number_of (position_of at lists p)) numbers)
+    positions_told at lists ps (told_number p (position_number_of (position_of at lists p)) numbers)
     ∙ ap (told_positions at lists ps)
     (one_told (position_of at lists p) (λ n e. some_from (λ place. same_place place at) 1 (list_of p lists) n e) p numbers)
 

@@ -20,24 +20,24 @@ use Rattle.b67_reach.specs.Images.{Own, with_own}
 -- ---- answers as outcomes
 
 -- an effect of which nothing is the limit
-abbrev pub whole : {A : Type 0} → Effect A → Outcome A
-whole (effects.gives a) = gives a
-whole (effects.faults kind) = faults kind
-whole (effects.interrupts kind) = interrupts kind
+abbrev pub whole_outcome : {A : Type 0} → Effect A → Outcome A
+whole_outcome (effects.gives a) = gives a
+whole_outcome (effects.faults kind) = faults kind
+whole_outcome (effects.interrupts kind) = interrupts kind
 
 abbrev pub stopped : {A : Type 0} → Stop → Outcome A
 stopped (Interrupt kind) = interrupts kind
 stopped (Fault kind) = faults kind
 stopped StackLimit = limit
 
-abbrev pub answered : {A : Type 0} → Result A Stop → Outcome A
-answered (Ok a) = gives a
-answered (Err stop) = stopped stop
+abbrev pub outcome_answered : {A : Type 0} → Result A Stop → Outcome A
+outcome_answered (Ok a) = gives a
+outcome_answered (Err stop) = stopped stop
 
 -- the image after an operator that was performed, or what stopped it
-abbrev pub after : {A : Type 0} → Image → Result A Stop → Outcome Image
-after new (Ok a) = gives new
-after new (Err stop) = stopped stop
+abbrev pub outcome_after : {A : Type 0} → Image → Result A Stop → Outcome Image
+outcome_after new (Ok a) = gives new
+outcome_after new (Err stop) = stopped stop
 
 -- ---- what is found
 
@@ -52,21 +52,21 @@ both (Ok t) = Ok (t.x, t.y)
 both (Err kind) = Err kind
 
 -- every image with these stacks and rows answers the test so
-pub record Tells {A : Type 0} (test : Test A) (stacks : Stacks) (rows : Rows) (answer : Result A Stop) : Type 0 where
-  pub told : (img : Image) → img.stacks ≡ stacks → img.rows ≡ rows → whole (asked img test) ≡ answered answer
+pub record TestTells {A : Type 0} (test : Test A) (stacks : Stacks) (rows : Rows) (answer : Result A Stop) : Type 0 where
+  pub told : (img : Image) → img.stacks ≡ stacks → img.rows ≡ rows → whole_outcome (asked img test) ≡ outcome_answered answer
 
 -- ---- what is performed
 
 -- In every image in which a process has these stacks, rows and registers, its program makes the image with the new ones; or it is stopped
 -- so, and they stay. The stack limit comes exactly where the table has it.
-pub record Performs {A : Type 0} (program : Program) (old new : Own) (answer : Result A Stop) : Type 0 where
+pub record ProgramPerforms {A : Type 0} (program : Program) (old new : Own) (answer : Result A Stop) : Type 0 where
   pub outcome : (p : ℕ) (img : Image) → img.stacks ≡ old.stacks → img.rows ≡ old.rows → numbered img.regs p ≡ Some old.regs
-      → limited (stack_length p) (does p program img) ≡ after (with_own new p img) answer
+      → limited (stack_length p) (does p program img) ≡ outcome_after (with_own new p img) answer
   pub stays : OnErr answer (new ≡ old)
 
 -- the same of one image and the image after, for an operator that asks the kernel and other parts too
-pub record Acts {A : Type 0} (p : ℕ) (program : Program) (old new : Image) (answer : Result A Stop) : Type 0 where
-  pub outcome : limited (stack_length p) (does p program old) ≡ after new answer
+pub record ProgramActs {A : Type 0} (p : ℕ) (program : Program) (old new : Image) (answer : Result A Stop) : Type 0 where
+  pub outcome : limited (stack_length p) (does p program old) ≡ outcome_after new answer
   pub stays : OnErr answer (new ≡ old)
 
 -- ---- what is asked of a process

@@ -29,8 +29,8 @@ pub record Own : Type 0 where
   pub rows : Rows
   pub regs : Registers
 
-abbrev pub own : Stacks → Rows → Registers → Own
-own stacks rows regs = record { stacks = stacks; rows = rows; regs = regs }
+abbrev pub own_of_image : Stacks → Rows → Registers → Own
+own_of_image stacks rows regs = record { stacks = stacks; rows = rows; regs = regs }
 
 -- the image with these in place of what a process had
 abbrev pub with_own : Own → ℕ → Image → Image

@@ -3,13 +3,13 @@
 ghost use Rattle.std.specs.Prelude.{◌≡◌, ◌+◌, ◌<◌, ◌≤◌, ◌==◌, nat_le, if◌then◌else◌, Ok, Err, OnOk, IfOk, IfSome, IsSome, Some, ◌^◌};
 ghost use Rattle.b67_control.specs.Display.{levels};
 ghost use Rattle.b67_store.specs.Store.{Stacks, stack_at, word_at, stack_limit};
-ghost use Rattle.b67_table.specs.Look.{seen};
+ghost use Rattle.b67_table.specs.Look.{look_seen};
 ghost use Rattle.b67_table.specs.Private.{display_at, floor};
 ghost use Rattle.b67_table.specs.References.{cell_place, couple_cell, sirw_cell, cell_of, named, reached, from_top, popped, popped_two, operand_in};
 ghost use Rattle.b67_table.specs.Arrays.{as_indexed, element};
 ghost use Rattle.b67_table.specs.declared.InterruptKind.TheVariants.{InvalidOperand, StackUnderflow};
 ghost use Rattle.b67_reach.specs.declared.Stop.TheVariants.{Interrupt};
-ghost use Rattle.b67_reach.specs.Answers.{looked, both, Tells};
+ghost use Rattle.b67_reach.specs.Answers.{looked, both, TestTells};
 
 use crate::{Cell, InterruptKind, Reached, Registers, Stop};
 use b67_control::{Descriptor, Irw, Sirw};
@@ -38,7 +38,7 @@ pub fn frame_at(regs: &Registers, level: u8) -> Option<Place>
 pub fn from_top<C: Core>(core: &C, regs: &Registers, n: u32) -> Result<Word, Stop>
     requires room { regs.now.s ≤ stack_limit }
     requires some { n < regs.now.s }
-    ensures { result ≡ looked (seen (C.Core.stacks core.now) (from_top regs.now n)) }
+    ensures { result ≡ looked (look_seen (C.Core.stacks core.now) (from_top regs.now n)) }
 {
     let place = Place {
         stack: regs.stack,
@@ -66,7 +66,7 @@ fn need(regs: &Registers, n: u8) -> Result<(), Stop>
 pub fn popped<C: Core>(core: &C, regs: &Registers) -> Result<Word, Stop>
     requires level { regs.now.ll < levels }
     requires room { regs.now.s ≤ stack_limit }
-    ensures value { result ≡ looked (seen (C.Core.stacks core.now) (popped regs.now)) }
+    ensures value { result ≡ looked (look_seen (C.Core.stacks core.now) (popped regs.now)) }
     ensures some { OnOk result (floor regs.now + 1 ≤ regs.now.s) }
 {
     need(regs, 1)?;
@@ -78,7 +78,7 @@ pub fn popped<C: Core>(core: &C, regs: &Registers) -> Result<Word, Stop>
 pub fn popped_two<C: Core>(core: &C, regs: &Registers) -> Result<(Word, Word), Stop>
     requires level { regs.now.ll < levels }
     requires room { regs.now.s ≤ stack_limit }
-    ensures value { result ≡ looked (both (seen (C.Core.stacks core.now) (popped_two regs.now))) }
+    ensures value { result ≡ looked (both (look_seen (C.Core.stacks core.now) (popped_two regs.now))) }
     ensures some { OnOk result (floor regs.now + 2 ≤ regs.now.s) }
 {
     need(regs, 2)?;
@@ -146,7 +146,7 @@ pub fn cell_of(regs: &Registers, word: Word) -> Option<Cell>
 
 /// The word in the cell that a reference names. An error comes exactly where there is no cell, or no word in it.
 pub fn named<C: Core>(core: &C, cell: Option<Cell>) -> Result<Reached, Stop>
-    ensures value { result ≡ looked (seen (C.Core.stacks core.now) (named cell)) }
+    ensures value { result ≡ looked (look_seen (C.Core.stacks core.now) (named cell)) }
     ensures same { IfOk result (λ found. cell ≡ Some found.cell) }
     ensures is_open { IfOk result (λ found. IsSome (stack_at (C.Core.stacks core.now) found.cell.frame.stack)) }
 {
@@ -162,7 +162,7 @@ pub fn named<C: Core>(core: &C, cell: Option<Cell>) -> Result<Reached, Stop>
 /// The word that a reference reaches, through one SIRW at most. An error comes exactly where no word is named, or a
 /// second SIRW is.
 pub fn reached<C: Core>(core: &C, cell: Option<Cell>) -> Result<Reached, Stop>
-    ensures value { result ≡ looked (seen (C.Core.stacks core.now) (reached cell)) }
+    ensures value { result ≡ looked (look_seen (C.Core.stacks core.now) (reached cell)) }
     ensures fits { IfSome cell (λ c. c.index < 2 ^ 14) → IfOk result (λ found. found.cell.index < 2 ^ 14) }
     ensures is_open { IfOk result (λ found. IsSome (stack_at (C.Core.stacks core.now) found.cell.frame.stack)) }
 {
@@ -188,7 +188,7 @@ pub fn is_operand(word: Word) -> bool
 
 /// The word where it is an operand, and InvalidOperand where it is none.
 pub fn operand_in(word: Word) -> Result<Word, Stop>
-    ensures value { (stacks : Stacks) → result ≡ looked (seen stacks (operand_in word)) }
+    ensures value { (stacks : Stacks) → result ≡ looked (look_seen stacks (operand_in word)) }
     ensures same { IfOk result (λ operand. operand ≡ word) }
 {
     if is_operand(word) {
@@ -212,7 +212,7 @@ pub fn as_indexed(word: Word) -> Option<Descriptor>
 
 /// The word at a place of a row. An error comes exactly where the row is not open or has no such word.
 pub fn element<C: Core>(core: &C, row: u32, at: u32) -> Result<Word, Stop>
-    ensures { Tells (element row at) (C.Core.stacks core.now) (C.Core.rows core.now) result }
+    ensures { TestTells (element row at) (C.Core.stacks core.now) (C.Core.rows core.now) result }
 {
     match core.read_row(row, at) {
         Some(word) => Ok(word),

@@ -4,8 +4,8 @@ ghost use Rattle.std.specs.Prelude.{◌≡◌, ◌+◌, ◌<◌, ◌≤◌, ℕ,
 ghost use Rattle.b67_store.specs.Store.{stack_limit};
 ghost use Rattle.b67_table.specs.Program.{answer};
 ghost use Rattle.b67_table.specs.Moves.{replaced, dropped};
-ghost use Rattle.b67_reach.specs.Images.{own};
-ghost use Rattle.b67_reach.specs.Answers.{IsReady, Performs};
+ghost use Rattle.b67_reach.specs.Images.{own_of_image};
+ghost use Rattle.b67_reach.specs.Answers.{IsReady, ProgramPerforms};
 
 use crate::{Registers, Stop};
 use b67_store::Core;
@@ -15,7 +15,7 @@ use b67_word::Word;
 pub fn replaced<C: Core>(core: &mut C, regs: &mut Registers, next: u16, count: u32, word: Word)
     requires ready { IsReady (C.Core.stacks core.old) regs.old }
     requires some { (1 ≤ count) × (count ≤ regs.old.s) }
-    ensures { Performs (answer (replaced regs.old next count word)) (own (C.Core.stacks core.old) (C.Core.rows core.old) regs.old) (own (C.Core.stacks core.new) (C.Core.rows core.new) regs.new) (Ok result) }
+    ensures { ProgramPerforms (answer (replaced regs.old next count word)) (own_of_image (C.Core.stacks core.old) (C.Core.rows core.old) regs.old) (own_of_image (C.Core.stacks core.new) (C.Core.rows core.new) regs.new) (Ok result) }
 {
     let length = regs.s - count;
     core.cut(regs.stack, length).unwrap();
@@ -28,7 +28,7 @@ pub fn replaced<C: Core>(core: &mut C, regs: &mut Registers, next: u16, count: u
 pub fn dropped<C: Core>(core: &mut C, regs: &mut Registers, next: u16, count: u32)
     requires ready { IsReady (C.Core.stacks core.old) regs.old }
     requires some { count ≤ regs.old.s }
-    ensures { Performs (answer (dropped regs.old next count)) (own (C.Core.stacks core.old) (C.Core.rows core.old) regs.old) (own (C.Core.stacks core.new) (C.Core.rows core.new) regs.new) (Ok result) }
+    ensures { ProgramPerforms (answer (dropped regs.old next count)) (own_of_image (C.Core.stacks core.old) (C.Core.rows core.old) regs.old) (own_of_image (C.Core.stacks core.new) (C.Core.rows core.new) regs.new) (Ok result) }
 {
     let length = regs.s - count;
     core.cut(regs.stack, length).unwrap();

@@ -2,13 +2,13 @@
 use Rattle.std.specs.Prelude.{slice_get, remove, nat_le, if◌then◌else◌, min}
 use Rattle.std.proofs.Common.{◌≡◌, refl, sym, ap, ◌∙◌, ℕ, zero, suc, ◌+◌, ◌<◌, ◌≤◌, Bool, true, false, List, [], ◌∷◌, ◌++◌, Some, arith}
 use Rattle.std.proofs.lemmas.Bool.{leb-true, leb-false}
-use Rattle.b67_ready.specs.Ready.{Ready, Puts, Takes, TakesAgain, stay, again, most_takes, counted_on, counted_times}
+use Rattle.b67_ready.specs.Ready.{Ready, ReadyPuts, ReadyTakes, TakesAgain, stay, again, most_takes, counted_on, counted_times}
 
 module _ {P : Type 0} (pick : P → ℕ → ℕ → ℕ) (within : (rule : P) (length takes : ℕ) → 0 < length → pick rule length takes < length) (p : ℕ) where
-  puts : (a : Ready P) → a.waiting ≡ [] → Puts a p (record a { waiting = p ∷ [] })
+  puts : (a : Ready P) → a.waiting ≡ [] → ReadyPuts a p (record a { waiting = p ∷ [] })
   puts a none = record { rule = refl; waiting = ap (λ (ws : List ℕ). ws ++ p ∷ []) (sym none); takes = refl; room = omega arith }
 
-  takes : (a : Ready P) → a.waiting ≡ [] → Takes pick (record a { waiting = p ∷ [] }) (record a { takes = counted_on a.takes }) (Some p)
+  takes : (a : Ready P) → a.waiting ≡ [] → ReadyTakes pick (record a { waiting = p ∷ [] }) (record a { takes = counted_on a.takes }) (Some p)
   takes a none =
       let first : pick a.rule 1 a.takes ≡ 0 = let less = within a.rule 1 a.takes (omega arith) in omega (arith, less) in (
         ap (slice_get (p ∷ [])) first,

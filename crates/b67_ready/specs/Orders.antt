@@ -8,7 +8,7 @@ use Rattle.b67_ready.specs.declared.order.Order.TheVariants.{Fifo, Lifo, Seed}
 abbrev pub spread : ℕ → ℕ → ℕ → ℕ
 spread seed length takes = ((seed + 1) * (takes + 1) * FACTOR) % 2 ^ 64 / 2 ^ 33 % length
 
-abbrev pub place_of : Order → ℕ → ℕ → ℕ
-place_of Fifo length takes = 0
-place_of Lifo length takes = length - 1
-place_of (Seed n) length takes = spread n length takes
+abbrev pub order_place_of : Order → ℕ → ℕ → ℕ
+order_place_of Fifo length takes = 0
+order_place_of Lifo length takes = length - 1
+order_place_of (Seed n) length takes = spread n length takes

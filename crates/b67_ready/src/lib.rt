@@ -5,7 +5,7 @@
 
 ghost use Rattle.std.specs.Prelude.{◌≡◌, ℕ, ◌+◌, ◌<◌, ◌≤◌, ◌^◌, [], ◌∷◌, ◌++◌, IfOk, length, Option, Some, List, slice_get, remove};
 ghost use Rattle.std.specs.VecDeque.{deque_capacity};
-ghost use Rattle.b67_ready.specs.Ready.{Puts, Takes, TakesAgain, counted_times};
+ghost use Rattle.b67_ready.specs.Ready.{ReadyPuts, ReadyTakes, TakesAgain, counted_times};
 ghost use Rattle.b67_ready.specs.Turning.{Move, taken, takes_in};
 
 mod order;
@@ -83,7 +83,7 @@ impl<P: Rule> Dispatcher<P> {
     pub fn put(&mut self, process: u32)
         requires room { length self.old.waiting < self.old.room }
         requires few { length self.old.waiting + 1 < 2 ^ 32 }
-        ensures { Puts self.old process self.new }
+        ensures { ReadyPuts self.old process self.new }
     {
         self.waiting.push_back(process).unwrap();
     }
@@ -91,7 +91,7 @@ impl<P: Rule> Dispatcher<P> {
     /// Removes the process at the place that the rule picks, and the others close up. None comes exactly where nobody waits, and then
     /// no take is counted.
     pub fn take(&mut self) -> Option<u32>
-        ensures { Takes P.pick self.old self.new result }
+        ensures { ReadyTakes P.pick self.old self.new result }
     {
         if self.waiting.is_empty() {
             return None;

@@ -18,10 +18,10 @@ pub enum Order {
 }
 
 impl Rule for Order {
-    ghost use Rattle.b67_ready.specs.Orders.{place_of};
+    ghost use Rattle.b67_ready.specs.Orders.{order_place_of};
     ghost use Rattle.b67_ready.specs.Within.{place_within};
 
-    ghost pick = { place_of };
+    ghost pick = { order_place_of };
 
     ghost within = { place_within };
 

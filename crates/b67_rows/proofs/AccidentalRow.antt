@@ -1,7 +1,7 @@
 -- Accidental entry: the code of an actual is entered where VALC or EVAL reaches its control word. Its frame lies above the words of the part
 -- that waits, and has no cells; a selector lies on it where the code may give a place.
 use Rattle.std.proofs.Common.{◌≡◌, refl, sym, ap, ◌∙◌, ℕ, ◌+◌, ◌-◌, ◌<◌, List, [], ◌∷◌, ◌++◌, length, take, Option, Some, Bool, true, false, Ok, arith, append_assoc, length-append}
-use Rattle.b67_rows.proofs.Prelude.{if◌then◌else◌, nat_lt, reverse, Place, Word, Registers, Pcw, Rcw, as_pcw, as_rcw, place_at, Couple, Code, Stacks, word_at, with_stack, with_cut, Cell, Entry, BadCode, Effect, gives, Image, with_stacks, with_registers, end_of_code, control_word, entered_mark, if_fits, is_home, if_home, entered, accidental, Look, found, stops, ◌>->◌, read_as, seen, place, linked, pushed, Program, Change, done, changed, effect_of, asked, see, answer, fault, ◌>>=◌, cut, registers, NotAVariable, frame, at_or, couple_cell, cell_of, invalid, value_or_entry, cell_or_entry, operator_at, Read, Resolve, Enter, entered_or, operator_letter, then_seen, see_found, Core, IsCore, HasCore, with_core, stack_of}
+use Rattle.b67_rows.proofs.Prelude.{if◌then◌else◌, nat_lt, reverse, Place, Word, Registers, Pcw, Rcw, as_pcw, as_rcw, place_at, Couple, Code, Stacks, word_at, with_stack, with_cut, Cell, Entry, BadCode, Effect, gives, Image, with_stacks, with_registers, end_of_code, control_word, entered_mark, if_fits, is_home, if_home, entered, accidental, Look, found, stops, ◌>->◌, read_as, look_seen, place, linked, pushed, Program, Change, done, changed, effect_of, asked, see, answer, fault, ◌>>=◌, cut, registers, NotAVariable, frame, at_or, couple_cell, cell_of, invalid, value_or_entry, cell_or_entry, operator_at, Read, Resolve, Enter, entered_or, operator_letter, then_seen, see_found, Core, IsCore, HasCore, with_core, stack_of}
 use Rattle.b67_ops.specs.declared.Operator.TheVariants as ops
 use Rattle.b67_ops.specs.declared.PlainKind.TheVariants as kinds
 use Rattle.b67_table.specs.Linkage.{entering, selected}
@@ -39,7 +39,7 @@ pub record Evaluates (img : Image) (core : Core) (next : ℕ) (taken words : Lis
   pub outer_reads : read_as as_rcw (word_at img.stacks (place home.stack (home.at + 1))) ≡ Some outer
   pub is_home : is_home (Some outer) c.level ≡ true
   pub returns : next < end_of_code
-  pub linked : seen img.stacks (linked (place core.registers.stack (length (lower_of core words))) home c.level) ≡ Ok display
+  pub linked : look_seen img.stacks (linked (place core.registers.stack (length (lower_of core words))) home c.level) ≡ Ok display
 
 module _ (img : Image) (p : ℕ) (core : Core) (has : HasCore img p core) (next : ℕ) (taken words : List Word) (c : Pcw) (home : Place) (display : List (Option Place))
     (e : Evaluates img core next taken words c home display) (selector : ℕ) where
@@ -73,12 +73,12 @@ module _ (img : Image) (p : ℕ) (core : Core) (has : HasCore img p core) (next 
   abbrev linking : Place → Look Entry
   linking h = linked (place r.stack at) h c.level >-> (λ (d : List (Option Place)). found (record { home = h; display = d }))
 
-  entering_seen : seen img.stacks (entering r next (nat_lt r.f at) at c (Some home)) ≡ Ok entry_of
+  entering_seen : look_seen img.stacks (entering r next (nat_lt r.f at) at c (Some home)) ≡ Ok entry_of
   entering_seen =
-      ap (λ (b : Bool). seen img.stacks (if b then if_fits (nat_lt r.f at) (if_home (Some home) c.level linking) else stops BadCode)) (below_is next end_of_code e.returns)
-      ∙ ap (λ (b : Bool). seen img.stacks (if_fits b (if_home (Some home) c.level linking))) (below_is r.f at e.newer)
-      ∙ ap (λ (o : Option Rcw). seen img.stacks (if_fits (is_home o c.level) (linking home))) e.outer_reads
-      ∙ ap (λ (b : Bool). seen img.stacks (if_fits b (linking home))) e.is_home
+      ap (λ (b : Bool). look_seen img.stacks (if b then if_fits (nat_lt r.f at) (if_home (Some home) c.level linking) else stops BadCode)) (below_is next end_of_code e.returns)
+      ∙ ap (λ (b : Bool). look_seen img.stacks (if_fits b (if_home (Some home) c.level linking))) (below_is r.f at e.newer)
+      ∙ ap (λ (o : Option Rcw). look_seen img.stacks (if_fits (is_home o c.level) (linking home))) e.outer_reads
+      ∙ ap (λ (b : Bool). look_seen img.stacks (if_fits b (linking home))) e.is_home
       ∙ then_seen img.stacks (linked (place r.stack at) home c.level) display (λ (d : List (Option Place)). found (record { home = home; display = d })) e.linked
 
   abbrev on_entry : ℕ → Entry → Program

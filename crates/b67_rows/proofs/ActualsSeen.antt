@@ -1,6 +1,6 @@
 -- The actuals of a block keep to its text. So does what a part has still to do that evaluates one of them.
 use Rattle.std.proofs.Common.{◌≡◌, refl, subst, ℕ, zero, suc, List, [], ◌∷◌, ◌++◌, Some, Bool, true, false, append_assoc, map}
-use Rattle.b67_rows.proofs.Prelude.{AllByRecursion, EventName, if◌then◌else◌, is_some, slice_get, Kind, Named, Block, block_numbered, PExpr, PExprs, PPair, PStmt, PStmts, PDecls, PBody, Scopes, use_of, procedure_in, Item, event_items, decls_items, items, ending, IsSeen, IsSeenAround, IsInner, KeepsToText, InStmt, InStmts, InItems, InDeclared, Couple, Wanted, value, by_name, array, other, Actual, own_actual, wants_of, actuals_in, actuals_among, actuals_given, actuals_in_pairs, actuals_in_decls, actuals_in_stmt, actuals_in_stmts, actuals_of, IsOwnActual, true_false, some_same, none_some, IsText}
+use Rattle.b67_rows.proofs.Prelude.{AllByRecursion, EventName, if◌then◌else◌, is_some, slice_get, Kind, Named, Block, block_numbered, PExpr, PExprs, PPair, PStmt, PStmts, PDecls, PBody, Scopes, use_of, procedure_in, Item, event_items, decls_items, items, ending, BlockIsSeen, IsSeenAround, IsInner, KeepsToText, InStmt, InStmts, InItems, InDeclared, Couple, Wanted, value, by_name, array, other, Actual, own_actual, wants_of, actuals_in, actuals_among, actuals_given, actuals_in_pairs, actuals_in_decls, actuals_in_stmt, actuals_in_stmts, actuals_of, IsOwnActual, true_false, some_same, none_some, IsText}
 use Rattle.algol_tree.specs.Plain as tree
 use Rattle.algol_meaning.specs.Asks.{evaluated_of, located_of}
 use Rattle.algol_meaning.specs.Rest.{Half, val, busy, HalfPlace, at, aims}
@@ -171,28 +171,28 @@ module _ (P : Named → Type 0) where
             in_both (actuals_in_decls sc b.decls) (actuals_in_stmts sc b.stmts) parts.0 (first_in b.stmts (ending b) parts.1)
 
 -- each name of an actual is seen from its block
-pub actual_seen : (sc : Scopes) (j : ℕ) → IsText sc j → (level : ℕ) (e : PExpr) (kind : Kind) (couple : Couple) → IsOwnActual sc j level e kind couple → InExpr (IsSeen sc j) e
+pub actual_seen : (sc : Scopes) (j : ℕ) → IsText sc j → (level : ℕ) (e : PExpr) (kind : Kind) (couple : Couple) → IsOwnActual sc j level e kind couple → InExpr (BlockIsSeen sc j) e
 actual_seen sc j text level e kind couple is =
-    in_there (IsSeen sc j) (actuals_of sc (block_numbered sc.blocks j))
-    (block_in (IsSeen sc j) sc (IsInner sc j) (IsSeenAround sc j) (λ n around_it. around_it.0) (block_numbered sc.blocks j) text.items) is.number (record { expr = e; kind = kind }) is.there
+    in_there (BlockIsSeen sc j) (actuals_of sc (block_numbered sc.blocks j))
+    (block_in (BlockIsSeen sc j) sc (IsInner sc j) (IsSeenAround sc j) (λ n around_it. around_it.0) (block_numbered sc.blocks j) text.items) is.number (record { expr = e; kind = kind }) is.there
 
 -- ---- what evaluates an actual
 
 module _ (sc : Scopes) (j : ℕ) where
-  evaluated_keeps : (x : Half) → InHalf (IsSeen sc j) x → KeepsToText sc j (evaluated_of x)
+  evaluated_keeps : (x : Half) → InHalf (BlockIsSeen sc j) x → KeepsToText sc j (evaluated_of x)
   evaluated_keeps (val v) i = tt
   evaluated_keeps (busy h) i = i
 
-  located_keeps : (x : HalfPlace) → InHalfPlace (IsSeen sc j) x → KeepsToText sc j (located_of x)
+  located_keeps : (x : HalfPlace) → InHalfPlace (BlockIsSeen sc j) x → KeepsToText sc j (located_of x)
   located_keeps (at p) i = i
   located_keeps (aims x) i = i
 
   -- for its value
-  pub value_keeps : (e : PExpr) → InExpr (IsSeen sc j) e → KeepsToText sc j (evaluated_of (settle sc e))
-  value_keeps e i = evaluated_keeps (settle sc e) (settle_in (IsSeen sc j) sc e i)
+  pub value_keeps : (e : PExpr) → InExpr (BlockIsSeen sc j) e → KeepsToText sc j (evaluated_of (settle sc e))
+  value_keeps e i = evaluated_keeps (settle sc e) (settle_in (BlockIsSeen sc j) sc e i)
 
   -- for its place
-  pub place_keeps : (e : PExpr) → has_place e ≡ true → InExpr (IsSeen sc j) e → KeepsToText sc j (located_of (settle_actual_place sc e))
+  pub place_keeps : (e : PExpr) → has_place e ≡ true → InExpr (BlockIsSeen sc j) e → KeepsToText sc j (located_of (settle_actual_place sc e))
   place_keeps (tree.variable (tree.subscripted n (tree.more e es))) placed i =
-      located_keeps (settle_place sc (tree.subscripted n (tree.more e es))) (settle_place_in (IsSeen sc j) sc n (tree.more e es) i.0 i.1)
+      located_keeps (settle_place sc (tree.subscripted n (tree.more e es))) (settle_place_in (BlockIsSeen sc j) sc n (tree.more e es) i.0 i.1)
   place_keeps _ placed i = true_false placed refl

@@ -1,6 +1,6 @@
 -- An operator whose operands have no result.
 use Rattle.std.proofs.Common.{◌≡◌, refl, ap, ◌∙◌, ℕ, ◌+◌, ◌-◌, ◌<◌, List, ◌∷◌, length, Some, Result, Ok, Err, arith, ℤ}
-use Rattle.b67_rows.proofs.Prelude.{Op, Value, number, truth, Word, Registers, Code, Effect, gives, faults, Image, floor, Row, private_part, operator_at, by_row, HasKind, operator_for, Core, HasCore, ValueIs}
+use Rattle.b67_rows.proofs.Prelude.{Op, Value, number, truth, Word, Registers, Code, Effect, gives, faults, Image, floor, TableRow, private_part, operator_at, by_row, HasKind, operator_for, Core, HasCore, ValueIs}
 use Rattle.algol_tree.specs.declared.tree.Op.TheVariants as operators
 use Rattle.algol_tree.specs.declared.tree.Kind.TheVariants as types
 use Rattle.algol_tree.specs.Types.{taken_by}
@@ -15,7 +15,7 @@ use Rattle.b67_ops.specs.declared.Operator.TheVariants as ops
 use Rattle.b67_table.specs.declared.Private.{Private}
 use Rattle.b67_table.specs.Effect.{◌>>=◌}
 use Rattle.b67_table.specs.Image.{with_effect}
-use Rattle.b67_table.specs.Private.{pop, whole_of, whole_or}
+use Rattle.b67_table.specs.Private.{pop, whole_of_word, whole_or}
 use Rattle.b67_table.specs.PrivateRows.{arithmetic, onward, pointed, result_or_fault}
 use Rattle.b67_table.specs.Rows.{row, plain_row}
 use Rattle.b67_table.specs.Table.{raw}
@@ -37,8 +37,8 @@ unfolding made_of
 arithmetic_faults r c s v w a b f below iv iw e h =
     then_is (pop (part r s (w ∷ v ∷ below))) (w, part r (s - 1) (v ∷ below)) _ (pop_is r s w (v ∷ below) (omega (arith, h)))
     ∙ then_is (pop (part r (s - 1) (v ∷ below))) (v, part r (s - 1 - 1) below) _ (pop_is r (s - 1) v below (omega (arith, h)))
-    ∙ then_is (whole_of v) a _ (ap whole_or iv)
-    ∙ then_is (whole_of w) b _ (ap whole_or iw)
+    ∙ then_is (whole_of_word v) a _ (ap whole_or iv)
+    ∙ then_is (whole_of_word w) b _ (ap whole_or iw)
     ∙ ap (λ (o : Effect Word). o >>= (λ (u : Word). gives (part r (s - 1 - 1 + 1) (u ∷ below)))) (made_faults (calculated c a b) f e)
 
 numeric_err : (r : Result ℤ NumFault) (f : NumFault) → numeric r ≡ Err f → r ≡ Err f
@@ -90,6 +90,6 @@ module _ (code : Code) (img : Image) (p : ℕ) (core : Core) (has : HasCore img 
   break_raw =
       let d : RowFaults r op r.s v w f below = row_faults r r.s v w f below high op x y kx ky ix iy breaks in
       raw_is code img p core has (ops.Plain (operator_for op)) next there
-      ∙ ap (λ (k : Row). by_row k code img p r next) d.is
+      ∙ ap (λ (k : TableRow). by_row k code img p r next) d.is
       ∙ ap (λ (q : Private). with_effect img p (floor r) (onward d.change next q)) (private_is img p core has ∙ ap (λ (ws : List Word). record { regs = r; words = ws }) words)
       ∙ ap (λ (e : Effect Private). with_effect img p (floor r) (e >>= (λ (q : Private). gives (pointed next q)))) d.faulted

@@ -1,6 +1,6 @@
 -- On which frame a process depends that is started: the first of those that it refers to, on the path down from the frame of its starter.
 use Rattle.std.proofs.Common.{◌≡◌, ◌⊎◌, inl, inr, refl, sym, ap, ◌∙◌, ℕ, zero, suc, ◌+◌, ◌<◌, ◌≤◌, List, [], ◌∷◌, Option, Some, Bool, true, false, Ok, arith}
-use Rattle.b67_rows.proofs.Prelude.{if◌then◌else◌, ◌||◌, nat_eq, nat_tests, Place, frame_below, gives, Image, critical_of, seen, Test, answer, asked, ◌>>=◌, see, on_path, see_found}
+use Rattle.b67_rows.proofs.Prelude.{if◌then◌else◌, ◌||◌, nat_eq, nat_tests, Place, frame_below, gives, Image, critical_of, look_seen, Test, answer, asked, ◌>>=◌, see, on_path, see_found}
 use Rattle.b67_events.specs.Events.{same_place}
 use Rattle.b67_events.proofs.Listed.{same_place-true, same_place-self}
 use Rattle.b67_table.specs.Program.{critical}
@@ -51,7 +51,7 @@ module _ (img : Image) where
   -- From a frame the path leads to the one under it in its stack, and from a base frame to the one on which its process depends, which lies in
   -- the stack of an earlier process.
   pub data LeadsDown : Place → Place → Type 0 where
-    under : {f lower : Place} → 1 ≤ f.at → seen img.stacks (frame_below f) ≡ Ok lower → lower.stack ≡ f.stack → lower.at < f.at → LeadsDown f lower
+    under : {f lower : Place} → 1 ≤ f.at → look_seen img.stacks (frame_below f) ≡ Ok lower → lower.stack ≡ f.stack → lower.at < f.at → LeadsDown f lower
     across : {f lower : Place} → f.at ≡ 0 → critical_of img.regs f.stack ≡ Some lower → 1 ≤ lower.stack → lower.stack < f.stack → LeadsDown f lower
 
   -- the first of these frames on the path from one

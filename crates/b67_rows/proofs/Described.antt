@@ -1,6 +1,6 @@
 -- Words of a stack that are read as descriptors, or as whole numbers.
 use Rattle.std.proofs.Common.{◌≡◌, refl, sym, ◌∙◌, ℕ, ◌+◌, Some, None, Bool, true, false}
-use Rattle.b67_rows.proofs.Prelude.{Place, Word, Descriptor, Irw, Registers, Sirw, as_irw, as_sirw, as_descriptor, irw_laws, as_sirw-other, descriptor_laws, word_at, is_array, place, Image, display_at, cell_place, sirw_cell}
+use Rattle.b67_rows.proofs.Prelude.{Place, Word, Descriptor, Irw, Registers, Sirw, as_irw, as_sirw, as_descriptor, irw_laws, as_sirw-other, descriptor_laws, word_at, is_array_descriptor, place, Image, display_at, cell_place, sirw_cell}
 use Rattle.b67_rows.proofs.Touching.{NearCell}
 
 -- a descriptor is no reference
@@ -21,7 +21,7 @@ is_descriptor w d e =
 abbrev pub whole_array : Bool → Bool → ℕ → ℕ → Descriptor
 whole_array copied mother size n = record { presence = true; copy = copied; indexed = false; mother = mother; length = size; address = n }
 
-pub is_whole_array : (copied mother : Bool) (size n : ℕ) → is_array mother (whole_array copied mother size n) ≡ true
+pub is_whole_array : (copied mother : Bool) (size n : ℕ) → is_array_descriptor mother (whole_array copied mother size n) ≡ true
 is_whole_array copied true size n = refl
 is_whole_array copied false size n = refl
 

@@ -1,9 +1,9 @@
 -- The links from a frame down to the system's stack, and the display that is made along them.
 use Rattle.std.proofs.Common.{◌≡◌, refl, ap, ◌∙◌, ℕ, zero, suc, ◌+◌, ◌-◌, ◌≤◌, List, [], ◌∷◌, length, Option, Some, None, Bool, true, Ok, arith}
-use Rattle.b67_rows.proofs.Prelude.{if◌then◌else◌, ◌==◌, slice_get, nat_tests, Place, Mscw, Rcw, as_mscw, as_rcw, place_at, Stacks, word_at, Look, found, ◌>->◌, chained, read_as, seen, place, mark_at, control_at, link_of, linked, rebuilt}
+use Rattle.b67_rows.proofs.Prelude.{if◌then◌else◌, ◌==◌, slice_get, nat_tests, Place, Mscw, Rcw, as_mscw, as_rcw, place_at, Stacks, word_at, Look, found, ◌>->◌, chained, read_as, look_seen, place, mark_at, control_at, link_of, linked, rebuilt}
 use Rattle.std.specs.Prelude.{slice_index_or, replicate}
 use Rattle.b67_control.specs.Display.{levels}
-use Rattle.b67_table.specs.Chains.{broken, if_own, links}
+use Rattle.b67_table.specs.Chains.{chain_broken, if_own, links}
 use Rattle.b67_rows.proofs.StoreRow.{most_is}
 
 pub same_is : (m n : ℕ) → m ≡ n → (m == n) ≡ true
@@ -33,12 +33,12 @@ onto [] known = known
 onto (f ∷ fs) known = onto fs (Some f ∷ known)
 
 module _ {stacks : Stacks} where
-  pub links_seen : (link : Place) (frames : List Place) (known : List (Option Place)) → Links stacks link frames → seen stacks (links (length frames) link known) ≡ Ok (Some (place 0 0) ∷ None ∷ onto frames known)
+  pub links_seen : (link : Place) (frames : List Place) (known : List (Option Place)) → Links stacks link frames → look_seen stacks (links (length frames) link known) ≡ Ok (Some (place 0 0) ∷ None ∷ onto frames known)
   links_seen link [] known root = refl
   links_seen link (f ∷ more) known (onward {home = home} e l) =
-      ap (λ (o : Option Mscw). seen stacks (chained o >-> with_mark >-> go_on)) e.marked
-      ∙ ap (λ (o : Option Rcw). seen stacks (chained o >-> (λ (c : Rcw). if_own (length more + 2) (entered_to home e.df) c) >-> go_on)) e.controlled
-      ∙ ap (λ (b : Bool). seen stacks ((if b then found (entered_to home e.df) else broken) >-> go_on)) (same_is (e.control.own_level) (length more + 2) e.level_is)
+      ap (λ (o : Option Mscw). look_seen stacks (chained o >-> with_mark >-> go_on)) e.marked
+      ∙ ap (λ (o : Option Rcw). look_seen stacks (chained o >-> (λ (c : Rcw). if_own (length more + 2) (entered_to home e.df) c) >-> go_on)) e.controlled
+      ∙ ap (λ (b : Bool). look_seen stacks ((if b then found (entered_to home e.df) else chain_broken) >-> go_on)) (same_is (e.control.own_level) (length more + 2) e.level_is)
       ∙ links_seen home more (Some link ∷ known) l
     where
       go_on : Mscw → Look (List (Option Place))
@@ -85,13 +85,13 @@ module _ (top : Place) (frames : List Place) where
 
 module _ {stacks : Stacks} where
   -- the display of a frame that is linked to a place is made along the links from there
-  pub linked_seen : (top link : Place) (frames : List Place) (level : ℕ) → Links stacks link frames → level ≡ length frames + 2 → seen stacks (linked top link level) ≡ Ok (shown top frames)
+  pub linked_seen : (top link : Place) (frames : List Place) (level : ℕ) → Links stacks link frames → level ≡ length frames + 2 → look_seen stacks (linked top link level) ≡ Ok (shown top frames)
   linked_seen top link frames level l e =
-      ap (λ (n : ℕ). seen stacks (linked top link n)) e
-      ∙ ap (λ (b : Bool). seen stacks (if b then links (length frames + 2 - 2) link (Some top ∷ replicate (levels - (length frames + 2 + 1)) None) else broken))
+      ap (λ (n : ℕ). look_seen stacks (linked top link n)) e
+      ∙ ap (λ (b : Bool). look_seen stacks (if b then links (length frames + 2 - 2) link (Some top ∷ replicate (levels - (length frames + 2 + 1)) None) else chain_broken))
       (most_is 2 (length frames + 2) (omega arith))
-      ∙ ap (λ (n : ℕ). seen stacks (links n link (Some top ∷ replicate (levels - (length frames + 2 + 1)) None))) fewer
-      ∙ ap (λ (n : ℕ). seen stacks (links (length frames) link (Some top ∷ replicate (levels - n) None))) more
+      ∙ ap (λ (n : ℕ). look_seen stacks (links n link (Some top ∷ replicate (levels - (length frames + 2 + 1)) None))) fewer
+      ∙ ap (λ (n : ℕ). look_seen stacks (links (length frames) link (Some top ∷ replicate (levels - n) None))) more
       ∙ links_seen link frames (Some top ∷ replicate (levels - (length frames + 3)) None) l
     where
       fewer : length frames + 2 - 2 ≡ length frames
@@ -101,8 +101,8 @@ module _ {stacks : Stacks} where
       more = omega arith
 
   -- so is that of a frame that stands there
-  pub rebuilt_seen : (top home : Place) (frames : List Place) (level : ℕ) → IsEntered stacks top home level → Links stacks home frames → level ≡ length frames + 2 → seen stacks (rebuilt top level) ≡ Ok (shown top frames)
+  pub rebuilt_seen : (top home : Place) (frames : List Place) (level : ℕ) → IsEntered stacks top home level → Links stacks home frames → level ≡ length frames + 2 → look_seen stacks (rebuilt top level) ≡ Ok (shown top frames)
   rebuilt_seen top home frames level e l is =
-      ap (λ (b : Bool). seen stacks (if b then mark_at top >-> (λ (m : Mscw). linked top (link_of m) level) else broken)) (most_is 2 level (omega (arith, is)))
-      ∙ ap (λ (o : Option Mscw). seen stacks (chained o >-> (λ (m : Mscw). linked top (link_of m) level))) e.marked
+      ap (λ (b : Bool). look_seen stacks (if b then mark_at top >-> (λ (m : Mscw). linked top (link_of m) level) else chain_broken)) (most_is 2 level (omega (arith, is)))
+      ∙ ap (λ (o : Option Mscw). look_seen stacks (chained o >-> (λ (m : Mscw). linked top (link_of m) level))) e.marked
       ∙ linked_seen top home frames level l is

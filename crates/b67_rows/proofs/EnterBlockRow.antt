@@ -1,6 +1,6 @@
 -- ENTR on the control word of a block: its home is the frame of the level below.
 use Rattle.std.proofs.Common.{◌≡◌, ap, ◌∙◌, ℕ, Option, Some, None, Ok}
-use Rattle.b67_rows.proofs.Prelude.{Place, Word, Registers, Irw, Mscw, Pcw, Sirw, as_irw, as_sirw, as_pcw, Code, Effect, Image, valid, seen, Program, effect_of, asked, see, ◌>>=◌, irw_or_sirw, cell_of, enter_by, enter_procedure, level_below, Core, called_by}
+use Rattle.b67_rows.proofs.Prelude.{Place, Word, Registers, Irw, Mscw, Pcw, Sirw, as_irw, as_sirw, as_pcw, Code, Effect, Image, valid, look_seen, Program, effect_of, asked, see, ◌>>=◌, irw_or_sirw, cell_of, enter_by, enter_procedure, level_below, Core, called_by}
 use Rattle.b67_rows.proofs.EntryRow.{Leads}
 
 module _ (code : Code) (img : Image) (core : Core) (next : ℕ) (control : Word) (m : Mscw) (c : Pcw) (home : Place) (no_irw : as_irw control ≡ None) where
@@ -21,8 +21,8 @@ module _ (code : Code) (img : Image) (core : Core) (next : ℕ) (control : Word)
       tested t = effect_of p img (asked img t)
 
   -- it is what is called
-  pub block_calls : as_sirw control ≡ None → as_pcw control ≡ Some c → seen img.stacks (called_by control (cell_of core.registers control)) ≡ Ok c
+  pub block_calls : as_sirw control ≡ None → as_pcw control ≡ Some c → look_seen img.stacks (called_by control (cell_of core.registers control)) ≡ Ok c
   block_calls no_sirw reads =
-      ap (λ (i : Option Irw). seen img.stacks (called_by control (irw_or_sirw r i (as_sirw control)))) no_irw
-      ∙ ap (λ (i : Option Sirw). seen img.stacks (called_by control (irw_or_sirw r None i))) no_sirw
-      ∙ ap (λ (o : Option Pcw). seen img.stacks (valid o)) reads
+      ap (λ (i : Option Irw). look_seen img.stacks (called_by control (irw_or_sirw r i (as_sirw control)))) no_irw
+      ∙ ap (λ (i : Option Sirw). look_seen img.stacks (called_by control (irw_or_sirw r None i))) no_sirw
+      ∙ ap (λ (o : Option Pcw). look_seen img.stacks (valid o)) reads

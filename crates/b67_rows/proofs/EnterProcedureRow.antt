@@ -1,6 +1,6 @@
 -- ENTR on the reference of a procedure's control word: its home is the frame in which that word lies.
 use Rattle.std.proofs.Common.{◌≡◌, ap, ◌∙◌, ℕ, ◌+◌, Option, Some, None, Ok}
-use Rattle.b67_rows.proofs.Prelude.{Place, Word, Registers, Irw, Mscw, Pcw, Sirw, as_irw, as_sirw, as_pcw, Code, word_at, Cell, Reached, Effect, Image, ◌>->◌, valid, seen, display_at, Program, effect_of, asked, see, ◌>>=◌, cell_in, cell_of, irw_or_sirw, reached_in, one_sirw, enter_by, enter_procedure, Core, called_by}
+use Rattle.b67_rows.proofs.Prelude.{Place, Word, Registers, Irw, Mscw, Pcw, Sirw, as_irw, as_sirw, as_pcw, Code, word_at, Cell, Reached, Effect, Image, ◌>->◌, valid, look_seen, display_at, Program, effect_of, asked, see, ◌>>=◌, cell_in, cell_of, irw_or_sirw, reached_in, one_sirw, enter_by, enter_procedure, Core, called_by}
 use Rattle.b67_rows.proofs.EntryRow.{Leads}
 
 module _ (code : Code) (img : Image) (core : Core) (next : ℕ) (reference : Word) (m : Mscw) (c : Pcw) (home : Place) (level index : ℕ)
@@ -31,10 +31,10 @@ module _ (code : Code) (img : Image) (core : Core) (next : ℕ) (reference : Wor
 
   -- that word is what is called
   pub procedure_calls : (entry : Word) → display_at core.registers level ≡ Some home → word_at img.stacks (record { stack = home.stack; at = home.at + index }) ≡ Some entry → as_sirw entry ≡ None → as_pcw entry ≡ Some c →
-      seen img.stacks (called_by reference (cell_of core.registers reference)) ≡ Ok c
+      look_seen img.stacks (called_by reference (cell_of core.registers reference)) ≡ Ok c
   procedure_calls entry shown lies no_sirw reads_entry =
-      ap (λ (i : Option Irw). seen img.stacks (called_by reference (irw_or_sirw r i (as_sirw reference)))) reads
-      ∙ ap (λ (o : Option Place). seen img.stacks (called_by reference (cell_in o index))) shown
-      ∙ ap (λ (o : Option Word). seen img.stacks (reached_in cell o >-> (λ (v : Reached). one_sirw (as_sirw v.word) v) >-> (λ (v : Reached). valid (as_pcw v.word)))) lies
-      ∙ ap (λ (o : Option Sirw). seen img.stacks (one_sirw o (record { word = entry; cell = cell }) >-> (λ (v : Reached). valid (as_pcw v.word)))) no_sirw
-      ∙ ap (λ (o : Option Pcw). seen img.stacks (valid o)) reads_entry
+      ap (λ (i : Option Irw). look_seen img.stacks (called_by reference (irw_or_sirw r i (as_sirw reference)))) reads
+      ∙ ap (λ (o : Option Place). look_seen img.stacks (called_by reference (cell_in o index))) shown
+      ∙ ap (λ (o : Option Word). look_seen img.stacks (reached_in cell o >-> (λ (v : Reached). one_sirw (as_sirw v.word) v) >-> (λ (v : Reached). valid (as_pcw v.word)))) lies
+      ∙ ap (λ (o : Option Sirw). look_seen img.stacks (one_sirw o (record { word = entry; cell = cell }) >-> (λ (v : Reached). valid (as_pcw v.word)))) no_sirw
+      ∙ ap (λ (o : Option Pcw). look_seen img.stacks (valid o)) reads_entry

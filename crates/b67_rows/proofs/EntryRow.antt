@@ -1,6 +1,6 @@
 -- ENTR on a word that leads to a procedure or a block: a frame is made of the mark under it and of the word itself.
 use Rattle.std.proofs.Common.{◌≡◌, refl, sym, ap, ◌∙◌, ℕ, zero, suc, ◌+◌, ◌-◌, ◌<◌, ◌≤◌, List, [], ◌∷◌, ◌++◌, length, Option, Some, Bool, true, false, Result, Ok, arith, append_assoc, append-nil, length-append}
-use Rattle.b67_rows.proofs.Prelude.{if◌then◌else◌, nat_lt, nat_le, ◌&&◌, slice_get, slice_set, reverse, Place, Word, Registers, Mscw, Pcw, Rcw, as_irw, as_sirw, as_mscw, as_rcw, place_at, Code, Stacks, words_of, word_at, with_stack, with_word, Entry, InterruptKind, BadCode, Effect, gives, Image, with_stacks, with_registers, end_of_code, most_cells, control_word, entered_mark, if_fits, is_home, if_home, entered, Look, found, stops, at, ◌>->◌, valid, read_as, seen, place, linked, Program, Change, done, does, effect_of, asked, see, answer, ◌>>=◌, save, registers, floor, frame, at_or, irw_or_sirw, cell_of, invalid, intrinsic_numbered, intrinsic, enter_by, enter_procedure, not_entered, table, operator_at, Core, IsCore, HasCore, with_core, stack_of, Enter, told_by, called_by, letter, then_seen, see_found, reverse-append, length-reverse}
+use Rattle.b67_rows.proofs.Prelude.{if◌then◌else◌, nat_lt, nat_le, ◌&&◌, slice_get, slice_set, reverse, Place, Word, Registers, Mscw, Pcw, Rcw, as_irw, as_sirw, as_mscw, as_rcw, place_at, Code, Stacks, words_of, word_at, with_stack, with_word, Entry, InterruptKind, BadCode, Effect, gives, Image, with_stacks, with_registers, end_of_code, most_cells, control_word, entered_mark, if_fits, is_home, if_home, entered, Look, found, stops, at, ◌>->◌, valid, read_as, look_seen, place, linked, Program, Change, done, does, effect_of, asked, see, answer, ◌>>=◌, save, registers, floor, frame, at_or, irw_or_sirw, cell_of, invalid, intrinsic_numbered, intrinsic, enter_by, enter_procedure, not_entered, table, operator_at, Core, IsCore, HasCore, with_core, stack_of, Enter, told_by, called_by, letter, then_seen, see_found, reverse-append, length-reverse}
 use Rattle.b67_ops.specs.declared.Operator.TheVariants as ops
 use Rattle.b67_ops.specs.declared.PlainKind.TheVariants as kinds
 use Rattle.b67_table.specs.declared.Class.TheVariants as classes
@@ -50,13 +50,13 @@ pub record Enters (code : Code) (img : Image) (core : Core) (next : ℕ) (argume
   pub reads_mark : as_mscw marked ≡ Some m
   pub unentered : m.entered ≡ false
   pub leads : Leads code img core next control m c home
-  pub calls : seen img.stacks (called_by control (cell_of core.registers control)) ≡ Ok c
+  pub calls : look_seen img.stacks (called_by control (cell_of core.registers control)) ≡ Ok c
   pub no_intrinsic : c.intrinsic ≡ false
   pub outer : Rcw
   pub outer_reads : read_as as_rcw (word_at img.stacks (place home.stack (home.at + 1))) ≡ Some outer
   pub is_home : is_home (Some outer) c.level ≡ true
   pub returns : next < end_of_code
-  pub linked : seen img.stacks (linked (place core.registers.stack core.registers.f) home c.level) ≡ Ok display
+  pub linked : look_seen img.stacks (linked (place core.registers.stack core.registers.f) home c.level) ≡ Ok display
 
 module _ (code : Code) (img : Image) (p : ℕ) (core : Core) (has : HasCore img p core) (next : ℕ) (there : operator_at code core.registers ≡ Ok (ops.Plain kinds.Entr, next))
     (arguments : List Word) (control marked : Word) (more : List Word) (m : Mscw) (c : Pcw) (home : Place) (display : List (Option Place)) (e : Enters code img core next arguments control marked more m c home display) where
@@ -108,13 +108,13 @@ module _ (code : Code) (img : Image) (p : ℕ) (core : Core) (has : HasCore img 
   abbrev linking : Place → Look Entry
   linking h = linked (place r.stack r.f) h c.level >-> (λ (d : List (Option Place)). found (record { home = h; display = d }))
 
-  entering_seen : seen img.stacks (entering r next (nat_le (r.s - (r.f + 2)) most_cells) r.f c (Some home)) ≡ Ok entry_of
+  entering_seen : look_seen img.stacks (entering r next (nat_le (r.s - (r.f + 2)) most_cells) r.f c (Some home)) ≡ Ok entry_of
   entering_seen =
-      ap (λ (b : Bool). seen img.stacks (if b then if_fits (nat_le (r.s - (r.f + 2)) most_cells) (if_home (Some home) c.level linking) else stops BadCode)) (below_is next end_of_code e.returns)
-      ∙ ap (λ (n : ℕ). seen img.stacks (if_fits (nat_le n most_cells) (if_home (Some home) c.level linking))) taken
-      ∙ ap (λ (b : Bool). seen img.stacks (if_fits b (if_home (Some home) c.level linking))) (most_is (length arguments) most_cells e.few)
-      ∙ ap (λ (o : Option Rcw). seen img.stacks (if_fits (is_home o c.level) (linking home))) e.outer_reads
-      ∙ ap (λ (b : Bool). seen img.stacks (if_fits b (linking home))) e.is_home
+      ap (λ (b : Bool). look_seen img.stacks (if b then if_fits (nat_le (r.s - (r.f + 2)) most_cells) (if_home (Some home) c.level linking) else stops BadCode)) (below_is next end_of_code e.returns)
+      ∙ ap (λ (n : ℕ). look_seen img.stacks (if_fits (nat_le n most_cells) (if_home (Some home) c.level linking))) taken
+      ∙ ap (λ (b : Bool). look_seen img.stacks (if_fits b (if_home (Some home) c.level linking))) (most_is (length arguments) most_cells e.few)
+      ∙ ap (λ (o : Option Rcw). look_seen img.stacks (if_fits (is_home o c.level) (linking home))) e.outer_reads
+      ∙ ap (λ (b : Bool). look_seen img.stacks (if_fits b (linking home))) e.is_home
       ∙ then_seen img.stacks (linked (place r.stack r.f) home c.level) display (λ (d : List (Option Place)). found (record { home = home; display = d })) e.linked
 
   -- ---- the change
@@ -184,7 +184,7 @@ module _ (code : Code) (img : Image) (p : ℕ) (core : Core) (has : HasCore img 
   pub enter_action : table code img p ≡ outcomes.gives (with_core img p new) → letter code img p ≡ Some act.Enter
   enter_action t =
       action_is code img p core has (ops.Plain kinds.Entr) next there (outcomes.gives (with_core img p new)) t
-      ∙ ap (λ (o : Option Word). (told_by (called_letter img r.stack) (seen img.stacks (valid o >-> (λ (above : Word). called_by above (cell_of r above)))))) control_there
+      ∙ ap (λ (o : Option Word). (told_by (called_letter img r.stack) (look_seen img.stacks (valid o >-> (λ (above : Word). called_by above (cell_of r above)))))) control_there
       ∙ ap (λ (x : Result Pcw InterruptKind). (told_by (called_letter img r.stack) x)) e.calls
       ∙ ap (λ (b : Bool). (if b then intrinsic_letter (woken_number img.numbers r.stack) (intrinsic_numbered c.number) else Some Enter)) e.no_intrinsic
 

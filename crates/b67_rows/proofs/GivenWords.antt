@@ -6,9 +6,9 @@ use Rattle.algol_meaning.specs.Value as cells
 use Rattle.algol_paths.specs.Arrays.{DeclaredArray, Shape, shape_of}
 use Rattle.b67_templates.specs.Contexts.{Context}
 use Rattle.b67_templates.specs.Cells as wants
-use Rattle.b67_templates.specs.Cells.{Agrees, IsVariable, IsDeclaredArray, IsDeclaredEvent}
+use Rattle.b67_templates.specs.Cells.{ShapeAgrees, IsVariable, IsDeclaredArray, IsDeclaredEvent}
 use Rattle.b67_standing.specs.Stepping.{cell_named, actual as actual_held, passed as passed_held}
-use Rattle.b67_standing.specs.Standing.{given_slot, given_slots, IsPassed, AreGiven}
+use Rattle.b67_standing.specs.Standing.{given_slot, given_slots, IsPassed, ActualsAreGiven}
 use Rattle.b67_cores.specs.Slots.{IsKnown}
 use Rattle.b67_rows.proofs.Slotted.{Top, top_slot}
 
@@ -18,7 +18,7 @@ module _ (sc : Scopes) (context : Context) where
   pub data AreFit : List Wanted → List Given → Type 0 where
     none_wanted : AreFit [] []
     a_value : {wanted : List Wanted} {gs : List Given} (kind : Kind) (v : Value) → HasKind kind v → AreFit wanted gs → AreFit (wants.value kind ∷ wanted) (valued v ∷ gs)
-    a_name : {wanted : List Wanted} {gs : List Given} (shape : Shape) (n : Named) (d : DeclaredArray) (c : Couple) → IsDeclaredArray sc context.level n d c → Agrees shape (shape_of d) → AreFit wanted gs →
+    a_name : {wanted : List Wanted} {gs : List Given} (shape : Shape) (n : Named) (d : DeclaredArray) (c : Couple) → IsDeclaredArray sc context.level n d c → ShapeAgrees shape (shape_of d) → AreFit wanted gs →
         AreFit (wants.array shape ∷ wanted) (refers n ∷ gs)
     a_cell : {wanted : List Wanted} {gs : List Given} (shape : Shape) (r : Reference) → AreFit wanted gs → AreFit (wants.array shape ∷ wanted) (passed (cells.reference r) ∷ gs)
     an_event_name : {wanted : List Wanted} {gs : List Given} (n : Named) (c : Couple) → IsDeclaredEvent sc context.level n c → AreFit wanted gs → AreFit (wants.event ∷ wanted) (refers n ∷ gs)
@@ -29,7 +29,7 @@ module _ (sc : Scopes) (context : Context) where
         AreFit (wants.by_name kind ∷ wanted) (names e ∷ gs)
     a_name_cell : {wanted : List Wanted} {gs : List Given} (kind : Kind) (c : Cell) → IsPassed (wants.by_name kind) c → AreFit wanted gs → AreFit (wants.by_name kind ∷ wanted) (passed c ∷ gs)
 
-  pub are_fit : (wanted : List Wanted) (gs : List Given) → AreGiven sc context wanted gs → AreFit wanted gs
+  pub are_fit : (wanted : List Wanted) (gs : List Given) → ActualsAreGiven sc context wanted gs → AreFit wanted gs
   are_fit [] [] fit = none_wanted
   are_fit [] (g ∷ gs) fit = absurd fit
   are_fit (w ∷ wanted) [] fit = absurd fit

@@ -1,6 +1,6 @@
 -- NXLV, NXLN and INDX on the descriptor of an array, and STOD on that of an element.
 use Rattle.std.proofs.Common.{◌≡◌, refl, sym, ap, ◌∙◌, ℕ, ◌+◌, ◌-◌, List, [], ◌∷◌, ◌++◌, length, take, Option, Some, None, Bool, true, false, Ok, ℤ, arith, append_assoc}
-use Rattle.b67_rows.proofs.Prelude.{if◌then◌else◌, ◌==◌, slice_get, reverse, FaultKind, Place, Word, Registers, Descriptor, Irw, Sirw, as_irw, as_sirw, as_descriptor, Code, Stacks, words_of, word_at, with_stack, with_push, with_cut, Cell, Reached, StackUnderflow, is_array, as_indexed, gives, faults, Image, with_stacks, with_registers, with_rows, Look, found, stops, ◌>->◌, valid, seen, replaced, Test, answer, interrupt, fault, Program, does, effect_of, asked, changed, see, ◌>>=◌, told, display_at, floor, Two, cell_in, sirw_cell, irw_or_sirw, no_second, one_sirw, reached_in, from_top, operand_in, invalid, store_by, stored, operator_at, Core, HasCore, with_core, stack_of, then_seen, see_found, reverse-cons}
+use Rattle.b67_rows.proofs.Prelude.{if◌then◌else◌, ◌==◌, slice_get, reverse, FaultKind, Place, Word, Registers, Descriptor, Irw, Sirw, as_irw, as_sirw, as_descriptor, Code, Stacks, words_of, word_at, with_stack, with_push, with_cut, Cell, Reached, StackUnderflow, is_array_descriptor, as_indexed, gives, faults, Image, with_stacks, with_registers, with_rows, Look, found, stops, ◌>->◌, valid, look_seen, replaced, Test, answer, interrupt, fault, Program, does, effect_of, asked, changed, see, ◌>>=◌, told, display_at, floor, Two, cell_in, sirw_cell, irw_or_sirw, no_second, one_sirw, reached_in, from_top, operand_in, invalid, store_by, stored, operator_at, Core, HasCore, with_core, stack_of, then_seen, see_found, reverse-cons}
 use Rattle.b67_num.specs.declared.FaultKind.TheVariants.{InvalidIndex}
 use Rattle.b67_word.specs.Word.{as_whole}
 use Rattle.b67_control.specs.Control.{descriptor_word}
@@ -8,7 +8,7 @@ use Rattle.b67_ops.specs.declared.Operator.TheVariants as ops
 use Rattle.b67_ops.specs.declared.PlainKind.TheVariants as kinds
 use Rattle.b67_store.specs.Store.{Row, row_at, with_row_word}
 use Rattle.b67_table.specs.declared.Class.TheVariants as classes
-use Rattle.b67_table.specs.Arrays.{array_in, array_by, array_of, index_in, index_or_fault, if_row, Subscripted, subscripted, subscripted_element, word_in, element, index, index_and_load, index_mother}
+use Rattle.b67_table.specs.Arrays.{array_in, array_by, array_of, index_in, index_or_fault, if_row, Subscripted, subscripted, subscripted_element, word_in_row, element, index_program, index_and_load, index_mother}
 use Rattle.b67_table.specs.Program.{ask, row, write_row}
 use Rattle.b67_table.specs.References.{popped_two}
 use Rattle.b67_table.specs.Rows as rows
@@ -40,27 +40,27 @@ module _ (img : Image) where
 
 -- ---- the descriptor that a word is or reaches
 
-module _ (img : Image) (r : Registers) (mother : Bool) (x : Word) (d : Descriptor) (fits : is_array mother d ≡ true) where
-  array_seen : (w : Word) → as_descriptor w ≡ Some d → seen img.stacks (array_in mother (as_descriptor w)) ≡ Ok d
+module _ (img : Image) (r : Registers) (mother : Bool) (x : Word) (d : Descriptor) (fits : is_array_descriptor mother d ≡ true) where
+  array_seen : (w : Word) → as_descriptor w ≡ Some d → look_seen img.stacks (array_in mother (as_descriptor w)) ≡ Ok d
   array_seen w e =
-      ap (λ (o : Option Descriptor). seen img.stacks (array_in mother o)) e
-      ∙ ap (λ (b : Bool). seen img.stacks (if b then found d else invalid)) fits
+      ap (λ (o : Option Descriptor). look_seen img.stacks (array_in mother o)) e
+      ∙ ap (λ (b : Bool). look_seen img.stacks (if b then found d else invalid)) fits
 
   -- a word that is no reference, but a descriptor
-  pub array_itself : as_irw x ≡ None → as_sirw x ≡ None → as_descriptor x ≡ Some d → seen img.stacks (array_of r mother x) ≡ Ok d
+  pub array_itself : as_irw x ≡ None → as_sirw x ≡ None → as_descriptor x ≡ Some d → look_seen img.stacks (array_of r mother x) ≡ Ok d
   array_itself no_irw no_sirw e =
-      ap (λ (o : Option Irw). seen img.stacks (array_by r mother x (irw_or_sirw r o (as_sirw x)))) no_irw
-      ∙ ap (λ (o : Option Sirw). seen img.stacks (array_by r mother x (irw_or_sirw r None o))) no_sirw
+      ap (λ (o : Option Irw). look_seen img.stacks (array_by r mother x (irw_or_sirw r o (as_sirw x)))) no_irw
+      ∙ ap (λ (o : Option Sirw). look_seen img.stacks (array_by r mother x (irw_or_sirw r None o))) no_sirw
       ∙ array_seen x e
 
   -- the reference to a cell in which one lies
   pub array_reached : (level at : ℕ) (frame : Place) (w : Word) → as_irw x ≡ Some (record { level = level; index = at }) → display_at r level ≡ Some frame →
-      word_at img.stacks (record { stack = frame.stack; at = frame.at + at }) ≡ Some w → as_sirw w ≡ None → as_descriptor w ≡ Some d → seen img.stacks (array_of r mother x) ≡ Ok d
+      word_at img.stacks (record { stack = frame.stack; at = frame.at + at }) ≡ Some w → as_sirw w ≡ None → as_descriptor w ≡ Some d → look_seen img.stacks (array_of r mother x) ≡ Ok d
   array_reached level at frame w reads shown lies no_sirw e =
-      ap (λ (o : Option Irw). seen img.stacks (array_by r mother x (irw_or_sirw r o (as_sirw x)))) reads
-      ∙ ap (λ (o : Option Place). seen img.stacks (array_by r mother x (cell_in o at))) shown
-      ∙ ap (λ (o : Option Word). seen img.stacks ((reached_in cell o >-> on_word) >-> on_reached)) lies
-      ∙ ap (λ (o : Option Sirw). seen img.stacks (one_sirw o (record { word = w; cell = cell }) >-> on_reached)) no_sirw
+      ap (λ (o : Option Irw). look_seen img.stacks (array_by r mother x (irw_or_sirw r o (as_sirw x)))) reads
+      ∙ ap (λ (o : Option Place). look_seen img.stacks (array_by r mother x (cell_in o at))) shown
+      ∙ ap (λ (o : Option Word). look_seen img.stacks ((reached_in cell o >-> on_word) >-> on_reached)) lies
+      ∙ ap (λ (o : Option Sirw). look_seen img.stacks (one_sirw o (record { word = w; cell = cell }) >-> on_reached)) no_sirw
       ∙ array_seen w e
     where
       cell : Cell
@@ -75,14 +75,14 @@ module _ (img : Image) (r : Registers) (mother : Bool) (x : Word) (d : Descripto
   -- .. or in which a reference lies to the cell of one
   pub array_through : (level at : ℕ) (frame : Place) (v : Word) (other : Sirw) (w : Word) → as_irw x ≡ Some (record { level = level; index = at }) → display_at r level ≡ Some frame →
       word_at img.stacks (record { stack = frame.stack; at = frame.at + at }) ≡ Some v → as_sirw v ≡ Some other →
-      word_at img.stacks (record { stack = other.stack; at = other.displacement + other.index }) ≡ Some w → as_sirw w ≡ None → as_descriptor w ≡ Some d → seen img.stacks (array_of r mother x) ≡ Ok d
+      word_at img.stacks (record { stack = other.stack; at = other.displacement + other.index }) ≡ Some w → as_sirw w ≡ None → as_descriptor w ≡ Some d → look_seen img.stacks (array_of r mother x) ≡ Ok d
   array_through level at frame v other w reads shown lies refers there no_sirw e =
-      ap (λ (o : Option Irw). seen img.stacks (array_by r mother x (irw_or_sirw r o (as_sirw x)))) reads
-      ∙ ap (λ (o : Option Place). seen img.stacks (array_by r mother x (cell_in o at))) shown
-      ∙ ap (λ (o : Option Word). seen img.stacks ((reached_in cell o >-> on_word) >-> on_reached)) lies
-      ∙ ap (λ (o : Option Sirw). seen img.stacks (one_sirw o (record { word = v; cell = cell }) >-> on_reached)) refers
-      ∙ ap (λ (o : Option Word). seen img.stacks ((reached_in (sirw_cell other) o >-> on_second) >-> on_reached)) there
-      ∙ ap (λ (o : Option Sirw). seen img.stacks (no_second o (record { word = w; cell = sirw_cell other }) >-> on_reached)) no_sirw
+      ap (λ (o : Option Irw). look_seen img.stacks (array_by r mother x (irw_or_sirw r o (as_sirw x)))) reads
+      ∙ ap (λ (o : Option Place). look_seen img.stacks (array_by r mother x (cell_in o at))) shown
+      ∙ ap (λ (o : Option Word). look_seen img.stacks ((reached_in cell o >-> on_word) >-> on_reached)) lies
+      ∙ ap (λ (o : Option Sirw). look_seen img.stacks (one_sirw o (record { word = v; cell = cell }) >-> on_reached)) refers
+      ∙ ap (λ (o : Option Word). look_seen img.stacks ((reached_in (sirw_cell other) o >-> on_second) >-> on_reached)) there
+      ∙ ap (λ (o : Option Sirw). look_seen img.stacks (no_second o (record { word = w; cell = sirw_cell other }) >-> on_reached)) no_sirw
       ∙ array_seen w e
     where
       cell : Cell
@@ -133,11 +133,11 @@ module _ (img : Image) (p : ℕ) (core : Core) (has : HasCore img p core) (x y :
   abbrev under : Word → Look Two
   under a = from_top r 1 >-> (λ (b : Word). found (record { x = a; y = b }))
 
-  pub two_seen : seen img.stacks (popped_two r) ≡ Ok two
+  pub two_seen : look_seen img.stacks (popped_two r) ≡ Ok two
   two_seen =
-      ap (λ (b : Bool). seen img.stacks ((if b then from_top r 0 else stops StackUnderflow) >-> under)) (most_is (floor r + 2) r.s (omega (arith, long, has.is.bottom)))
-      ∙ ap (λ (o : Option Word). seen img.stacks (valid o >-> under)) top_word
-      ∙ ap (λ (o : Option Word). seen img.stacks (valid o >-> (λ (b : Word). found (record { x = x; y = b })))) under_word
+      ap (λ (b : Bool). look_seen img.stacks ((if b then from_top r 0 else stops StackUnderflow) >-> under)) (most_is (floor r + 2) r.s (omega (arith, long, has.is.bottom)))
+      ∙ ap (λ (o : Option Word). look_seen img.stacks (valid o >-> under)) top_word
+      ∙ ap (λ (o : Option Word). look_seen img.stacks (valid o >-> (λ (b : Word). found (record { x = x; y = b })))) under_word
 
   -- the stack without the two
   cut_is : with_cut img.stacks r.stack (r.s - 2) ≡ with_stack img.stacks r.stack (core.below ++ reverse words)
@@ -159,7 +159,7 @@ module _ (img : Image) (p : ℕ) (core : Core) (has : HasCore img p core) (x y :
 
   -- ---- an array and a subscript
 
-  module _ (mother : Bool) (z : ℤ) (d : Descriptor) (is_whole : as_whole y ≡ Some z) (array_is : seen img.stacks (array_of r mother x) ≡ Ok d) where
+  module _ (mother : Bool) (z : ℤ) (d : Descriptor) (is_whole : as_whole y ≡ Some z) (array_is : look_seen img.stacks (array_of r mother x) ≡ Ok d) where
     abbrev both : Subscripted
     both = record { array = d; subscript = z }
 
@@ -172,10 +172,10 @@ module _ (img : Image) (p : ℕ) (core : Core) (has : HasCore img p core) (x y :
     abbrev on_two : Two → Look Subscripted
     on_two t = valid (as_whole t.y) >-> (λ (n : ℤ). array_of r mother t.x >-> on_array n)
 
-    pub subscripted_seen : seen img.stacks (subscripted r mother) ≡ Ok both
+    pub subscripted_seen : look_seen img.stacks (subscripted r mother) ≡ Ok both
     subscripted_seen =
         then_seen img.stacks (popped_two r) two on_two two_seen
-        ∙ ap (λ (o : Option ℤ). seen img.stacks (valid o >-> on_whole)) is_whole
+        ∙ ap (λ (o : Option ℤ). look_seen img.stacks (valid o >-> on_whole)) is_whole
         ∙ then_seen img.stacks (array_of r mother x) d (on_array z) array_is
 
     -- the element that the subscript names, in a row that is there
@@ -189,7 +189,7 @@ module _ (img : Image) (p : ℕ) (core : Core) (has : HasCore img p core) (x y :
       place_asked : asked img (in_row both) ≡ asked img (index_or_fault (index_in z d.length))
       place_asked = ap (λ (o : Option Row). asked img (if_row o (index_or_fault (index_in z d.length)))) is_open
 
-      pub element_given : (at : ℕ) (w : Word) → index_in z d.length ≡ Some at → word_in (row_at img.rows d.address) at ≡ Some w → asked img (subscripted_element r mother) ≡ gives w
+      pub element_given : (at : ℕ) (w : Word) → index_in z d.length ≡ Some at → word_in_row (row_at img.rows d.address) at ≡ Some w → asked img (subscripted_element r mother) ≡ gives w
       element_given at w e lies =
           see_found img (subscripted r mother) both on_place subscripted_seen
           ∙ then_asked img (in_row both) at (λ (k : ℕ). element d.address k) (place_asked ∙ ap (λ (o : Option ℕ). asked img (index_or_fault o)) e)
@@ -202,7 +202,7 @@ module _ (img : Image) (p : ℕ) (core : Core) (has : HasCore img p core) (x y :
 
   -- ---- INDX
 
-  module _ (z : ℤ) (d : Descriptor) (is_whole : as_whole y ≡ Some z) (array_is : seen img.stacks (array_of r false x) ≡ Ok d) (next : ℕ) where
+  module _ (z : ℤ) (d : Descriptor) (is_whole : as_whole y ≡ Some z) (array_is : look_seen img.stacks (array_of r false x) ≡ Ok d) (next : ℕ) where
     -- a copy of the descriptor, of the element that an index names
     abbrev pub indexed_copy : ℕ → Word
     indexed_copy n = descriptor_word (record d { copy = true; indexed = true; length = n })
@@ -213,25 +213,25 @@ module _ (img : Image) (p : ℕ) (core : Core) (has : HasCore img p core) (x y :
     abbrev on_subscript : Subscripted → Program
     on_subscript t = index_or_fault (index_in t.subscript t.array.length) >>= on_index t
 
-    index_asked : asked img (index r next) ≡ asked img (on_subscript (record { array = d; subscript = z }))
+    index_asked : asked img (index_program r next) ≡ asked img (on_subscript (record { array = d; subscript = z }))
     index_asked = see_found img (subscripted r false) (record { array = d; subscript = z }) on_subscript (subscripted_seen false z d is_whole array_is)
 
-    pub index_gives : (n : ℕ) → index_in z d.length ≡ Some n → does p (index r next) img ≡ gives (with_core img p (with_one core (indexed_copy n) words next))
+    pub index_gives : (n : ℕ) → index_in z d.length ≡ Some n → does p (index_program r next) img ≡ gives (with_core img p (with_one core (indexed_copy n) words next))
     index_gives n e =
         ap (effect_of p img) (index_asked ∙ ap (λ (o : Option ℕ). asked img (index_or_fault o >>= on_index (record { array = d; subscript = z }))) e)
         ∙ ap gives (replaced_is next (indexed_copy n))
 
-    pub index_faults : index_in z d.length ≡ None → does p (index r next) img ≡ faults InvalidIndex
+    pub index_faults : index_in z d.length ≡ None → does p (index_program r next) img ≡ faults InvalidIndex
     index_faults e =
         ap (effect_of p img) (index_asked ∙ ap (λ (o : Option ℕ). asked img (index_or_fault o >>= on_index (record { array = d; subscript = z }))) e)
 
   -- ---- NXLV
 
-  module _ (z : ℤ) (d : Descriptor) (is_whole : as_whole y ≡ Some z) (array_is : seen img.stacks (array_of r false x) ≡ Ok d) (held : Row) (is_open : row_at img.rows d.address ≡ Some held) (next : ℕ) where
+  module _ (z : ℤ) (d : Descriptor) (is_whole : as_whole y ≡ Some z) (array_is : look_seen img.stacks (array_of r false x) ≡ Ok d) (held : Row) (is_open : row_at img.rows d.address ≡ Some held) (next : ℕ) where
     abbrev on_element : Word → Program
     on_element w = see (operand_in w) >>= (λ (v : Word). answer (replaced r next 2 v))
 
-    pub load_gives : (n : ℕ) (w : Word) → index_in z d.length ≡ Some n → word_in (row_at img.rows d.address) n ≡ Some w → w.tag ≡ 0 →
+    pub load_gives : (n : ℕ) (w : Word) → index_in z d.length ≡ Some n → word_in_row (row_at img.rows d.address) n ≡ Some w → w.tag ≡ 0 →
         does p (index_and_load r next) img ≡ gives (with_core img p (with_one core w words next))
     load_gives n w e lies tag =
         ap (effect_of p img)
@@ -245,11 +245,11 @@ module _ (img : Image) (p : ℕ) (core : Core) (has : HasCore img p core) (x y :
 
   -- ---- NXLN
 
-  module _ (z : ℤ) (d : Descriptor) (is_whole : as_whole y ≡ Some z) (array_is : seen img.stacks (array_of r true x) ≡ Ok d) (held : Row) (is_open : row_at img.rows d.address ≡ Some held) (next : ℕ) where
+  module _ (z : ℤ) (d : Descriptor) (is_whole : as_whole y ≡ Some z) (array_is : look_seen img.stacks (array_of r true x) ≡ Ok d) (held : Row) (is_open : row_at img.rows d.address ≡ Some held) (next : ℕ) where
     abbrev on_row : Word → Program
     on_row w = see (valid (as_descriptor w)) >>= (λ (a : Descriptor). answer (replaced r next 2 (descriptor_word (record a { copy = true }))))
 
-    pub mother_gives : (n : ℕ) (w : Word) (a : Descriptor) → index_in z d.length ≡ Some n → word_in (row_at img.rows d.address) n ≡ Some w → as_descriptor w ≡ Some a →
+    pub mother_gives : (n : ℕ) (w : Word) (a : Descriptor) → index_in z d.length ≡ Some n → word_in_row (row_at img.rows d.address) n ≡ Some w → as_descriptor w ≡ Some a →
         does p (index_mother r next) img ≡ gives (with_core img p (with_one core (descriptor_word (record a { copy = true })) words next))
     mother_gives n w a e lies is =
         ap (effect_of p img)
@@ -263,7 +263,7 @@ module _ (img : Image) (p : ℕ) (core : Core) (has : HasCore img p core) (x y :
 
   -- ---- STOD
 
-  module _ (d : Descriptor) (old : Word) (names : as_indexed y ≡ Some d) (lies : word_in (row_at img.rows d.address) d.length ≡ Some old) (tag : x.tag ≡ 0) (next : ℕ) where
+  module _ (d : Descriptor) (old : Word) (names : as_indexed y ≡ Some d) (lies : word_in_row (row_at img.rows d.address) d.length ≡ Some old) (tag : x.tag ≡ 0) (next : ℕ) where
     abbrev on_old : Word → Program
     on_old o = answer (stored false r next x (write_row d.address d.length x))
 
@@ -293,7 +293,7 @@ module _ (code : Code) (img : Image) (p : ℕ) (core : Core) (has : HasCore img 
   unfolding rows.row
   mother_raw at = raw_is code img p core has (ops.Plain kinds.Nxln) next at
 
-  pub index_raw : operator_at code core.registers ≡ Ok (ops.Plain kinds.Indx, next) → raw code img p ≡ does p (index core.registers next) img
+  pub index_raw : operator_at code core.registers ≡ Ok (ops.Plain kinds.Indx, next) → raw code img p ≡ does p (index_program core.registers next) img
   unfolding rows.row
   index_raw at = raw_is code img p core has (ops.Plain kinds.Indx) next at
 

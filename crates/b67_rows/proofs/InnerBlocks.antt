@@ -1,6 +1,6 @@
 -- A block that is no procedure's stands in the text of one before it: that block is next around it, and has as many tokens at least.
 use Rattle.std.proofs.Common.{◌≡◌, refl, sym, ap, ◌∙◌, subst, ℕ, zero, suc, ◌+◌, ◌<◌, ◌≤◌, Bool, true, false, List, [], ◌∷◌, ◌++◌, length, map, Some, None, arith, add-one, append_assoc}
-use Rattle.b67_rows.proofs.Prelude.{◌==◌, if◌then◌else◌, not, slice_get, Spot, Named, Block, block_numbered, number_at, around, stmt_tokens, stmts_tokens, decls_tokens, PStmt, PStmts, PDecls, PBody, Scopes, Item, items, event_items, decls_items, ending, items_of, IsSeen, IsSeenAround, IsInner, is_procedure, InStmt, InStmts, InItems, InDeclared, get_within, true_false, some_same, none_some}
+use Rattle.b67_rows.proofs.Prelude.{◌==◌, if◌then◌else◌, not, slice_get, Spot, Named, Block, block_numbered, number_at, around, stmt_tokens, stmts_tokens, decls_tokens, PStmt, PStmts, PDecls, PBody, Scopes, Item, items, event_items, decls_items, ending, items_of, BlockIsSeen, IsSeenAround, IsInner, is_procedure, InStmt, InStmts, InItems, InDeclared, get_within, true_false, some_same, none_some}
 use Rattle.std.proofs.lemmas.Bool.{and_parts, eqb-true}
 use Rattle.algol_tree.specs.declared.tree.Heading.{Heading}
 use Rattle.algol_tree.specs.Blocks.{same_spot, of_statement, of_procedure, procedure_block, blocks_of, blocks_in_decl, blocks_in_decls, blocks_in_stmts, blocks_in_body, spot_of, outer_block}
@@ -151,11 +151,11 @@ module _ (sc : Scopes) (nested : AreNested sc) where
 
   -- the statements of the block with number j keep to its text
   abbrev Stated : ℕ → PStmts → Type 0
-  Stated j ss = InStmts (IsSeen sc j) (IsInner sc j) ss
+  Stated j ss = InStmts (BlockIsSeen sc j) (IsInner sc j) ss
 
   own_stated : (n : ℕ) (c : Block) → slice_get bs n ≡ Some c → Stated n c.stmts
   own_stated n c e =
-      text_stmts (IsSeen sc n) (IsInner sc n) (IsSeenAround sc n) c.decls c.stmts (ending c)
+      text_stmts (BlockIsSeen sc n) (IsInner sc n) (IsSeenAround sc n) c.decls c.stmts (ending c)
       (subst (λ (b : Block). ItemsKeepToText sc n (items_of b)) (block_is bs n c e) (nested.each n (get_within bs n c e)).items)
 
   own_few : (n : ℕ) (c : Block) → slice_get bs n ≡ Some c → stmts_tokens c.stmts ≤ own_tokens (block_numbered bs n)
@@ -195,7 +195,7 @@ module _ (sc : Scopes) (nested : AreNested sc) where
       (later m (there_back bs n m (blocks_in_decl (tree.procedure h s) outer) rest refl t))
 
   mutual
-    stmt_inside : (s : PStmt) (j n : ℕ) (outer : List Spot) → InText bs j n outer → StmtNamed s → InStmt (IsSeen sc j) (IsInner sc j) s → stmt_tokens s ≤ own_tokens (block_numbered bs j) →
+    stmt_inside : (s : PStmt) (j n : ℕ) (outer : List Spot) → InText bs j n outer → StmtNamed s → InStmt (BlockIsSeen sc j) (IsInner sc j) s → stmt_tokens s ≤ own_tokens (block_numbered bs j) →
         There bs n (blocks_of s of_statement outer) → AreInside bs n (blocks_of s of_statement outer)
     stmt_inside (tree.label l s) j n outer t named i few h = stmt_inside s j n outer t named i (omega (arith, few)) h
     stmt_inside (tree.block (tree.body spot tree.no_decls ss)) j n outer t named i few h = stmts_inside ss j n outer t named.1 i (omega (arith, few)) h

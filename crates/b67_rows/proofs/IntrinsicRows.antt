@@ -7,7 +7,7 @@ use Rattle.b67_ops.specs.declared.PlainKind.TheVariants as kinds
 use Rattle.b67_ops.specs.declared.intrinsic.Intrinsic.{Intrinsic}
 use Rattle.b67_ops.specs.declared.intrinsic.Intrinsic.TheVariants.{Write, Select}
 use Rattle.b67_table.specs.declared.Class.TheVariants as classes
-use Rattle.b67_table.specs.Chains.{broken}
+use Rattle.b67_table.specs.Chains.{chain_broken}
 use Rattle.b67_table.specs.Lines.{line_for}
 use Rattle.b67_table.specs.Program.{line}
 use Rattle.b67_table.specs.Arguments.{Three, three_in, wholes_in}
@@ -80,7 +80,7 @@ module _ (code : Code) (img : Image) (p : ℕ) (core : Core) (has : HasCore img 
 
   pub chained_asked : (t : Program) → asked img (if_chained core.registers c.m t) ≡ asked img t
   chained_asked t =
-      ap (λ (b : Bool). asked img (see (if b then mark_at (place r.stack (r.f - c.m.df)) else broken) >>= (λ (lower : Mscw). t))) (most_is c.m.df r.f c.short)
+      ap (λ (b : Bool). asked img (see (if b then mark_at (place r.stack (r.f - c.m.df)) else chain_broken) >>= (λ (lower : Mscw). t))) (most_is c.m.df r.f c.short)
       ∙ ap (λ (o : Option Word). asked img (see (chained (read_as as_mscw o)) >>= (λ (lower : Mscw). t))) c.lower_lies
       ∙ ap (λ (o : Option Mscw). asked img (see (chained o) >>= (λ (lower : Mscw). t))) c.reads_lower
 

@@ -1,6 +1,6 @@
 -- EXIT and RETN of a frame that is not the base frame.
 use Rattle.std.proofs.Common.{◌≡◌, refl, sym, ap, ◌∙◌, ℕ, ◌+◌, ◌≤◌, List, [], ◌∷◌, ◌++◌, length, take, drop, Option, Some, None, Bool, true, false, Ok, arith, append_assoc, length-append, ◌≢◌}
-use Rattle.b67_rows.proofs.Prelude.{if◌then◌else◌, nat_eq, reverse, CriticalBlockExit, Place, Word, Registers, place_at, Code, Stacks, words_of, with_stack, with_cut, with_push, Below, Effect, gives, faults, Image, with_stacks, with_rows, with_registers, place, left_to, rebuilt, is_critical, leave, found, ◌>->◌, seen, pushed, frame, at_or, Program, Change, done, changed, effect_of, asked, answer, fault, registers, cut, live_criticals, table, operator_at, Core, IsCore, HasCore, with_core, stack_of, letter, then_seen, see_found, nat_tests}
+use Rattle.b67_rows.proofs.Prelude.{if◌then◌else◌, nat_eq, reverse, CriticalBlockExit, Place, Word, Registers, place_at, Code, Stacks, words_of, with_stack, with_cut, with_push, Below, Effect, gives, faults, Image, with_stacks, with_rows, with_registers, place, left_to, rebuilt, is_critical, leave, found, ◌>->◌, look_seen, pushed, frame, at_or, Program, Change, done, changed, effect_of, asked, answer, fault, registers, cut, live_criticals, table, operator_at, Core, IsCore, HasCore, with_core, stack_of, letter, then_seen, see_found, nat_tests}
 use Rattle.b67_deeds.specs.declared.Letter.TheVariants as act
 use Rattle.b67_ops.specs.declared.Operator.TheVariants as ops
 use Rattle.b67_ops.specs.declared.PlainKind.TheVariants as kinds
@@ -10,7 +10,7 @@ use Rattle.b67_table.specs.declared.Class.TheVariants as classes
 use Rattle.b67_table.specs.declared.Leaving.{Leaving}
 use Rattle.b67_table.specs.Outcome as outcomes
 use Rattle.b67_table.specs.Image.{with_events}
-use Rattle.b67_table.specs.Linkage.{arrays_closed, frame_left, if_not_critical, leave_base, leave_other, leaving, left}
+use Rattle.b67_table.specs.Linkage.{arrays_closed, frame_left, if_not_critical, leave_base, leave_other, leaving, registers_left}
 use Rattle.b67_table.specs.Program.{close_events}
 use Rattle.b67_table.specs.Rows.{row}
 use Rattle.b67_table.specs.Table.{raw, class_at}
@@ -31,7 +31,7 @@ given_words (Some x) = x ∷ []
 -- The core of the part around: the words under the frame that is left at a place, parted at its own floor, and the result on top.
 abbrev pub without_frame : Core → List Word → List Word → ℕ → Leaving → Option Word → Core
 without_frame core below words f l given =
-    record { below = below; words = given_words given ++ words; registers = left core.registers (f + length (given_words given)) f l }
+    record { below = below; words = given_words given ++ words; registers = registers_left core.registers (f + length (given_words given)) f l }
 
 -- The frame of a core, above the words of the part around: the rows that its cells describe are closed, and the marks under it lead to where
 -- the machine goes on.
@@ -42,8 +42,8 @@ pub record Leaves (img : Image) (core : Core) (below words : List Word) (mark co
   pub counted : core.registers.cells ≡ length cells
   pub rows : Rows
   pub closed : (q : ℕ) (next : Change) → changed q (arrays_closed cells next) img ≡ changed q next (with_rows img rows)
-  pub left_to : seen img.stacks (left_to (place core.registers.stack (length (below ++ reverse words)))) ≡ Ok b
-  pub rebuilt : seen img.stacks (rebuilt (place core.registers.stack b.frame) b.control.caller_level) ≡ Ok display
+  pub left_to : look_seen img.stacks (left_to (place core.registers.stack (length (below ++ reverse words)))) ≡ Ok b
+  pub rebuilt : look_seen img.stacks (rebuilt (place core.registers.stack b.frame) b.control.caller_level) ≡ Ok display
 
 module _ (code : Code) (img : Image) (p : ℕ) (core : Core) (has : HasCore img p core) (next : ℕ)
     (below words : List Word) (mark control : Word) (cells : List Word) (b : Below) (display : List (Option Place)) (e : Leaves img core below words mark control cells b display) where
@@ -84,7 +84,7 @@ module _ (code : Code) (img : Image) (p : ℕ) (core : Core) (has : HasCore img 
       ∙ set-set img.stacks r.stack lower (lower ++ x ∷ [])
       ∙ ap (with_stack img.stacks r.stack) (sym (stack-over below (x ∷ []) words))
 
-  leaving_seen : seen img.stacks (leaving (place r.stack f)) ≡ Ok leaving_of
+  leaving_seen : look_seen img.stacks (leaving (place r.stack f)) ≡ Ok leaving_of
   leaving_seen =
       then_seen img.stacks (left_to (place r.stack f)) b
       (λ (x : Below). rebuilt (place r.stack x.frame) x.control.caller_level >-> (λ (d : List (Option Place)). found (record { below = x; display = d }))) e.left_to
@@ -99,12 +99,12 @@ module _ (code : Code) (img : Image) (p : ℕ) (core : Core) (has : HasCore img 
     left_with n ws = if nat_eq n 0 then leave_base r ws next else leave_other r ws n (given_words given)
 
     abbrev gone : Change
-    gone = close_events r.stack f (cut r.stack f (pushed r.stack (given_words given) (registers (left r (f + length (given_words given)) f leaving_of) done)))
+    gone = close_events r.stack f (cut r.stack f (pushed r.stack (given_words given) (registers (registers_left r (f + length (given_words given)) f leaving_of) done)))
 
     abbrev after_leaving : List Word → Leaving → Program
     after_leaving ws l =
         if_not_critical r.stack (f ∷ [])
-        (answer (frame_left r.stack f ws (cut r.stack f (pushed r.stack (given_words given) (registers (left r (f + length (given_words given)) f l) done)))))
+        (answer (frame_left r.stack f ws (cut r.stack f (pushed r.stack (given_words given) (registers (registers_left r (f + length (given_words given)) f l) done)))))
 
     -- the events of the frame are closed
     abbrev pub after : Image
@@ -124,10 +124,10 @@ module _ (code : Code) (img : Image) (p : ℕ) (core : Core) (has : HasCore img 
     changed_to = by_given given
       where
         by_given : (g : Option Word) →
-            changed p (close_events r.stack f (cut r.stack f (pushed r.stack (given_words g) (registers (left r (f + length (given_words g)) f leaving_of) done)))) (with_rows img e.rows)
+            changed p (close_events r.stack f (cut r.stack f (pushed r.stack (given_words g) (registers (registers_left r (f + length (given_words g)) f leaving_of) done)))) (with_rows img e.rows)
             ≡ with_core (with_events (with_rows img e.rows) (closed_from r.stack f img.events)) p (without_frame core below words f leaving_of g)
-        by_given None = ap (λ (ss : Stacks). with_registers (with_stacks (with_events (with_rows img e.rows) (closed_from r.stack f img.events)) ss) p (left r (f + 0) f leaving_of)) cut_there
-        by_given (Some x) = ap (λ (ss : Stacks). with_registers (with_stacks (with_events (with_rows img e.rows) (closed_from r.stack f img.events)) ss) p (left r (f + 1) f leaving_of)) (pushed_there x)
+        by_given None = ap (λ (ss : Stacks). with_registers (with_stacks (with_events (with_rows img e.rows) (closed_from r.stack f img.events)) ss) p (registers_left r (f + 0) f leaving_of)) cut_there
+        by_given (Some x) = ap (λ (ss : Stacks). with_registers (with_stacks (with_events (with_rows img e.rows) (closed_from r.stack f img.events)) ss) p (registers_left r (f + 1) f leaving_of)) (pushed_there x)
 
     leave_tests : tested (leave r next (given_words given)) ≡ tested (after_leaving cells leaving_of)
     leave_tests =

@@ -1,7 +1,7 @@
 -- The marks that lie above the floor of a frame lead down to its own mark.
 use Rattle.std.proofs.Common.{◌≡◌, refl, sym, ap, ◌∙◌, ℕ, zero, suc, ◌+◌, ◌-◌, ◌≤◌, ◌<◌, ◌^◌, List, [], ◌∷◌, ◌++◌, length, Option, Some, Bool, true, Ok, arith, append_assoc}
-use Rattle.b67_rows.proofs.Prelude.{if◌then◌else◌, nat_le, ◌&&◌, slice_get, reverse, Scopes, Place, Word, Mscw, Rcw, as_mscw, as_rcw, Stacks, word_at, Below, Look, found, ◌>->◌, chained, read_as, seen, place, control_at, frame_below, left_to, Slot, operand, Known, newest, SlotsAre, then_seen}
-use Rattle.b67_table.specs.Chains.{broken, below, entered_from, entered_below, if_apart}
+use Rattle.b67_rows.proofs.Prelude.{if◌then◌else◌, nat_le, ◌&&◌, slice_get, reverse, Scopes, Place, Word, Mscw, Rcw, as_mscw, as_rcw, Stacks, word_at, Below, Look, found, ◌>->◌, chained, read_as, look_seen, place, control_at, frame_below, left_to, Slot, operand, Known, newest, SlotsAre, then_seen}
+use Rattle.b67_table.specs.Chains.{chain_broken, below, entered_from, entered_below, if_apart}
 use Rattle.b67_standing.specs.Stepping.{reference, intrinsic, control, descriptor, mark}
 use Rattle.b67_cores.proofs.Moving.{slots_length}
 use Rattle.b67_rows.proofs.StackWords.{word-under}
@@ -37,11 +37,11 @@ module _ (sc : Scopes) (known : List Known) (level : ℕ) (stacks : Stacks) (sta
 
   -- from the newest mark the marks lead to the frame's own
   walk : (slots : List Slot) (front words : List Word) → all ≡ front ++ words → SlotsAre sc known level home base slots words → base + length slots ≤ 2 ^ 16 → (steps : ℕ) → newest home base slots < steps →
-      seen stacks (entered_from steps stack (newest home base slots)) ≡ Ok home
+      look_seen stacks (entered_from steps stack (newest home base slots)) ≡ Ok home
   walk slots front words is are small zero few = absurd (omega (arith, few))
   walk [] front words is are small (suc steps) few =
-      ap (λ (o : Option Mscw). seen stacks (chained o >-> on_mark home steps)) above.marked
-      ∙ ap (λ (b : Bool). seen stacks (if b then found home else below home above.own.df (entered_from steps stack))) above.entered
+      ap (λ (o : Option Mscw). look_seen stacks (chained o >-> on_mark home steps)) above.marked
+      ∙ ap (λ (b : Bool). look_seen stacks (if b then found home else below home above.own.df (entered_from steps stack))) above.entered
   walk (slot ∷ slots) front [] is are small (suc steps) few = absurd are
   walk (operand v ∷ slots) front (x ∷ ws) is are small (suc steps) few =
       walk slots (front ++ x ∷ []) ws (is ∙ sym (append_assoc front (x ∷ []) ws)) are.1 (omega (arith, small)) (suc steps) few
@@ -56,11 +56,11 @@ module _ (sc : Scopes) (known : List Known) (level : ℕ) (stacks : Stacks) (sta
   walk (mark ∷ slots) front (x ∷ ws) is are small (suc steps) few =
       let there : word_at stacks (place stack here) ≡ Some x =
       above.lies here x (ap (λ (zs : List Word). slice_get (lower ++ reverse zs) here) is ∙ word-under lower front x ws here (omega (arith, slots_length sc known level home base slots ws are.1))) in
-      ap (λ (o : Option Word). seen stacks (chained (read_as as_mscw o) >-> on_mark here steps)) there
-      ∙ ap (λ (o : Option Mscw). seen stacks (chained o >-> on_mark here steps)) (ap as_mscw are.0 ∙ mark_read df (omega (arith, small)))
-      ∙ ap (λ (b : Bool). seen stacks (if b && nat_le df here then entered_from steps stack (here - df) else broken)) (most_is 1 df (omega (arith, lowest)))
-      ∙ ap (λ (b : Bool). seen stacks (if b then entered_from steps stack (here - df) else broken)) (most_is df here (omega arith))
-      ∙ ap (λ (n : ℕ). seen stacks (entered_from steps stack n)) back
+      ap (λ (o : Option Word). look_seen stacks (chained (read_as as_mscw o) >-> on_mark here steps)) there
+      ∙ ap (λ (o : Option Mscw). look_seen stacks (chained o >-> on_mark here steps)) (ap as_mscw are.0 ∙ mark_read df (omega (arith, small)))
+      ∙ ap (λ (b : Bool). look_seen stacks (if b && nat_le df here then entered_from steps stack (here - df) else chain_broken)) (most_is 1 df (omega (arith, lowest)))
+      ∙ ap (λ (b : Bool). look_seen stacks (if b then entered_from steps stack (here - df) else chain_broken)) (most_is df here (omega arith))
+      ∙ ap (λ (n : ℕ). look_seen stacks (entered_from steps stack n)) back
       ∙ walk slots (front ++ x ∷ []) ws (is ∙ sym (append_assoc front (x ∷ []) ws)) are.1 (omega (arith, small)) steps (omega (arith, few, lowest))
     where
       here : ℕ
@@ -85,20 +85,20 @@ module _ (sc : Scopes) (known : List Known) (level : ℕ) (stacks : Stacks) (sta
 
     abbrev with_control : Mscw → Rcw → Look Below
     with_control m c =
-        (if nat_le m.df f then entered_below stack (f - m.df) else broken) >-> (λ (lowest : ℕ). control_at (place stack lowest) >-> (λ (unused : Rcw).
+        (if nat_le m.df f then entered_below stack (f - m.df) else chain_broken) >-> (λ (lowest : ℕ). control_at (place stack lowest) >-> (λ (unused : Rcw).
         if_apart f (record { mark = f - m.df; frame = lowest; control = c })))
 
     -- the marks below a frame lead to that of the frame around, and its control word back
-    pub left_seen : seen stacks (left_to (place stack f)) ≡ Ok below_is
+    pub left_seen : look_seen stacks (left_to (place stack f)) ≡ Ok below_is
     left_seen =
-        ap (λ (o : Option Mscw). seen stacks (chained o >-> (λ (m : Mscw). control_at (place stack f) >-> with_control m))) marked
-        ∙ ap (λ (o : Option Rcw). seen stacks (chained o >-> with_control own)) controlled
-        ∙ ap (λ (b : Bool). seen stacks ((if b then entered_below stack (f - own.df) else broken) >-> apart_at (f - own.df))) (most_is own.df f (omega (arith, far)))
-        ∙ ap (λ (n : ℕ). seen stacks (entered_below stack n >-> apart_at n)) newest_is
+        ap (λ (o : Option Mscw). look_seen stacks (chained o >-> (λ (m : Mscw). control_at (place stack f) >-> with_control m))) marked
+        ∙ ap (λ (o : Option Rcw). look_seen stacks (chained o >-> with_control own)) controlled
+        ∙ ap (λ (b : Bool). look_seen stacks ((if b then entered_below stack (f - own.df) else chain_broken) >-> apart_at (f - own.df))) (most_is own.df f (omega (arith, far)))
+        ∙ ap (λ (n : ℕ). look_seen stacks (entered_below stack n >-> apart_at n)) newest_is
         ∙ then_seen stacks (entered_below stack (newest home base slots)) home (apart_at (newest home base slots))
         (walk slots [] all refl are small (newest home base slots + 1) (omega arith))
-        ∙ ap (λ (o : Option Rcw). seen stacks (chained o >-> (λ (unused : Rcw). if_apart f below_is))) above.controlled
-        ∙ ap (λ (b : Bool). seen stacks (if b then found below_is else broken)) (most_is (home + 2 + back.caller_cells) f apart)
+        ∙ ap (λ (o : Option Rcw). look_seen stacks (chained o >-> (λ (unused : Rcw). if_apart f below_is))) above.controlled
+        ∙ ap (λ (b : Bool). look_seen stacks (if b then found below_is else chain_broken)) (most_is (home + 2 + back.caller_cells) f apart)
       where
         newest_is : f - own.df ≡ newest home base slots
         newest_is = omega (arith, far)
@@ -109,12 +109,12 @@ module _ (sc : Scopes) (known : List Known) (level : ℕ) (stacks : Stacks) (sta
     abbrev to_place : ℕ → Look Place
     to_place lowest = found (place stack lowest)
 
-    pub under_seen : seen stacks (frame_below (place stack f)) ≡ Ok (place stack home)
+    pub under_seen : look_seen stacks (frame_below (place stack f)) ≡ Ok (place stack home)
     under_seen =
-        ap (λ (o : Option Mscw). seen stacks (chained o >-> (λ (m : Mscw). below f m.df (entered_below stack) >-> to_place))) marked
-        ∙ ap (λ (b : Bool). seen stacks ((if b && nat_le own.df f then entered_below stack (f - own.df) else broken) >-> to_place)) (most_is 1 own.df some)
-        ∙ ap (λ (b : Bool). seen stacks ((if b then entered_below stack (f - own.df) else broken) >-> to_place)) (most_is own.df f (omega (arith, far)))
-        ∙ ap (λ (n : ℕ). seen stacks (entered_below stack n >-> to_place)) newest_is
+        ap (λ (o : Option Mscw). look_seen stacks (chained o >-> (λ (m : Mscw). below f m.df (entered_below stack) >-> to_place))) marked
+        ∙ ap (λ (b : Bool). look_seen stacks ((if b && nat_le own.df f then entered_below stack (f - own.df) else chain_broken) >-> to_place)) (most_is 1 own.df some)
+        ∙ ap (λ (b : Bool). look_seen stacks ((if b then entered_below stack (f - own.df) else chain_broken) >-> to_place)) (most_is own.df f (omega (arith, far)))
+        ∙ ap (λ (n : ℕ). look_seen stacks (entered_below stack n >-> to_place)) newest_is
         ∙ then_seen stacks (entered_below stack (newest home base slots)) home to_place (walk slots [] all refl are small (newest home base slots + 1) (omega arith))
       where
         newest_is : f - own.df ≡ newest home base slots

@@ -1,6 +1,6 @@
 -- EVAL by what is reached from the cell that is named: of a value the cell is left, and code that gives no place is a fault.
 use Rattle.std.proofs.Common.{◌≡◌, refl, ap, ◌∙◌, ℕ, ◌+◌, ◌-◌, ◌≤◌, List, ◌∷◌, Option, Some, None, Bool, false, Result, Ok, arith}
-use Rattle.b67_rows.proofs.Prelude.{if◌then◌else◌, ◌==◌, NotAVariable, Word, Registers, Pcw, as_pcw, Code, Stacks, Cell, InterruptKind, StackUnderflow, Reached, Effect, gives, faults, Image, with_stacks, with_registers, Look, found, stops, ◌>->◌, valid, seen, replaced, floor, Program, Change, answer, fault, does, effect_of, asked, see, ◌>>=◌, cell_word, cell_of, reached, from_top, invalid, accidental, cell_or_entry, operator_at, Resolve, told_by, entered_or, operator_letter, see_found, Core, HasCore, with_core}
+use Rattle.b67_rows.proofs.Prelude.{if◌then◌else◌, ◌==◌, NotAVariable, Word, Registers, Pcw, as_pcw, Code, Stacks, Cell, InterruptKind, StackUnderflow, Reached, Effect, gives, faults, Image, with_stacks, with_registers, Look, found, stops, ◌>->◌, valid, look_seen, replaced, floor, Program, Change, answer, fault, does, effect_of, asked, see, ◌>>=◌, cell_word, cell_of, reached, from_top, invalid, accidental, cell_or_entry, operator_at, Resolve, told_by, entered_or, operator_letter, see_found, Core, HasCore, with_core}
 use Rattle.b67_ops.specs.declared.Operator.TheVariants as ops
 use Rattle.b67_ops.specs.declared.PlainKind.TheVariants as kinds
 use Rattle.b67_table.specs.declared.Class.TheVariants as classes
@@ -46,9 +46,9 @@ module _ (code : Code) (img : Image) (p : ℕ) (core : Core) (has : HasCore img 
 
   pub place_reached_letter : operator_letter (ops.Plain kinds.Eval) img r ≡ Some (entered_or Resolve (as_pcw w))
   place_reached_letter =
-      ap (λ (b : Bool). told_by place_letter (seen img.stacks ((if b then from_top r 0 else stops StackUnderflow) >-> on_top))) (most_is (floor r + 1) r.s high)
-      ∙ ap (λ (o : Option Word). told_by place_letter (seen img.stacks (valid o >-> on_top))) (word_on_top img p core has x words top)
-      ∙ ap (λ (o : Option Cell). told_by place_letter (seen img.stacks (reached o))) names
+      ap (λ (b : Bool). told_by place_letter (look_seen img.stacks ((if b then from_top r 0 else stops StackUnderflow) >-> on_top))) (most_is (floor r + 1) r.s high)
+      ∙ ap (λ (o : Option Word). told_by place_letter (look_seen img.stacks (valid o >-> on_top))) (word_on_top img p core has x words top)
+      ∙ ap (λ (o : Option Cell). told_by place_letter (look_seen img.stacks (reached o))) names
       ∙ ap (λ (e : Result Reached InterruptKind). told_by place_letter e) reaches
 
   -- of a value the reference to its cell comes in place of the one on top

@@ -1,6 +1,6 @@
 -- VALC by what is reached from the cell that is named: a value is read.
 use Rattle.std.proofs.Common.{◌≡◌, refl, ap, ◌∙◌, ℕ, ◌+◌, List, [], ◌∷◌, ◌++◌, Option, Some, None, Result, Ok}
-use Rattle.b67_rows.proofs.Prelude.{if◌then◌else◌, ◌==◌, Word, Registers, Pcw, as_pcw, Couple, Code, with_stack, Cell, InterruptKind, Reached, Effect, gives, Image, with_stacks, with_registers, found, seen, Program, Change, does, effect_of, asked, see, ◌>>=◌, couple_cell, reached, invalid, value_or_entry, operator_at, Read, told_by, entered_or, operator_letter, see_found, Core, HasCore, with_core}
+use Rattle.b67_rows.proofs.Prelude.{if◌then◌else◌, ◌==◌, Word, Registers, Pcw, as_pcw, Couple, Code, with_stack, Cell, InterruptKind, Reached, Effect, gives, Image, with_stacks, with_registers, found, look_seen, Program, Change, does, effect_of, asked, see, ◌>>=◌, couple_cell, reached, invalid, value_or_entry, operator_at, Read, told_by, entered_or, operator_letter, see_found, Core, HasCore, with_core}
 use Rattle.b67_ops.specs.declared.Operator.TheVariants as ops
 use Rattle.b67_table.specs.declared.Class.TheVariants as classes
 use Rattle.b67_table.specs.Rows.{row, value_call, value_pushed}
@@ -40,7 +40,7 @@ module _ (code : Code) (img : Image) (p : ℕ) (core : Core) (has : HasCore img 
 
   pub value_reached_letter : operator_letter (ops.Valc couple) img r ≡ Some (entered_or Read (as_pcw w))
   value_reached_letter =
-      ap (λ (o : Option Cell). told_by value_letter (seen img.stacks (reached o))) shown
+      ap (λ (o : Option Cell). told_by value_letter (look_seen img.stacks (reached o))) shown
       ∙ ap (λ (x : Result Reached InterruptKind). told_by value_letter x) reaches
 
   -- a value is pushed

@@ -1,6 +1,6 @@
 -- ENTR on START: a process is begun, or there are as many as there may be.
 use Rattle.std.proofs.Common.{◌≡◌, ◌≢◌, refl, sym, ap, ◌∙◌, ℕ, ◌+◌, ◌<◌, ◌≤◌, List, [], ◌∷◌, length, take, Option, Some, None, Bool, true, false, Ok, arith}
-use Rattle.b67_rows.proofs.Prelude.{if◌then◌else◌, nat_lt, nat_le, reverse, pos, Place, Word, Irw, Pcw, Registers, Sirw, as_irw, as_sirw, as_pcw, event_word, place_at, Couple, Code, words_of, words_or, word_at, with_stack, Cell, Reached, if_chained, finished_at, place, linked, Effect, gives, faults, Image, with_stacks, with_registers, most_cells, entered_mark, ◌>->◌, valid, seen, display_at, frame, at_or, reference, Test, answer, interrupt, fault, Program, effect_of, asked, see, ◌>>=◌, told, cell_place, cell_in, irw_or_sirw, reached, reached_in, one_sirw, on_path, operator_at, Core, IsCore, HasCore, with_core, stack_of, see_found, opened_others}
+use Rattle.b67_rows.proofs.Prelude.{if◌then◌else◌, nat_lt, nat_le, reverse, pos, Place, Word, Irw, Pcw, Registers, Sirw, as_irw, as_sirw, as_pcw, event_word, place_at, Couple, Code, words_of, words_or, word_at, with_stack, Cell, Reached, if_chained, finished_at, place, linked, Effect, gives, faults, Image, with_stacks, with_registers, most_cells, entered_mark, ◌>->◌, valid, look_seen, display_at, frame, at_or, reference, Test, answer, interrupt, fault, Program, effect_of, asked, see, ◌>>=◌, told, cell_place, cell_in, irw_or_sirw, reached, reached_in, one_sirw, on_path, operator_at, Core, IsCore, HasCore, with_core, stack_of, see_found, opened_others}
 use Rattle.std.specs.Prelude.{ℤ}
 use Rattle.b67_num.specs.declared.FaultKind.TheVariants.{ProcessLimit}
 use Rattle.b67_word.specs.Word.{as_whole, is_whole}
@@ -10,12 +10,12 @@ use Rattle.b67_events.specs.Events.{is_open}
 use Rattle.b67_ops.specs.declared.Operator.TheVariants as ops
 use Rattle.b67_ops.specs.declared.PlainKind.TheVariants as kinds
 use Rattle.b67_ops.specs.declared.intrinsic.Intrinsic.TheVariants.{Start}
-use Rattle.b67_table.specs.Arguments.{no_such, if_open, event_in, event_of}
-use Rattle.b67_table.specs.Chains.{broken}
+use Rattle.b67_table.specs.Arguments.{no_such, if_open, reached_event_in, event_of}
+use Rattle.b67_table.specs.Chains.{chain_broken}
 use Rattle.b67_table.specs.Limits.{most_processes}
 use Rattle.b67_table.specs.Linkage.{base_control}
-use Rattle.b67_table.specs.Program.{ask, start, started, is_event}
-use Rattle.b67_table.specs.Starting.{task_in, task_of, frames_with, named_frames, Starting, starting, first_display, first_words, begun, start_process}
+use Rattle.b67_table.specs.Program.{ask, change_start, started, test_is_event}
+use Rattle.b67_table.specs.Starting.{task_in, task_of, frames_with, named_frames, Starting, starting, first_display, first_words, process_begun, start_process}
 use Rattle.b67_table.specs.Table.{raw}
 use Rattle.b67_rows.proofs.Begun.{with_process, core_of, core_beside, numbered_few}
 use Rattle.b67_rows.proofs.CriticalRow.{FirstDown, critical_found}
@@ -58,11 +58,11 @@ module _ (img : Image) (r : Registers) (w : Word) where
   pub declared_event : (c : Cell) (level : ℕ) → as_irw w ≡ Some (record { level = level; index = c.index }) → display_at r level ≡ Some c.frame → word_at img.stacks (cell_place c) ≡ Some (event_word (record {})) →
       is_open (cell_place c) img.events ≡ true → asked img (event_of r w) ≡ gives c
   declared_event c level names shows lies there =
-      ap (λ (o : Option Irw). asked img (see (reached (irw_or_sirw r o (as_sirw w))) >>= event_in)) names
-      ∙ ap (λ (o : Option Place). asked img (see (reached (cell_in o c.index)) >>= event_in)) shows
-      ∙ ap (λ (o : Option Word). asked img (see (reached_in c o >-> (λ (v : Reached). one_sirw (as_sirw v.word) v)) >>= event_in)) lies
-      ∙ ap (λ (o : Option Sirw). asked img (see (one_sirw o (record { word = event_word (record {}); cell = c })) >>= event_in)) event_refers_nothing
-      ∙ ap (λ (o : Option EventWord). asked img (see (valid o) >>= (λ (e : EventWord). is_event (cell_place c) (λ (b : Bool). if_open b c)))) event_read
+      ap (λ (o : Option Irw). asked img (see (reached (irw_or_sirw r o (as_sirw w))) >>= reached_event_in)) names
+      ∙ ap (λ (o : Option Place). asked img (see (reached (cell_in o c.index)) >>= reached_event_in)) shows
+      ∙ ap (λ (o : Option Word). asked img (see (reached_in c o >-> (λ (v : Reached). one_sirw (as_sirw v.word) v)) >>= reached_event_in)) lies
+      ∙ ap (λ (o : Option Sirw). asked img (see (one_sirw o (record { word = event_word (record {}); cell = c })) >>= reached_event_in)) event_refers_nothing
+      ∙ ap (λ (o : Option EventWord). asked img (see (valid o) >>= (λ (e : EventWord). test_is_event (cell_place c) (λ (b : Bool). if_open b c)))) event_read
       ∙ ap (λ (b : Bool). asked img (if_open b c)) there
 
 -- ---- what START is given
@@ -94,7 +94,7 @@ starting_of pcw home task parameters = record { procedure = pcw; home = home; ta
 
 -- the registers with which a process of this number begins, and the words of its stack
 abbrev pub begins_with : ℕ → Pcw → Place → Option Cell → List Word → List Place → Place → Registers
-begins_with n pcw home task parameters more critical = begun n (starting_of pcw home task parameters) (shown (place n 0) more) (Some critical)
+begins_with n pcw home task parameters more critical = process_begun n (starting_of pcw home task parameters) (shown (place n 0) more) (Some critical)
 
 abbrev pub first_stack : Pcw → Place → List Word → List Word
 first_stack pcw home parameters = entered_mark home 0 ∷ base_control pcw.level ∷ parameters
@@ -149,9 +149,9 @@ module _ (code : Code) (img : Image) (p : ℕ) (core : Core) (has : HasCore img 
 
   -- ---- the display and the critical frame
 
-  display_seen : seen img.stacks (first_display number given) ≡ Ok (shown (place number 0) more)
+  display_seen : look_seen img.stacks (first_display number given) ≡ Ok (shown (place number 0) more)
   display_seen =
-      ap (λ (b : Bool). seen img.stacks (if b then broken else linked (place number 0) home pcw.level)) e.no_intrinsic
+      ap (λ (b : Bool). look_seen img.stacks (if b then chain_broken else linked (place number 0) home pcw.level)) e.no_intrinsic
       ∙ linked_seen (place number 0) home more pcw.level e.links e.level_is
 
   abbrev referred : List Place
@@ -166,7 +166,7 @@ module _ (code : Code) (img : Image) (p : ℕ) (core : Core) (has : HasCore img 
   -- ---- the row
 
   abbrev limited : List (Option Place) → Option Place → Bool → Program
-  limited display depends few = if few then answer (start (begun number given display depends) (first_words given) (finished_at r c.m [] next)) else fault ProcessLimit
+  limited display depends few = if few then answer (change_start (process_begun number given display depends) (first_words given) (finished_at r c.m [] next)) else fault ProcessLimit
 
   abbrev on_critical : List (Option Place) → Option Place → Program
   on_critical display depends = limited display depends (nat_lt img.started most_processes)
@@ -178,7 +178,7 @@ module _ (code : Code) (img : Image) (p : ℕ) (core : Core) (has : HasCore img 
   on_started t n =
       see (first_display (n + 1) t) >>= (λ (display : List (Option Place)).
       on_path r.stack (t.home ∷ frames_with t.task (named_frames t.parameters)) (place r.stack (frame r)) >>= (λ (depends : Option Place).
-      if nat_lt n most_processes then answer (start (begun (n + 1) t display depends) (first_words t) (finished_at r c.m [] next)) else fault ProcessLimit))
+      if nat_lt n most_processes then answer (change_start (process_begun (n + 1) t display depends) (first_words t) (finished_at r c.m [] next)) else fault ProcessLimit))
 
   abbrev on_given : Starting → Program
   on_given t = if_chained r c.m (started (on_started t))

@@ -1,6 +1,6 @@
 -- STOD on a cell of the process's own stack, which the reference under the top names.
 use Rattle.std.proofs.Common.{◌≡◌, refl, ap, ◌∙◌, ℕ, ◌+◌, ◌-◌, ◌≤◌, List, [], ◌∷◌, ◌++◌, length, take, Option, Some, None, Bool, true, false, Ok, arith}
-use Rattle.b67_rows.proofs.Prelude.{if◌then◌else◌, ◌==◌, nat_le, slice_get, slice_set, reverse, nat_tests, Place, Word, Registers, Descriptor, as_indexed, Code, Stacks, words_of, word_at, with_stack, with_word, with_cut, Cell, Reached, StackUnderflow, Effect, gives, Image, with_stacks, with_registers, Look, found, stops, ◌>->◌, valid, seen, Program, does, effect_of, asked, see, answer, ◌>>=◌, save, floor, Two, cell_of, cell_place, reached_in, named, from_top, operand_in, invalid, store_by, stored, operator_at, told_by, operator_letter, Core, HasCore, with_core, stack_of}
+use Rattle.b67_rows.proofs.Prelude.{if◌then◌else◌, ◌==◌, nat_le, slice_get, slice_set, reverse, nat_tests, Place, Word, Registers, Descriptor, as_indexed, Code, Stacks, words_of, word_at, with_stack, with_word, with_cut, Cell, Reached, StackUnderflow, Effect, gives, Image, with_stacks, with_registers, Look, found, stops, ◌>->◌, valid, look_seen, Program, does, effect_of, asked, see, answer, ◌>>=◌, save, floor, Two, cell_of, cell_place, reached_in, named, from_top, operand_in, invalid, store_by, stored, operator_at, told_by, operator_letter, Core, HasCore, with_core, stack_of}
 use Rattle.b67_ops.specs.declared.Operator.TheVariants as ops
 use Rattle.b67_ops.specs.declared.PlainKind.TheVariants as kinds
 use Rattle.b67_table.specs.declared.Class.TheVariants as classes
@@ -99,9 +99,9 @@ module _ (code : Code) (img : Image) (p : ℕ) (core : Core) (has : HasCore img 
   -- the word under the top is no descriptor of an element
   pub stores_variable : operator_letter (ops.Plain kinds.Stod) img r ≡ Some Store
   stores_variable =
-      ap (λ (b : Bool). told_by stored_letter (seen img.stacks ((if b then from_top r 0 else stops StackUnderflow) >-> under))) (most_is (floor r + 2) r.s (omega (arith, words_long img p core has x y words top, has.is.bottom)))
-      ∙ ap (λ (o : Option Word). told_by stored_letter (seen img.stacks (valid o >-> under))) (top_word img p core has x y words top)
-      ∙ ap (λ (o : Option Word). told_by stored_letter (seen img.stacks (valid o >-> (λ (b : Word). found (two x b))))) (under_word img p core has x y words top)
+      ap (λ (b : Bool). told_by stored_letter (look_seen img.stacks ((if b then from_top r 0 else stops StackUnderflow) >-> under))) (most_is (floor r + 2) r.s (omega (arith, words_long img p core has x y words top, has.is.bottom)))
+      ∙ ap (λ (o : Option Word). told_by stored_letter (look_seen img.stacks (valid o >-> under))) (top_word img p core has x y words top)
+      ∙ ap (λ (o : Option Word). told_by stored_letter (look_seen img.stacks (valid o >-> (λ (b : Word). found (two x b))))) (under_word img p core has x y words top)
       ∙ ap (λ (d : Option Descriptor). Some (element_or_not ElementStore Store d)) plain_word
 
   pub store_raw : raw code img p ≡ gives (with_core img p (with_cell core (f + index) x words next))

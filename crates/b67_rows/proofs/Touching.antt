@@ -5,7 +5,7 @@ use Rattle.b67_rows.proofs.Prelude.{numbered, Place, Word, Registers, Mscw, Pcw,
 use Rattle.b67_ops.specs.declared.Operator.TheVariants as ops
 use Rattle.b67_ops.specs.declared.PlainKind.TheVariants as kinds
 use Rattle.b67_table.specs.Sound.{Lives}
-use Rattle.b67_footprints.specs.Reaching.{NamesCell, LeadsTo, Reaches, own_word, cell_word, mark, control}
+use Rattle.b67_footprints.specs.Reaching.{NamesCell, OperatorLeadsTo, OperatorReaches, own_word, cell_word, mark, control}
 use Rattle.b67_footprints.specs.Laws.{IsOfNoOther}
 use Rattle.b67_footprints.proofs.Within.{AreLed, led_are}
 
@@ -109,7 +109,7 @@ module _ (p : ℕ) (img : Image) (r : Registers) (near : IsNear p img r) (op : O
         depends = λ f c k e. near.depends f c k.0 e;
       }
 
-  led_near : (f : Place) → LeadsTo img op r f → NearFrame p img f
+  led_near : (f : Place) → OperatorLeadsTo img op r f → NearFrame p img f
   led_near f k = led_are img op r IsThere led k
 
   pub reaches_no_other : HaveOwnStacks img → ReachesNoOther img p op r
@@ -120,7 +120,7 @@ module _ (p : ℕ) (img : Image) (r : Registers) (near : IsNear p img r) (op : O
       }
 
   -- nor does it touch a stack but the process's own, the system's, those on which somebody depends, and that of a process that it starts
-  pub touches_near : (x : Place) → Reaches img op r x → IsNearStack p img x.stack ⊎ (x.stack ≡ 0)
+  pub touches_near : (x : Place) → OperatorReaches img op r x → IsNearStack p img x.stack ⊎ (x.stack ≡ 0)
   touches_near x (own_word e) = inl (inl (e ∙ near.own))
   touches_near x (cell_word c k) = near_stack p img (cell_place c) (names.cells c k).1
   touches_near x (mark k) = near_stack p img x (led_near x k).0

@@ -6,7 +6,7 @@ use Rattle.b67_ops.specs.declared.BranchKind.{BranchKind}
 use Rattle.b67_ops.specs.declared.Operator.TheVariants as ops
 use Rattle.b67_ops.specs.declared.PlainKind.{PlainKind}
 use Rattle.b67_ops.specs.declared.PlainKind.TheVariants as kinds
-use Rattle.b67_footprints.specs.Reaching.{TakesBy, Takes, Follows, IsIntrinsic}
+use Rattle.b67_footprints.specs.Reaching.{TakesBy, OperatorTakes, OperatorFollows, IsIntrinsic}
 use Rattle.b67_footprints.proofs.Within.{AreNamed, named_are}
 use Rattle.b67_rows.proofs.Described.{IsFound, itself, in_cell, through_cell}
 use Rattle.b67_rows.proofs.Touching.{NearFrame, NearCell, NamesNear}
@@ -158,7 +158,7 @@ module _ (p : ℕ) (img : Image) (r : Registers) where
       taken_is m y takes there = one_word (place r.stack n) x y lies (subst (λ (k : ℕ). word_at img.stacks (place r.stack k) ≡ Some y) (only m takes) there)
 
       -- a property of cells, of the one that the word names and of those to which it leads
-      module _ (C : Cell → Type 0) (first : (c : Cell) → cell_of r x ≡ Some c → C c) (further : (b : Cell) (w : Word) (s : Sirw) → Follows op → C b → word_at img.stacks (cell_place b) ≡ Some w → as_sirw w ≡ Some s → C (sirw_cell s))
+      module _ (C : Cell → Type 0) (first : (c : Cell) → cell_of r x ≡ Some c → C c) (further : (b : Cell) (w : Word) (s : Sirw) → OperatorFollows op → C b → word_at img.stacks (cell_place b) ≡ Some w → as_sirw w ≡ Some s → C (sirw_cell s))
           (near : (c : Cell) → C c → NearCell p img c) where
         pub word_named : NamesNear p img (ops.Plain kind) r
         word_named =
@@ -178,13 +178,13 @@ module _ (p : ℕ) (img : Image) (r : Registers) where
                 }
 
       -- it goes no further than the cell that the word names
-      pub cell_named : (Follows (ops.Plain kind) → ⊥) → (i : Irw) (f : Place) → as_irw x ≡ Some i → display_at r i.level ≡ Some f → NearCell p img (record { frame = f; index = i.index }) → NamesNear p img (ops.Plain kind) r
+      pub cell_named : (OperatorFollows (ops.Plain kind) → ⊥) → (i : Irw) (f : Place) → as_irw x ≡ Some i → display_at r i.level ≡ Some f → NearCell p img (record { frame = f; index = i.index }) → NamesNear p img (ops.Plain kind) r
       cell_named stays i f reads shown near =
           word_named (λ (c : Cell). c ≡ record { frame = f; index = i.index }) (one_cell x i f reads shown) (λ b w s follows same there is. absurd (stays follows))
           (λ c same. subst (NearCell p img) (sym same) near)
 
       -- .. where the word is read alike everywhere
-      pub refers_named : (Follows (ops.Plain kind) → ⊥) → (s : Sirw) → as_sirw x ≡ Some s → NearCell p img (sirw_cell s) → NamesNear p img (ops.Plain kind) r
+      pub refers_named : (OperatorFollows (ops.Plain kind) → ⊥) → (s : Sirw) → as_sirw x ≡ Some s → NearCell p img (sirw_cell s) → NamesNear p img (ops.Plain kind) r
       refers_named stays s reads near =
           word_named (λ (c : Cell). c ≡ sirw_cell s) (referred_cell x s reads) (λ b w t follows same there is. absurd (stays follows)) (λ c same. subst (NearCell p img) (sym same) near)
 
@@ -198,7 +198,7 @@ module _ (p : ℕ) (img : Image) (r : Registers) where
         abbrev Both : Cell → Type 0
         Both c = (c ≡ first) ⊎ (c ≡ sirw_cell t)
 
-        go_on : (b : Cell) (y : Word) (s : Sirw) → Follows op → Both b → word_at img.stacks (cell_place b) ≡ Some y → as_sirw y ≡ Some s → Both (sirw_cell s)
+        go_on : (b : Cell) (y : Word) (s : Sirw) → OperatorFollows op → Both b → word_at img.stacks (cell_place b) ≡ Some y → as_sirw y ≡ Some s → Both (sirw_cell s)
         go_on b y s follows (inl same) lies_there is =
             let word : v ≡ y = one_word (place home.stack (home.at + i.index)) v y there (subst (λ (k : Cell). word_at img.stacks (cell_place k) ≡ Some y) same lies_there) in
             inr (ap sirw_cell (some_same (sym is ∙ ap as_sirw (sym word) ∙ refers)))
@@ -228,7 +228,7 @@ module _ (p : ℕ) (img : Image) (r : Registers) where
     abbrev entr : Operator
     entr = ops.Plain kinds.Entr
 
-    taken_word : (n : ℕ) (v : Word) → Takes entr r n → word_at img.stacks (place r.stack n) ≡ Some v → w ≡ v
+    taken_word : (n : ℕ) (v : Word) → OperatorTakes entr r n → word_at img.stacks (place r.stack n) ≡ Some v → w ≡ v
     taken_word n v takes there = one_word (place r.stack (r.f + 1)) w v lies (subst (λ (k : ℕ). word_at img.stacks (place r.stack k) ≡ Some v) takes there)
 
     pub no_kind : (v : Word) (c : Pcw) → as_pcw v ≡ Some c → c.intrinsic ≡ false → IsIntrinsic v → ⊥

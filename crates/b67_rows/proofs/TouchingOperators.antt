@@ -6,11 +6,11 @@ use Rattle.b67_ops.specs.declared.Operator.TheVariants as ops
 use Rattle.b67_table.specs.declared.Class.{Class}
 use Rattle.b67_table.specs.declared.Class.TheVariants as classes
 use Rattle.b67_word.specs.declared.Place.{Place}
-use Rattle.b67_table.specs.Rows.{Row, private_part, action, row}
+use Rattle.b67_table.specs.Rows.{TableRow, private_part, action, row}
 use Rattle.b67_table.specs.Sound.{OperatorTouches}
 use Rattle.b67_table.specs.Table.{class_at, class_by}
 use Rattle.b67_table.specs.Touches.{RowTouches}
-use Rattle.b67_footprints.specs.Reaching.{Reaches}
+use Rattle.b67_footprints.specs.Reaching.{OperatorReaches}
 use Rattle.b67_footprints.proofs.Touching.{operators_touch_what_they_reach}
 use Rattle.b67_rows.proofs.Touching.{IsNear, NamesNear, IsNearStack, reaches_no_other, touches_near}
 
@@ -46,7 +46,7 @@ module _ (code : Code) (p : ℕ) (img : Image) (r : Registers) (own : HaveOwnSta
       stands_so : operator_at code r ≡ Ok (t.op, t.next)
       stands_so = subst (λ (z : Registers). operator_at code z ≡ Ok (t.op, t.next)) same t.stands
 
-      by_row : (w : Row) → class_by w ≡ classes.Private → RowTouches w code img p t.registers t.next x → x.stack ≡ t.registers.stack
+      by_row : (w : TableRow) → class_by w ≡ classes.Private → RowTouches w code img p t.registers t.next x → x.stack ≡ t.registers.stack
       by_row (private_part change) e touched = touched.0
       by_row (action program) e touched = cc
   stands_touches (acting o n there near names) x t same = by_reach (operators_touch_what_they_reach code img p x t)
@@ -54,11 +54,11 @@ module _ (code : Code) (p : ℕ) (img : Image) (r : Registers) (own : HaveOwnSta
       stands_so : operator_at code r ≡ Ok (t.op, t.next)
       stands_so = subst (λ (z : Registers). operator_at code z ≡ Ok (t.op, t.next)) same t.stands
 
-      by_reach : Reaches img t.op t.registers x ⊎ (x.stack ≡ img.started + 1) → (IsNearStack p img x.stack ⊎ (x.stack ≡ 0)) ⊎ (x.stack ≡ img.started + 1)
+      by_reach : OperatorReaches img t.op t.registers x ⊎ (x.stack ≡ img.started + 1) → (IsNearStack p img x.stack ⊎ (x.stack ≡ 0)) ⊎ (x.stack ≡ img.started + 1)
       by_reach (inr e) = inr e
       by_reach (inl k) =
-          inl (subst (λ (f : Operator × ℕ). (y : Place) → Reaches img f.0 r y → IsNearStack p img y.stack ⊎ (y.stack ≡ 0)) (ok_same there stands_so) (touches_near p img r near o names) x
-          (subst (λ (z : Registers). Reaches img t.op z x) same k))
+          inl (subst (λ (f : Operator × ℕ). (y : Place) → OperatorReaches img f.0 r y → IsNearStack p img y.stack ⊎ (y.stack ≡ 0)) (ok_same there stands_so) (touches_near p img r near o names) x
+          (subst (λ (z : Registers). OperatorReaches img t.op z x) same k))
 
 -- the operators of the language are private
 pub operator_private : (op : Op) (at : ℕ) → class_at (ops.Plain (operator_for op)) at ≡ classes.Private

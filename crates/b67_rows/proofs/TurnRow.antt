@@ -1,11 +1,11 @@
 -- The branch back to the start of a loop, and EXIT of a base frame.
 use Rattle.std.proofs.Common.{◌≡◌, sym, ap, ◌∙◌, ℕ, zero, suc, ◌≤◌, List, [], ◌∷◌, Option, Some, None, Bool, false, Ok, arith}
-use Rattle.b67_rows.proofs.Prelude.{if◌then◌else◌, nat_lt, nat_tests, Word, Code, Stacks, stack_at, with_stack, gives, Image, with_stacks, with_registers, Row, private_part, operator_at, by_row, operator_letter, Core, HasCore, with_core, stack_of}
+use Rattle.b67_rows.proofs.Prelude.{if◌then◌else◌, nat_lt, nat_tests, Word, Code, Stacks, stack_at, with_stack, gives, Image, with_stacks, with_registers, TableRow, private_part, operator_at, by_row, operator_letter, Core, HasCore, with_core, stack_of}
 use Rattle.b67_ops.specs.declared.Operator.TheVariants as ops
 use Rattle.b67_ops.specs.declared.BranchKind.TheVariants.{Brun}
 use Rattle.b67_table.specs.declared.Class.TheVariants as classes
 use Rattle.b67_table.specs.PrivateRows.{branch}
-use Rattle.b67_table.specs.Rows.{row, acts, turn}
+use Rattle.b67_table.specs.Rows.{row, acts, branch_turn}
 use Rattle.b67_table.specs.Table.{raw, class_at, class_by}
 use Rattle.b67_deeds.specs.declared.Letter.TheVariants.{Turn}
 use Rattle.b67_rows.proofs.Rows.{raw_is}
@@ -25,8 +25,8 @@ same_stack (z ∷ zs) (suc n) ws e = ap (λ ys. z ∷ ys) (same_stack zs n ws e)
 
 module _ (code : Code) (img : Image) (p : ℕ) (core : Core) (has : HasCore img p core) (target next : ℕ) (at : operator_at code core.registers ≡ Ok (ops.Branch Brun target, next))
     (back : target ≤ core.registers.place) where
-  abbrev row_with : Bool → Row
-  row_with forward = if forward then private_part (branch Brun target) else acts (turn Brun target)
+  abbrev row_with : Bool → TableRow
+  row_with forward = if forward then private_part (branch Brun target) else acts (branch_turn Brun target)
 
   pub turn_raw : raw code img p ≡ gives (with_core img p (at_place core target))
   unfolding row

@@ -1,6 +1,6 @@
 -- The entry of an actual's code by the machine, where a process stands at VALC or EVAL.
 use Rattle.std.proofs.Common.{◌≡◌, refl, sym, ap, ◌∙◌, subst, ℕ, ◌+◌, ◌-◌, ◌*◌, ◌/◌, ◌%◌, ◌≤◌, ◌<◌, ◌^◌, List, [], ◌∷◌, ◌++◌, length, Option, Some, Ok, Bool, true, false, arith, length-append}
-use Rattle.b67_scenes.proofs.Prelude.{◌==◌, ◌&&◌, nat_le, Kind, block_numbered, around, level_of, PExpr, PProgram, Scopes, scopes_of, instance_at, segment_of, Place, Word, Pcw, Rcw, as_mscw, as_rcw, place_at, as_mscw-mscw_word, as_rcw-rcw_word, Operator, Code, stack_limit, word_at, place, linked, end_of_code, entered_mark, control_word, seen, read_as, frame, at_or, numbered_within, has_place, Has, Texts, Slot, Core, IsCore, newest, SlotsAre, CoreAt, slots_length, IsShort, some_same, LiesNested, Links, shown, shown_top, linked_seen, lower_of, next_within, newest_low, segment_low, length-stack, IsActual, IsInReach, Linked, Begins_with, begins_core, all_linked, runs_low}
+use Rattle.b67_scenes.proofs.Prelude.{◌==◌, ◌&&◌, nat_le, Kind, block_numbered, around, level_of, PExpr, PProgram, Scopes, scopes_of, instance_at, segment_of, Place, Word, Pcw, Rcw, as_mscw, as_rcw, place_at, as_mscw-mscw_word, as_rcw-rcw_word, Operator, Code, stack_limit, word_at, place, linked, end_of_code, entered_mark, control_word, look_seen, read_as, frame, at_or, numbered_within, has_place, Has, Texts, Slot, Core, IsCore, newest, SlotsAre, CoreAt, slots_length, IsShortSegment, some_same, LiesNested, Links, shown, shown_top, linked_seen, lower_of, next_within, newest_low, segment_low, length-stack, IsActual, IsInReach, Linked, Begins_with, begins_core, all_linked, runs_low}
 use Rattle.b67_word.specs.Word as words
 use Rattle.b67_table.specs.Linkage as linkage
 use Rattle.b67_standing.specs.Standing.{selected}
@@ -33,7 +33,7 @@ selected_are sc level home base true true = (record { tag = refl; bits = omega a
 selected_are sc level home base true false = (record { tag = refl; bits = omega arith; lowest = refl }, tt)
 selected_are sc level home base false selector = tt
 
-module _ (tree : PProgram) (code : Code) (texts : Texts) (nested : LiesNested tree) (short : IsShort tree code) (stand : HaveTexts tree code texts)
+module _ (tree : PProgram) (code : Code) (texts : Texts) (nested : LiesNested tree) (short : IsShortSegment tree code) (stand : HaveTexts tree code texts)
     (actor : Actor tree code texts) where
   open actor use {w, lay, img, p, part, outer, core, s}
 
@@ -145,7 +145,7 @@ module _ (tree : PProgram) (code : Code) (texts : Texts) (nested : LiesNested tr
     abbrev pub display : List (Option Place)
     display = shown (place p at) frames
 
-    linked_there : seen img.stacks (linked (place p at) home inner_level) ≡ Ok display
+    linked_there : look_seen img.stacks (linked (place p at) home inner_level) ≡ Ok display
     linked_there = linked_seen (place p at) home frames inner_level links_there level_is
 
     outer_reads : read_as as_rcw (word_at img.stacks (place f.number (high + 1))) ≡ Some l.entered.control
@@ -161,7 +161,7 @@ module _ (tree : PProgram) (code : Code) (texts : Texts) (nested : LiesNested tr
           is_home = subst (λ (n : ℕ). (l.entered.control.own_level + 1 == n && nat_le 2 l.entered.control.own_level) ≡ true) (sym up_one)
               (home_level l.entered.control.own_level (length l.more + 2) l.entered.level_is (omega (arith, l.entered.level_is)));
           returns = t.returns;
-          linked = subst (λ (n : ℕ). seen img.stacks (linked (place n at) home inner_level) ≡ Ok display) (sym s.has.own) linked_there;
+          linked = subst (λ (n : ℕ). look_seen img.stacks (linked (place n at) home inner_level) ≡ Ok display) (sym s.has.own) linked_there;
         }
       where
         up_one : inner_level ≡ length l.more + 2 + 1

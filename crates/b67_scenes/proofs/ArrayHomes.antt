@@ -1,7 +1,7 @@
 -- Where a process finds an array: its descriptor lies in the frame of an instance in reach. A name that a block declares means one that is made;
 -- that of a parameter leads to one.
 use Rattle.std.proofs.Common.{◌≡◌, ◌⊎◌, inl, inr, refl, sym, ap, ◌∙◌, subst, ℕ, ◌+◌, ◌<◌, ◌≤◌, ◌^◌, List, ◌∷◌, length, Option, Some, true, false, arith}
-use Rattle.b67_scenes.proofs.Prelude.{length-map, Named, block_numbered, level_of, PProgram, PBody, Scopes, scopes_of, use_of, Sort, Reference, Bounds, ArrayCell, Cell, ask, Instance, instance_at, or_no_instance, ancestor, by_cell, followed, DeclaredArray, IsSeen, IsSeenAround, IsInner, InRest, IsNoBlock, Place, Word, Sirw, as_sirw, Couple, Code, word_at, place, display_at, cell_place, sirw_cell, simple_cells, made_base, found_from, IsFormalArray, made_of, made_from, Texts, AreNested, some_same, ArraySeen, NearCell, Allotted, DescriptorIs, AreSized, HasArray, IsArrayOf, named_from, IsComplete, IsInReach, Framed, block_few, up_complete, IsParent, low_number, OwnCells, framed_cells, OwnArray, none_later, CountsBy}
+use Rattle.b67_scenes.proofs.Prelude.{length-map, Named, block_numbered, level_of, PProgram, PBody, Scopes, scopes_of, use_of, Sort, Reference, Bounds, ArrayCell, Cell, ask, Instance, instance_at, or_no_instance, ancestor, by_cell, followed, DeclaredArray, BlockIsSeen, IsSeenAround, IsInner, InRest, IsNoBlock, Place, Word, Sirw, as_sirw, Couple, Code, word_at, place, display_at, cell_place, sirw_cell, simple_cells, made_base, found_from, IsFormalArray, made_of, made_from, Texts, AreNested, some_same, ArraySeen, NearCell, Allotted, DescriptorIs, AreSized, HasArray, IsArrayOf, named_from, IsComplete, IsInReach, Framed, block_few, up_complete, IsParent, low_number, OwnCells, framed_cells, OwnArray, none_later, CountsBy}
 use Rattle.algol_tree.specs.Sorts.{is_variable, is_formal}
 use Rattle.algol_paths.specs.Arrays.{an_array, Shape, shape_of}
 use Rattle.b67_templates.specs.Cells.{IsDeclaredArray, IsArray, declared, formal}
@@ -60,7 +60,7 @@ module _ (tree : PProgram) (code : Code) (texts : Texts) (nested : AreNested (sc
   MeantArray n shape couple = ArrayHome ((use_of sc n).sort) (followed w (named_from sc w lay part.instance n)) shape couple
 
   abbrev IsSeenThere : Named → Type 0
-  IsSeenThere n = ArraySeen (IsSeen sc block) n (IsInner sc block) (IsSeenAround sc block) (λ (around_it : IsSeenAround sc block n). around_it.0) part.rest
+  IsSeenThere n = ArraySeen (BlockIsSeen sc block) n (IsInner sc block) (IsSeenAround sc block) (λ (around_it : IsSeenAround sc block n). around_it.0) part.rest
 
   -- ---- a declared array
 
@@ -202,7 +202,7 @@ module _ (tree : PProgram) (code : Code) (texts : Texts) (nested : AreNested (sc
 
   module _ (n : Named) (shape : Shape) (couple : Couple) (asks : array_asked (ask part.rest) ≡ Some n) where
     is_seen : IsSeenThere n
-    is_seen = array_seen (IsSeen sc block) n (IsInner sc block) (IsSeenAround sc block) (λ (around_it : IsSeenAround sc block n). around_it.0) part.rest asks s.stands.frame.text
+    is_seen = array_seen (BlockIsSeen sc block) n (IsInner sc block) (IsSeenAround sc block) (λ (around_it : IsSeenAround sc block n). around_it.0) part.rest asks s.stands.frame.text
 
     keeps_around : InRest (IsSeenAround (scopes_of tree) block) IsNoBlock (IsSeenAround (scopes_of tree) block) part.rest → IsSeenAround (scopes_of tree) block n
     keeps_around text = (array_seen (IsSeenAround sc block) n IsNoBlock (IsSeenAround sc block) (λ (seen : IsSeenAround sc block n). seen) part.rest asks text).seen

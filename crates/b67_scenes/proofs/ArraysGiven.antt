@@ -5,7 +5,7 @@ use Rattle.std.specs.Prelude.{pos}
 use Rattle.algol_tree.specs.Plain.{PPair}
 use Rattle.algol_meaning.specs.Arrays.{bounds_of}
 use Rattle.b67_ops.specs.declared.intrinsic.Intrinsic.TheVariants.{Arrays}
-use Rattle.b67_templates.specs.Fragments.{IsWhole}
+use Rattle.b67_templates.specs.Fragments.{IsWholeNumber}
 use Rattle.b67_standing.specs.Standing.{arrays_begun, extents, AreWholeLows}
 use Rattle.b67_frames.proofs.ArraySizes.{bound_numbers}
 use Rattle.b67_scenes.proofs.Calling.{wholes_of}
@@ -33,7 +33,7 @@ bounds_fit (p ∷ pairs) [] lows highs = tt
 bounds_fit (p ∷ pairs) (v ∷ vs) lows highs = (lows.0, (highs.0, bounds_fit pairs vs lows.1 highs.1))
 
 -- they are numbers
-pub given_fit : (many : ℕ) (pairs : List PPair) (vs : List Value) → IsWhole (pos many) → AreWholeLows pairs → AreNumbers vs → AreNumbers (arrays_given many pairs vs)
+pub given_fit : (many : ℕ) (pairs : List PPair) (vs : List Value) → IsWholeNumber (pos many) → AreWholeLows pairs → AreNumbers vs → AreNumbers (arrays_given many pairs vs)
 given_fit many pairs vs whole lows highs = (whole, bounds_fit pairs vs lows highs)
 
 bounds_whole : (pairs : List PPair) (vs : List Value) → wholes_of (bound_values pairs vs) ≡ bound_numbers (bounds_of pairs vs)

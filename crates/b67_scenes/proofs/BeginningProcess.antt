@@ -1,13 +1,13 @@
 -- A process that begins with the instance of a procedure lives: its frame lies at the bottom of its stack, and private operators lead from the
 -- procedure's first place to what the block has to do.
 use Rattle.std.proofs.Common.{◌≡◌, refl, sym, ap, ◌∙◌, subst, ℕ, ◌+◌, ◌*◌, ◌<◌, ◌≤◌, ◌^◌, List, [], ◌∷◌, ◌++◌, length, Option, Some, None, true, false, arith, append_assoc, append-nil, length-append}
-use Rattle.b67_scenes.proofs.Prelude.{replicate, slice_get, numbered, Block, block_numbered, level_of, PProgram, Scopes, scopes_of, some_depends, fresh_cells, settle_items, items_of, Cell, Instance, Part, Process, World, instance_at, or_no_instance, ancestor, KeepsToText, RestsKeepToTheirText, AllIsMadeInOrder, segment_of, IsStanding, Place, Word, Pcw, Rcw, Registers, pcw_word, place_at, as_mscw-mscw_word, as_rcw-rcw_word, Placed, Spells, Code, Segment, place, Image, entered_mark, base_control, at_or, parameter_cells, zero_cells, simple_cells, actuals_of, made_of, in_routine, yields_of, code_at, Texts, context_of, ComesTo, Core, IsCore, HasCore, CoreAt, FragmentsArePerformed, control_words, Begins, BlocksBegin, tokens_around, part_weight, weight, LiesNested, IsText, shown, shown_top, block_keeps, block_makes, Allotted, Layout, AreMade, block_controls, controls_count, most_around, CellsAre, IsChained, home_of, Framed, RoutinesStand, ItemsStand, Frame, of_own, block_few, routines_long, controls_many, LeadAll, lead_there, fresh_are, fresh_lead, simple_many, zero_word, cells_length, as_many_values, CriticalIs, TaskIs, Living, none_yet}
+use Rattle.b67_scenes.proofs.Prelude.{replicate, slice_get, numbered, Block, block_numbered, level_of, PProgram, Scopes, scopes_of, some_depends, fresh_cells, settle_items, items_of, Cell, Instance, Part, Process, World, instance_at, or_no_instance, ancestor, KeepsToText, RestsKeepToTheirText, AllIsMadeInOrder, segment_of, IsStanding, Place, Word, Pcw, Rcw, Registers, pcw_word, place_at, as_mscw-mscw_word, as_rcw-rcw_word, Placed, Spells, Code, Segment, place, Image, entered_mark, base_control, at_or, parameter_cells, zero_cells, simple_cells, actuals_of, made_of, in_routine, yields_of, code_at, Texts, context_of, ComesTo, Core, IsCore, HasCore, CoreAt, FragmentsArePerformed, control_words, CoreBegins, BlocksBegin, tokens_around, part_weight, weight, LiesNested, IsText, shown, shown_top, block_keeps, block_makes, Allotted, Layout, AreMade, block_controls, controls_count, most_around, CellsAre, IsChained, home_of, Framed, RoutinesStand, ItemsStand, Frame, of_own, block_few, routines_long, controls_many, LeadAll, lead_there, fresh_are, fresh_lead, simple_many, zero_word, cells_length, as_many_values, CriticalIs, TaskIs, Living, none_yet}
 use Rattle.algol_meaning.specs.Instances as instances
 use Rattle.algol_meaning.specs.World.{started}
 use Rattle.b67_table.specs.declared.Cell.{Cell as MachineCell}
 use Rattle.b67_table.specs.Starting.{place_of}
 use Rattle.b67_templates.specs.Code.{CellsAt}
-use Rattle.b67_templates.specs.Fragments.{Goes}
+use Rattle.b67_templates.specs.Fragments.{FragmentGoes}
 use Rattle.b67_rows.proofs.Begun.{core_of}
 use Rattle.b67_rows.proofs.Segmented.{length_mapped}
 use Rattle.b67_rows.proofs.StartRow.{begins_with, first_stack, begins_is}
@@ -56,7 +56,7 @@ module _ (tree : PProgram) (code : Code) (texts : Texts) (nested : LiesNested tr
     pub ats : List ℕ
     pub routines : RoutinesStand tree code texts j ats
     pub items : ItemsStand tree code texts j
-    pub over : Goes (texts.placed (segment_of (scopes_of tree).blocks j)) (level_of (block_numbered (scopes_of tree).blocks j)) 0 ready
+    pub over : FragmentGoes (texts.placed (segment_of (scopes_of tree).blocks j)) (level_of (block_numbered (scopes_of tree).blocks j)) 0 ready
     pub cells_at : CellsAt (scopes_of tree) (context_of code texts (scopes_of tree) j) (texts.placed (segment_of (scopes_of tree).blocks j)) (level_of (block_numbered (scopes_of tree).blocks j))
         (length (zero_cells (block_numbered (scopes_of tree).blocks j))) (block_controls (scopes_of tree) j ats) ready start
     pub comes : ComesTo (scopes_of tree) (context_of code texts (scopes_of tree) j) (texts.placed (segment_of (scopes_of tree).blocks j)) (level_of (block_numbered (scopes_of tree).blocks j)) (most_around tree j)
@@ -164,7 +164,7 @@ module _ (tree : PProgram) (code : Code) (texts : Texts) (nested : LiesNested tr
           words_are = tt;
         }
 
-    g : Begins sc [] code ps level bound many controls h.start first
+    g : CoreBegins sc [] code ps level bound many controls h.start first
     g =
         begins_so sc [] (context_of code texts sc j) code ps level bound many controls 0 h.ready h.start first h.over h.cells_at at_first
         (omega (arith, few_cells)) (omega arith)

@@ -1,13 +1,13 @@
 -- The call of an intrinsic, by what lies above the floor of the frame.
 use Rattle.std.proofs.Common.{◌≡◌, refl, sym, ap, ◌∙◌, subst, ℕ, ◌+◌, ◌-◌, ◌<◌, ◌≤◌, ◌^◌, List, [], ◌∷◌, ◌++◌, length, Option, Some, true, false, arith, lit<, append_assoc, length-append, ℤ}
-use Rattle.b67_scenes.proofs.Prelude.{slice_get, reverse, reverse-append, PProgram, Scopes, scopes_of, Value, number, whole_of, Word, as_whole, Mscw, Pcw, Sirw, as_irw, as_sirw, as_mscw, as_pcw, as_pcw-pcw_word, Intrinsic, Couple, number_of, couple_of_intrinsic, Place, Code, words_of, words_or, word_at, intrinsic_pcw, system_stack, place, woken_number, Look, ◌>->◌, seen, cell_of, frame, called_by, HasKind, Texts, Slot, operand, intrinsic, descriptor, mark, operands, AreNumbers, Known, ValueIs, newest, SlotsAre, CoreAt, slots_length, number_read, words_are, Top, top_slot, get-front, get-seam, reference_read, mark_read, pcw_no_sirw}
+use Rattle.b67_scenes.proofs.Prelude.{slice_get, reverse, reverse-append, PProgram, Scopes, scopes_of, Value, number, whole_of, Word, as_whole, Mscw, Pcw, Sirw, as_irw, as_sirw, as_mscw, as_pcw, as_pcw-pcw_word, Intrinsic, Couple, intrinsic_number_of, couple_of_intrinsic, Place, Code, words_of, words_or, word_at, intrinsic_pcw, system_stack, place, woken_number, Look, ◌>->◌, look_seen, cell_of, frame, called_by, HasKind, Texts, Slot, operand, intrinsic, descriptor, mark, operands, AreNumbers, Known, ValueIs, newest, SlotsAre, CoreAt, slots_length, number_read, words_are, Top, top_slot, get-front, get-seam, reference_read, mark_read, pcw_no_sirw}
 use Rattle.algol_tree.specs.declared.tree.Kind.TheVariants as types
 use Rattle.algol_meaning.specs.Value.{truth}
 use Rattle.b67_control.specs.declared.Irw.{Irw}
 use Rattle.b67_ops.specs.declared.intrinsic.Intrinsic.TheVariants as names
 use Rattle.b67_ops.specs.declared.Operator.TheVariants as ops
 use Rattle.b67_ops.specs.declared.PlainKind.TheVariants as kinds
-use Rattle.b67_table.specs.Arguments.{wholes_in, joined}
+use Rattle.b67_table.specs.Arguments.{wholes_in, arguments_joined}
 use Rattle.b67_table.specs.declared.Cell.{Cell}
 use Rattle.b67_table.specs.declared.Reached.{Reached}
 use Rattle.b67_table.specs.Look.{valid}
@@ -25,13 +25,13 @@ use Rattle.b67_scenes.proofs.Staying.{text_in, level_in, most_in, frame_low}
 -- ---- the words of intrinsics
 
 abbrev intrinsic_in : Intrinsic → Pcw
-intrinsic_in name = record { intrinsic = true; names = false; segment = 0; psr = 0; pir = 0; level = 0; number = number_of name }
+intrinsic_in name = record { intrinsic = true; names = false; segment = 0; psr = 0; pir = 0; level = 0; number = intrinsic_number_of name }
 
 -- the word of an intrinsic stands at its number in stack 0
 record IsNumbered (name : Intrinsic) : Type 0 where
-  pub small : number_of name < 2 ^ 14
-  pub lies : slice_get system_stack (0 + number_of name) ≡ Some (intrinsic_pcw (number_of name))
-  pub named : intrinsic_numbered (number_of name) ≡ Some name
+  pub small : intrinsic_number_of name < 2 ^ 14
+  pub lies : slice_get system_stack (0 + intrinsic_number_of name) ≡ Some (intrinsic_pcw (intrinsic_number_of name))
+  pub named : intrinsic_numbered (intrinsic_number_of name) ≡ Some name
 
 is_numbered : (name : Intrinsic) → IsNumbered name
 is_numbered names.GoTo = record { small = lit< tt; lies = refl; named = refl }
@@ -51,7 +51,7 @@ is_numbered names.WaitAny = record { small = lit< tt; lies = refl; named = refl 
 is_numbered names.Available = record { small = lit< tt; lies = refl; named = refl }
 is_numbered names.Fix = record { small = lit< tt; lies = refl; named = refl }
 
-pcw_read : (name : Intrinsic) → as_pcw (intrinsic_pcw (number_of name)) ≡ Some (intrinsic_in name)
+pcw_read : (name : Intrinsic) → as_pcw (intrinsic_pcw (intrinsic_number_of name)) ≡ Some (intrinsic_in name)
 pcw_read name = as_pcw-pcw_word (intrinsic_in name) (lit< tt, (lit< tt, (lit< tt, (lit< tt, (omega (arith, (is_numbered name).small), tt)))))
 
 -- ---- the arguments
@@ -98,8 +98,8 @@ module _ (sc : Scopes) (known : List Known) (level home base : ℕ) where
         };
         wholes =
             ap wholes_in (reverse-append g.lying.arguments (t.word ∷ []))
-            ∙ ap (λ (o : Option ℤ). joined o (wholes_in (reverse g.lying.arguments))) first
-            ∙ ap (λ (o : Option (List ℤ)). joined (Some (whole_of v)) o) g.wholes;
+            ∙ ap (λ (o : Option ℤ). arguments_joined o (wholes_in (reverse g.lying.arguments))) first
+            ∙ ap (λ (o : Option (List ℤ)). arguments_joined (Some (whole_of v)) o) g.wholes;
       }
 
   -- .. nothing, or the reference of a cell
@@ -190,8 +190,8 @@ module _ (tree : PProgram) (code : Code) (texts : Texts) (actor : Actor tree cod
     intrinsic_is : IsNumbered name
     intrinsic_is = is_numbered name
 
-    entry_lies : word_at img.stacks (record { stack = 0; at = 0 + number_of name }) ≡ Some (intrinsic_pcw (number_of name))
-    entry_lies = ap (λ (o : Option (List Word)). slice_get (words_or o) (0 + number_of name)) s.by.system ∙ intrinsic_is.lies
+    entry_lies : word_at img.stacks (record { stack = 0; at = 0 + intrinsic_number_of name }) ≡ Some (intrinsic_pcw (intrinsic_number_of name))
+    entry_lies = ap (λ (o : Option (List Word)). slice_get (words_or o) (0 + intrinsic_number_of name)) s.by.system ∙ intrinsic_is.lies
 
     module _ (g : Lying sc s.stands.held (level_in tree w part) home base slots (intrinsic name ∷ mark ∷ below) core.words) (i : Top sc s.stands.held (level_in tree w part) home base (intrinsic name) (mark ∷ below) g.others)
         (k : Top sc s.stands.held (level_in tree w part) home base mark below i.words_below) where
@@ -216,7 +216,7 @@ module _ (tree : PProgram) (code : Code) (texts : Texts) (actor : Actor tree cod
       low : newest home base below ≤ base + length below
       low = newest_low sc s.stands.held (level_in tree w part) home base below home_low
 
-      reads_reference : as_irw i.word ≡ Some (record { level = 0; index = number_of name })
+      reads_reference : as_irw i.word ≡ Some (record { level = 0; index = intrinsic_number_of name })
       reads_reference = ap as_irw i.slot_is ∙ reference_read (couple_of_intrinsic name) (lit< tt) intrinsic_is.small
 
       lower : Marked sc s.stands.held (level_in tree w part) home base core.below ((g.arguments ++ i.word ∷ k.word ∷ []) ++ k.words_below) (newest home base below)
@@ -247,11 +247,11 @@ module _ (tree : PProgram) (code : Code) (texts : Texts) (actor : Actor tree cod
             reads_mark = ap as_mscw k.slot_is ∙ mark_read df (omega (arith, room));
             unentered = refl;
             level = 0;
-            index = number_of name;
+            index = intrinsic_number_of name;
             frame = place 0 0;
             reads = reads_reference;
             shown = s.sees;
-            entry = intrinsic_pcw (number_of name);
+            entry = intrinsic_pcw (intrinsic_number_of name);
             lies = entry_lies;
             no_sirw = pcw_no_sirw name;
             pcw = intrinsic_in name;
@@ -271,19 +271,19 @@ module _ (tree : PProgram) (code : Code) (texts : Texts) (actor : Actor tree cod
           ∙ word-under core.below g.arguments i.word (k.word ∷ k.words_below) (core.registers.f + 1) (omega (arith, mark_at, long))
 
       abbrev entry_cell : Cell
-      entry_cell = record { frame = place 0 0; index = number_of name }
+      entry_cell = record { frame = place 0 0; index = intrinsic_number_of name }
 
       abbrev found_in : Look Pcw → Option Letter
-      found_in l = told_by (called_letter img core.registers.stack) (seen img.stacks l)
+      found_in l = told_by (called_letter img core.registers.stack) (look_seen img.stacks l)
 
       -- the intrinsic is what ENTR calls
       action_is_called : operator_letter (ops.Plain kinds.Entr) img core.registers ≡ Some (letter_of (woken_number img.numbers core.registers.stack) name)
       action_is_called =
           ap (λ (o : Option Word). found_in (valid o >-> (λ (above : Word). called_by above (cell_of core.registers above)))) reference_lies
           ∙ ap (λ (o : Option Irw). found_in (called_by i.word (irw_or_sirw core.registers o (as_sirw i.word)))) reads_reference
-          ∙ ap (λ (o : Option Place). found_in (called_by i.word (cell_in o (number_of name)))) s.sees
+          ∙ ap (λ (o : Option Place). found_in (called_by i.word (cell_in o (intrinsic_number_of name)))) s.sees
           ∙ ap (λ (o : Option Word). found_in (reached_in entry_cell o >-> (λ (v : Reached). one_sirw (as_sirw v.word) v) >-> (λ (v : Reached). valid (as_pcw v.word)))) entry_lies
-          ∙ ap (λ (o : Option Sirw). found_in (one_sirw o (record { word = intrinsic_pcw (number_of name); cell = entry_cell }) >-> (λ (v : Reached). valid (as_pcw v.word)))) (pcw_no_sirw name)
+          ∙ ap (λ (o : Option Sirw). found_in (one_sirw o (record { word = intrinsic_pcw (intrinsic_number_of name); cell = entry_cell }) >-> (λ (v : Reached). valid (as_pcw v.word)))) (pcw_no_sirw name)
           ∙ ap (λ (o : Option Pcw). found_in (valid o)) (pcw_read name)
           ∙ ap (λ (o : Option Intrinsic). intrinsic_letter (woken_number img.numbers core.registers.stack) o) intrinsic_is.named
 

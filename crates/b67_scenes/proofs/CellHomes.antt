@@ -1,6 +1,6 @@
 -- Where a process finds the cell of a parameter that stands for something else: in a frame that its display names.
 use Rattle.std.proofs.Common.{◌≡◌, sym, ap, ◌∙◌, subst, ℕ, suc, ◌+◌, ◌<◌, ◌^◌, List, [], ◌∷◌, length, Option, Some, Bool, true, false, arith}
-use Rattle.b67_scenes.proofs.Prelude.{if◌then◌else◌, slice_get, numbered, Named, block_numbered, level_of, PProgram, Scopes, scopes_of, use_of, same_name, Reference, Cell, reference, NamedCell, Instance, instance_at, or_no_instance, ancestor, cell_at, cell_in, IsSeen, IsStanding, Place, Word, Couple, Code, word_at, place, display_at, get_within, Simple, Found, Wanted, simple_cells, found_from, Texts, AreNested, some_same, get-front, NearCell, Denotes, named_from, CellsAre, IsInReach, Refers, Framed, cell_front}
+use Rattle.b67_scenes.proofs.Prelude.{if◌then◌else◌, slice_get, numbered, Named, block_numbered, level_of, PProgram, Scopes, scopes_of, use_of, same_name, Reference, Cell, reference, NamedCell, Instance, instance_at, or_no_instance, ancestor, cell_at, cell_in, BlockIsSeen, IsStanding, Place, Word, Couple, Code, word_at, place, display_at, get_within, Simple, Found, Wanted, simple_cells, found_from, Texts, AreNested, some_same, get-front, NearCell, Denotes, named_from, CellsAre, IsInReach, Refers, Framed, cell_front}
 use Rattle.b67_frames.proofs.Knowing.{denotes_so}
 use Rattle.b67_scenes.proofs.Finding.{frame_near, place_near}
 use Rattle.b67_scenes.proofs.Led.{named_parent, named_reached, named_seen, named_shown, IsLed, cell_reached, cell_led}
@@ -71,7 +71,7 @@ module _ (tree : PProgram) (code : Code) (texts : Texts) (nested : AreNested (sc
     pub lies : word_at img.stacks (place at.stack (at.at + couple.index)) ≡ Some word
     pub fits : (couple.level < 32) × (couple.index < 2 ^ 14)
 
-  module _ (n : Named) (wanted : Wanted) (couple : Couple) (found : Found) (refers : Refers wanted) (is_seen : IsSeen sc ((instance_at w part.instance).block) n)
+  module _ (n : Named) (wanted : Wanted) (couple : Couple) (found : Found) (refers : Refers wanted) (is_seen : BlockIsSeen sc ((instance_at w part.instance).block) n)
       (named_there : found_from 0 (simple_cells sc (block_numbered sc.blocks ((use_of sc n).block))) n.name ≡ Some found) (wanted_is : found.cell.wanted ≡ wanted)
       (level_is : couple.level + (use_of sc n).up ≡ level) (index_is : couple.index ≡ 2 + found.number) where
     abbrev home_at : ℕ

@@ -1,10 +1,10 @@
 -- The critical place of a process that lives is below the floor of the stack in which it lies: the frame of the critical instance has its two words there.
 use Rattle.std.proofs.Common.{◌≡◌, inr, refl, sym, ap, ◌∙◌, subst, ℕ, Option, Some, None}
-use Rattle.b67_scenes.proofs.Prelude.{numbered, some_same, PProgram, scopes_of, World, IsStanding, IsWhole, stack_of, IsOk, stack_forth, Place, Registers, Code, Image, Lives, Texts, none_some, AreNested, NearFrame, Layout, CriticalIs, PicturesBy}
+use Rattle.b67_scenes.proofs.Prelude.{numbered, some_same, PProgram, scopes_of, World, IsStanding, IsWholeInstance, stack_of, IsOk, stack_forth, Place, Registers, Code, Image, Lives, Texts, none_some, AreNested, NearFrame, Layout, CriticalIs, PicturesBy}
 use Rattle.b67_scenes.proofs.TouchingOthers.{LivesThere, lives_there}
 use Rattle.b67_scenes.proofs.Finding.{find, found_laid, standing_near}
 
-module _ (tree : PProgram) (code : Code) (texts : Texts) (nested : AreNested (scopes_of tree)) (w : World) (lay : Layout) (img : Image) (by : PicturesBy tree code texts w lay img) (ok : IsOk (scopes_of tree) IsWhole w) (p : ℕ) where
+module _ (tree : PProgram) (code : Code) (texts : Texts) (nested : AreNested (scopes_of tree)) (w : World) (lay : Layout) (img : Image) (by : PicturesBy tree code texts w lay img) (ok : IsOk (scopes_of tree) IsWholeInstance w) (p : ℕ) where
   -- a process that lives depends on one that stands
   pub critical_near : (t : ℕ) (r : Registers) → Lives img t r → (g : Place) → r.critical ≡ Some g → NearFrame p img g
   critical_near t r there g has = by_critical l.process.critical refl (subst (λ (x : Registers). CriticalIs lay l.process.critical x.critical) (sym l.has) l.living_is.critical)

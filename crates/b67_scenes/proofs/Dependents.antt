@@ -1,6 +1,6 @@
 -- Whether a live process depends on an instance: in a world, and by the critical places of its image.
 use Rattle.std.proofs.Common.{◌≡◌, ◌≢◌, ◌⊎◌, inl, inr, refl, sym, ap, ◌∙◌, ℕ, zero, suc, List, [], ◌∷◌, length, Option, Some, None, Bool, true, false, arith}
-use Rattle.b67_scenes.proofs.Prelude.{◌&&◌, ◌||◌, ◌==◌, slice_get, list_any, numbered, PProgram, scopes_of, Instance, Process, Part, State, lives, World, is_this, some_depends, is_evaluation, IsWhole, IsStanding, stack_of, IsOk, stack_forth, IsOwn, Place, Word, Registers, Code, same_place, same_place-self, place, ProcessState, Able, WaitsFor, WaitsAny, Procures, Ended, Image, is_live, live_criticals, get_within as get_below, Texts, some_same, none_some, Layout, CriticalIs, Frame, Around, Pictured, living, dead, PicturesBy, same_or_not, numbered_beyond, same_is}
+use Rattle.b67_scenes.proofs.Prelude.{◌&&◌, ◌||◌, ◌==◌, slice_get, list_any, numbered, PProgram, scopes_of, Instance, Process, Part, State, lives, World, is_this, some_depends, is_evaluation, IsWholeInstance, IsStanding, stack_of, IsOk, stack_forth, IsOwn, Place, Word, Registers, Code, same_place, same_place-self, place, ProcessState, Able, WaitsFor, WaitsAny, Procures, Ended, Image, is_live, live_criticals, get_within as get_below, Texts, some_same, none_some, Layout, CriticalIs, Frame, Around, Pictured, living, dead, PicturesBy, same_or_not, numbered_beyond, same_is}
 use Rattle.b67_table.specs.Image.{is_ended}
 use Rattle.b67_table.specs.Questions.{with_critical, unless}
 use Rattle.b67_scenes.proofs.Heights.{alone_there, none_there}
@@ -93,7 +93,7 @@ not_ended (Procures at) live = refl
 
 -- ---- of a picture
 
-module _ (tree : PProgram) (code : Code) (texts : Texts) (w : World) (lay : Layout) (img : Image) (by : PicturesBy tree code texts w lay img) (ok : IsOk (scopes_of tree) IsWhole w) where
+module _ (tree : PProgram) (code : Code) (texts : Texts) (w : World) (lay : Layout) (img : Image) (by : PicturesBy tree code texts w lay img) (ok : IsOk (scopes_of tree) IsWholeInstance w) where
   -- the critical instance of a process that lives stands
   pub record StandsThere (c : ℕ) : Type 0 where
     pub instance : Instance

@@ -2,14 +2,14 @@
 use Rattle.std.proofs.Common.{◌≡◌, sym, ap, ◌∙◌, subst, ℕ, ◌≤◌, List, [], ◌∷◌, Some, true, false, arith}
 use Rattle.b67_scenes.proofs.Prelude.{Kind, PProgram, Scopes, scopes_of, Reference, Bounds, ArrayCell, World, Word, Descriptor, Code, Texts, Allotted, Layout, AreSized, HasArray, IsArrayOf, OneSized, one_sized, TwoSized, two_sized, IsInReach, Lies, OwnArray, known_array, framed_cells}
 use Rattle.b67_table.specs.Arrays.{as_indexed}
-use Rattle.b67_frames.specs.Arrays.{IsIn, IsElement}
+use Rattle.b67_frames.specs.Arrays.{ElementIsIn, IsElement}
 use Rattle.b67_frames.proofs.ElementRows.{element_copy_read}
 use Rattle.b67_scenes.proofs.Finding.{Found, find}
 use Rattle.b67_scenes.proofs.Led.{reached_stands}
 use Rattle.b67_scenes.proofs.Scene.{Actor}
 
 -- the place of an element in its row is a number that a descriptor can hold
-place_few : (sc : Scopes) (w : World) (lay : Layout) (bs : List Bounds) (ks : List ℕ) (index at : ℕ) → AreSized bs → IsIn sc w lay bs ks index at → at ≤ 1048576
+place_few : (sc : Scopes) (w : World) (lay : Layout) (bs : List Bounds) (ks : List ℕ) (index at : ℕ) → AreSized bs → ElementIsIn sc w lay bs ks index at → at ≤ 1048576
 place_few sc w lay [] ks index at sized within = absurd within
 place_few sc w lay (b ∷ []) [] index at sized within = absurd within
 place_few sc w lay (b ∷ []) (k ∷ []) index at sized within = let one : OneSized b = one_sized b sized in omega (arith, one.few, within.1, within.2)

@@ -1,6 +1,6 @@
 -- The entry of a block or a procedure by the machine, where a process stands at it.
 use Rattle.std.proofs.Common.{◌≡◌, refl, sym, ap, ◌∙◌, subst, ℕ, ◌+◌, ◌-◌, ◌*◌, ◌/◌, ◌%◌, ◌≤◌, ◌<◌, List, [], ◌∷◌, ◌++◌, length, Option, Some, Ok, true, false, arith, length-append}
-use Rattle.b67_scenes.proofs.Prelude.{◌==◌, ◌&&◌, nat_le, slice_get, PProgram, Block, block_numbered, around, level_of, Scopes, scopes_of, Given, Part, World, instance_at, segment_of, Place, Word, Mscw, Pcw, Rcw, as_mscw, as_rcw, as_mscw-mscw_word, as_rcw-rcw_word, place_at, Spells, Code, Segment, stack_limit, place, linked, gives, most_processes, end_of_code, entered_mark, control_word, seen, frame, at_or, plain, operator_at, Has, code_at, Wanted, simple_cells, Texts, Slot, mark, given_slots, Core, IsCore, with_core, newest, SlotsAre, CoreAt, control_words, slots_length, called_by, IsShort, AreNested, LiesNested, shown, shown_top, linked_seen, lower_of, AreFit, Taken, taken_words, next_within, newest_low, segment_low, Top, top_slot, length-stack, mark_read, block_few, as_many_controls, controls_many, Layout, block_controls, IsComplete, Framed, Frame, Shape, of_own, of_lent, IsInReach, made_many, Linked, Begins_with, begins_core, all_linked, nat_tests, cell_of, runs_low, as_many_values}
+use Rattle.b67_scenes.proofs.Prelude.{◌==◌, ◌&&◌, nat_le, slice_get, PProgram, Block, block_numbered, around, level_of, Scopes, scopes_of, Given, Part, World, instance_at, segment_of, Place, Word, Mscw, Pcw, Rcw, as_mscw, as_rcw, as_mscw-mscw_word, as_rcw-rcw_word, place_at, Spells, Code, Segment, stack_limit, place, linked, gives, most_processes, end_of_code, entered_mark, control_word, look_seen, frame, at_or, plain, operator_at, Has, code_at, Wanted, simple_cells, Texts, Slot, mark, given_slots, Core, IsCore, with_core, newest, SlotsAre, CoreAt, control_words, slots_length, called_by, IsShortSegment, AreNested, LiesNested, shown, shown_top, linked_seen, lower_of, AreFit, Taken, taken_words, next_within, newest_low, segment_low, Top, top_slot, length-stack, mark_read, block_few, as_many_controls, controls_many, Layout, block_controls, IsComplete, Framed, Frame, Shape, of_own, of_lent, IsInReach, made_many, Linked, Begins_with, begins_core, all_linked, nat_tests, cell_of, runs_low, as_many_values}
 use Rattle.algol_tree.specs.declared.TheConstants.{MOST_BLOCK_CELLS}
 use Rattle.b67_deeds.specs.declared.Letter.TheVariants.{Enter}
 use Rattle.b67_ops.specs.declared.Operator.TheVariants as ops
@@ -46,7 +46,7 @@ frame_few tree code texts w lay p part outer words f nested = by_shape f.shape
     by_shape (of_own o is) = cells_few (scopes_of tree) w lay p part.instance outer (length f.lower) f.mark f.control f.cells o.framed nested
     by_shape (of_lent l) = omega (arith, ap length l.none)
 
-module _ (tree : PProgram) (code : Code) (texts : Texts) (nested : LiesNested tree) (short : IsShort tree code)
+module _ (tree : PProgram) (code : Code) (texts : Texts) (nested : LiesNested tree) (short : IsShortSegment tree code)
     (actor : Actor tree code texts) where
   open actor use {w, lay, img, p, part, outer, core, s}
 
@@ -86,7 +86,7 @@ module _ (tree : PProgram) (code : Code) (texts : Texts) (nested : LiesNested tr
     pub leads : (m : Mscw) (x : Word) → SlotIs sc s.stands.held level own base (mark ∷ waiting) slot x →
         Leads code img core next x m (code_at (segment_of sc.blocks j) begin (level_of (block_numbered sc.blocks j))) linked.at
     pub calls : (x : Word) → SlotIs sc s.stands.held level own base (mark ∷ waiting) slot x →
-        seen img.stacks (called_by x (cell_of core.registers x)) ≡ Ok (code_at (segment_of sc.blocks j) begin (level_of (block_numbered sc.blocks j)))
+        look_seen img.stacks (called_by x (cell_of core.registers x)) ≡ Ok (code_at (segment_of sc.blocks j) begin (level_of (block_numbered sc.blocks j)))
 
   module _ (wanted : List Wanted) (gs : List Given) (slot : Slot) (next : ℕ) (waiting : List Slot) (h j begin : ℕ) (e : Calls wanted gs slot next waiting h j begin) where
     abbrev pub inner_level : ℕ
@@ -167,7 +167,7 @@ module _ (tree : PProgram) (code : Code) (texts : Texts) (nested : LiesNested tr
     abbrev pub display : List (Option Place)
     display = shown (place p at) frames
 
-    linked_there : seen img.stacks (linked (place p at) home inner_level) ≡ Ok display
+    linked_there : look_seen img.stacks (linked (place p at) home inner_level) ≡ Ok display
     linked_there = linked_seen (place p at) home frames inner_level (all_linked sc w lay img.stacks h e.linked) (omega (arith, level_is))
 
     -- ---- what control words hold
@@ -230,8 +230,8 @@ module _ (tree : PProgram) (code : Code) (texts : Texts) (nested : LiesNested tr
           is_home = subst (λ (n : ℕ). (e.linked.entered.control.own_level + 1 == n && nat_le 2 e.linked.entered.control.own_level) ≡ true) (sym (level_is ∙ up_one))
               (home_level e.linked.entered.control.own_level (length e.linked.more + 2) e.linked.entered.level_is (omega (arith, e.linked.entered.level_is)));
           returns = returns;
-          linked = subst (λ (n : ℕ). seen img.stacks (linked (place n core.registers.f) home inner_level) ≡ Ok display) (sym s.has.own)
-              (subst (λ (n : ℕ). seen img.stacks (linked (place p n) home inner_level) ≡ Ok display) (sym at_is) linked_there);
+          linked = subst (λ (n : ℕ). look_seen img.stacks (linked (place n core.registers.f) home inner_level) ≡ Ok display) (sym s.has.own)
+              (subst (λ (n : ℕ). look_seen img.stacks (linked (place p n) home inner_level) ≡ Ok display) (sym at_is) linked_there);
         }
       where
         up_one : length e.linked.more + 3 ≡ length e.linked.more + 2 + 1

@@ -1,7 +1,7 @@
 -- Where a process finds an event: its word lies in the frame of one of its parts. A name that a block declares means one that is made; that of
 -- a parameter leads to one.
 use Rattle.std.proofs.Common.{◌≡◌, ◌⊎◌, inl, inr, refl, sym, ap, ◌∙◌, subst, ℕ, ◌+◌, ◌<◌, ◌≤◌, ◌^◌, List, ◌∷◌, length, Option, Some, arith, None}
-use Rattle.b67_scenes.proofs.Prelude.{slice_get, Named, block_numbered, level_of, PProgram, PBody, Scopes, scopes_of, use_of, Reference, Cell, event, reference, ask, NamedCell, Instance, instance_at, or_no_instance, ancestor, cell_in, cell_at, by_cell, followed, IsSeen, IsSeenAround, IsInner, InRest, IsNoBlock, numbered_small, NearCell, Word, Registers, as_irw, as_sirw, event_word, Couple, Code, word_at, place, Image, display_at, cell_place, cell_word, get_within, simple_cells, made_base, found_from, made_of, made_from, Texts, AreNested, some_same, IsAsked, ArraySeen, Denotes, named_from, HasEvent, IsComplete, IsInReach, Framed, block_controls, block_few, controls_many, FindsEvent, directly, by_reference, IsParent, IsEventAt, OwnCells, framed_cells, none_later, OwnEvent, up_complete}
+use Rattle.b67_scenes.proofs.Prelude.{slice_get, Named, block_numbered, level_of, PProgram, PBody, Scopes, scopes_of, use_of, Reference, Cell, event, reference, ask, NamedCell, Instance, instance_at, or_no_instance, ancestor, cell_in, cell_at, by_cell, followed, BlockIsSeen, IsSeenAround, IsInner, InRest, IsNoBlock, numbered_small, NearCell, Word, Registers, as_irw, as_sirw, event_word, Couple, Code, word_at, place, Image, display_at, cell_place, cell_word, get_within, simple_cells, made_base, found_from, made_of, made_from, Texts, AreNested, some_same, IsAsked, ArraySeen, Denotes, named_from, HasEvent, IsComplete, IsInReach, Framed, block_controls, block_few, controls_many, FindsEvent, directly, by_reference, IsParent, IsEventAt, OwnCells, framed_cells, none_later, OwnEvent, up_complete}
 use Rattle.algol_paths.specs.Arrays.{an_event}
 use Rattle.b67_table.specs.declared.Cell.{Cell as MachineCell}
 use Rattle.b67_templates.specs.Cells as wants
@@ -156,7 +156,7 @@ module _ (tree : PProgram) (code : Code) (texts : Texts) (nested : AreNested (sc
     pub near : NearCell p img cell
     pub fits : (couple.level < 32) × (couple.index < 2 ^ 14)
 
-  module _ (n : Named) (couple : Couple) (is_seen : IsSeen (scopes_of tree) ((instance_at w part.instance).block) n)
+  module _ (n : Named) (couple : Couple) (is_seen : BlockIsSeen (scopes_of tree) ((instance_at w part.instance).block) n)
       (made : IsComplete (scopes_of tree) w lay part.instance ⊎ IsSeenAround (scopes_of tree) ((instance_at w part.instance).block) n)
       (keeps : InRest (IsSeenAround (scopes_of tree) ((instance_at w part.instance).block)) IsNoBlock (IsSeenAround (scopes_of tree) ((instance_at w part.instance).block)) part.rest →
       IsSeenAround (scopes_of tree) ((instance_at w part.instance).block) n) (v : IsDeclaredEvent (scopes_of tree) (names_in tree w part) n couple) where
@@ -298,7 +298,7 @@ module _ (tree : PProgram) (code : Code) (texts : Texts) (nested : AreNested (sc
     pub declared_there : made_from 0 (made_of (block_numbered (scopes_of tree).blocks lies.found.lies.owned.framed.instance.block).decls) r.name ≡ Some (record { number = leads.made.number; made = an_event r.name })
     pub refers : as_sirw home.word ≡ Some (record { stack = lies.found.number; displacement = length lies.found.lies.frame.lower; index = (cell_there lies leads.made.number).index })
 
-  module _ (n : Named) (couple : Couple) (is_seen : IsSeen sc block n) (v : IsFormalEvent sc level n couple) where
+  module _ (n : Named) (couple : Couple) (is_seen : BlockIsSeen sc block n) (v : IsFormalEvent sc level n couple) where
     h : CellHome tree code texts nested actor n wants.event couple
     h = cell_home tree code texts nested actor n wants.event couple v.found tt is_seen v.there v.wanted_is v.level_is v.index_is
 
@@ -341,8 +341,8 @@ module _ (tree : PProgram) (code : Code) (texts : Texts) (nested : AreNested (sc
   -- ---- the one or the other
 
   module _ (n : Named) (couple : Couple) (asks : IsAsked (ask part.rest) n) where
-    is_seen : ArraySeen (IsSeen sc block) n (IsInner sc block) (IsSeenAround sc block) (λ (around_it : IsSeenAround sc block n). around_it.0) part.rest
-    is_seen = asked_seen (IsSeen sc block) n (IsInner sc block) (IsSeenAround sc block) (λ (around_it : IsSeenAround sc block n). around_it.0) part.rest asks s.stands.frame.text
+    is_seen : ArraySeen (BlockIsSeen sc block) n (IsInner sc block) (IsSeenAround sc block) (λ (around_it : IsSeenAround sc block n). around_it.0) part.rest
+    is_seen = asked_seen (BlockIsSeen sc block) n (IsInner sc block) (IsSeenAround sc block) (λ (around_it : IsSeenAround sc block n). around_it.0) part.rest asks s.stands.frame.text
 
     keeps_around : InRest (IsSeenAround sc block) IsNoBlock (IsSeenAround sc block) part.rest → IsSeenAround sc block n
     keeps_around text = (asked_seen (IsSeenAround sc block) n IsNoBlock (IsSeenAround sc block) (λ (seen : IsSeenAround sc block n). seen) part.rest asks text).seen

@@ -2,7 +2,7 @@
 use Rattle.std.proofs.Common.{◌≡◌, ◌≢◌, refl, sym, ap, ◌∙◌, subst, ℕ, ◌+◌, List, [], ◌∷◌, ◌++◌, length, Some}
 use Rattle.b67_scenes.proofs.Prelude.{slice_get, slice_set, numbered, block_numbered, PProgram, Scopes, scopes_of, event, EventState, NamedCell, Instance, Part, World, instance_at, or_no_instance, with_instance, cell_in, cells_with, Made, Place, Word, Event, Code, place, Simple, simple_cells, made_base, Texts, Core, some_same, IsOwn, get-behind, Layout, AreMade, ArraysAre, HasEvent, EventsAre, CellsAre, Framed, Frames, KeepsArrays, Lies, lies_in, OwnCells, OwnEvent, cells_length}
 use Rattle.algol_meaning.specs.Events.{set_event}
-use Rattle.b67_events.specs.Events.{changed as with_event}
+use Rattle.b67_events.specs.Events.{event_changed}
 use Rattle.b67_events.specs.Laws.{StaysInPlace}
 use Rattle.b67_store.specs.Store.{Rows}
 use Rattle.b67_rows.proofs.Numbers.{get_set}
@@ -114,6 +114,6 @@ module _ (sc : Scopes) (w : World) (lay : Layout) (i : ℕ) (x : Instance) (own 
     pub events_after : (change : Event → Event) → StaysInPlace change →
         change (event_there (place frame.stack (frame.at + (made_base sc (block_numbered sc.blocks x.block) + number))) found.cell) ≡ event_there (place frame.stack (frame.at + (made_base sc (block_numbered sc.blocks x.block) + number))) later →
         (events : List Event) → EventsAre sc w lay events →
-        EventsAre sc (stored_world w i x own.is (cells_with x.cells name (event later))) lay (with_event (place frame.stack (frame.at + (made_base sc (block_numbered sc.blocks x.block) + number))) change events)
+        EventsAre sc (stored_world w i x own.is (cells_with x.cells name (event later))) lay (event_changed (place frame.stack (frame.at + (made_base sc (block_numbered sc.blocks x.block) + number))) change events)
     events_after =
         events_changed sc w w' lay i x (changed w i x own.is cells') number found.cell later (place frame.stack (frame.at + (made_base sc (block_numbered sc.blocks x.block) + number))) has_event own.is refl refl refl this_is others_are

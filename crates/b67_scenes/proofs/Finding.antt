@@ -1,6 +1,6 @@
 -- Where the frame of an instance that stands lies, in whatever stack, and how much of it lies below the floor of the process whose stack that is.
 use Rattle.std.proofs.Common.{◌≡◌, inl, inr, refl, sym, ap, ◌∙◌, subst, ℕ, ◌+◌, ◌<◌, ◌≤◌, Bool, false, List, [], ◌∷◌, ◌++◌, length, Some, arith, append_assoc, append-nil}
-use Rattle.b67_scenes.proofs.Prelude.{if◌then◌else◌, slice_get, numbered, block_numbered, PProgram, Scopes, scopes_of, Instance, Process, Part, State, lives, World, instance_at, is_evaluation, own_instances, some_depends, IsIn, IsStanding, IsOwn, IsWhole, stack_of, IsOk, IsLow, stack_forth, Place, Word, Code, word_at, stack_limit, place, Image, made_base, Texts, Core, size, HasCore, Above, steps_stay_above, some_same, get-front, get-behind, Near, below_floor, NearFrame, Layout, Stands, Around, Frames, begins_core, Lies, owned_frame, lies_low, lies_around, Living, Pictured, living, dead, PicturesBy, Reaches, ReachesFor}
+use Rattle.b67_scenes.proofs.Prelude.{if◌then◌else◌, slice_get, numbered, block_numbered, PProgram, Scopes, scopes_of, Instance, Process, Part, State, lives, World, instance_at, is_evaluation, own_instances, some_depends, IsInSkeleton, IsStanding, IsOwn, IsWholeInstance, stack_of, IsOk, IsLow, stack_forth, Place, Word, Code, word_at, stack_limit, place, Image, made_base, Texts, Core, size, HasCore, Above, steps_stay_above, some_same, get-front, get-behind, Near, below_floor, NearFrame, Layout, FrameStands, Around, Frames, begins_core, Lies, owned_frame, lies_low, lies_around, Living, Pictured, living, dead, PicturesBy, CoreReaches, ReachesFor}
 use Rattle.b67_rows.proofs.Numbers.{get_within}
 use Rattle.b67_frames.proofs.Linked.{Entered, AreEntered, lies_entered}
 use Rattle.b67_scenes.specs.Reaches as reaching
@@ -96,9 +96,9 @@ module _ (tree : PProgram) (code : Code) (texts : Texts) (w : World) (lay : Layo
 
   -- ---- of a picture
 
-  module _ (by : PicturesBy tree code texts w lay img) (ok : IsOk (scopes_of tree) IsWhole w) (i : ℕ) (h : IsInStack tree code texts w lay img by ok i) where
-    module _ (part : Part) (outer : List Part) (todo : h.process.todo ≡ part ∷ outer) (l : Living tree code texts w lay img h.number h.process) (s : Stands tree code texts w lay h.number part outer l.settled)
-        (a : Around tree code texts w lay h.number outer s.frame.lower s.frame.mark s.frame.control s.frame.gives) (r : Reaches (scopes_of tree) w lay h.number part l.core l.settled) where
+  module _ (by : PicturesBy tree code texts w lay img) (ok : IsOk (scopes_of tree) IsWholeInstance w) (i : ℕ) (h : IsInStack tree code texts w lay img by ok i) where
+    module _ (part : Part) (outer : List Part) (todo : h.process.todo ≡ part ∷ outer) (l : Living tree code texts w lay img h.number h.process) (s : FrameStands tree code texts w lay h.number part outer l.settled)
+        (a : Around tree code texts w lay h.number outer s.frame.lower s.frame.mark s.frame.control s.frame.gives) (r : CoreReaches (scopes_of tree) w lay h.number part l.core l.settled) where
       abbrev top : ℕ
       top = length s.frame.lower
 
@@ -107,12 +107,12 @@ module _ (tree : PProgram) (code : Code) (texts : Texts) (w : World) (lay : Layo
       top_is owns at laid = ap (λ (g : Place). g.at) (some_same (sym laid ∙ (owned_frame tree code texts w lay h.number part outer l.settled.below s.frame owns).framed.laid))
 
       -- all below it lies below the floor
-      top_low : Reaches sc w lay h.number part l.core l.settled → top ≤ length l.core.below
+      top_low : CoreReaches sc w lay h.number part l.core l.settled → top ≤ length l.core.below
       top_low (reaching.all same) = omega (arith, same, frame_low tree code texts w lay h.number part outer l.settled.below s.frame)
       top_low (reaching.low at owns laid enough is_low) = omega (arith, top_is owns at laid, enough)
       top_low (reaching.none_yet at owns laid enough free) = omega (arith, top_is owns at laid, enough)
 
-      shows_top : Reaches sc w lay h.number part l.core l.settled → is_evaluation part.purpose ≡ false → part.instance ≡ i → Shows h.process i top (length s.frame.cells) l.core
+      shows_top : CoreReaches sc w lay h.number part l.core l.settled → is_evaluation part.purpose ≡ false → part.instance ≡ i → Shows h.process i top (length s.frame.cells) l.core
       shows_top (reaching.all same) owns is = wholly (omega (arith, same, frame_low tree code texts w lay h.number part outer l.settled.below s.frame))
       shows_top (reaching.low at mine laid enough is_low) owns is =
           let here : at ≡ top = top_is mine at laid in
@@ -199,12 +199,12 @@ module _ (tree : PProgram) (code : Code) (texts : Texts) (w : World) (lay : Layo
         by_picture : Pictured tree code texts w lay img h.number h.process → Found i
         by_picture (living alive s l) = by_parts h.process.todo refl l l.frames l.reaches (own_listed h.process.todo i h.inside)
         by_picture (dead ended_is s) =
-            absurd (subst (λ (is : List ℕ). IsIn is i)
+            absurd (subst (λ (is : List ℕ). IsInSkeleton is i)
             (ok.sound.skeleton_ok.ended h.number (stack_of h.process) (stack_forth w h.number h.process h.is) (ap (λ (x : State). lives x) ended_is)) h.inside)
 
   -- ---- of all that stand
 
-  module _ (by : PicturesBy tree code texts w lay img) (ok : IsOk (scopes_of tree) IsWhole w) where
+  module _ (by : PicturesBy tree code texts w lay img) (ok : IsOk (scopes_of tree) IsWholeInstance w) where
     -- each instance that stands is found
     pub find : (i : ℕ) → IsStanding w i → Found i
     find i st = found_there by ok i (in_stack tree code texts w lay img by ok i st)

@@ -1,9 +1,9 @@
 -- Where a process finds the cell of a parameter that stands for an array: in a frame that its display names. It leads to the array's cell.
 use Rattle.std.proofs.Common.{◌≡◌, sym, ap, ◌∙◌, ℕ, ◌∷◌, Some, refl}
-use Rattle.b67_scenes.proofs.Prelude.{Named, PProgram, Scopes, scopes_of, Reference, Cell, reference, instance_at, cell_at, IsSeen, Place, as_sirw, Couple, Code, cell_word, IsFormalArray, Texts, AreNested, some_same, Denotes, named_from, IsInReach}
+use Rattle.b67_scenes.proofs.Prelude.{Named, PProgram, Scopes, scopes_of, Reference, Cell, reference, instance_at, cell_at, BlockIsSeen, Place, as_sirw, Couple, Code, cell_word, IsFormalArray, Texts, AreNested, some_same, Denotes, named_from, IsInReach}
 use Rattle.algol_paths.specs.Arrays.{Shape}
 use Rattle.b67_templates.specs.Cells as wants
-use Rattle.b67_frames.specs.Arrays.{LeadsTo}
+use Rattle.b67_frames.specs.Arrays.{ReferenceLeadsTo}
 use Rattle.b67_scenes.proofs.ArrayPlaces.{array_index, ArrayPlace, array_place, place_read}
 use Rattle.b67_scenes.proofs.Scene.{Actor}
 use Rattle.b67_scenes.proofs.Staying.{names_in}
@@ -30,17 +30,17 @@ module _ (tree : PProgram) (code : Code) (texts : Texts) (nested : AreNested (sc
     pub r : Reference
     pub cell_is : cell_at w (named n) ≡ reference r
     pub home : CellHome tree code texts nested actor n (wants.array shape) couple
-    pub leads : LeadsTo sc w lay (IsInReach w (part ∷ outer)) shape r home.word
+    pub leads : ReferenceLeadsTo sc w lay (IsInReach w (part ∷ outer)) shape r home.word
     pub led : IsLed tree code texts actor r
     pub target : ArrayPlace tree code texts actor r.instance r.name leads.declared leads.cell leads.allotted leads.array
     pub reads : as_sirw home.word
         ≡ Some (record { stack = target.at.stack; displacement = target.at.at; index = array_index tree code texts actor r.instance leads.array.number })
 
-  module _ (n : Named) (shape : Shape) (couple : Couple) (is_seen : IsSeen sc ((instance_at w part.instance).block) n) (v : IsFormalArray sc level n shape couple) where
+  module _ (n : Named) (shape : Shape) (couple : Couple) (is_seen : BlockIsSeen sc ((instance_at w part.instance).block) n) (v : IsFormalArray sc level n shape couple) where
     h : CellHome tree code texts nested actor n (wants.array shape) couple
     h = cell_home tree code texts nested actor n (wants.array shape) couple v.found tt is_seen v.there v.wanted_is v.level_is v.index_is
 
-    module _ (r : Reference) (same : h.cell ≡ reference r) (leads : LeadsTo sc w lay (IsInReach w (part ∷ outer)) shape r h.word) where
+    module _ (r : Reference) (same : h.cell ≡ reference r) (leads : ReferenceLeadsTo sc w lay (IsInReach w (part ∷ outer)) shape r h.word) where
       led : IsLed tree code texts actor r
       led = h.leads r same
 

@@ -1,6 +1,6 @@
 -- Under the frame of a part lies that of the part around it, to which the marks lead down.
 use Rattle.std.proofs.Common.{◌≡◌, refl, ap, ◌∙◌, subst, ℕ, ◌+◌, ◌≤◌, List, ◌∷◌, ◌++◌, length, Ok, arith}
-use Rattle.b67_scenes.proofs.Prelude.{reverse, PProgram, Scopes, scopes_of, Part, World, Word, as_mscw, as_rcw, Code, Stacks, stack_limit, Below, place, left_to, read_as, seen, Texts, newest, slots_length, entered_to, length-stack, Layout, Frame, Waits, Around, Begins_with, begins_front, mark_there, control_there}
+use Rattle.b67_scenes.proofs.Prelude.{reverse, PProgram, Scopes, scopes_of, Part, World, Word, as_mscw, as_rcw, Code, Stacks, stack_limit, Below, place, left_to, read_as, look_seen, Texts, newest, slots_length, entered_to, length-stack, Layout, Frame, Waits, Around, Begins_with, begins_front, mark_there, control_there}
 use Rattle.b67_rows.proofs.Marks.{Above, left_seen}
 use Rattle.b67_scenes.proofs.Staying.{level_in, frame_low}
 
@@ -56,7 +56,7 @@ module _ (tree : PProgram) (code : Code) (texts : Texts) (w : World) (lay : Layo
   abbrev pub below_it : Below
   below_it = record { mark = newest home (length u.below) u.slots; frame = home; control = u.back }
 
-  pub leads_down : seen stacks (left_to (place p f)) ≡ Ok below_it
+  pub leads_down : look_seen stacks (left_to (place p f)) ≡ Ok below_it
   leads_down =
       left_seen sc u.held (level_in tree w next) stacks p home u.below u.words above f (entered_to u.home u.df)
       (ap (read_as as_mscw) (mark_there tree code texts w lay p stacks part (next ∷ parts) all frame begins) ∙ u.mark_is) u.back

@@ -1,6 +1,6 @@
 -- No two instances that stand have their frames at one place, and none has its own where an evaluation has one.
 use Rattle.std.proofs.Common.{◌≡◌, ◌⊎◌, inl, inr, sym, ap, ◌∙◌, subst, ℕ, ◌+◌, ◌≤◌, List, [], ◌∷◌, length, Some, true, false, arith}
-use Rattle.b67_scenes.proofs.Prelude.{numbered, PProgram, scopes_of, Instance, Process, Part, World, is_evaluation, IsWhole, IsOk, IsOwn, Place, Word, Code, place, Image, Yields, Texts, some_same, true_false, Layout, Frame, Around, PicturesBy, IsElsewhere, Lies, lies_around, lies_low, owned_frame}
+use Rattle.b67_scenes.proofs.Prelude.{numbered, PProgram, scopes_of, Instance, Process, Part, World, is_evaluation, IsWholeInstance, IsOk, IsOwn, Place, Word, Code, place, Image, Yields, Texts, some_same, true_false, Layout, Frame, Around, PicturesBy, IsElsewhere, Lies, lies_around, lies_low, owned_frame}
 use Rattle.b67_scenes.proofs.Worlds.{held_of}
 
 module _ (tree : PProgram) (code : Code) (texts : Texts) (w : World) (lay : Layout) (p : ℕ) where
@@ -47,7 +47,7 @@ module _ (tree : PProgram) (code : Code) (texts : Texts) (w : World) (lay : Layo
     own_stack i (inl x) g laid = ap (λ (y : Place). y.stack) (head_at part outer words f x.0 i x.1 g laid)
     own_stack i (inr x) g laid = (own_low outer f.lower f.mark f.control f.gives a i x g laid).0
 
-    module _ (img : Image) (by : PicturesBy tree code texts w lay img) (ok : IsOk (scopes_of tree) IsWhole w) (q : Process) (is : numbered w.processes p ≡ Some q) (todo : q.todo ≡ part ∷ outer) where
+    module _ (img : Image) (by : PicturesBy tree code texts w lay img) (ok : IsOk (scopes_of tree) IsWholeInstance w) (q : Process) (is : numbered w.processes p ≡ Some q) (todo : q.todo ≡ part ∷ outer) where
       held : (j : ℕ) (x : Instance) → numbered w.instances j ≡ Some x → x.left ≡ false → IsOwn (part ∷ outer) j ⊎ IsElsewhere lay p j
       held j x there stands = subst (λ (ps : List Part). IsOwn ps j ⊎ IsElsewhere lay p j) todo (held_of tree code texts w lay img by ok p q is j x there stands)
 

@@ -1,6 +1,6 @@
 -- Where a process finds a variable: in the frame of its instance or of a static parent of that.
 use Rattle.std.proofs.Common.{◌≡◌, ap, ◌∙◌, ℕ, ◌+◌, List, ◌∷◌, length, Some, Ok, arith}
-use Rattle.b67_scenes.proofs.Prelude.{Kind, Named, block_numbered, PProgram, Scopes, scopes_of, use_of, Reference, instance_at, ancestor, IsSeen, Couple, Operator, Placed, Code, word_at, place, display_at, operator_at, Has, Found, found_from, simple_cells, IsVariable, Texts, Slot, Core, Known, CoreAt, IsInReach, IsParent}
+use Rattle.b67_scenes.proofs.Prelude.{Kind, Named, block_numbered, PProgram, Scopes, scopes_of, use_of, Reference, instance_at, ancestor, BlockIsSeen, Couple, Operator, Placed, Code, word_at, place, display_at, operator_at, Has, Found, found_from, simple_cells, IsVariable, Texts, Slot, Core, Known, CoreAt, IsInReach, IsParent}
 use Rattle.b67_segment.specs.Fetching.{fetched}
 use Rattle.b67_segment.proofs.Among.{fetched-spelled}
 use Rattle.b67_scenes.proofs.Led.{named_parent, named_reached, named_shown}
@@ -39,7 +39,7 @@ module _ (tree : PProgram) (code : Code) (texts : Texts) (actor : Actor tree cod
     pub lies : word_at img.stacks (place at.seen_there.found.number (length at.seen_there.found.lies.frame.lower + couple.index)) ≡ Some at.word
     pub shown : display_at core.registers couple.level ≡ Some (place at.seen_there.found.number (length at.seen_there.found.lies.frame.lower))
 
-  module _ (n : Named) (kind : Kind) (couple : Couple) (is_seen : IsSeen sc ((instance_at w part.instance).block) n) (v : IsVariable sc (names_in tree w part) n kind couple) where
+  module _ (n : Named) (kind : Kind) (couple : Couple) (is_seen : BlockIsSeen sc ((instance_at w part.instance).block) n) (v : IsVariable sc (names_in tree w part) n kind couple) where
     parent : IsParent sc w lay part.instance ((use_of sc n).up) ((use_of sc n).block)
     parent = named_parent tree code texts actor n is_seen
 

@@ -1,18 +1,18 @@
 -- What NXLV, NXLN and INDX find on top: the descriptor of an array, by its couple, or that of a row, and under it the index of a subscript.
 use Rattle.std.proofs.Common.{◌≡◌, refl, sym, ap, ◌∙◌, subst, ℕ, ◌+◌, ◌<◌, ◌≤◌, List, [], ◌∷◌, ◌++◌, length, Some, Bool, true, false, Ok, ℤ, arith}
-use Rattle.b67_scenes.proofs.Prelude.{slice_get, Named, PProgram, Scopes, scopes_of, use_of, Sort, number, Reference, Bounds, ArrayCell, array, followed, Word, as_whole, Descriptor, as_irw, Couple, Code, seen, frame, Texts, Slot, operand, descriptor, Known, newest, SlotsAre, CoreAt, some_same, AreNested, number_read, Top, top_slot, reference_read, Allotted, DescriptorIs, AreSized, IsArrayOf, named_from, OneSized, one_sized, TwoSized, two_sized, IsInReach, CountsBy}
+use Rattle.b67_scenes.proofs.Prelude.{slice_get, Named, PProgram, Scopes, scopes_of, use_of, Sort, number, Reference, Bounds, ArrayCell, array, followed, Word, as_whole, Descriptor, as_irw, Couple, Code, look_seen, frame, Texts, Slot, operand, descriptor, Known, newest, SlotsAre, CoreAt, some_same, AreNested, number_read, Top, top_slot, reference_read, Allotted, DescriptorIs, AreSized, IsArrayOf, named_from, OneSized, one_sized, TwoSized, two_sized, IsInReach, CountsBy}
 use Rattle.algol_meaning.specs.Arrays.{size_of, subscript_place}
 use Rattle.algol_paths.specs.Arrays.{Shape}
 use Rattle.b67_control.specs.Control.{as_descriptor}
 use Rattle.b67_store.specs.Store.{row_limit}
-use Rattle.b67_table.specs.Arrays.{is_array, array_of, array_word, index_in}
+use Rattle.b67_table.specs.Arrays.{is_array_descriptor, array_of, array_word, index_in}
 use Rattle.b67_templates.specs.Cells.{FoundMade}
-use Rattle.b67_templates.specs.Fragments.{moved}
+use Rattle.b67_templates.specs.Fragments.{moved_number}
 use Rattle.b67_standing.specs.Stepping.{row, reference}
-use Rattle.b67_standing.specs.Standing.{IsLast}
+use Rattle.b67_standing.specs.Standing.{IsLastSubscript}
 use Rattle.b67_rows.proofs.Described.{IsDescriptor, is_descriptor, whole_array, is_whole_array, IsFound, itself, in_cell, through_cell}
 use Rattle.b67_rows.proofs.IndexRows.{with_one, array_itself, array_reached, array_through}
-use Rattle.b67_frames.specs.Arrays.{IsIn, row_copy, IsRow}
+use Rattle.b67_frames.specs.Arrays.{ElementIsIn, row_copy, IsRow}
 use Rattle.b67_frames.proofs.ElementRows.{array_read, row_copy_read}
 use Rattle.b67_frames.proofs.Knowing.{known_is}
 use Rattle.b67_frames.proofs.Subscripts.{one_bound, two_bounds, only_index, first_index, second_index}
@@ -43,7 +43,7 @@ module _ (tree : PProgram) (code : Code) (texts : Texts) (nested : AreNested (sc
     pub top : core.words ≡ first ∷ second ∷ words
     pub left_are : Are below words
     pub is_whole : as_whole second ≡ Some z
-    pub array_is : seen img.stacks (array_of core.registers mother first) ≡ Ok d
+    pub array_is : look_seen img.stacks (array_of core.registers mother first) ≡ Ok d
     pub found : IsFound p img core.registers first
     -- neither is a mark
     pub marks : core.registers.f ≡ newest (frame core.registers) (length core.below) below
@@ -93,8 +93,8 @@ module _ (tree : PProgram) (code : Code) (texts : Texts) (nested : AreNested (sc
     sort = (use_of sc n).sort
 
     -- by a reference to the array
-    module _ (mother : Bool) (x : Word) (d : Descriptor) (x_is : as_irw x ≡ Some (record { level = couple.level; index = couple.index })) (fits : is_array mother d ≡ true) (is : IsDescriptor h.word d) where
-      array_found : Reaches tree code texts nested actor couple h.word → seen img.stacks (array_of core.registers mother x) ≡ Ok d
+    module _ (mother : Bool) (x : Word) (d : Descriptor) (x_is : as_irw x ≡ Some (record { level = couple.level; index = couple.index })) (fits : is_array_descriptor mother d ≡ true) (is : IsDescriptor h.word d) where
+      array_found : Reaches tree code texts nested actor couple h.word → look_seen img.stacks (array_of core.registers mother x) ≡ Ok d
       array_found (directly at shown near lies) =
           array_reached img core.registers mother x d fits couple.level couple.index at h.word x_is shown lies is.no_sirw is.reads
       array_found (by_reference at first r shown near lies refers further there) =
@@ -138,12 +138,12 @@ module _ (tree : PProgram) (code : Code) (texts : Texts) (nested : AreNested (sc
       pub few : size ≤ 1048576
       pub low : number < row_limit
       pub row_there : slice_get h.allotted.parts index ≡ Some number
-      pub within : (k : ℕ) → k < size → IsIn sc w lay h.cell.bounds (ks ++ k ∷ []) index k
+      pub within : (k : ℕ) → k < size → ElementIsIn sc w lay h.cell.bounds (ks ++ k ∷ []) index k
       pub place_is : index_in moved_subscript size ≡ subscript_place sort h.cell ks subscript
       pub finds : Finds false moved_subscript (whole_array copied false size number) below
 
     -- of one dimension
-    only : (subscript : ℤ) (below : List Slot) (b : Bounds) (low : ℤ) → CountsBy sort h.cell.bounds (low ∷ []) → h.cell.bounds ≡ b ∷ [] → s.stands.slots ≡ reference couple ∷ operand (number (moved low subscript)) ∷ below →
+    only : (subscript : ℤ) (below : List Slot) (b : Bounds) (low : ℤ) → CountsBy sort h.cell.bounds (low ∷ []) → h.cell.bounds ≡ b ∷ [] → s.stands.slots ≡ reference couple ∷ operand (number (moved_number low subscript)) ∷ below →
         LastIndex [] subscript below
     only subscript below b low counts is lies =
         let d : DescriptorIs (b ∷ []) h.allotted h.word = subst (λ (bs : List Bounds). DescriptorIs bs h.allotted h.word) is h.descriptor in
@@ -153,20 +153,20 @@ module _ (tree : PProgram) (code : Code) (texts : Texts) (nested : AreNested (sc
           index = 0;
           number = d.0;
           copied = false;
-          moved_subscript = moved low subscript;
+          moved_subscript = moved_number low subscript;
           few = sized.few;
           low = d.1;
           row_there = ap (λ (a : Allotted). slice_get a.parts 0) d.2;
-          within = λ k under. subst (λ (bs : List Bounds). IsIn sc w lay bs (k ∷ []) 0 k) (sym is) (refl, refl, under);
+          within = λ k under. subst (λ (bs : List Bounds). ElementIsIn sc w lay bs (k ∷ []) 0 k) (sym is) (refl, refl, under);
           place_is = only_index sort h.cell h.sized b low subscript counts is;
-          finds = referred false (size_of b) d.0 (moved low subscript) below lies d.3 sized.few d.1;
+          finds = referred false (size_of b) d.0 (moved_number low subscript) below lies d.3 sized.few d.1;
         }
 
     -- .. of two, by the descriptor of a row
     module _ (j : ℕ) (subscript : ℤ) (below : List Slot) (b c : Bounds) (first_low second_low : ℤ) (counts : CountsBy sort h.cell.bounds (first_low ∷ second_low ∷ [])) (is : h.cell.bounds ≡ b ∷ c ∷ [])
-        (lies : s.stands.slots ≡ descriptor (row n (j ∷ [])) ∷ operand (number (moved second_low subscript)) ∷ below) where
-      two : Two_slots (descriptor (row n (j ∷ []))) (moved second_low subscript) below
-      two = two_slots (descriptor (row n (j ∷ []))) (moved second_low subscript) below lies
+        (lies : s.stands.slots ≡ descriptor (row n (j ∷ [])) ∷ operand (number (moved_number second_low subscript)) ∷ below) where
+      two : Two_slots (descriptor (row n (j ∷ []))) (moved_number second_low subscript) below
+      two = two_slots (descriptor (row n (j ∷ []))) (moved_number second_low subscript) below lies
 
       of_row : IsRow sc w lay (IsInReach w (part ∷ outer)) part.instance n (j ∷ []) two.upper.word
       of_row = known_is sc w lay (IsInReach w (part ∷ outer)) part.instance s.stands.held s.stands.held_are (row n (j ∷ [])) two.upper.word two.upper.slot_is
@@ -210,11 +210,11 @@ module _ (tree : PProgram) (code : Code) (texts : Texts) (nested : AreNested (sc
             index = j;
             number = of_row.number;
             copied = true;
-            moved_subscript = moved second_low subscript;
+            moved_subscript = moved_number second_low subscript;
             few = sized.second.few;
             low = of_row.few;
             row_there = ap (λ (a : Allotted). slice_get a.parts j) (sym allotted_is) ∙ ap (λ (k : ℕ). slice_get of_row.allotted.parts k) (sym index_is) ∙ of_row.part;
-            within = λ k under. subst (λ (bs : List Bounds). IsIn sc w lay bs (j ∷ k ∷ []) j k) (sym is)
+            within = λ k under. subst (λ (bs : List Bounds). ElementIsIn sc w lay bs (j ∷ k ∷ []) j k) (sym is)
                 (refl, refl, omega (arith, of_row.within, index_is, ap size_of first_is), under);
             place_is = second_index sort h.cell h.sized b c first_low second_low counts is j subscript;
             finds =
@@ -224,7 +224,7 @@ module _ (tree : PProgram) (code : Code) (texts : Texts) (nested : AreNested (sc
                   words = two.lower.words_below;
                   top = two.upper.is ∙ ap (λ (ws : List Word). two.upper.word ∷ ws) two.lower.is;
                   left_are = two.lower.are;
-                  is_whole = number_read (moved second_low subscript) two.lower.word two.lower.slot_is;
+                  is_whole = number_read (moved_number second_low subscript) two.lower.word two.lower.slot_is;
                   marks = s.stands.there.mark_is ∙ ap (newest (frame core.registers) (length core.below)) lies;
                   many = ap length lies ∙ omega arith;
                   array_is =
@@ -234,7 +234,7 @@ module _ (tree : PProgram) (code : Code) (texts : Texts) (nested : AreNested (sc
                 };
           }
 
-    by_lows : (ks : List ℕ) (subscript : ℤ) (below : List Slot) (lows : List ℤ) → CountsBy sort h.cell.bounds lows → IsLast n couple lows ks subscript s.stands.slots below → LastIndex ks subscript below
+    by_lows : (ks : List ℕ) (subscript : ℤ) (below : List Slot) (lows : List ℤ) → CountsBy sort h.cell.bounds lows → IsLastSubscript n couple lows ks subscript s.stands.slots below → LastIndex ks subscript below
     by_lows ks subscript below [] counts lies = absurd lies
     by_lows [] subscript below (low ∷ []) counts lies =
         let one = one_bound sort h.cell.bounds low counts in
@@ -247,7 +247,7 @@ module _ (tree : PProgram) (code : Code) (texts : Texts) (nested : AreNested (sc
     by_lows (j ∷ k ∷ ks) subscript below (low ∷ second ∷ []) counts lies = absurd lies
     by_lows ks subscript below (low ∷ second ∷ third ∷ lows) counts lies = absurd lies
 
-    pub last_index : (ks : List ℕ) (subscript : ℤ) (below : List Slot) → IsLast n couple shape.lows ks subscript s.stands.slots below → LastIndex ks subscript below
+    pub last_index : (ks : List ℕ) (subscript : ℤ) (below : List Slot) → IsLastSubscript n couple shape.lows ks subscript s.stands.slots below → LastIndex ks subscript below
     last_index ks subscript below lies = by_lows ks subscript below shape.lows h.counts lies
 
     -- ---- the first of two subscripts
@@ -265,7 +265,7 @@ module _ (tree : PProgram) (code : Code) (texts : Texts) (nested : AreNested (sc
       pub place_is : index_in moved_subscript (size_of first) ≡ subscript_place sort h.cell [] subscript
       pub finds : Finds true moved_subscript (whole_array false true (size_of first) mother) below
 
-    pub first_of_two : (subscript low second : ℤ) (below : List Slot) → shape.lows ≡ low ∷ second ∷ [] → s.stands.slots ≡ reference couple ∷ operand (number (moved low subscript)) ∷ below → FirstIndex subscript below
+    pub first_of_two : (subscript low second : ℤ) (below : List Slot) → shape.lows ≡ low ∷ second ∷ [] → s.stands.slots ≡ reference couple ∷ operand (number (moved_number low subscript)) ∷ below → FirstIndex subscript below
     first_of_two subscript low second below lows lies =
         let counts : CountsBy sort h.cell.bounds (low ∷ second ∷ []) = subst (λ (ls : List ℤ). CountsBy sort h.cell.bounds ls) lows h.counts in
         let both = two_bounds sort h.cell.bounds low second counts in
@@ -280,7 +280,7 @@ module _ (tree : PProgram) (code : Code) (texts : Texts) (nested : AreNested (sc
           few = sized.second.few;
           mother_is = d.2;
           many = d.3;
-          moved_subscript = moved low subscript;
+          moved_subscript = moved_number low subscript;
           place_is = first_index sort h.cell h.sized both.0 both.1 low second counts is subscript;
-          finds = referred true (size_of both.0) d.0 (moved low subscript) below lies d.4 sized.first.few d.1;
+          finds = referred true (size_of both.0) d.0 (moved_number low subscript) below lies d.4 sized.first.few d.1;
         }

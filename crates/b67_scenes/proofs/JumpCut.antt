@@ -1,11 +1,11 @@
 -- The way of GO TO down a process's stack: from the innermost part to that of the label's instance, past the frames that are left.
 use Rattle.std.proofs.Common.{◌≡◌, inl, inr, refl, sym, ap, ◌∙◌, subst, ℕ, zero, suc, ◌+◌, ◌<◌, ◌≤◌, List, [], ◌∷◌, ◌++◌, length, take, drop, Some, None, Bool, true, false, Ok, arith, append_assoc, append-nil, length-append}
-use Rattle.b67_scenes.proofs.Prelude.{if◌then◌else◌, ◌==◌, reverse, slice_get, map, nat_tests, numbered, PProgram, Scopes, scopes_of, is_evaluation, own_instances, leave, NamedCell, Instance, Part, Process, World, instance_at, cell_in, by_cell, IsOwn, IsStanding, stack_of, Place, Word, Code, Stacks, stack_limit, Below, place, left_to, Passed, Image, Look, ◌>->◌, seen, Yields, Texts, parts_weight, some_same, true_false, same_is, numbered_other, IsSameBut, Layout, ArraysAre, IsInReach, home_of, Framed, Frame, Waits, Around, Owned, Shape, of_own, of_lent, FramesClose, Begins_with, KeepsArrays, Remain, denotes_lasts, owned_frame}
+use Rattle.b67_scenes.proofs.Prelude.{if◌then◌else◌, ◌==◌, reverse, slice_get, map, nat_tests, numbered, PProgram, Scopes, scopes_of, is_evaluation, own_instances, leave, NamedCell, Instance, Part, Process, World, instance_at, cell_in, by_cell, IsOwn, IsStanding, stack_of, Place, Word, Code, Stacks, stack_limit, Below, place, left_to, Passed, Image, Look, ◌>->◌, look_seen, Yields, Texts, parts_weight, some_same, true_false, same_is, numbered_other, IsSameBut, Layout, ArraysAre, IsInReach, home_of, Framed, Frame, Waits, Around, Owned, Shape, of_own, of_lent, FramesClose, Begins_with, KeepsArrays, Remain, denotes_lasts, owned_frame}
 use Rattle.std.specs.Prelude.{nat_eq, nat_lt}
 use Rattle.algol_meaning.specs.Instances.{is_part_of, cut_at}
 use Rattle.algol_standing.proofs.Jumping.{target_is}
-use Rattle.b67_table.specs.Chains.{broken}
-use Rattle.b67_table.specs.GoingTo.{Passing, after, passing}
+use Rattle.b67_table.specs.Chains.{chain_broken}
+use Rattle.b67_table.specs.GoingTo.{Passing, passing_after, passing}
 use Rattle.b67_table.specs.Look.{found}
 use Rattle.b67_letters.proofs.Looks.{then_seen}
 use Rattle.b67_rows.proofs.TurnRow.{not_below}
@@ -141,7 +141,7 @@ module _ (tree : PProgram) (code : Code) (texts : Texts) (closing : FramesClose)
     pub high : AreHigh w lay p (length front) (own_instances above)
     pub passed : List Passed
     pub passes : (steps : ℕ) → length f.lower < steps →
-        seen stacks (passing steps p (length frame.lower) (record { frame = length f.lower; cells = length f.cells })) ≡ Ok (record { frames = passed; cells = length frame.cells })
+        look_seen stacks (passing steps p (length frame.lower) (record { frame = length f.lower; cells = length f.cells })) ≡ Ok (record { frames = passed; cells = length frame.cells })
     pub are_passed : ArePassed lay p (length f.lower) (part ∷ outer) above passed
     -- the own instances of the part and of those around it, and below which frames these lie
     pub inside : (k : ℕ) → IsOwn (target ∷ parts) k → IsOwn (part ∷ outer) k
@@ -158,16 +158,16 @@ module _ (tree : PProgram) (code : Code) (texts : Texts) (closing : FramesClose)
   module _ (part : Part) (outer : List Part) (words : List Word) (f : FrameOf part outer words) (a : AroundOf part outer words f) (e : is_part_of part i ≡ true)
       (light : length words + most_in tree w part + 3 ≤ parts_weight tree w (part ∷ outer)) where
     arrives : (steps : ℕ) → length f.lower < steps →
-        seen stacks (passing steps p (length f.lower) (record { frame = length f.lower; cells = length f.cells })) ≡ Ok (record { frames = []; cells = length f.cells })
+        look_seen stacks (passing steps p (length f.lower) (record { frame = length f.lower; cells = length f.cells })) ≡ Ok (record { frames = []; cells = length f.cells })
     arrives zero h = absurd (omega (arith, h))
     arrives (suc steps) h =
-        ap (λ (t : Bool). seen stacks (if t then found (record { frames = []; cells = length f.cells }) else on)) (same_number (length f.lower))
+        ap (λ (t : Bool). look_seen stacks (if t then found (record { frames = []; cells = length f.cells }) else on)) (same_number (length f.lower))
       where
         on : Look Passing
         on =
-            if nat_lt (length f.lower) (length f.lower) then broken
+            if nat_lt (length f.lower) (length f.lower) then chain_broken
             else left_to (place p (length f.lower)) >-> (λ (b : Below).
-            passing steps p (length f.lower) (record { frame = b.frame; cells = b.control.caller_cells }) >-> (λ (q : Passing). found (after (record { frame = length f.lower; cells = length f.cells }) q)))
+            passing steps p (length f.lower) (record { frame = b.frame; cells = b.control.caller_cells }) >-> (λ (q : Passing). found (passing_after (record { frame = length f.lower; cells = length f.cells }) q)))
 
     here : Way part outer words f
     here =
@@ -237,21 +237,21 @@ module _ (tree : PProgram) (code : Code) (texts : Texts) (closing : FramesClose)
       below_it = omega (arith, way_on.low, height, lowest)
 
       abbrev on_with : Passing → Look Passing
-      on_with q = found (after first q)
+      on_with q = found (passing_after first q)
 
       abbrev go_on : ℕ → Below → Look Passing
       go_on steps b = passing steps p target_at (record { frame = b.frame; cells = b.control.caller_cells }) >-> on_with
 
-      passes_it : (steps : ℕ) → length f.lower < steps → seen stacks (passing steps p target_at first) ≡ Ok (record { frames = first ∷ way_on.passed; cells = length way_on.frame.cells })
+      passes_it : (steps : ℕ) → length f.lower < steps → look_seen stacks (passing steps p target_at first) ≡ Ok (record { frames = first ∷ way_on.passed; cells = length way_on.frame.cells })
       passes_it zero h = absurd (omega (arith, h))
       passes_it (suc steps) h =
           ap
-          (λ (t : Bool). seen stacks (if t then found (record { frames = []; cells = length f.cells }) else (if nat_lt (length f.lower) target_at then broken else left_to (place p (length f.lower)) >-> go_on steps)))
+          (λ (t : Bool). look_seen stacks (if t then found (record { frames = []; cells = length f.cells }) else (if nat_lt (length f.lower) target_at then chain_broken else left_to (place p (length f.lower)) >-> go_on steps)))
           (eq_not (length f.lower) target_at below_it)
-          ∙ ap (λ (t : Bool). seen stacks (if t then broken else left_to (place p (length f.lower)) >-> go_on steps)) (not_below (length f.lower) target_at (omega (arith, below_it)))
+          ∙ ap (λ (t : Bool). look_seen stacks (if t then chain_broken else left_to (place p (length f.lower)) >-> go_on steps)) (not_below (length f.lower) target_at (omega (arith, below_it)))
           ∙ then_seen stacks (left_to (place p (length f.lower))) (down.below_it tree code texts w lay p stacks part next parts words f a begins small) (go_on steps)
           (leads_down tree code texts w lay p stacks part next parts words f a begins small)
-          ∙ ap (λ (c : ℕ). seen stacks (passing steps p target_at (record { frame = length u.frame.lower; cells = c }) >-> on_with)) u.cells_are
+          ∙ ap (λ (c : ℕ). look_seen stacks (passing steps p target_at (record { frame = length u.frame.lower; cells = c }) >-> on_with)) u.cells_are
           ∙ then_seen stacks (passing steps p target_at (record { frame = length u.frame.lower; cells = length u.frame.cells })) (record { frames = way_on.passed; cells = length way_on.frame.cells }) on_with
           (way_on.passes steps (omega (arith, h, height, lowest)))
 

@@ -1,6 +1,6 @@
 -- What an action of one process leaves of the picture of another.
 use Rattle.std.proofs.Common.{◌≡◌, ◌≢◌, Bool, refl, sym, ap, ◌∙◌, subst, ℕ, suc, ◌+◌, ◌≤◌, false, List, [], ◌∷◌, length, Option, Some, arith}
-use Rattle.b67_scenes.proofs.Prelude.{if◌then◌else◌, numbered, set_numbered, block_numbered, PProgram, Scopes, scopes_of, Instance, Part, Process, World, instance_at, or_no_instance, process_at, or_no_process, State, is_evaluation, own_instances, some_depends, IsLow, Word, Code, made_base, Texts, place, Image, Core, HasCore, weight, parts_weight, some_same, Layout, Owned, Frame, Around, Frames, Living, Pictured, living, dead, Reaches, ReachesFor, StateIs, ProcessState, numbered_other, StayBelow, owned_frame, same_block, StandOn}
+use Rattle.b67_scenes.proofs.Prelude.{if◌then◌else◌, numbered, set_numbered, block_numbered, PProgram, Scopes, scopes_of, Instance, Part, Process, World, instance_at, or_no_instance, process_at, or_no_process, State, is_evaluation, own_instances, some_depends, IsLow, Word, Code, made_base, Texts, place, Image, Core, HasCore, weight, parts_weight, some_same, Layout, Owned, Frame, Around, Frames, Living, Pictured, living, dead, CoreReaches, ReachesFor, StateIs, ProcessState, numbered_other, StayBelow, owned_frame, same_block, StandOn}
 use Rattle.b67_scenes.specs.Reaches as reaching
 use Rattle.b67_scenes.proofs.Ancestors.{AreLaid}
 use Rattle.b67_scenes.proofs.Staying.{frames_stay, frames_weigh, frames_most}
@@ -80,7 +80,7 @@ module _ (tree : PProgram) (code : Code) (texts : Texts) (w w' : World) (lay lay
     own_there : is_evaluation part.purpose ≡ false → OwnedThere
     own_there = owned_frame tree code texts w lay r part outer settled.below f
 
-    pub reach_alone : Reaches (scopes_of tree) w lay r part now settled → Reaches (scopes_of tree) w' lay' r part now' settled'
+    pub reach_alone : CoreReaches (scopes_of tree) w lay r part now settled → CoreReaches (scopes_of tree) w' lay' r part now' settled'
     reach_alone (reaching.all there) = reaching.all (as_far ∙ there ∙ sym as_long)
     reach_alone (reaching.low at owns laid enough is_low) =
         let o : OwnedThere = own_there owns in

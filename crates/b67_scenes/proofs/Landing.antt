@@ -1,6 +1,6 @@
 -- A process that has a core at a place from which private operators lead to where the machine stands for what its parts have still to do.
 use Rattle.std.proofs.Common.{◌≡◌, sym, ap, ◌∙◌, subst, ℕ, ◌+◌, ◌≤◌, List, ◌∷◌, ◌++◌, length, Some, arith}
-use Rattle.b67_scenes.proofs.Prelude.{PProgram, Scopes, scopes_of, Process, Part, World, instance_at, segment_of, Registers, place_at, Placed, Code, Texts, stack_limit, place, Image, frame, Slot, ComesTo, Core, size, HasCore, CoreSteps, Known, CoreAt, FragmentsArePerformed, slots_length, weight, Layout, AreKnown, IsInReach, IsChained, Frame, Around, Frames, CriticalIs, TaskIs, innermost_most, Living, Reaches, ReachesFor}
+use Rattle.b67_scenes.proofs.Prelude.{PProgram, Scopes, scopes_of, Process, Part, World, instance_at, segment_of, Registers, place_at, Placed, Code, Texts, stack_limit, place, Image, frame, Slot, ComesTo, Core, size, HasCore, CoreSteps, Known, CoreAt, FragmentsArePerformed, slots_length, weight, Layout, AreKnown, IsInReach, IsChained, Frame, Around, Frames, CriticalIs, TaskIs, innermost_most, Living, CoreReaches, ReachesFor}
 use Rattle.b67_scenes.proofs.Paths.{CanClimb}
 use Rattle.b67_cores.specs.Cores.{here}
 use Rattle.b67_cores.specs.Stretches.{Arrives}
@@ -41,12 +41,12 @@ module _ (tree : PProgram) (code : Code) (texts : Texts) (w : World) (lay : Layo
     pub at : CoreAt (scopes_of tree) known code (text_in tree texts w part) (level_in tree w part) pc slots core
     pub held : length slots ≤ most_in tree w part
     pub comes : ComesTo (scopes_of tree) (context_in tree code texts w part frame.gives) (text_in tree texts w part) (level_in tree w part) (most_in tree w part) part.rest pc slots
-    pub reaches : Reaches (scopes_of tree) w lay p part first core
+    pub reaches : CoreReaches (scopes_of tree) w lay p part first core
     pub room : length core.below + most_in tree w part ≤ bound
     pub light : bound + 3 ≤ weight tree w p
 
   -- what others may look at does not change where no cell is added
-  reach_moved : (p : ℕ) (part : Part) (first core moved : Core) → moved.below ≡ core.below → Reaches (scopes_of tree) w lay p part first core → Reaches (scopes_of tree) w lay p part first moved
+  reach_moved : (p : ℕ) (part : Part) (first core moved : Core) → moved.below ≡ core.below → CoreReaches (scopes_of tree) w lay p part first core → CoreReaches (scopes_of tree) w lay p part first moved
   reach_moved p part first core moved same (reaching.all as_long) = reaching.all (as_long ∙ ap length (sym same))
   reach_moved p part first core moved same (reaching.low at owns laid enough is_low) = reaching.low at owns laid enough is_low
   reach_moved p part first core moved same (reaching.none_yet at owns laid enough free) = reaching.none_yet at owns laid enough free

@@ -1,6 +1,6 @@
 -- Where a process that stands at its action is led by names and by cells: the frames that its display names, and what it may look at there.
 use Rattle.std.proofs.Common.{◌≡◌, inl, refl, sym, ap, ◌∙◌, subst, ℕ, zero, suc, ◌+◌, ◌-◌, ◌<◌, ◌≤◌, Bool, true, false, List, [], ◌∷◌, length, Some, None, arith}
-use Rattle.b67_scenes.proofs.Prelude.{slice_get, numbered, Named, block_numbered, around, PProgram, Scopes, scopes_of, use_of, Reference, Cell, reference, NamedCell, Instance, instance_at, or_no_instance, ancestor, is_evaluation, IsSeen, IsSeenAround, InRest, has_simple, IsIn, IsStanding, IsOwn, IsWhole, IsAmong, IsNoBlock, referred_in_cells, newest_own, IsLow, top_stands, OUTER_LEVEL, Code, place, display_at, get_within, found_from, simple_cells, Texts, some_same, none_some, AreNested, length_around, named_from, IsInReach, ArePlaced, HasFacts, facts_of, IsParent}
+use Rattle.b67_scenes.proofs.Prelude.{slice_get, numbered, Named, block_numbered, around, PProgram, Scopes, scopes_of, use_of, Reference, Cell, reference, NamedCell, Instance, instance_at, or_no_instance, ancestor, is_evaluation, BlockIsSeen, IsSeenAround, InRest, has_simple, IsInSkeleton, IsStanding, IsOwn, IsWholeInstance, IsAmongParts, IsNoBlock, referred_in_cells, newest_own, IsLow, top_stands, OUTER_LEVEL, Code, place, display_at, get_within, found_from, simple_cells, Texts, some_same, none_some, AreNested, length_around, named_from, IsInReach, ArePlaced, HasFacts, facts_of, IsParent}
 use Rattle.algol_meaning.specs.Critical.{referred_in}
 use Rattle.algol_standing.specs.Worlds.{parent_in, home_of}
 use Rattle.algol_standing.specs.Lows.{CellLow, CellsLow}
@@ -43,14 +43,14 @@ module _ (tree : PProgram) (code : Code) (texts : Texts) (actor : Actor tree cod
 
   -- what is in reach stands
   pub reached_stands : (i : ℕ) → IsInReach w (part ∷ outer) i → IsStanding w i
-  reached_stands i path = path_stands sc w s.ok (newest_own (part ∷ outer)) i (top_stands sc IsWhole w s.ok.sound p q part outer s.at s.todo) path
+  reached_stands i path = path_stands sc w s.ok (newest_own (part ∷ outer)) i (top_stands sc IsWholeInstance w s.ok.sound p q part outer s.at s.todo) path
 
   pub part_there : IsStanding w part.instance
-  part_there = part_stands (scopes_of tree) IsWhole w s.ok.sound p q part outer s.at s.todo
+  part_there = part_stands (scopes_of tree) IsWholeInstance w s.ok.sound p q part outer s.at s.todo
 
   -- ---- names
 
-  module _ (n : Named) (is_seen : IsSeen (scopes_of tree) ((instance_at w part.instance).block) n) where
+  module _ (n : Named) (is_seen : BlockIsSeen (scopes_of tree) ((instance_at w part.instance).block) n) where
     abbrev up : ℕ
     up = (use_of sc n).up
 
@@ -59,7 +59,7 @@ module _ (tree : PProgram) (code : Code) (texts : Texts) (actor : Actor tree cod
 
     -- the instance that holds what a name means is in reach, and so its frame is seen
     pub named_reached : IsInReach w (part ∷ outer) (ancestor w ((use_of (scopes_of tree) n).up) part.instance)
-    named_reached = home_path sc IsWhole w s.ok.sound p q part outer s.at s.todo n is_seen
+    named_reached = home_path sc IsWholeInstance w s.ok.sound p q part outer s.at s.todo n is_seen
 
     pub named_seen : Seen tree code texts actor (ancestor w ((use_of (scopes_of tree) n).up) part.instance)
     named_seen = seen tree code texts actor home named_reached
@@ -89,7 +89,7 @@ module _ (tree : PProgram) (code : Code) (texts : Texts) (actor : Actor tree cod
 
   -- so does a reference that a cell of an instance in reach has, and an actual's
   module _ (j : ℕ) (path : IsInReach w (part ∷ outer) j) (k : ℕ) (x : Instance) (c : NamedCell) (is : numbered w.instances j ≡ Some x) (stands : x.left ≡ false) (there : slice_get x.cells k ≡ Some c) where
-    pub cell_reached : (i : ℕ) → IsIn (referred_in c.cell) i → IsInReach w (part ∷ outer) i
+    pub cell_reached : (i : ℕ) → IsInSkeleton (referred_in c.cell) i → IsInReach w (part ∷ outer) i
     cell_reached i inside =
         path_further sc w s.ok (newest_own (part ∷ outer)) j i path
         (s.ok.sound.skeleton_ok.refers j (home_of x) i (reached_stands j path) (home_forth w j x is) (in_back (parent_in x.parent) (referred_in_cells x.cells) i (referred_there x.cells k c i there inside)))
@@ -100,12 +100,12 @@ module _ (tree : PProgram) (code : Code) (texts : Texts) (actor : Actor tree cod
     pub cell_led : (r : Reference) → c.cell ≡ reference r → IsLed r
     cell_led r same =
         record {
-          reached = cell_reached r.instance (subst (λ (d : Cell). IsIn (referred_in d) r.instance) (sym same) (inl refl));
+          reached = cell_reached r.instance (subst (λ (d : Cell). IsInSkeleton (referred_in d) r.instance) (sym same) (inl refl));
           within = λ other is_low. subst (λ (d : Cell). CellLow sc ((instance_at w r.instance).block) r.instance d) same (cell_within r.instance is_low) refl;
         }
 
   -- So does the name of what a block declares, where an evaluation that keeps to what is around its block keeps to what other instances have.
-  module _ (n : Named) (is_seen : IsSeen (scopes_of tree) ((instance_at w part.instance).block) n)
+  module _ (n : Named) (is_seen : BlockIsSeen (scopes_of tree) ((instance_at w part.instance).block) n)
       (keeps : InRest (IsSeenAround (scopes_of tree) ((instance_at w part.instance).block)) IsNoBlock (IsSeenAround (scopes_of tree) ((instance_at w part.instance).block)) part.rest → 1 ≤ (use_of (scopes_of tree) n).up) where
     -- none that is declared is one that another process is making
     not_low : (far : ℕ) → far ≡ (use_of sc n).up → (IsOwn (part ∷ outer) (ancestor w far part.instance) → ⊥) → IsLow sc w (ancestor w far part.instance) → IsStanding w (ancestor w far part.instance) → ⊥
@@ -114,7 +114,7 @@ module _ (tree : PProgram) (code : Code) (texts : Texts) (actor : Actor tree cod
         by_purpose : (b : Bool) → is_evaluation part.purpose ≡ b → ⊥
         by_purpose false owns = other (inl (owns, refl))
         by_purpose true evaluates =
-            absurd (omega (arith, e, keeps ((is_low.parts p q part s.at (subst (λ ps. IsAmong ps part) (sym s.todo) (inl refl))).narrow evaluates refl)))
+            absurd (omega (arith, e, keeps ((is_low.parts p q part s.at (subst (λ ps. IsAmongParts ps part) (sym s.todo) (inl refl))).narrow evaluates refl)))
     not_low (suc far) e other is_low st = by_instance (scene_facts.there (ancestor w far part.instance) lower)
       where
         lower : IsStanding w (ancestor w far part.instance)

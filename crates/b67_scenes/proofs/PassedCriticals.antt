@@ -1,6 +1,6 @@
 -- A frame that GO TO passes is critical where a live process depends on the instance of one of the parts that it leaves.
 use Rattle.std.proofs.Common.{◌≡◌, ◌⊎◌, inl, inr, refl, sym, ap, ◌∙◌, subst, ℕ, List, [], ◌∷◌, Some, Bool, false}
-use Rattle.b67_scenes.proofs.Prelude.{if◌then◌else◌, ◌||◌, list_any, numbered, PProgram, scopes_of, some_depends, own_instances, Instance, Process, Part, World, IsWhole, IsOk, IsOwn, Place, Word, Code, same_place, place, Passed, Image, live_criticals, Texts, Layout, Frame, Around, IsElsewhere, PicturesBy}
+use Rattle.b67_scenes.proofs.Prelude.{if◌then◌else◌, ◌||◌, list_any, numbered, PProgram, scopes_of, some_depends, own_instances, Instance, Process, Part, World, IsWholeInstance, IsOk, IsOwn, Place, Word, Code, same_place, place, Passed, Image, live_criticals, Texts, Layout, Frame, Around, IsElsewhere, PicturesBy}
 use Rattle.algol_meaning.specs.Critical.{some_depends_on_any}
 use Rattle.b67_table.specs.GoingTo.{passed_frames}
 use Rattle.b67_table.specs.Linkage.{is_critical}
@@ -8,7 +8,7 @@ use Rattle.b67_scenes.proofs.Dependents.{dependents_agree, nobody_there}
 use Rattle.b67_scenes.proofs.PassedFrames.{IsOwnFrame, IsLentFrame, ArePassed}
 use Rattle.b67_scenes.proofs.Worlds.{held_of}
 
-module _ (tree : PProgram) (code : Code) (texts : Texts) (w : World) (lay : Layout) (img : Image) (by : PicturesBy tree code texts w lay img) (ok : IsOk (scopes_of tree) IsWhole w)
+module _ (tree : PProgram) (code : Code) (texts : Texts) (w : World) (lay : Layout) (img : Image) (by : PicturesBy tree code texts w lay img) (ok : IsOk (scopes_of tree) IsWholeInstance w)
     (p : ℕ) (q : Process) (is : numbered w.processes p ≡ Some q) (part : Part) (outer : List Part) (todo : q.todo ≡ part ∷ outer) (words : List Word) (f : Frame tree code texts w lay p part outer words)
     (a : Around tree code texts w lay p outer f.lower f.mark f.control f.gives) where
   abbrev places : List Place

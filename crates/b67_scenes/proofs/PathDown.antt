@@ -1,6 +1,6 @@
 -- The first instance on a path of those that are referred to has the first frame on the path down of those that are referred to.
 use Rattle.std.proofs.Common.{◌≡◌, ◌⊎◌, inl, inr, refl, sym, ap, ◌∙◌, subst, ℕ, ◌<◌, ◌≤◌, List, [], ◌∷◌, ◌++◌, Option, Some, Bool, true, false, arith, append_assoc}
-use Rattle.b67_scenes.proofs.Prelude.{if◌then◌else◌, slice_get, numbered, Part, Process, lives, World, is_evaluation, own_instances, Stack, Home, IsIn, NextIn, FirstOf, SkeletonOk, stack_of, skeleton, IsStanding, stack_forth, home_stands, Place, place, Image, critical_of, some_same, Layout, IsAmongPlaces, FirstDown}
+use Rattle.b67_scenes.proofs.Prelude.{if◌then◌else◌, slice_get, numbered, Part, Process, lives, World, is_evaluation, own_instances, Stack, Home, IsInSkeleton, NextIn, FirstOf, SkeletonOk, stack_of, skeleton, IsStanding, stack_forth, home_stands, Place, place, Image, critical_of, some_same, Layout, IsAmongPlaces, FirstDown}
 use Rattle.algol_standing.specs.Skeleton.{Owned, this, further}
 use Rattle.algol_standing.proofs.Firsts.{below_in}
 use Rattle.algol_standing.proofs.Pairs.{stack_back}
@@ -17,7 +17,7 @@ next_in_rest homes p c (x ∷ []) a b rest o (inl n) = let low = o.3 a (inl refl
 next_in_rest homes p c (x ∷ []) a b rest o (inr n) = n
 next_in_rest homes p c (x ∷ y ∷ front) a b rest o (inl n) = let low = o.3 a (in_back (y ∷ front)) in let same = n.0 in absurd (omega (arith, low, same))
   where
-    in_back : (xs : List ℕ) → IsIn (xs ++ a ∷ rest) a
+    in_back : (xs : List ℕ) → IsInSkeleton (xs ++ a ∷ rest) a
     in_back [] = inl refl
     in_back (z ∷ xs) = inr (in_back xs)
 next_in_rest homes p c (x ∷ y ∷ front) a b rest o (inr n) = next_in_rest homes p c (y ∷ front) a b rest o.4 n
@@ -45,13 +45,13 @@ module _ (w : World) (ok : SkeletonOk (skeleton w)) (lay : Layout) (img : Image)
     (towers : (r : ℕ) (y : Process) → numbered w.processes r ≡ Some y → lives y.state ≡ true → (f : ℕ) × Tower img.stacks lay r y.todo f)
     (depends : (r c : ℕ) (y : Process) → numbered w.processes r ≡ Some y → lives y.state ≡ true → y.critical ≡ Some c → DependsOn lay img r c)
     (refs : List ℕ) (wanted : List Place)
-    (to : (i : ℕ) (g : Place) → IsIn refs i → numbered lay.places i ≡ Some g → IsAmongPlaces wanted g)
-    (back : (g : Place) → IsAmongPlaces wanted g → (i : ℕ) × IsIn refs i × IsStanding w i × (numbered lay.places i ≡ Some g)) where
+    (to : (i : ℕ) (g : Place) → IsInSkeleton refs i → numbered lay.places i ≡ Some g → IsAmongPlaces wanted g)
+    (back : (g : Place) → IsAmongPlaces wanted g → (i : ℕ) × IsInSkeleton refs i × IsStanding w i × (numbered lay.places i ≡ Some g)) where
   -- a process with an instance lives
-  lives_with : (r : ℕ) (y : Process) → numbered w.processes r ≡ Some y → (i : ℕ) → IsIn (own_instances y.todo) i → lives y.state ≡ true
+  lives_with : (r : ℕ) (y : Process) → numbered w.processes r ≡ Some y → (i : ℕ) → IsInSkeleton (own_instances y.todo) i → lives y.state ≡ true
   lives_with r y is i n = by (own_instances y.todo) refl n
     where
-      by : (xs : List ℕ) → own_instances y.todo ≡ xs → IsIn xs i → lives y.state ≡ true
+      by : (xs : List ℕ) → own_instances y.todo ≡ xs → IsInSkeleton xs i → lives y.state ≡ true
       by [] e m = absurd m
       by (x ∷ xs) e m = stack_lives (skeleton w) ok r (stack_of y) x xs (stack_forth w r y is) e
 
@@ -60,24 +60,24 @@ module _ (w : World) (ok : SkeletonOk (skeleton w)) (lay : Layout) (img : Image)
     number : ℕ
     process : Process
     is : numbered w.processes number ≡ Some process
-    inside : IsIn (own_instances process.todo) i
+    inside : IsInSkeleton (own_instances process.todo) i
 
   in_stack : (i : ℕ) → IsStanding w i → InStack i
   in_stack i st = by (stack_back w st.number st.stack st.is)
     where
       by : ((st.stack.own ≡ []) × (st.stack.evaluations ≡ []) × (st.stack.live ≡ false)) ⊎ ((y : Process) × (numbered w.processes st.number ≡ Some y) × (st.stack ≡ stack_of y)) → InStack i
-      by (inl f) = absurd (subst (λ (xs : List ℕ). IsIn xs i) f.0 st.inside)
-      by (inr f) = record { number = st.number; process = f.0; is = f.1; inside = subst (λ (z : Stack). IsIn z.own i) f.2 st.inside }
+      by (inl f) = absurd (subst (λ (xs : List ℕ). IsInSkeleton xs i) f.0 st.inside)
+      by (inr f) = record { number = st.number; process = f.0; is = f.1; inside = subst (λ (z : Stack). IsInSkeleton z.own i) f.2 st.inside }
 
   -- who stands in a stack by its frame is an instance of its process
-  own_by_place : (r : ℕ) (y : Process) → numbered w.processes r ≡ Some y → (f i : ℕ) → IsStanding w i → numbered lay.places i ≡ Some (place r f) → IsIn (own_instances y.todo) i
+  own_by_place : (r : ℕ) (y : Process) → numbered w.processes r ≡ Some y → (f i : ℕ) → IsStanding w i → numbered lay.places i ≡ Some (place r f) → IsInSkeleton (own_instances y.todo) i
   own_by_place r y is f i st laid =
       let s = in_stack i st in
       let t = towers s.number s.process s.is (lives_with s.number s.process s.is i s.inside) in
       let u = own_under s.process.todo t.0 t.1 i s.inside in
       let number : s.number ≡ r = ap (λ (x : Place). x.stack) (some_same (sym u.1 ∙ laid)) in
       let same : s.process ≡ y = some_same (sym s.is ∙ ap (λ (k : ℕ). numbered w.processes k) number ∙ is) in
-      subst (λ (z : Process). IsIn (own_instances z.todo) i) same s.inside
+      subst (λ (z : Process). IsInSkeleton (own_instances z.todo) i) same s.inside
 
   abbrev Found : Place → ℕ → Type 0
   Found from c = (g : Place) × (numbered lay.places c ≡ Some g) × FirstDown img wanted from g
@@ -92,12 +92,12 @@ module _ (w : World) (ok : SkeletonOk (skeleton w)) (lay : Layout) (img : Image)
     higher : AreHigher lay r newer f
 
   -- it is not wanted, where its instance is not referred to
-  unwanted : (r : ℕ) (y : Process) (x : Part) (outer : List Part) (f : ℕ) → Here r y x outer f → (is_evaluation x.purpose ≡ false → IsIn refs x.instance → ⊥) → IsAmongPlaces wanted (place r f) → ⊥
+  unwanted : (r : ℕ) (y : Process) (x : Part) (outer : List Part) (f : ℕ) → Here r y x outer f → (is_evaluation x.purpose ≡ false → IsInSkeleton refs x.instance → ⊥) → IsAmongPlaces wanted (place r f) → ⊥
   unwanted r y x outer f h none among =
       let b = back (place r f) among in
-      let inside = subst (λ (ps : List Part). IsIn (own_instances ps) b.0) h.todo (own_by_place r y h.is f b.0 b.2 b.3) in
+      let inside = subst (λ (ps : List Part). IsInSkeleton (own_instances ps) b.0) h.todo (own_by_place r y h.is f b.0 b.2 b.3) in
       let who = whose_frame h.newer x outer f h.tower h.higher b.0 inside b.3 in
-      none who.0 (subst (λ (i : ℕ). IsIn refs i) (sym who.1) b.1)
+      none who.0 (subst (λ (i : ℕ). IsInSkeleton refs i) (sym who.1) b.1)
 
   -- from the frame of this instance, wherever it is, that of the other one is found
   abbrev At : ℕ → ℕ → Type 0
@@ -128,10 +128,10 @@ module _ (w : World) (ok : SkeletonOk (skeleton w)) (lay : Layout) (img : Image)
 
   -- ---- at an instance that is not referred to
 
-  module _ (a b c : ℕ) (out : IsIn refs a → ⊥) (at_next : At b c) (r : ℕ) (y : Process) (x : Part) (outer : List Part) (f : ℕ) (h : Here r y x outer f) (owns : is_evaluation x.purpose ≡ false) (same : x.instance ≡ a)
+  module _ (a b c : ℕ) (out : IsInSkeleton refs a → ⊥) (at_next : At b c) (r : ℕ) (y : Process) (x : Part) (outer : List Part) (f : ℕ) (h : Here r y x outer f) (owns : is_evaluation x.purpose ≡ false) (same : x.instance ≡ a)
       (next : NextIn y.critical (own_instances y.todo) a b) where
     here_unwanted : IsAmongPlaces wanted (place r f) → ⊥
-    here_unwanted = unwanted r y x outer f h (λ owned n. out (subst (λ (i : ℕ). IsIn refs i) same n))
+    here_unwanted = unwanted r y x outer f h (λ owned n. out (subst (λ (i : ℕ). IsInSkeleton refs i) same n))
 
     own_is : own_instances y.todo ≡ own_instances h.newer ++ a ∷ own_instances outer
     own_is =
@@ -182,7 +182,7 @@ module _ (w : World) (ok : SkeletonOk (skeleton w)) (lay : Layout) (img : Image)
       (place r f, laid, this_frame (to a (place r f) n laid))
   walk a c (further {b = b} out n first) r y x outer f h owns same = further_down a b c out (walk b c first) r y x outer f h owns same next
     where
-      inside : IsIn (own_instances y.todo) a
+      inside : IsInSkeleton (own_instances y.todo) a
       inside =
           own_by_place r y h.is f a (record { number = n.number; stack = n.stack; is = n.is; inside = below_in n.stack.critical n.stack.own a b n.next })
           (subst (λ (i : ℕ). numbered lay.places i ≡ Some (place r f)) same (laid_at x outer f h.tower owns))

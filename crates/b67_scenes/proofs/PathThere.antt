@@ -1,7 +1,7 @@
 -- The frames of each process that lives lie one on the other in an image, and the walk down the path of a process finds the frame of the first
 -- instance there that is referred to.
 use Rattle.std.proofs.Common.{◌≡◌, inl, refl, sym, ap, ◌∙◌, subst, ℕ, ◌+◌, ◌<◌, ◌≤◌, Bool, true, false, List, [], ◌∷◌, ◌++◌, length, Option, Some, arith, append_assoc}
-use Rattle.b67_scenes.proofs.Prelude.{if◌then◌else◌, slice_get, numbered, PProgram, Scopes, scopes_of, Instance, Process, Part, State, lives, World, instance_at, or_no_instance, is_evaluation, own_instances, IsIn, FirstOf, newest_own, skeleton, stack_of, IsStanding, IsWhole, IsOk, stack_forth, Place, Word, Code, word_at, place, Image, critical_in, get_within as get_below, Texts, Above, steps_stay_above, some_same, true_false, Layout, Stands, Around, Frames, HasFacts, facts_of, begins_core, owned_frame, IsAmongPlaces, FirstDown, get-front, get-seam, Living, Pictured, living, dead, PicturesBy, Reaches, ReachesFor, CriticalIs}
+use Rattle.b67_scenes.proofs.Prelude.{if◌then◌else◌, slice_get, numbered, PProgram, Scopes, scopes_of, Instance, Process, Part, State, lives, World, instance_at, or_no_instance, is_evaluation, own_instances, IsInSkeleton, FirstOf, newest_own, skeleton, stack_of, IsStanding, IsWholeInstance, IsOk, stack_forth, Place, Word, Code, word_at, place, Image, critical_in, get_within as get_below, Texts, Above, steps_stay_above, some_same, true_false, Layout, FrameStands, Around, Frames, HasFacts, facts_of, begins_core, owned_frame, IsAmongPlaces, FirstDown, get-front, get-seam, Living, Pictured, living, dead, PicturesBy, CoreReaches, ReachesFor, CriticalIs}
 use Rattle.algol_standing.proofs.Left.{references_lie_on_paths}
 use Rattle.b67_rows.proofs.Begun.{numbered_few}
 use Rattle.b67_rows.proofs.Numbers.{get_within}
@@ -13,7 +13,7 @@ use Rattle.b67_scenes.proofs.TowerOf.{LastOwns, tower_of}
 use Rattle.b67_scenes.proofs.Towers.{Tower}
 use Rattle.b67_scenes.proofs.Worlds.{in_stack}
 
-module _ (tree : PProgram) (code : Code) (texts : Texts) (w : World) (lay : Layout) (img : Image) (by : PicturesBy tree code texts w lay img) (ok : IsOk (scopes_of tree) IsWhole w) where
+module _ (tree : PProgram) (code : Code) (texts : Texts) (w : World) (lay : Layout) (img : Image) (by : PicturesBy tree code texts w lay img) (ok : IsOk (scopes_of tree) IsWholeInstance w) where
   abbrev sc : Scopes
   sc = scopes_of tree
 
@@ -28,7 +28,7 @@ module _ (tree : PProgram) (code : Code) (texts : Texts) (w : World) (lay : Layo
       nobody_there : newest_own (part ∷ []) ≡ 0 → ⊥
       nobody_there none =
           let inside = ((references_lie_on_paths sc w ok).parts r y newer [] part part.instance is todo (inl refl)).0 in
-          facts.nobody (record { number = r; stack = stack_of y; is = stack_forth w r y is; inside = subst (λ (i : ℕ). IsIn (own_instances y.todo) i) none inside })
+          facts.nobody (record { number = r; stack = stack_of y; is = stack_forth w r y is; inside = subst (λ (i : ℕ). IsInSkeleton (own_instances y.todo) i) none inside })
 
       by_purpose : (b : Bool) → is_evaluation part.purpose ≡ b → is_evaluation part.purpose ≡ false
       by_purpose true e = absurd (nobody_there (ap (λ (b : Bool). if b then newest_own [] else part.instance) e))
@@ -38,12 +38,12 @@ module _ (tree : PProgram) (code : Code) (texts : Texts) (w : World) (lay : Layo
   -- ---- the frames of a process
 
   module _ (r : ℕ) (y : Process) (is : numbered w.processes r ≡ Some y) (l : Living tree code texts w lay img r y) (part : Part) (outer : List Part) (todo : y.todo ≡ part ∷ outer)
-      (s : Stands tree code texts w lay r part outer l.settled) (a : Around tree code texts w lay r outer s.frame.lower s.frame.mark s.frame.control s.frame.gives) where
+      (s : FrameStands tree code texts w lay r part outer l.settled) (a : Around tree code texts w lay r outer s.frame.lower s.frame.mark s.frame.control s.frame.gives) where
     abbrev high : ℕ
     high = length s.frame.lower
 
     -- the mark and the control word of the innermost frame lie below the floor
-    two_low : Reaches sc w lay r part l.core l.settled → high + 2 ≤ length l.core.below
+    two_low : CoreReaches sc w lay r part l.core l.settled → high + 2 ≤ length l.core.below
     two_low (reaching.all same) = omega (arith, same, frame_low tree code texts w lay r part outer l.settled.below s.frame)
     two_low (reaching.low at owns laid enough is_low) = omega (arith, top_is owns at laid, enough)
       where
@@ -58,13 +58,13 @@ module _ (tree : PProgram) (code : Code) (texts : Texts) (w : World) (lay : Layo
     above = steps_stay_above code l.bound l.count l.core l.settled l.has.is l.steps
 
     -- what lies lower where it settles, lies in the stack
-    settled_there : Reaches sc w lay r part l.core l.settled → (n : ℕ) (x : Word) → n < high + 2 → slice_get l.settled.below n ≡ Some x → word_at img.stacks (place r n) ≡ Some x
+    settled_there : CoreReaches sc w lay r part l.core l.settled → (n : ℕ) (x : Word) → n < high + 2 → slice_get l.settled.below n ≡ Some x → word_at img.stacks (place r n) ≡ Some x
     settled_there reach n x low e =
         let there : (v : Word) × (slice_get l.core.below n ≡ Some v) = get_within l.core.below n (omega (arith, low, two_low reach)) in
         let same : there.0 ≡ x = some_same (sym (get-front l.core.below above.cells n there.0 there.1) ∙ ap (λ (ws : List Word). slice_get ws n) (sym above.below) ∙ e) in
         begins_core img r l.core l.has n x (there.1 ∙ ap (λ (v : Word). Some v) same)
 
-    pub frames_tower : Reaches sc w lay r part l.core l.settled → Tower img.stacks lay r y.todo (length s.frame.lower)
+    pub frames_tower : CoreReaches sc w lay r part l.core l.settled → Tower img.stacks lay r y.todo (length s.frame.lower)
     frames_tower reach =
         subst (λ (parts : List Part). Tower img.stacks lay r parts high) (sym todo)
         (tower_of tree code texts w lay r img.stacks part outer l.settled.below s.frame a (last_owns r y is [] (part ∷ outer) todo)
@@ -121,8 +121,8 @@ module _ (tree : PProgram) (code : Code) (texts : Texts) (w : World) (lay : Layo
 
   -- ---- the walk
 
-  pub path_there : (refs : List ℕ) (wanted : List Place) → ((i : ℕ) (g : Place) → IsIn refs i → numbered lay.places i ≡ Some g → IsAmongPlaces wanted g) →
-      ((g : Place) → IsAmongPlaces wanted g → (i : ℕ) × IsIn refs i × IsStanding w i × (numbered lay.places i ≡ Some g)) →
+  pub path_there : (refs : List ℕ) (wanted : List Place) → ((i : ℕ) (g : Place) → IsInSkeleton refs i → numbered lay.places i ≡ Some g → IsAmongPlaces wanted g) →
+      ((g : Place) → IsAmongPlaces wanted g → (i : ℕ) × IsInSkeleton refs i × IsStanding w i × (numbered lay.places i ≡ Some g)) →
       (p a c : ℕ) (q : Process) → numbered w.processes p ≡ Some q → lives q.state ≡ true → (f : ℕ) → Tower img.stacks lay p q.todo f → (rest : List ℕ) → own_instances q.todo ≡ a ∷ rest → FirstOf (skeleton w) refs a c →
       (g : Place) × (numbered lay.places c ≡ Some g) × FirstDown img wanted (place p f) g
   path_there refs wanted to back p a c q is alive f tower rest own first =

@@ -1,11 +1,11 @@
 -- What lies in reach of a part: its instance, and the static parents of that.
 use Rattle.std.proofs.Common.{sym, subst, ℕ, ◌+◌, ◌≤◌, Bool, List, ◌∷◌, length, arith}
-use Rattle.b67_scenes.proofs.Prelude.{if◌then◌else◌, block_numbered, around, level_of, PProgram, Scopes, Part, World, instance_at, ancestor, here, down, IsStanding, IsOnPath, IsWhole, newest_own, skeleton, IsOk, stands_path, OUTER_LEVEL, Word, Code, Texts, length_around, Layout, HasFacts, facts_of, IsInReach, Frame, Shape, of_own, of_lent}
+use Rattle.b67_scenes.proofs.Prelude.{if◌then◌else◌, block_numbered, around, level_of, PProgram, Scopes, Part, World, instance_at, ancestor, here, down, IsStanding, IsOnPath, IsWholeInstance, newest_own, skeleton, IsOk, stands_path, OUTER_LEVEL, Word, Code, Texts, length_around, Layout, HasFacts, facts_of, IsInReach, Frame, Shape, of_own, of_lent}
 use Rattle.algol_standing.proofs.Seen.{ancestors}
 use Rattle.algol_standing.proofs.Standing.{path_on}
 use Rattle.b67_rows.proofs.Numbers.{get_within}
 
-module _ (sc : Scopes) (w : World) (ok : IsOk sc IsWhole w) where
+module _ (sc : Scopes) (w : World) (ok : IsOk sc IsWholeInstance w) where
   -- what lies on the path from one that stands, stands
   pub path_stands : (i j : ℕ) → IsStanding w i → IsOnPath w i j → IsStanding w j
   path_stands i j st path = stands_path (skeleton w) ok.sound.skeleton_ok i j st path
@@ -18,7 +18,7 @@ module _ (sc : Scopes) (w : World) (ok : IsOk sc IsWhole w) where
   up_path i up st far =
       let j : ℕ = (instance_at w i).block in
       let there = get_within (j ∷ around sc.blocks j) up (omega (arith, far, length_around sc.blocks j)) in
-      (ancestors sc IsWhole w ok.sound up i there.0 st there.1).0
+      (ancestors sc IsWholeInstance w ok.sound up i there.0 st there.1).0
 
 -- paths lead on
 pub on_further : (w : World) (i j k : ℕ) → IsOnPath w i j → IsOnPath w j k → IsOnPath w i k
@@ -31,7 +31,7 @@ pub record CanClimb (sc : Scopes) (w : World) : Type 0 where
   pub up : (i up : ℕ) → IsStanding w i → up + OUTER_LEVEL ≤ level_of (block_numbered sc.blocks ((instance_at w i).block)) → IsOnPath w i (ancestor w up i)
 
 -- so it is with one that is as worlds are
-pub can_climb : (sc : Scopes) (w : World) → IsOk sc IsWhole w → CanClimb sc w
+pub can_climb : (sc : Scopes) (w : World) → IsOk sc IsWholeInstance w → CanClimb sc w
 can_climb sc w ok = record { facts = facts_of sc w ok; up = λ i up st far. up_path sc w ok i up st far }
 
 -- the instance of a frame's part lies in reach of the part

@@ -22,7 +22,7 @@ pub use Rattle.algol_meaning.specs.Statements.{items_of, settle_items}
 pub use Rattle.algol_meaning.specs.Value.{ArrayCell, Bounds, Cell, Reference, Value, array, event, number, reference, simple, whole_of}
 pub use Rattle.algol_meaning.specs.World.{Instance, NamedCell, Part, Process, State, World, WorldFault, able, ancestor, by_cell, cell_at, cell_in, cells_with, ended, followed, instance_at, is_able, lives, no_process, or_no_instance, or_no_process, process_at, procures, waits_any, waits_for, with_instance, with_process}
 pub use Rattle.algol_paths.specs.Arrays.{DeclaredArray, Made, all_to_make}
-pub use Rattle.algol_paths.specs.Blocks.{IsInner, IsSeen, IsSeenAround}
+pub use Rattle.algol_paths.specs.Blocks.{IsInner, BlockIsSeen, IsSeenAround}
 pub use Rattle.algol_paths.specs.Laws.{AllIsMadeInOrder, KeepsToText, RestsKeepToTheirText}
 pub use Rattle.algol_paths.specs.Segments.{procedures_before, segment_of}
 pub use Rattle.algol_paths.specs.Texts.{InRest}
@@ -33,8 +33,8 @@ pub use Rattle.algol_standing.proofs.Stacks.{numbered_small}
 pub use Rattle.algol_standing.proofs.Standing.{home_stands, stands_path}
 pub use Rattle.algol_standing.specs.Fitting.{IsOk}
 pub use Rattle.algol_standing.specs.Lows.{IsLow}
-pub use Rattle.algol_standing.specs.Skeleton.{FirstOf, Home, IsIn, Next, NextIn, OnPath, Skeleton, SkeletonOk, Stack, down, here}
-pub use Rattle.algol_standing.specs.Worlds.{IsAmong, IsNoBlock, IsOnPath, IsOwn, IsStanding, IsWhole, newest_own, referred_in_cells, skeleton, stack_of}
+pub use Rattle.algol_standing.specs.Skeleton.{FirstOf, Home, IsInSkeleton, SkeletonNext, NextIn, OnPath, Skeleton, SkeletonOk, Stack, down, here}
+pub use Rattle.algol_standing.specs.Worlds.{IsAmongParts, IsNoBlock, IsOnPath, IsOwn, IsStanding, IsWholeInstance, newest_own, referred_in_cells, skeleton, stack_of}
 pub use Rattle.b67_word.specs.Word.{Word, as_whole}
 pub use Rattle.b67_word.specs.declared.Place.{Place}
 pub use Rattle.b67_control.proofs.ControlLaws.{as_mscw-mscw_word, as_pcw-pcw_word, as_rcw-rcw_word}
@@ -46,7 +46,7 @@ pub use Rattle.b67_control.specs.declared.Pcw.{Pcw}
 pub use Rattle.b67_control.specs.declared.Rcw.{Rcw}
 pub use Rattle.b67_control.specs.declared.Registers.{Registers}
 pub use Rattle.b67_control.specs.declared.Sirw.{Sirw}
-pub use Rattle.b67_ops.specs.Intrinsics.{couple_of_intrinsic, number_of}
+pub use Rattle.b67_ops.specs.Intrinsics.{couple_of_intrinsic, intrinsic_number_of}
 pub use Rattle.b67_ops.specs.declared.Couple.{Couple}
 pub use Rattle.b67_ops.specs.declared.Operator.{Operator}
 pub use Rattle.b67_ops.specs.declared.TheConstants.{OUTER_LEVEL}
@@ -67,7 +67,7 @@ pub use Rattle.b67_table.specs.GoingTo.{Passed}
 pub use Rattle.b67_table.specs.Image.{Image, critical_in, critical_of, is_live, woken_number}
 pub use Rattle.b67_table.specs.Limits.{end_of_code, most_cells, most_processes}
 pub use Rattle.b67_table.specs.Linkage.{base_control, control_word, entered_mark}
-pub use Rattle.b67_table.specs.Look.{Look, read_as, seen, ◌>->◌}
+pub use Rattle.b67_table.specs.Look.{Look, read_as, look_seen, ◌>->◌}
 pub use Rattle.b67_table.specs.Outcome.{limit, limited}
 pub use Rattle.b67_table.specs.Private.{at_or, display_at, floor, frame}
 pub use Rattle.b67_table.specs.Questions.{live_criticals}
@@ -80,7 +80,7 @@ pub use Rattle.b67_table.specs.declared.InterruptKind.TheVariants.{BadCode}
 pub use Rattle.b67_table.specs.declared.ProcessState.{ProcessState}
 pub use Rattle.b67_table.specs.declared.ProcessState.TheVariants.{Able, Ended, Procures, WaitsAny, WaitsFor}
 pub use Rattle.b67_letters.specs.Letters.{called_by}
-pub use Rattle.b67_templates.specs.Cells.{Found, IsFormalArray, IsVariable, Simple, Wanted, actuals_of, found_from, has_place, made_base, made_from, made_of, parameter_cells, procedures, result_of, simple_cells, variables, zero_cells}
+pub use Rattle.b67_templates.specs.Cells.{Found, IsFormalArray, IsVariable, Simple, Wanted, actuals_of, found_from, has_place, made_base, made_from, made_of, parameter_cells, procedures, result_cells_of, simple_cells, variables, zero_cells}
 pub use Rattle.b67_templates.specs.Code.{in_routine}
 pub use Rattle.b67_templates.specs.Contexts.{Context, Yields, yields_of}
 pub use Rattle.b67_templates.specs.Fragments.{Has, HasKind, code_at}
@@ -93,10 +93,10 @@ pub use Rattle.b67_cores.proofs.Staying.{steps_stay_above}
 pub use Rattle.b67_cores.proofs.Taking.{number_read}
 pub use Rattle.b67_cores.specs.Cores.{Core, CoreSteps, HasCore, IsCore, size, with_core}
 pub use Rattle.b67_cores.specs.Slots.{Known, SlotsAre, ValueIs, newest}
-pub use Rattle.b67_cores.specs.Stretches.{Above, Begins, BlocksBegin, CoreAt, FragmentsArePerformed, control_words}
+pub use Rattle.b67_cores.specs.Stretches.{Above, CoreBegins, BlocksBegin, CoreAt, FragmentsArePerformed, control_words}
 pub use Rattle.b67_faithful.proofs.Choices.{length_set_numbered}
 pub use Rattle.b67_faithful.proofs.Contradictions.{none_some, some_same, true_false}
-pub use Rattle.b67_faithful.specs.Faithful.{IsShort}
+pub use Rattle.b67_faithful.specs.Faithful.{IsShortSegment}
 pub use Rattle.b67_faithful.specs.Weight.{part_weight, parts_weight, tokens_around, weight}
 pub use Rattle.b67_rows.proofs.AskedElements.{ArraySeen, IsAsked}
 pub use Rattle.b67_rows.proofs.CriticalRow.{FirstDown, IsAmongPlaces}
@@ -144,9 +144,9 @@ pub use Rattle.b67_frames.proofs.Variables.{Holds_value, cell_front, value_of_ce
 pub use Rattle.b67_frames.proofs.Zeros.{cells_length, zero_word}
 pub use Rattle.b67_frames.specs.Arrays.{Allotted, AreKnown, AreMade, AreSized, ArraysAre, Denotes, DescriptorIs, HasArray, IsActual, IsArrayOf, Layout, LeadsToVariable, named_from}
 pub use Rattle.b67_frames.specs.Events.{EventsAre, HasEvent}
-pub use Rattle.b67_frames.specs.Frames.{ArePlaced, Around, CellIs, CellsAre, Frame, Framed, Frames, IsChained, IsComplete, IsInReach, IsNarrow, ItemsStand, Owned, Refers, RoutinesStand, Shape, Stands, Waits, block_controls, controls_count, home_of, most_around, of_lent, of_own, run_level}
+pub use Rattle.b67_frames.specs.Frames.{ArePlaced, Around, CellIs, CellsAre, Frame, Framed, Frames, IsChained, IsComplete, IsInReach, IsNarrow, ItemsStand, Owned, Refers, RoutinesStand, Shape, FrameStands, Waits, block_controls, controls_count, home_of, most_around, of_lent, of_own, run_level}
 pub use Rattle.b67_scenes.specs.Depending.{CriticalIs, IsEventAt, TaskIs}
 pub use Rattle.b67_scenes.specs.Pictures.{Living, Pictured, PicturesBy, dead, failure_of, innermost_most, living}
-pub use Rattle.b67_scenes.specs.Reaches.{Reaches, ReachesFor, none_yet}
+pub use Rattle.b67_scenes.specs.Reaches.{CoreReaches, ReachesFor, none_yet}
 pub use Rattle.b67_scenes.specs.States.{StateIs}
 pub use Rattle.b67_scenes.specs.Waiting.{AreAwaiting, ListIs, WaitsAre}

@@ -1,6 +1,6 @@
 -- A process that stands at its action.
 use Rattle.std.proofs.Common.{true, ◌≡◌, refl, sym, ap, ◌∙◌, subst, ℕ, ◌+◌, ◌≤◌, List, [], ◌∷◌, length, Some, arith}
-use Rattle.b67_scenes.proofs.Prelude.{numbered, PProgram, scopes_of, Process, Part, World, IsWhole, IsOk, Registers, place_at, Code, Texts, stack_limit, place, Image, frame, display_at, at_or, Core, size, HasCore, weight, some_same, Layout, IsNarrow, Stands, Around, Frames, CriticalIs, TaskIs, innermost_most, Living, PicturesBy, lives, StateIs}
+use Rattle.b67_scenes.proofs.Prelude.{numbered, PProgram, scopes_of, Process, Part, World, IsWholeInstance, IsOk, Registers, place_at, Code, Texts, stack_limit, place, Image, frame, display_at, at_or, Core, size, HasCore, weight, some_same, Layout, IsNarrow, FrameStands, Around, Frames, CriticalIs, TaskIs, innermost_most, Living, PicturesBy, lives, StateIs}
 use Rattle.b67_scenes.proofs.Staying.{most_in}
 
 module _ (tree : PProgram) (code : Code) (texts : Texts) (w : World) (lay : Layout) (img : Image) where
@@ -15,15 +15,15 @@ module _ (tree : PProgram) (code : Code) (texts : Texts) (w : World) (lay : Layo
     pub sees : place_at core.registers.display 0 ≡ Some (place 0 0)
     pub small : size core ≤ stack_limit
     -- the world is as worlds are
-    pub ok : IsOk (scopes_of tree) IsWhole w
+    pub ok : IsOk (scopes_of tree) IsWholeInstance w
     pub narrow : IsNarrow (scopes_of tree) w lay part
-    pub stands : Stands tree code texts w lay p part outer core
+    pub stands : FrameStands tree code texts w lay p part outer core
     pub around : Around tree code texts w lay p outer stands.frame.lower stands.frame.mark stands.frame.control stands.frame.gives
     pub room : length core.below + most_in tree w part ≤ bound
     pub light : bound + 3 ≤ weight tree w p
 
   -- the innermost part of a process that stands, and its scene; where an evaluation is in an instance that has not made all, it keeps to what is around
-  pub scene_of : (p : ℕ) (q : Process) → ((part : Part) (outer : List Part) → q.todo ≡ part ∷ outer → IsNarrow (scopes_of tree) w lay part) → IsOk (scopes_of tree) IsWhole w → PicturesBy tree code texts w lay img → numbered w.processes p ≡ Some q → (l : Living tree code texts w lay img p q) → HasCore img p l.settled →
+  pub scene_of : (p : ℕ) (q : Process) → ((part : Part) (outer : List Part) → q.todo ≡ part ∷ outer → IsNarrow (scopes_of tree) w lay part) → IsOk (scopes_of tree) IsWholeInstance w → PicturesBy tree code texts w lay img → numbered w.processes p ≡ Some q → (l : Living tree code texts w lay img p q) → HasCore img p l.settled →
       (part : Part) × (outer : List Part) × Scene p q part outer l.bound l.settled
   scene_of p q narrow ok by at l has = by_parts q.todo refl l.frames l.room
     where

@@ -142,7 +142,7 @@ module _ (tree : PProgram) (code : Code) (texts : Texts) (w : World) (lay : Layo
 
   -- ---- the end
 
-  by_fault : (f : Option WorldFault) → meaning.end_by f w.processes ≡ end_as (machine.end_by (failure_of f) img.states)
+  by_fault : (f : Option WorldFault) → meaning.end_by f w.processes ≡ end_as (machine.image_end_by (failure_of f) img.states)
   by_fault (Some f) = refl
   by_fault None =
       let each : (k : ℕ) (q : Process) → slice_get w.processes k ≡ Some q → StateIs (scopes_of tree) w lay q.state (slice_get img.states k) = λ k q e. state_is (suc k) q (by.each (suc k) q e) in
@@ -154,7 +154,7 @@ module _ (tree : PProgram) (code : Code) (texts : Texts) (w : World) (lay : Layo
   worldly b = if b then meaning.end_by w.fault w.processes else Some meaning.finished
 
   abbrev imaged : Bool → Option ImageEnd
-  imaged b = if b then Some machine.finished else machine.end_by img.fault img.states
+  imaged b = if b then Some machine.finished else machine.image_end_by img.fault img.states
 
   -- where there is a process 1
   pub ends_alike : 1 ≤ length w.processes → end_of w ≡ end_as (image_end img)
@@ -162,12 +162,12 @@ module _ (tree : PProgram) (code : Code) (texts : Texts) (w : World) (lay : Layo
   ends_alike some = found w.processes refl some
     where
       by_life : (b : Bool) → worldly b ≡ end_as (imaged (not b))
-      by_life true = by_fault w.fault ∙ ap (λ (f : Option Failure). end_as (machine.end_by f img.states)) (sym by.fault)
+      by_life true = by_fault w.fault ∙ ap (λ (f : Option Failure). end_as (machine.image_end_by f img.states)) (sym by.fault)
       by_life false = refl
 
       by_state : (q : Process) → numbered w.processes 1 ≡ Some q → StateIs (scopes_of tree) w lay q.state (numbered img.states 1) →
           (if lives ((process_at w 1).state) then meaning.end_by w.fault w.processes else Some meaning.finished) ≡
-          end_as (if machine.has_ended (numbered img.states 1) then Some machine.finished else machine.end_by img.fault img.states)
+          end_as (if machine.has_ended (numbered img.states 1) then Some machine.finished else machine.image_end_by img.fault img.states)
       by_state q at is =
           ap (λ (x : Option Process). worldly (lives ((or_no_process x).state))) at
           ∙ by_life (lives q.state)
@@ -175,7 +175,7 @@ module _ (tree : PProgram) (code : Code) (texts : Texts) (w : World) (lay : Layo
 
       found : (qs : List Process) → w.processes ≡ qs → 1 ≤ length w.processes →
           (if lives ((process_at w 1).state) then meaning.end_by w.fault w.processes else Some meaning.finished) ≡
-          end_as (if machine.has_ended (numbered img.states 1) then Some machine.finished else machine.end_by img.fault img.states)
+          end_as (if machine.has_ended (numbered img.states 1) then Some machine.finished else machine.image_end_by img.fault img.states)
       found [] e many = absurd (omega (arith, many, ap length e))
       found (q ∷ qs) e many =
           let at : numbered w.processes 1 ≡ Some q = ap (λ (xs : List Process). numbered xs 1) e in

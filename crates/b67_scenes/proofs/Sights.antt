@@ -1,7 +1,7 @@
 -- How much a process that stands at its action may look at: of each instance on the path from its newest, all cells but those that another process
 -- is making, and of these the ones that are there.
 use Rattle.std.proofs.Common.{◌≡◌, ◌≢◌, ◌⊎◌, inl, inr, refl, sym, ap, ◌∙◌, subst, ℕ, suc, ◌+◌, ◌<◌, ◌≤◌, List, [], ◌∷◌, length, Some, arith, append-nil}
-use Rattle.b67_scenes.proofs.Prelude.{slice_get, numbered, block_numbered, PProgram, Scopes, scopes_of, Instance, Process, Part, instance_at, own_instances, IsIn, IsStanding, IsOnPath, IsOwn, stack_of, stack_forth, newest_own, IsWhole, IsLow, top_stands, Word, Code, word_at, place, made_base, Texts, some_same, same_or_not, IsInReach, lies_low, lies_in}
+use Rattle.b67_scenes.proofs.Prelude.{slice_get, numbered, block_numbered, PProgram, Scopes, scopes_of, Instance, Process, Part, instance_at, own_instances, IsInSkeleton, IsStanding, IsOnPath, IsOwn, stack_of, stack_forth, newest_own, IsWholeInstance, IsLow, top_stands, Word, Code, word_at, place, made_base, Texts, some_same, same_or_not, IsInReach, lies_low, lies_in}
 use Rattle.algol_standing.proofs.Seen.{top_inside}
 use Rattle.b67_scenes.proofs.Finding.{Shows, wholly, but_made, two_words, Found, found_process, word_sees, find}
 use Rattle.b67_scenes.proofs.Scene.{Actor}
@@ -61,12 +61,12 @@ module _ (tree : PProgram) (code : Code) (texts : Texts) (actor : Actor tree cod
   newest_number : (f : Found tree code texts w lay img (newest_own (part ∷ outer))) → f.number ≡ p
   newest_number f =
       number_is tree code texts w lay img s.by s.ok (newest_own (part ∷ outer)) p (stack_of q) (stack_forth w p q s.at)
-      (subst (λ (parts : List Part). IsIn (own_instances parts) (newest_own (part ∷ outer))) (sym s.todo) (top_inside (scopes_of tree) IsWhole w s.ok.sound p q part outer s.at s.todo)) f
+      (subst (λ (parts : List Part). IsInSkeleton (own_instances parts) (newest_own (part ∷ outer))) (sym s.todo) (top_inside (scopes_of tree) IsWholeInstance w s.ok.sound p q part outer s.at s.todo)) f
 
   -- what is in reach lies in that, or in a stack on which somebody depends
   pub in_reach_near : (i : ℕ) → IsInReach w (part ∷ outer) i → (f : Found tree code texts w lay img i) → IsNearStack p img f.number
   in_reach_near i path f =
-      let st : IsStanding w (newest_own (part ∷ outer)) = top_stands (scopes_of tree) IsWhole w s.ok.sound p q part outer s.at s.todo in
+      let st : IsStanding w (newest_own (part ∷ outer)) = top_stands (scopes_of tree) IsWholeInstance w s.ok.sound p q part outer s.at s.todo in
       let top : Found tree code texts w lay img (newest_own (part ∷ outer)) = find tree code texts w lay img s.by s.ok (newest_own (part ∷ outer)) st in
       path_near tree code texts w lay img s.by s.ok p (newest_own (part ∷ outer)) i path st top (inl (newest_number top)) f
 
@@ -99,7 +99,7 @@ module _ (tree : PProgram) (code : Code) (texts : Texts) (actor : Actor tree cod
       not_newest alone =
           found_other i f other
           (own_listed (part ∷ outer) i
-          (subst (λ (j : ℕ). IsIn (own_instances (part ∷ outer)) j) (alone (newest_own (part ∷ outer)) path) (top_inside (scopes_of tree) IsWhole w s.ok.sound p q part outer s.at s.todo)))
+          (subst (λ (j : ℕ). IsInSkeleton (own_instances (part ∷ outer)) j) (alone (newest_own (part ∷ outer)) path) (top_inside (scopes_of tree) IsWholeInstance w s.ok.sound p q part outer s.at s.todo)))
 
       sees_other : Shows tree code texts w lay img f.process i (length f.lies.frame.lower) (length f.lies.frame.cells) f.core → Sees i f
       sees_other (wholly h) = sees_all h
@@ -107,7 +107,7 @@ module _ (tree : PProgram) (code : Code) (texts : Texts) (actor : Actor tree cod
       sees_other (two_words h older newest free) = absurd (not_newest (newest_alone (scopes_of tree) w f.number f.process i older s.ok f.is newest free))
 
     in_reach_stands : IsStanding w i
-    in_reach_stands = path_stands (scopes_of tree) w s.ok (newest_own (part ∷ outer)) i (top_stands (scopes_of tree) IsWhole w s.ok.sound p q part outer s.at s.todo) path
+    in_reach_stands = path_stands (scopes_of tree) w s.ok (newest_own (part ∷ outer)) i (top_stands (scopes_of tree) IsWholeInstance w s.ok.sound p q part outer s.at s.todo) path
 
     -- what is in reach is seen
     pub seen : Seen i

@@ -1,6 +1,6 @@
 -- A name that a block has from its entry on is that of a simple cell of its frame.
 use Rattle.std.proofs.Common.{◌≡◌, ℕ, ◌+◌, Bool, true, false, List, [], ◌∷◌, ◌++◌, Option, Some, None, refl, sym, ap, if◌then◌else◌}
-use Rattle.b67_scenes.proofs.Prelude.{Kind, Named, Block, Scopes, Parameter, same_name, has_simple, Simple, Found, found_from, result_of, variables, parameter_cells, simple_cells, AreTold}
+use Rattle.b67_scenes.proofs.Prelude.{Kind, Named, Block, Scopes, Parameter, same_name, has_simple, Simple, Found, found_from, result_cells_of, variables, parameter_cells, simple_cells, AreTold}
 use Rattle.algol_tree.specs.Plain as tree
 use Rattle.algol_tree.specs.Plain.{PDecls}
 use Rattle.algol_tree.specs.Sorts.{is_named_in}
@@ -51,7 +51,7 @@ module _ (name : List ℕ) where
       by true false same later f = false_true (sym same)
       by false false same later f = later f
 
-  has_own_result : (o : Option Kind) (own : List ℕ) → has_result o own name ≡ true → has_cell (result_of o own) name ≡ true
+  has_own_result : (o : Option Kind) (own : List ℕ) → has_result o own name ≡ true → has_cell (result_cells_of o own) name ≡ true
   has_own_result None own e = false_true e
   has_own_result (Some kind) own e = ap (λ (t : Bool). if t then true else false) e
 
@@ -78,11 +78,11 @@ module _ (name : List ℕ) where
   simple_found sc b h e = found_if 0 (simple_cells sc b) name (by (has_parameter b.parameters name) refl (has_result b.result b.name name) refl e)
     where
       by : (s : Bool) → has_parameter b.parameters name ≡ s → (t : Bool) → has_result b.result b.name name ≡ t → (if s then true else if t then true else has_variable b.decls name) ≡ true →
-          has_cell (parameter_cells sc b ++ result_of b.result b.name ++ variables b.decls) name ≡ true
+          has_cell (parameter_cells sc b ++ result_cells_of b.result b.name ++ variables b.decls) name ≡ true
       by true f t g k =
-          has_front (parameter_cells sc b ++ result_of b.result b.name) (variables b.decls) name
-          (has_front (parameter_cells sc b) (result_of b.result b.name) name (has_told b.parameters (parameter_cells sc b) h.told f))
+          has_front (parameter_cells sc b ++ result_cells_of b.result b.name) (variables b.decls) name
+          (has_front (parameter_cells sc b) (result_cells_of b.result b.name) name (has_told b.parameters (parameter_cells sc b) h.told f))
       by false f true g k =
-          has_front (parameter_cells sc b ++ result_of b.result b.name) (variables b.decls) name
-          (has_back (parameter_cells sc b) (result_of b.result b.name) name (has_own_result b.result b.name g))
-      by false f false g k = has_back (parameter_cells sc b ++ result_of b.result b.name) (variables b.decls) name (has_own_variable b.decls k)
+          has_front (parameter_cells sc b ++ result_cells_of b.result b.name) (variables b.decls) name
+          (has_back (parameter_cells sc b) (result_cells_of b.result b.name) name (has_own_result b.result b.name g))
+      by false f false g k = has_back (parameter_cells sc b ++ result_cells_of b.result b.name) (variables b.decls) name (has_own_variable b.decls k)

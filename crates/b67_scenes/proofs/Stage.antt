@@ -1,6 +1,6 @@
 -- What all actions share: the choice of the world, the limit, and the picture after an action.
 use Rattle.std.proofs.Common.{◌≡◌, ◌≢◌, ◌⊎◌, inl, inr, refl, sym, ap, ◌∙◌, subst, ℕ, suc, ◌<◌, ◌≤◌, List, ◌∷◌, length, Option, Some, None, Bool, false, arith, true}
-use Rattle.b67_scenes.proofs.Prelude.{if◌then◌else◌, nat_le, nat_tests, numbered, set_numbered, PProgram, Scopes, scopes_of, Part, Process, lives, WorldFault, World, process_at, or_no_process, IsWhole, IsOk, ask, list_in, IsListed, Place, waiters_at, Registers, Code, Texts, stack_at, stack_limit, ProcessState, StateIs, limited, limit, Image, is_live, stack_length, Core, HasCore, some_same, weight, parts_weight, Layout, ArraysAre, EventsAre, HasFacts, facts_of, keeps_same, arrays_unchanged, events_unchanged, failure_of, Living, Pictured, living, PicturesBy, WaitsAre, length_set_numbered, same_or_not, numbered_set, numbered_other}
+use Rattle.b67_scenes.proofs.Prelude.{if◌then◌else◌, nat_le, nat_tests, numbered, set_numbered, PProgram, Scopes, scopes_of, Part, Process, lives, WorldFault, World, process_at, or_no_process, IsWholeInstance, IsOk, ask, list_in, IsListed, Place, waiters_at, Registers, Code, Texts, stack_at, stack_limit, ProcessState, StateIs, limited, limit, Image, is_live, stack_length, Core, HasCore, some_same, weight, parts_weight, Layout, ArraysAre, EventsAre, HasFacts, facts_of, keeps_same, arrays_unchanged, events_unchanged, failure_of, Living, Pictured, living, PicturesBy, WaitsAre, length_set_numbered, same_or_not, numbered_set, numbered_other}
 use Rattle.b67_num.specs.declared.FaultKind.{FaultKind}
 use Rattle.algol_meaning.specs.Choice.{choice, choice_in, choice_of}
 use Rattle.b67_table.specs.Effect as effects
@@ -131,7 +131,7 @@ module _ (tree : PProgram) (code : Code) (texts : Texts) (w : World) (lay : Layo
       beside = alike (suc p) (λ (e : suc p ≡ p). absurd (omega (arith, e)))
 
   -- a fault leaves all that stands, and what others may look at
-  untouched : IsOk (scopes_of tree) IsWhole w → (fault : Option WorldFault) (r : ℕ) → LeavesAlone (scopes_of tree) w (record w { fault = fault }) lay lay r
+  untouched : IsOk (scopes_of tree) IsWholeInstance w → (fault : Option WorldFault) (r : ℕ) → LeavesAlone (scopes_of tree) w (record w { fault = fault }) lay lay r
   untouched ok fault r =
       let facts : HasFacts w = facts_of (scopes_of tree) w ok in
       record {
@@ -148,7 +148,7 @@ module _ (tree : PProgram) (code : Code) (texts : Texts) (w : World) (lay : Layo
       }
 
   -- a fault changes nothing else
-  pub faulted : IsOk (scopes_of tree) IsWhole w → (kind : FaultKind) → PicturesBy tree code texts (record w { fault = Some (record { kind = kind; process = p }) }) lay (failed img p kind)
+  pub faulted : IsOk (scopes_of tree) IsWholeInstance w → (kind : FaultKind) → PicturesBy tree code texts (record w { fault = Some (record { kind = kind; process = p }) }) lay (failed img p kind)
   unfolding failed
   faulted ok kind =
       record {

@@ -1,6 +1,6 @@
 -- What a process that starts another names: all of it is seen from the text of its part.
 use Rattle.std.proofs.Common.{◌≡◌, ◌⊎◌, inl, inr, subst, ℕ, List, [], Option}
-use Rattle.b67_scenes.proofs.Prelude.{Named, PProgram, Scopes, scopes_of, Ask, ask, Given, instance_at, all_to_make, IsSeen, IsSeenAround, IsInner, InRest, IsNoBlock, Code, Texts, IsComplete}
+use Rattle.b67_scenes.proofs.Prelude.{Named, PProgram, Scopes, scopes_of, Ask, ask, Given, instance_at, all_to_make, BlockIsSeen, IsSeenAround, IsInner, InRest, IsNoBlock, Code, Texts, IsComplete}
 use Rattle.algol_meaning.specs.Asks.{starts}
 use Rattle.algol_paths.specs.Texts.{InGivens, InName}
 use Rattle.algol_standing.proofs.Asking.{Sees, rest_sees, bound_sees}
@@ -21,10 +21,10 @@ module _ (tree : PProgram) (code : Code) (texts : Texts) (actor : Actor tree cod
     abbrev block : ℕ
     block = (instance_at w part.instance).block
 
-    pub start_seen : AreNamedThere (IsSeen (scopes_of tree) ((instance_at w part.instance).block)) n gs task
+    pub start_seen : AreNamedThere (BlockIsSeen (scopes_of tree) ((instance_at w part.instance).block)) n gs task
     start_seen =
-        subst (λ (k : Ask). Sees (IsSeen sc block) (IsInner sc block) k) asks
-        (rest_sees (IsSeen sc block) (IsInner sc block) (IsSeenAround sc block) (λ m (seen : IsSeenAround sc block m). seen.0) part.rest s.stands.frame.text)
+        subst (λ (k : Ask). Sees (BlockIsSeen sc block) (IsInner sc block) k) asks
+        (rest_sees (BlockIsSeen sc block) (IsInner sc block) (IsSeenAround sc block) (λ m (seen : IsSeenAround sc block m). seen.0) part.rest s.stands.frame.text)
 
     -- in an evaluation that keeps to what is around its block
     pub start_around : InRest (IsSeenAround (scopes_of tree) ((instance_at w part.instance).block)) IsNoBlock (IsSeenAround (scopes_of tree) ((instance_at w part.instance).block)) part.rest →
@@ -34,7 +34,7 @@ module _ (tree : PProgram) (code : Code) (texts : Texts) (actor : Actor tree cod
         (rest_sees (IsSeenAround sc block) IsNoBlock (IsSeenAround sc block) (λ m (seen : IsSeenAround sc block m). seen) part.rest text)
 
     bound_around : (all_to_make part.rest ≡ []) ⊎ AreNamedThere (IsSeenAround sc block) n gs task
-    bound_around = by_bound (bound_sees (IsSeen sc block) (IsInner sc block) (IsSeenAround sc block) part.rest s.stands.frame.text)
+    bound_around = by_bound (bound_sees (BlockIsSeen sc block) (IsInner sc block) (IsSeenAround sc block) part.rest s.stands.frame.text)
       where
         by_bound : (all_to_make part.rest ≡ []) ⊎ Sees (IsSeenAround sc block) IsNoBlock (ask part.rest) → (all_to_make part.rest ≡ []) ⊎ AreNamedThere (IsSeenAround sc block) n gs task
         by_bound (inl none) = inl none

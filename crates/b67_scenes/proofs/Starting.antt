@@ -1,6 +1,6 @@
 -- The first image pictures the first world.
 use Rattle.std.proofs.Common.{◌≡◌, inl, refl, sym, ap, ◌∙◌, subst, ℕ, zero, suc, ◌+◌, ◌-◌, ◌*◌, ◌<◌, ◌≤◌, List, [], ◌∷◌, ◌++◌, length, Some, None, true, false, arith, length-append, append-nil}
-use Rattle.b67_scenes.proofs.Prelude.{map, replicate, not, if◌then◌else◌, slice_get, length-map, numbered, Block, block_numbered, number_at, around, Parameter, same_name, level_of, PProgram, Scopes, scopes_of, items_of, settle_items, Instance, Part, Process, World, able, process_at, fresh_cells, IsStanding, IsWhole, IsOk, ArrayCell, event, EventState, DeclaredArray, RestsKeepToTheirText, AllIsMadeInOrder, procedures_before, segment_of, Word, Pcw, Registers, Rcw, pcw_word, place_at, as_mscw-mscw_word, as_rcw-rcw_word, OUTER_LEVEL, Placed, Spells, Code, Segment, place, base_control, woken_number, yields_of, Simple, parameter_cells, simple_cells, zero_cells, actuals_of, made_of, Texts, context_of, ComesTo, Core, IsCore, HasCore, CoreAt, FragmentsArePerformed, control_words, Begins, BlocksBegin, tokens_around, weight, some_same, none_some, AreTold, AreNested, block_keeps, block_makes, block_few, routines_long, controls_many, Allotted, Layout, HasArray, ArraysAre, block_controls, controls_count, most_around, CellsAre, IsChained, Framed, of_own, facts_of, LeadAll, lead_there, fresh_are, fresh_lead, simple_many, zero_word, cells_length, HasEvent, EventsAre, Pictured, living, ListIs, list_in, list_of, none_yet, Place, get_within}
+use Rattle.b67_scenes.proofs.Prelude.{map, replicate, not, if◌then◌else◌, slice_get, length-map, numbered, Block, block_numbered, number_at, around, Parameter, same_name, level_of, PProgram, Scopes, scopes_of, items_of, settle_items, Instance, Part, Process, World, able, process_at, fresh_cells, IsStanding, IsWholeInstance, IsOk, ArrayCell, event, EventState, DeclaredArray, RestsKeepToTheirText, AllIsMadeInOrder, procedures_before, segment_of, Word, Pcw, Registers, Rcw, pcw_word, place_at, as_mscw-mscw_word, as_rcw-rcw_word, OUTER_LEVEL, Placed, Spells, Code, Segment, place, base_control, woken_number, yields_of, Simple, parameter_cells, simple_cells, zero_cells, actuals_of, made_of, Texts, context_of, ComesTo, Core, IsCore, HasCore, CoreAt, FragmentsArePerformed, control_words, CoreBegins, BlocksBegin, tokens_around, weight, some_same, none_some, AreTold, AreNested, block_keeps, block_makes, block_few, routines_long, controls_many, Allotted, Layout, HasArray, ArraysAre, block_controls, controls_count, most_around, CellsAre, IsChained, Framed, of_own, facts_of, LeadAll, lead_there, fresh_are, fresh_lead, simple_many, zero_word, cells_length, HasEvent, EventsAre, Pictured, living, ListIs, list_in, list_of, none_yet, Place, get_within}
 use Rattle.std.proofs.lemmas.List.{length-replicate}
 use Rattle.algol_tree.specs.declared.token.Spot.{Spot}
 use Rattle.algol_meaning.specs.World as worlds
@@ -41,7 +41,7 @@ first_there (s ∷ segments) h = (s, refl)
 
 module _ (tree : PProgram) (code : Code) (names : HasNames tree) (nested : AreNested (scopes_of tree)) (stands : ProgramAt code tree)
     (fragments : FragmentsArePerformed) (begin : BlocksBegin) (starts : BlocksStart) (keeps : RestsKeepToTheirText) (order : AllIsMadeInOrder)
-    (ok : IsOk (scopes_of tree) IsWhole (start (scopes_of tree))) where
+    (ok : IsOk (scopes_of tree) IsWholeInstance (start (scopes_of tree))) where
   abbrev sc : Scopes
   sc = scopes_of tree
 
@@ -121,7 +121,7 @@ module _ (tree : PProgram) (code : Code) (names : HasNames tree) (nested : AreNe
         words_are = tt;
       }
 
-  begun : Begins sc [] code text level bound many controls body.start first_core
+  begun : CoreBegins sc [] code text level bound many controls body.start first_core
   begun =
       begin sc [] (context_of code texts sc 0) code text level bound many controls 0 body.begin body.start first_core body.over body.cells at_first
       (omega (arith, block_few sc nested 0 nested.some, all_many, many_controls)) (omega arith)

@@ -1,7 +1,7 @@
 -- A world in which only the state and the woken number of a process are others, and it lives as well: it leaves all processes alone.
 use Rattle.std.proofs.Common.{◌≡◌, ◌≢◌, ◌⊎◌, inl, inr, refl, sym, ap, ◌∙◌, subst, ℕ, zero, suc, List, [], ◌∷◌, Some, None, Bool, true, false}
-use Rattle.b67_scenes.proofs.Prelude.{◌&&◌, ◌||◌, slice_get, slice_set, map, numbered, set_numbered, Scopes, Part, Process, State, lives, World, instance_at, with_process, is_this, some_depends, Stack, Skeleton, OnPath, IsAmong, IsStanding, IsOnPath, stack_of, skeleton, some_same, same_or_not, numbered_set, numbered_other, Layout, HasFacts, IsStandingOrNone, keeps_same}
-use Rattle.algol_standing.specs.Skeleton.{Stands}
+use Rattle.b67_scenes.proofs.Prelude.{◌&&◌, ◌||◌, slice_get, slice_set, map, numbered, set_numbered, Scopes, Part, Process, State, lives, World, instance_at, with_process, is_this, some_depends, Stack, Skeleton, OnPath, IsAmongParts, IsStanding, IsOnPath, stack_of, skeleton, some_same, same_or_not, numbered_set, numbered_other, Layout, HasFacts, IsStandingOrNone, keeps_same}
+use Rattle.algol_standing.specs.Skeleton.{SkeletonStands}
 use Rattle.algol_standing.specs.Lows.{WorldLow}
 use Rattle.b67_scenes.proofs.Ancestors.{AreLaid}
 use Rattle.b67_scenes.proofs.Kept.{LeavesAlone}
@@ -36,10 +36,10 @@ module _ (w : World) (m : ℕ) (o : Process) (at : numbered w.processes m ≡ So
   skeleton_same = ap (λ (ss : List Stack). record (skeleton w) { stacks = record { own = []; evaluations = []; critical = None; live = false } ∷ ss }) stacks_same
 
   stand_before : (j : ℕ) → IsStanding w' j → IsStanding w j
-  stand_before j st = subst (λ (s : Skeleton). Stands s j) skeleton_same st
+  stand_before j st = subst (λ (s : Skeleton). SkeletonStands s j) skeleton_same st
 
   stand_later : (j : ℕ) → IsStanding w j → IsStanding w' j
-  stand_later j st = subst (λ (s : Skeleton). Stands s j) (sym skeleton_same) st
+  stand_later j st = subst (λ (s : Skeleton). SkeletonStands s j) (sym skeleton_same) st
 
   path_before : (a b : ℕ) → IsOnPath w' a b → IsOnPath w a b
   path_before a b path = subst (λ (s : Skeleton). OnPath s a b) skeleton_same path
@@ -94,7 +94,7 @@ module _ (w : World) (m : ℕ) (o : Process) (at : numbered w.processes m ≡ So
     low_world b i l =
         record {
           instances = l.instances;
-          parts = λ k q part is among. let o : WasThere k q = was_there k q is in l.parts k o.before part o.is (subst (λ (ps : List Part). IsAmong ps part) (sym o.todo) among);
+          parts = λ k q part is among. let o : WasThere k q = was_there k q is in l.parts k o.before part o.is (subst (λ (ps : List Part). IsAmongParts ps part) (sym o.todo) among);
           tasks = λ k q r is task. let o : WasThere k q = was_there k q is in l.tasks k o.before r o.is (o.task ∙ task);
         }
 

@@ -1,6 +1,6 @@
 -- What a change of the world leaves of the parts of a process: their static parents, their frames, and where they stand.
 use Rattle.std.proofs.Common.{◌≡◌, inl, inr, refl, sym, ap, ◌∙◌, subst, ℕ, ◌+◌, ◌*◌, ◌<◌, ◌≤◌, List, [], ◌∷◌, length, Option, Some, Bool, arith, length-append}
-use Rattle.b67_scenes.proofs.Prelude.{if◌then◌else◌, block_numbered, level_of, PProgram, Scopes, scopes_of, Instance, Part, World, instance_at, or_no_instance, is_evaluation, IsStanding, segment_of, Place, Word, place_at, Placed, Code, place, Yields, Context, Texts, context_of, StandsFor, Core, Known, CoreAt, part_weight, parts_weight, tokens_around, Layout, AreKnown, most_around, IsInReach, IsChained, Shape, of_own, of_lent, Frame, Stands, Around, Frames, run_level, StayBelow, same_block, weight_stays, around_stays, innermost_most, in_routine}
+use Rattle.b67_scenes.proofs.Prelude.{if◌then◌else◌, block_numbered, level_of, PProgram, Scopes, scopes_of, Instance, Part, World, instance_at, or_no_instance, is_evaluation, IsStanding, segment_of, Place, Word, place_at, Placed, Code, place, Yields, Context, Texts, context_of, StandsFor, Core, Known, CoreAt, part_weight, parts_weight, tokens_around, Layout, AreKnown, most_around, IsInReach, IsChained, Shape, of_own, of_lent, Frame, FrameStands, Around, Frames, run_level, StayBelow, same_block, weight_stays, around_stays, innermost_most, in_routine}
 use Rattle.b67_frames.proofs.Lying.{here_still, known_after, Stayed, frame_stays, IsOfPart}
 use Rattle.b67_scenes.proofs.Ancestors.{AreLaid, same_place}
 
@@ -100,7 +100,7 @@ module _ (tree : PProgram) (code : Code) (texts : Texts) (w w' : World) (lay lay
           ∙ ap (λ (j : ℕ). 8 + 0 + 4 * tokens_around tree j) same
           ∙ ap (λ (b : Bool). 8 + (if b then 0 else length ((instance_at w part.instance).cells)) + 4 * tokens_around tree ((instance_at w part.instance).block)) (sym l.evaluates)
 
-  module _ (laid : AreLaid w lay) (part : Part) (outer : List Part) (core : Core) (s : Stands tree code texts w lay p part outer core)
+  module _ (laid : AreLaid w lay) (part : Part) (outer : List Part) (core : Core) (s : FrameStands tree code texts w lay p part outer core)
       (a : Around tree code texts w lay p outer s.frame.lower s.frame.mark s.frame.control s.frame.gives) (low : length core.below ≤ limit) where
     abbrev i : ℕ
     i = part.instance

@@ -1,11 +1,11 @@
 -- The frames of a process's parts after a store into a cell of one of them: of a variable, whose word in the stack is another one, or of an
 -- array, whose word stays.
 use Rattle.std.proofs.Common.{◌≡◌, ◌≢◌, ◌⊎◌, inl, inr, refl, sym, ap, ◌∙◌, subst, ℕ, zero, suc, ◌+◌, ◌<◌, ◌≤◌, List, [], ◌∷◌, ◌++◌, length, Option, Some, None, false, arith, length-append, Bool, true}
-use Rattle.b67_scenes.proofs.Prelude.{slice_get, slice_set, reverse, if◌then◌else◌, numbered, block_numbered, level_of, PProgram, Scopes, scopes_of, same_name, Cell, NamedCell, Instance, Part, World, instance_at, or_no_instance, with_instance, ancestor, cells_with, resume, Made, KeepsToText, segment_of, Place, Word, Code, place, Yields, yields_of, Simple, Wanted, simple_cells, actuals_of, made_of, Texts, context_of, ComesTo, Known, newest, SlotsAre, control_words, parts_weight, some_same, same_or_not, numbered_set, numbered_other, Allotted, Layout, AreMade, AreKnown, CellsAre, block_controls, most_around, IsInReach, home_of, Framed, RoutinesStand, ItemsStand, Frame, Waits, Around, Owned, Shape, of_own, of_lent, run_level, KeepsArrays, Remain, keeps_same, denotes_lasts, HasFacts, IsStandingOrNone, Lies, lies_low, lies_around, StayBelow, around_stays, owned_frame, frame_gives, runs_at, StandOn, home_on, in_routine, is_evaluation, IsIn, referred_in_cells, IsStanding, IsOnPath, IsOwn, newest_own, as_many_values}
+use Rattle.b67_scenes.proofs.Prelude.{slice_get, slice_set, reverse, if◌then◌else◌, numbered, block_numbered, level_of, PProgram, Scopes, scopes_of, same_name, Cell, NamedCell, Instance, Part, World, instance_at, or_no_instance, with_instance, ancestor, cells_with, resume, Made, KeepsToText, segment_of, Place, Word, Code, place, Yields, yields_of, Simple, Wanted, simple_cells, actuals_of, made_of, Texts, context_of, ComesTo, Known, newest, SlotsAre, control_words, parts_weight, some_same, same_or_not, numbered_set, numbered_other, Allotted, Layout, AreMade, AreKnown, CellsAre, block_controls, most_around, IsInReach, home_of, Framed, RoutinesStand, ItemsStand, Frame, Waits, Around, Owned, Shape, of_own, of_lent, run_level, KeepsArrays, Remain, keeps_same, denotes_lasts, HasFacts, IsStandingOrNone, Lies, lies_low, lies_around, StayBelow, around_stays, owned_frame, frame_gives, runs_at, StandOn, home_on, in_routine, is_evaluation, IsInSkeleton, referred_in_cells, IsStanding, IsOnPath, IsOwn, newest_own, as_many_values}
 use Rattle.algol_meaning.specs.Rest.{Answer}
 use Rattle.b67_standing.specs.Standing.{Gives, pushed}
 use Rattle.b67_rows.proofs.StackWords.{length-set}
-use Rattle.b67_frames.specs.Frames.{context_at, text_of, level_at, most_of}
+use Rattle.b67_frames.specs.Frames.{context_at, text_of_part, level_of_part, most_of}
 use Rattle.b67_frames.proofs.Knowing.{HasReferred, has_reference, has_actual, referred_denoted, known_lasts, climbs_all}
 use Rattle.b67_frames.proofs.Variables.{HasNoValue, ReferencesStay}
 use Rattle.b67_frames.proofs.Lying.{below_frame}
@@ -122,7 +122,7 @@ pub record ChangedCells (ss : List Simple) (rows : List Allotted) (cells before 
 module _ (tree : PProgram) (code : Code) (texts : Texts) (w : World) (lay : Layout) (p : ℕ) (i : ℕ) (x : Instance) (at : numbered w.instances i ≡ Some x) (with_cells : List NamedCell)
     (high : ℕ) (laid : numbered lay.places i ≡ Some (place p high)) (far k : ℕ) (place_is : k ≡ high + 2 + far) (word : Option Word) (many : length with_cells ≡ length x.cells)
     (short : IsStored word → far < length (simple_cells (scopes_of tree) (block_numbered (scopes_of tree).blocks x.block))) (keeps : KeepsArrays (scopes_of tree) w (stored_world w i x at with_cells) lay lay i)
-    (facts : HasFacts w) (fewer : (r : ℕ) → IsIn (referred_in_cells with_cells) r → IsIn (referred_in_cells x.cells) r)
+    (facts : HasFacts w) (fewer : (r : ℕ) → IsInSkeleton (referred_in_cells with_cells) r → IsInSkeleton (referred_in_cells x.cells) r)
     (changes : (simple : List NamedCell) (values : List Word) (arrays : List NamedCell) (declared : List Made) (descriptors : List Word) →
     CellsAre (simple_cells (scopes_of tree) (block_numbered (scopes_of tree).blocks x.block)) simple values → AreMade declared arrays (lay.rows i) descriptors → x.cells ≡ simple ++ arrays →
     ChangedCells (simple_cells (scopes_of tree) (block_numbered (scopes_of tree).blocks x.block)) (lay.rows i) with_cells simple values (put word values far) declared descriptors) where
@@ -222,14 +222,14 @@ module _ (tree : PProgram) (code : Code) (texts : Texts) (w : World) (lay : Layo
       later {n} (inl none) = inl none
       later {n} (inr stands) = inr (stand_later n stands)
 
-  cells_there : (j r : ℕ) → IsStanding w' j → IsIn (referred_in_cells ((instance_at w' j).cells)) r → IsStanding w' r
+  cells_there : (j r : ℕ) → IsStanding w' j → IsInSkeleton (referred_in_cells ((instance_at w' j).cells)) r → IsStanding w' r
   cells_there j r st inside = stand_later r (facts.cells j r (stand_before j st) (by_number (same_or_not j i)))
     where
-      by_number : (j ≡ i) ⊎ (j ≢ i) → IsIn (referred_in_cells ((instance_at w j).cells)) r
+      by_number : (j ≡ i) ⊎ (j ≢ i) → IsInSkeleton (referred_in_cells ((instance_at w j).cells)) r
       by_number (inl e) =
-          subst (λ (y : Instance). IsIn (referred_in_cells y.cells) r) (sym (ap (λ (n : ℕ). instance_at w n) e ∙ ap or_no_instance at))
-          (fewer r (subst (λ (y : Instance). IsIn (referred_in_cells y.cells) r) (ap (λ (n : ℕ). instance_at w' n) e ∙ ap or_no_instance (changed_at w i x at with_cells)) inside))
-      by_number (inr apart) = subst (λ (y : Instance). IsIn (referred_in_cells y.cells) r) (ap or_no_instance (others_at w i x at with_cells j apart)) inside
+          subst (λ (y : Instance). IsInSkeleton (referred_in_cells y.cells) r) (sym (ap (λ (n : ℕ). instance_at w n) e ∙ ap or_no_instance at))
+          (fewer r (subst (λ (y : Instance). IsInSkeleton (referred_in_cells y.cells) r) (ap (λ (n : ℕ). instance_at w' n) e ∙ ap or_no_instance (changed_at w i x at with_cells)) inside))
+      by_number (inr apart) = subst (λ (y : Instance). IsInSkeleton (referred_in_cells y.cells) r) (ap or_no_instance (others_at w i x at with_cells j apart)) inside
 
   facts_later : HasFacts w'
   facts_later =
@@ -506,7 +506,7 @@ module _ (tree : PProgram) (code : Code) (texts : Texts) (w : World) (lay : Layo
           returns = subst (λ (b : ℕ). (r : Answer) → Gives wanted r →
               ComesTo sc (in_routine g.frame.gives (context_of code texts sc b)) (texts.placed (segment_of sc.blocks b)) (run_level (is_evaluation part.purpose) (level_of (block_numbered sc.blocks b))) (most_around tree b) (resume sc part.rest r) s.pc (pushed wanted r s.slots)) block_is
               (subst (λ (y : Yields). (r : Answer) → Gives wanted r →
-              ComesTo sc (context_at tree code texts w lay p part y) (text_of tree code texts w lay p part) (level_at tree code texts w lay p part) (most_of tree code texts w lay p part) (resume sc part.rest r) s.pc (pushed wanted r s.slots)) (sym g.gives) s.returns);
+              ComesTo sc (context_at tree code texts w lay p part y) (text_of_part tree code texts w lay p part) (level_of_part tree code texts w lay p part) (most_of tree code texts w lay p part) (resume sc part.rest r) s.pc (pushed wanted r s.slots)) (sym g.gives) s.returns);
           few = subst (λ (b : ℕ). length s.slots + 1 ≤ most_around tree b) block_is s.few;
           held = s.held;
           held_are = known_stored (part ∷ outer) part.instance s.held s.held_are;

@@ -1,7 +1,7 @@
 -- A store into a cell of a frame of a process, by whatever process: the one whose frame it is lives on after it, with the word in its stack below its
 -- floor, on its way to where it stands or there; and all others are pictured as they were.
 use Rattle.std.proofs.Common.{◌≡◌, ◌≢◌, ◌⊎◌, inl, inr, refl, sym, ap, ◌∙◌, subst, ℕ, ◌+◌, ◌<◌, ◌≤◌, List, [], ◌∷◌, ◌++◌, length, Option, Some, arith}
-use Rattle.b67_scenes.proofs.Prelude.{numbered, block_numbered, level_of, PProgram, Scopes, scopes_of, NamedCell, Instance, Part, Process, World, instance_at, process_at, with_process, Made, segment_of, Word, Code, stack_at, ProcessState, place, Image, frame, simple_cells, Texts, context_of, StandsFor, Core, HasCore, CoreSteps, newest, SlotsAre, CoreAt, Above, steps_stay_above, length_set_numbered, same_or_not, Layout, AreMade, ArraysAre, EventsAre, CellsAre, most_around, IsChained, Stands, Around, Frames, run_level, HasFacts, KeepsArrays, StayBelow, innermost_most, Living, Pictured, living, dead, PicturesBy, WaitsAre, ReachesFor, in_routine, Yields, is_evaluation, IsIn, referred_in_cells, IsOwn, weight, parts_weight, place_at, StateIs}
+use Rattle.b67_scenes.proofs.Prelude.{numbered, block_numbered, level_of, PProgram, Scopes, scopes_of, NamedCell, Instance, Part, Process, World, instance_at, process_at, with_process, Made, segment_of, Word, Code, stack_at, ProcessState, place, Image, frame, simple_cells, Texts, context_of, StandsFor, Core, HasCore, CoreSteps, newest, SlotsAre, CoreAt, Above, steps_stay_above, length_set_numbered, same_or_not, Layout, AreMade, ArraysAre, EventsAre, CellsAre, most_around, IsChained, FrameStands, Around, Frames, run_level, HasFacts, KeepsArrays, StayBelow, innermost_most, Living, Pictured, living, dead, PicturesBy, WaitsAre, ReachesFor, in_routine, Yields, is_evaluation, IsInSkeleton, referred_in_cells, IsOwn, weight, parts_weight, place_at, StateIs}
 use Rattle.b67_cores.specs.Cores.{over}
 use Rattle.b67_scenes.proofs.Kept.{LeavesAlone, reach_alone, alike_but, pictured_alike}
 use Rattle.b67_scenes.proofs.Stage.{process_is, comes_by}
@@ -13,7 +13,7 @@ use Rattle.b67_scenes.proofs.StoringFrames.{IsStored, put, length_put, put_first
 module _ (tree : PProgram) (code : Code) (texts : Texts) (w : World) (lay : Layout) (p : ℕ) (i : ℕ) (x : Instance) (at : numbered w.instances i ≡ Some x) (with_cells : List NamedCell)
     (high : ℕ) (laid : numbered lay.places i ≡ Some (place p high)) (far k : ℕ) (place_is : k ≡ high + 2 + far) (word : Option Word) (many : length with_cells ≡ length x.cells)
     (short : IsStored word → far < length (simple_cells (scopes_of tree) (block_numbered (scopes_of tree).blocks x.block))) (keeps : KeepsArrays (scopes_of tree) w (stored_world w i x at with_cells) lay lay i)
-    (facts : HasFacts w) (fewer : (r : ℕ) → IsIn (referred_in_cells with_cells) r → IsIn (referred_in_cells x.cells) r)
+    (facts : HasFacts w) (fewer : (r : ℕ) → IsInSkeleton (referred_in_cells with_cells) r → IsInSkeleton (referred_in_cells x.cells) r)
     (changes : (simple : List NamedCell) (values : List Word) (arrays : List NamedCell) (declared : List Made) (descriptors : List Word) →
     CellsAre (simple_cells (scopes_of tree) (block_numbered (scopes_of tree).blocks x.block)) simple values → AreMade declared arrays (lay.rows i) descriptors → x.cells ≡ simple ++ arrays →
     ChangedCells (simple_cells (scopes_of tree) (block_numbered (scopes_of tree).blocks x.block)) (lay.rows i) with_cells simple values (put word values far) declared descriptors) where
@@ -30,7 +30,7 @@ module _ (tree : PProgram) (code : Code) (texts : Texts) (w : World) (lay : Layo
   abbrev pub stored_core : Core → Core
   stored_core core = over (put word core.below k) core
 
-  module _ (part : Part) (outer : List Part) (core : Core) (s : Stands tree code texts w lay p part outer core) (a : Around tree code texts w lay p outer s.frame.lower s.frame.mark s.frame.control s.frame.gives)
+  module _ (part : Part) (outer : List Part) (core : Core) (s : FrameStands tree code texts w lay p part outer core) (a : Around tree code texts w lay p outer s.frame.lower s.frame.mark s.frame.control s.frame.gives)
       (own : IsOwn (part ∷ outer) i) where
     g : Stored tree code texts w lay p i x at with_cells high laid far k place_is word many short keeps facts fewer changes part outer core.below s.frame
     g = frame_stored tree code texts w lay p i x at with_cells high laid far k place_is word many short keeps facts fewer changes part outer core.below s.frame a own
@@ -62,7 +62,7 @@ module _ (tree : PProgram) (code : Code) (texts : Texts) (w : World) (lay : Layo
         s.chained up low
         ∙ ap (λ (j : ℕ). numbered lay.places j) (same_ancestors w w' (λ j. same_of w i x at with_cells (λ (z : Instance). z.parent) refl j) up part.instance)
 
-    stands_stored : Stands tree code texts w' lay p part outer (stored_core core)
+    stands_stored : FrameStands tree code texts w' lay p part outer (stored_core core)
     stands_stored =
         record {
           frame = g.frame;

@@ -2,7 +2,7 @@
 use Rattle.std.proofs.Common.{◌≡◌, refl, sym, ap, ◌∙◌, subst, ℕ, ◌+◌, ◌-◌, ◌≤◌, List, [], ◌∷◌, ◌++◌, Option, Some, arith}
 use Rattle.b67_scenes.proofs.Prelude.{PProgram, Scopes, scopes_of, use_of, Part, World, ancestor, IsStanding, newest_own, Place, Word, place_at, cell_word, Couple, OUTER_LEVEL, Code, Context, Texts, Core, Known, Layout, AreKnown, IsInReach, IsChained, Frame, Around}
 use Rattle.std.specs.Prelude.{IsSome}
-use Rattle.b67_standing.specs.Stepping.{Held, Stuffable, of_array, of_variable, of_event, of_actual}
+use Rattle.b67_standing.specs.Stepping.{HeldWord, Stuffable, of_array, of_variable, of_event, of_actual}
 use Rattle.b67_cores.specs.Stretches.{Sees, IsStuffed, AreStuffed}
 use Rattle.b67_frames.specs.Arrays.{an_array_named, an_event_named, a_variable_named, HeldIs}
 use Rattle.b67_frames.proofs.Lying.{part_stands}
@@ -45,7 +45,7 @@ module _ (tree : PProgram) (code : Code) (texts : Texts) (w : World) (climb : Ca
   abbrev context : Context
   context = context_in tree code texts w part f.gives
 
-  named_stuffed : (held : Held) (couple : Couple) (word : Word) (frame : Place) → Stuffable sc context held couple → place_at core.registers.display couple.level ≡ Some frame →
+  named_stuffed : (held : HeldWord) (couple : Couple) (word : Word) (frame : Place) → Stuffable sc context held couple → place_at core.registers.display couple.level ≡ Some frame →
       word ≡ cell_word (record { frame = frame; index = couple.index }) → HeldIs sc w lay (IsInReach w (part ∷ outer)) part.instance held word
   named_stuffed held couple word frame (of_array n d c is) shown word_is =
       let up : ℕ = (use_of sc n).up in
@@ -101,7 +101,7 @@ module _ (tree : PProgram) (code : Code) (texts : Texts) (w : World) (climb : Ca
 
   one_stuffed : (x : Known) → IsStuffed sc context core x → HeldIs sc w lay (IsInReach w (part ∷ outer)) part.instance x.held x.word
   one_stuffed x s =
-      subst (λ (h : Held). HeldIs sc w lay (IsInReach w (part ∷ outer)) part.instance h x.word) (sym s.held_is) (named_stuffed s.held s.couple x.word s.frame s.stuffable s.shown s.word_is)
+      subst (λ (h : HeldWord). HeldIs sc w lay (IsInReach w (part ∷ outer)) part.instance h x.word) (sym s.held_is) (named_stuffed s.held s.couple x.word s.frame s.stuffable s.shown s.word_is)
 
   -- all of them are known
   pub stuffed_known : (known : List Known) → AreStuffed (scopes_of tree) (context_in tree code texts w part f.gives) core known → AreKnown (scopes_of tree) w lay (IsInReach w (part ∷ outer)) part.instance known

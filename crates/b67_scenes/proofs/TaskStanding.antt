@@ -1,12 +1,12 @@
 -- The event of a process's task is in an instance that stands, and is older than all of the process's own.
 use Rattle.std.proofs.Common.{◌≡◌, inl, inr, refl, sym, ◌∙◌, subst, ℕ, zero, suc, ◌<◌, ◌≤◌, Bool, true, false, List, [], ◌∷◌, Option, Some, arith}
-use Rattle.b67_scenes.proofs.Prelude.{slice_get, numbered, Scopes, own_instances, Reference, Process, lives, World, Stack, Home, IsIn, NextIn, Next, here, down, IsOwn, IsStanding, IsOnPath, IsWhole, skeleton, stack_of, IsOk, map_back, stack_forth, some_same, none_some}
+use Rattle.b67_scenes.proofs.Prelude.{slice_get, numbered, Scopes, own_instances, Reference, Process, lives, World, Stack, Home, IsInSkeleton, NextIn, SkeletonNext, here, down, IsOwn, IsStanding, IsOnPath, IsWholeInstance, skeleton, stack_of, IsOk, map_back, stack_forth, some_same, none_some}
 use Rattle.algol_standing.specs.Skeleton.{Owned}
 use Rattle.algol_standing.proofs.Laws.{paths_stand}
 use Rattle.b67_scenes.proofs.Worlds.{own_listed}
 
 -- in a stack, or from its base to its critical instance, what lies below is older
-next_older : (homes : List Home) (p : ℕ) (c : Option ℕ) (xs : List ℕ) (a b : ℕ) → Owned homes p xs → ((x : ℕ) → IsIn xs x → (d : ℕ) → c ≡ Some d → d < x) → NextIn c xs a b → b < a
+next_older : (homes : List Home) (p : ℕ) (c : Option ℕ) (xs : List ℕ) (a b : ℕ) → Owned homes p xs → ((x : ℕ) → IsInSkeleton xs x → (d : ℕ) → c ≡ Some d → d < x) → NextIn c xs a b → b < a
 next_older homes p c [] a b owned older n = absurd n
 next_older homes p c (x ∷ []) a b owned older n = subst (λ (k : ℕ). b < k) n.0 (older x (inl refl) b n.1)
 next_older homes p c (x ∷ y ∷ r) a b owned older (inl n) = subst (λ (k : ℕ). b < k) n.0 (subst (λ (k : ℕ). k < x) n.1 (owned.3 y (inl refl)))
@@ -17,8 +17,8 @@ not_empty : {A : Type 0} (c : Option ℕ) (xs : List ℕ) (a b : ℕ) → NextIn
 not_empty c [] a b n none = absurd n
 not_empty c (x ∷ xs) a b n none = cc
 
-module _ (sc : Scopes) (w : World) (ok : IsOk sc IsWhole w) where
-  step_older : (a b : ℕ) → Next (skeleton w) a b → b < a
+module _ (sc : Scopes) (w : World) (ok : IsOk sc IsWholeInstance w) where
+  step_older : (a b : ℕ) → SkeletonNext (skeleton w) a b → b < a
   step_older a b n = by_number n.number n.is
     where
       by_process : (k : ℕ) (q : Process) → numbered w.processes k ≡ Some q → n.stack ≡ stack_of q → b < a

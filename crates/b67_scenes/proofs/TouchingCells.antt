@@ -1,6 +1,6 @@
 -- Where a process finds what an action reads: the operand in the cell of a variable or a result, and the control word of a procedure.
 use Rattle.std.proofs.Common.{◌≡◌, refl, sym, ap, ◌∙◌, subst, ℕ, suc, ◌+◌, ◌≤◌, List, [], ◌∷◌, ◌++◌, length, Option, Some, None, false, arith, lit<, ◌<◌}
-use Rattle.b67_scenes.proofs.Prelude.{is_evaluation, slice_get, reverse, Kind, Named, Block, block_numbered, number_at, level_of, PProgram, Scopes, scopes_of, use_of, NamedCell, Instance, instance_at, or_no_instance, ancestor, IsSeen, procedures_before, segment_of, Place, Word, Pcw, Fits_pcw, as_pcw, as_sirw, pcw_word, as_pcw-pcw_word, Couple, Code, words_of, word_at, place, display_at, get_within, Simple, result_of, variables, parameter_cells, simple_cells, procedures, made_base, IsVariable, code_at, Texts, control_words, AreNested, words_are, get-front, get-behind, length_around, NearCell, value_tag, CellsAre, block_controls, Framed, Owned, owned_frame, Holds_value, value_of_cell, as_many_values}
+use Rattle.b67_scenes.proofs.Prelude.{is_evaluation, slice_get, reverse, Kind, Named, Block, block_numbered, number_at, level_of, PProgram, Scopes, scopes_of, use_of, NamedCell, Instance, instance_at, or_no_instance, ancestor, BlockIsSeen, procedures_before, segment_of, Place, Word, Pcw, Fits_pcw, as_pcw, as_sirw, pcw_word, as_pcw-pcw_word, Couple, Code, words_of, word_at, place, display_at, get_within, Simple, result_cells_of, variables, parameter_cells, simple_cells, procedures, made_base, IsVariable, code_at, Texts, control_words, AreNested, words_are, get-front, get-behind, length_around, NearCell, value_tag, CellsAre, block_controls, Framed, Owned, owned_frame, Holds_value, value_of_cell, as_many_values}
 use Rattle.b67_control.proofs.ControlLaws.{as_sirw-other}
 use Rattle.b67_templates.specs.Cells as wants
 use Rattle.b67_templates.specs.Cells.{IsProcedure}
@@ -42,7 +42,7 @@ from_result b kind = record { name = b.name; wanted = wants.value kind } ∷ var
 
 -- the cell after those of the parameters is that of the result
 first_value : (sc : Scopes) (b : Block) (kind : Kind) → b.result ≡ Some kind → (cells : List NamedCell) (words : List Word) → CellsAre (simple_cells sc b) cells words → First (length (parameter_cells sc b)) words
-first_value sc b kind typed cells words are = behind (parameter_cells sc b) cells words (subst (λ (ss : List Simple). CellsAre ss cells words) (cells_joined sc b ∙ ap (λ (o : Option Kind). parameter_cells sc b ++ (result_of o b.name ++ variables b.decls)) typed) are)
+first_value sc b kind typed cells words are = behind (parameter_cells sc b) cells words (subst (λ (ss : List Simple). CellsAre ss cells words) (cells_joined sc b ∙ ap (λ (o : Option Kind). parameter_cells sc b ++ (result_cells_of o b.name ++ variables b.decls)) typed) are)
   where
     behind : (ss : List Simple) (cs : List NamedCell) (ws : List Word) → CellsAre (ss ++ from_result b kind) cs ws → First (length ss) ws
     behind [] [] ws a = absurd a
@@ -86,7 +86,7 @@ module _ (tree : PProgram) (code : Code) (texts : Texts) (nested : AreNested (sc
       ∙ ap (λ (ws : List Word). slice_get ws n) (words_are img p core s.has)
       ∙ get-front core.below (reverse core.words) n x e
 
-  pub variable_there : (n : Named) (kind : Kind) (couple : Couple) → IsSeen sc block n → IsVariable sc level n kind couple → Names couple IsOperand
+  pub variable_there : (n : Named) (kind : Kind) (couple : Couple) → BlockIsSeen sc block n → IsVariable sc level n kind couple → Names couple IsOperand
   variable_there n kind couple seen_it v =
       let h : Home tree code texts actor n kind couple = home tree code texts actor n kind couple seen_it v in
       let f : Found tree code texts w lay img (ancestor w ((use_of sc n).up) part.instance) = h.at.seen_there.found in
@@ -146,7 +146,7 @@ module _ (tree : PProgram) (code : Code) (texts : Texts) (nested : AreNested (sc
 
   -- ---- the control word of a procedure
 
-  module _ (n : Named) (callee : ℕ) (couple : Couple) (is_seen : IsSeen sc block n) (c : IsProcedure sc level n callee couple) where
+  module _ (n : Named) (callee : ℕ) (couple : Couple) (is_seen : BlockIsSeen sc block n) (c : IsProcedure sc level n callee couple) where
     abbrev home_at : ℕ
     home_at = ancestor w ((use_of sc n).up) part.instance
 

@@ -1,6 +1,6 @@
 -- What the operators reach that do something with events, or make one.
 use Rattle.std.proofs.Common.{◌≡◌, ◌⊎◌, inl, inr, refl, sym, ap, ◌∙◌, subst, ℕ, ◌+◌, List, [], ◌∷◌, ◌++◌, length, Option, Some, arith, lit<}
-use Rattle.b67_scenes.proofs.Prelude.{slice_get, reverse, map, Named, PProgram, Scopes, scopes_of, Ask, ask, Word, Registers, Sirw, as_irw, as_sirw, event_word, Intrinsic, number_of, couple_of_intrinsic, Code, words_or, word_at, intrinsic_pcw, place, Image, frame, cell_place, sirw_cell, cell_of, Texts, Couple, Slot, intrinsic, mark, newest, SlotsAre, slots_length, some_same, none_some, AreNested, IsAsked, words_are, Top, top_slot, NearCell, StandsNear, reference_read, FindsEvent, directly, by_reference, pcw_no_sirw, AreFound}
+use Rattle.b67_scenes.proofs.Prelude.{slice_get, reverse, map, Named, PProgram, Scopes, scopes_of, Ask, ask, Word, Registers, Sirw, as_irw, as_sirw, event_word, Intrinsic, intrinsic_number_of, couple_of_intrinsic, Code, words_or, word_at, intrinsic_pcw, place, Image, frame, cell_place, sirw_cell, cell_of, Texts, Couple, Slot, intrinsic, mark, newest, SlotsAre, slots_length, some_same, none_some, AreNested, IsAsked, words_are, Top, top_slot, NearCell, StandsNear, reference_read, FindsEvent, directly, by_reference, pcw_no_sirw, AreFound}
 use Rattle.algol_meaning.specs.Asks.{event_deed, makes_event}
 use Rattle.b67_deeds.specs.Deeds.{EventDeed}
 use Rattle.b67_ops.specs.declared.Operator.TheVariants as ops
@@ -127,9 +127,9 @@ module _ (tree : PProgram) (code : Code) (texts : Texts) (nested : AreNested (sc
       let whole : core.words ≡ g.lying.arguments ++ i.word ∷ i.words_below = g.lying.is ∙ ap (λ (ws : List Word). g.lying.arguments ++ ws) i.is in
       by_names tree code texts nested actor (ops.Plain kinds.Entr) a.0 a.2.stands
       (entry_names_above p img core.registers i.word (under_top img p core s.has g.lying.arguments i.word i.words_below whole (core.registers.f + 1) (omega (arith, f, many)))
-      (record { level = 0; index = number_of name }) (ap as_irw i.slot_is ∙ reference_read (couple_of_intrinsic name) (lit< tt) (numbers_small name)) (place 0 0) s.sees
-      (system_cell p img (record { frame = place 0 0; index = number_of name }) refl) (intrinsic_pcw (number_of name))
-      (ap (λ (o : Option (List Word)). slice_get (words_or o) (0 + number_of name)) s.by.system ∙ lies_there name) (pcw_no_sirw name) (IsOnWays p img core.registers words on.cells on.reach)
+      (record { level = 0; index = intrinsic_number_of name }) (ap as_irw i.slot_is ∙ reference_read (couple_of_intrinsic name) (lit< tt) (numbers_small name)) (place 0 0) s.sees
+      (system_cell p img (record { frame = place 0 0; index = intrinsic_number_of name }) refl) (intrinsic_pcw (intrinsic_number_of name))
+      (ap (λ (o : Option (List Word)). slice_get (words_or o) (0 + intrinsic_number_of name)) s.by.system ∙ lies_there name) (pcw_no_sirw name) (IsOnWays p img core.registers words on.cells on.reach)
       (λ k u d after lies e.
       first_ways p img core.registers words on.cells on.reach u d
       (above_others (IsOneWord words) core.below g.lying.arguments (i.word ∷ i.words_below)

@@ -1,7 +1,7 @@
 -- The processes of a picture: each has its own stack, and the marks below its floor lead to frames below floors.
 use Rattle.std.proofs.Common.{◌≡◌, refl, sym, ap, ◌∙◌, ℕ, ◌+◌, ◌<◌, ◌≤◌, List, [], ◌∷◌, length, Option, Some, None, true, arith}
-use Rattle.b67_scenes.proofs.Prelude.{slice_get, reverse, numbered, PProgram, scopes_of, Process, Part, lives, World, Place, Word, Registers, place_at, Code, words_of, word_at, place, Image, is_live, display_at, at_or, frame, floor, Lives, numbered_within, Texts, Above, steps_stay_above, some_same, true_false, AreNested, numbered_beyond, words_are, get-front, FrameAt, system_frame, Layout, Stands, Around, Frames, IsWhole, IsOk, facts_of, AllLead, lead_at, Living, Pictured, living, dead, PicturesBy}
-use Rattle.b67_table.specs.Privacy.{Keeps}
+use Rattle.b67_scenes.proofs.Prelude.{slice_get, reverse, numbered, PProgram, scopes_of, Process, Part, lives, World, Place, Word, Registers, place_at, Code, words_of, word_at, place, Image, is_live, display_at, at_or, frame, floor, Lives, numbered_within, Texts, Above, steps_stay_above, some_same, true_false, AreNested, numbered_beyond, words_are, get-front, FrameAt, system_frame, Layout, FrameStands, Around, Frames, IsWholeInstance, IsOk, facts_of, AllLead, lead_at, Living, Pictured, living, dead, PicturesBy}
+use Rattle.b67_table.specs.Privacy.{RegistersStay}
 use Rattle.b67_cores.specs.Cores.{stack_of}
 use Rattle.b67_cores.proofs.Performing.{steps_keep}
 use Rattle.b67_footprints.specs.Laws.{HaveOwnStacks}
@@ -39,7 +39,7 @@ module _ (tree : PProgram) (code : Code) (texts : Texts) (w : World) (lay : Layo
 
   -- ---- below its floor, as near to process p, whose stack it is, or where somebody depends on it
 
-  module _ (nested : AreNested (scopes_of tree)) (ok : IsOk (scopes_of tree) IsWhole w) (p q : ℕ) (near : IsNearStack p img q) (o : Process) (l : Living tree code texts w lay img q o) where
+  module _ (nested : AreNested (scopes_of tree)) (ok : IsOk (scopes_of tree) IsWholeInstance w) (p q : ℕ) (near : IsNearStack p img q) (o : Process) (l : Living tree code texts w lay img q o) where
     there : Lives img q l.core.registers
     there = record { live = l.has.live; is = l.has.registers }
 
@@ -52,7 +52,7 @@ module _ (tree : PProgram) (code : Code) (texts : Texts) (w : World) (lay : Layo
         ap (λ (ws : List Word). slice_get ws n) above.below
         ∙ get-front l.core.below above.cells n x (found.1 ∙ ap (λ (y : Word). Some y) same)
 
-    module _ (part : Part) (outer : List Part) (s : Stands tree code texts w lay q part outer l.settled)
+    module _ (part : Part) (outer : List Part) (s : FrameStands tree code texts w lay q part outer l.settled)
         (a : Around tree code texts w lay q outer s.frame.lower s.frame.mark s.frame.control s.frame.gives) where
       -- the innermost frame is where it was
       settled_frame : frame l.settled.registers ≡ length s.frame.lower
@@ -60,7 +60,7 @@ module _ (tree : PProgram) (code : Code) (texts : Texts) (w : World) (lay : Layo
 
       own_frame : frame l.core.registers ≡ length s.frame.lower
       own_frame =
-          let kept : Keeps l.core.registers l.settled.registers = steps_keep l.steps in
+          let kept : RegistersStay l.core.registers l.settled.registers = steps_keep l.steps in
           ap (λ (d : List (Option Place)). at_or (place_at d l.core.registers.ll)) (sym kept.2)
           ∙ ap (λ (n : ℕ). at_or (place_at l.settled.registers.display n)) (sym kept.1)
           ∙ settled_frame

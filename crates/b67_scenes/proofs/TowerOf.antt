@@ -1,6 +1,6 @@
 -- The frames of a process's parts lie one on the other, and their marks lead down.
 use Rattle.std.proofs.Common.{◌≡◌, refl, sym, ap, ◌∙◌, subst, ℕ, ◌+◌, ◌<◌, ◌≤◌, List, [], ◌∷◌, ◌++◌, length, Some, false, Ok, arith}
-use Rattle.b67_scenes.proofs.Prelude.{reverse, numbered, PProgram, Scopes, scopes_of, Part, World, is_evaluation, Word, as_mscw, as_rcw, Code, Stacks, word_at, stack_limit, place, frame_below, read_as, seen, Yields, Texts, newest, slots_length, entered_to, newest_low, length-stack, Layout, Frame, Waits, Around, Begins_with, begins_front, mark_there, control_there, owned_frame}
+use Rattle.b67_scenes.proofs.Prelude.{reverse, numbered, PProgram, Scopes, scopes_of, Part, World, is_evaluation, Word, as_mscw, as_rcw, Code, Stacks, word_at, stack_limit, place, frame_below, read_as, look_seen, Yields, Texts, newest, slots_length, entered_to, newest_low, length-stack, Layout, Frame, Waits, Around, Begins_with, begins_front, mark_there, control_there, owned_frame}
 use Rattle.b67_rows.proofs.Marks.{Above, under_seen}
 use Rattle.b67_scenes.proofs.Staying.{level_in, frame_low}
 use Rattle.b67_scenes.proofs.Towers.{Tower, base, above}
@@ -60,7 +60,7 @@ module _ (tree : PProgram) (code : Code) (texts : Texts) (w : World) (lay : Layo
     newest_under : newest home (length u.below) u.slots < length u.below + length u.slots
     newest_under = newest_low home (length u.below) u.slots under_home
 
-    pub leads_under : seen stacks (frame_below (place p (length lower))) ≡ Ok (place p (length u.frame.lower))
+    pub leads_under : look_seen stacks (frame_below (place p (length lower))) ≡ Ok (place p (length u.frame.lower))
     leads_under =
         under_seen sc u.held (level_in tree w next) stacks p home u.below u.words above_it (length lower) (entered_to u.home u.df) (ap (read_as as_mscw) marked ∙ u.mark_is) u.slots u.words_are
         (omega (arith, height, many, small)) u.far (omega (arith, u.far, newest_under, height, many))

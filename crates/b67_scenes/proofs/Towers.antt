@@ -1,20 +1,20 @@
 -- The frames of a process's parts, one on the other, along which the marks lead down.
 use Rattle.std.proofs.Common.{◌≡◌, ◌⊎◌, inl, inr, refl, sym, ap, ◌∙◌, subst, ℕ, ◌<◌, ◌≤◌, List, [], ◌∷◌, ◌++◌, Some, Bool, true, false, Ok, arith, append_assoc}
-use Rattle.b67_scenes.proofs.Prelude.{if◌then◌else◌, numbered, Part, is_evaluation, own_instances, IsIn, Place, Stacks, place, frame_below, seen, some_same, Layout}
+use Rattle.b67_scenes.proofs.Prelude.{if◌then◌else◌, numbered, Part, is_evaluation, own_instances, IsInSkeleton, Place, Stacks, place, frame_below, look_seen, some_same, Layout}
 
 -- the instances of some parts and of those around them
-pub own_either : (newer parts : List Part) (i : ℕ) → IsIn (own_instances (newer ++ parts)) i → IsIn (own_instances newer) i ⊎ IsIn (own_instances parts) i
+pub own_either : (newer parts : List Part) (i : ℕ) → IsInSkeleton (own_instances (newer ++ parts)) i → IsInSkeleton (own_instances newer) i ⊎ IsInSkeleton (own_instances parts) i
 own_either [] parts i n = inr n
 own_either (x ∷ newer) parts i n = by (is_evaluation x.purpose) n (own_either newer parts i)
   where
-    by : (t : Bool) → IsIn (if t then own_instances (newer ++ parts) else x.instance ∷ own_instances (newer ++ parts)) i →
-        (IsIn (own_instances (newer ++ parts)) i → IsIn (own_instances newer) i ⊎ IsIn (own_instances parts) i) →
-        IsIn (if t then own_instances newer else x.instance ∷ own_instances newer) i ⊎ IsIn (own_instances parts) i
+    by : (t : Bool) → IsInSkeleton (if t then own_instances (newer ++ parts) else x.instance ∷ own_instances (newer ++ parts)) i →
+        (IsInSkeleton (own_instances (newer ++ parts)) i → IsInSkeleton (own_instances newer) i ⊎ IsInSkeleton (own_instances parts) i) →
+        IsInSkeleton (if t then own_instances newer else x.instance ∷ own_instances newer) i ⊎ IsInSkeleton (own_instances parts) i
     by true n later = later n
     by false (inl same) later = inl (inl same)
     by false (inr n) later = up (later n)
       where
-        up : IsIn (own_instances newer) i ⊎ IsIn (own_instances parts) i → IsIn (x.instance ∷ own_instances newer) i ⊎ IsIn (own_instances parts) i
+        up : IsInSkeleton (own_instances newer) i ⊎ IsInSkeleton (own_instances parts) i → IsInSkeleton (x.instance ∷ own_instances newer) i ⊎ IsInSkeleton (own_instances parts) i
         up (inl m) = inl (inr m)
         up (inr m) = inr m
 
@@ -25,7 +25,7 @@ own_first x parts owns = ap (λ (t : Bool). if t then own_instances parts else x
 module _ (lay : Layout) (r : ℕ) where
   -- the frame of each of these instances is higher
   abbrev pub AreHigher : List Part → ℕ → Type 0
-  AreHigher newer f = (i : ℕ) → IsIn (own_instances newer) i → (h : ℕ) × (numbered lay.places i ≡ Some (place r h)) × (f < h)
+  AreHigher newer f = (i : ℕ) → IsInSkeleton (own_instances newer) i → (h : ℕ) × (numbered lay.places i ≡ Some (place r h)) × (f < h)
 
   pub none_higher : (f : ℕ) → AreHigher [] f
   none_higher f i n = absurd n
@@ -37,12 +37,12 @@ module _ (lay : Layout) (r : ℕ) where
   pub higher_next : (newer : List Part) (x : Part) (f home : ℕ) → AreHigher newer f → (is_evaluation x.purpose ≡ false → numbered lay.places x.instance ≡ Some (place r f)) → home < f → AreHigher (newer ++ x ∷ []) home
   higher_next newer x f home high laid low i n = by (own_either newer (x ∷ []) i n)
     where
-      in_one : (b : Bool) → is_evaluation x.purpose ≡ b → IsIn (if b then [] else x.instance ∷ []) i → (h : ℕ) × (numbered lay.places i ≡ Some (place r h)) × (home < h)
+      in_one : (b : Bool) → is_evaluation x.purpose ≡ b → IsInSkeleton (if b then [] else x.instance ∷ []) i → (h : ℕ) × (numbered lay.places i ≡ Some (place r h)) × (home < h)
       in_one true e m = absurd m
       in_one false e (inl same) = (f, subst (λ (k : ℕ). numbered lay.places k ≡ Some (place r f)) same (laid e), low)
       in_one false e (inr m) = absurd m
 
-      by : IsIn (own_instances newer) i ⊎ IsIn (own_instances (x ∷ [])) i → (h : ℕ) × (numbered lay.places i ≡ Some (place r h)) × (home < h)
+      by : IsInSkeleton (own_instances newer) i ⊎ IsInSkeleton (own_instances (x ∷ [])) i → (h : ℕ) × (numbered lay.places i ≡ Some (place r h)) × (home < h)
       by (inl m) = let u = high i m in let h = u.2 in (u.0, u.1, omega (arith, h, low))
       by (inr m) = in_one (is_evaluation x.purpose) refl m
 
@@ -52,7 +52,7 @@ module _ (stacks : Stacks) (lay : Layout) (r : ℕ) where
   pub data Tower : List Part → ℕ → Type 0 where
     base : {part : Part} → is_evaluation part.purpose ≡ false → numbered lay.places part.instance ≡ Some (place r 0) → Tower (part ∷ []) 0
     above : {part next : Part} {parts : List Part} {f home : ℕ} → (is_evaluation part.purpose ≡ false → numbered lay.places part.instance ≡ Some (place r f)) →
-        seen stacks (frame_below (place r f)) ≡ Ok (place r home) → home < f → Tower (next ∷ parts) home → Tower (part ∷ next ∷ parts) f
+        look_seen stacks (frame_below (place r f)) ≡ Ok (place r home) → home < f → Tower (next ∷ parts) home → Tower (part ∷ next ∷ parts) f
 
   -- what lies under a frame that is no base frame
   pub record Under (outer : List Part) (f : ℕ) : Type 0 where
@@ -60,7 +60,7 @@ module _ (stacks : Stacks) (lay : Layout) (r : ℕ) where
     pub parts : List Part
     pub is : outer ≡ next ∷ parts
     pub home : ℕ
-    pub leads : seen stacks (frame_below (place r f)) ≡ Ok (place r home)
+    pub leads : look_seen stacks (frame_below (place r f)) ≡ Ok (place r home)
     pub low : home < f
     pub tower : Tower (next ∷ parts) home
 
@@ -79,8 +79,8 @@ module _ {stacks : Stacks} {lay : Layout} {r : ℕ} where
       by false e later = let clash : part.instance ∷ own_instances (next ∷ outer) ≡ [] = e in cc
 
   -- the frame of an own instance lies no higher
-  pub own_under : (parts : List Part) (f : ℕ) → Tower stacks lay r parts f → (i : ℕ) → IsIn (own_instances parts) i → (h : ℕ) × (numbered lay.places i ≡ Some (place r h)) × (h ≤ f)
-  own_under parts f (base {part} owns laid) i n = by (subst (λ (xs : List ℕ). IsIn xs i) (own_first part [] owns) n)
+  pub own_under : (parts : List Part) (f : ℕ) → Tower stacks lay r parts f → (i : ℕ) → IsInSkeleton (own_instances parts) i → (h : ℕ) × (numbered lay.places i ≡ Some (place r h)) × (h ≤ f)
+  own_under parts f (base {part} owns laid) i n = by (subst (λ (xs : List ℕ). IsInSkeleton xs i) (own_first part [] owns) n)
     where
       by : (part.instance ≡ i) ⊎ ⊥ → (h : ℕ) × (numbered lay.places i ≡ Some (place r h)) × (h ≤ 0)
       by (inl same) = (0, subst (λ (k : ℕ). numbered lay.places k ≡ Some (place r 0)) same laid, omega arith)
@@ -90,8 +90,8 @@ module _ {stacks : Stacks} {lay : Layout} {r : ℕ} where
       lift : (h : ℕ) × (numbered lay.places i ≡ Some (place r h)) × (h ≤ home) → (h : ℕ) × (numbered lay.places i ≡ Some (place r h)) × (h ≤ f)
       lift x = let k = x.2 in (x.0, x.1, omega (arith, k, low))
 
-      by : (b : Bool) → is_evaluation part.purpose ≡ b → IsIn (if b then own_instances (next ∷ outer) else part.instance ∷ own_instances (next ∷ outer)) i →
-          (IsIn (own_instances (next ∷ outer)) i → (h : ℕ) × (numbered lay.places i ≡ Some (place r h)) × (h ≤ home)) → (h : ℕ) × (numbered lay.places i ≡ Some (place r h)) × (h ≤ f)
+      by : (b : Bool) → is_evaluation part.purpose ≡ b → IsInSkeleton (if b then own_instances (next ∷ outer) else part.instance ∷ own_instances (next ∷ outer)) i →
+          (IsInSkeleton (own_instances (next ∷ outer)) i → (h : ℕ) × (numbered lay.places i ≡ Some (place r h)) × (h ≤ home)) → (h : ℕ) × (numbered lay.places i ≡ Some (place r h)) × (h ≤ f)
       by true e m later = lift (later m)
       by false e (inl same) later = (f, subst (λ (k : ℕ). numbered lay.places k ≡ Some (place r f)) same (laid e), omega arith)
       by false e (inr m) later = lift (later m)
@@ -101,27 +101,27 @@ module _ {stacks : Stacks} {lay : Layout} {r : ℕ} where
   parted x outer f (above {next = next} {parts} {home = home} laid leads low t) = inr (record { next = next; parts = parts; is = refl; home = home; leads = leads; low = low; tower = t })
 
   -- whose frame lies where that of a part does
-  in_tower : (x : Part) (outer : List Part) (f : ℕ) → Tower stacks lay r (x ∷ outer) f → (i : ℕ) → IsIn (own_instances (x ∷ outer)) i → numbered lay.places i ≡ Some (place r f) → (is_evaluation x.purpose ≡ false) × (x.instance ≡ i)
-  in_tower x outer f (base owns laid_there) i m laid = in_base (subst (λ (xs : List ℕ). IsIn xs i) (own_first x [] owns) m)
+  in_tower : (x : Part) (outer : List Part) (f : ℕ) → Tower stacks lay r (x ∷ outer) f → (i : ℕ) → IsInSkeleton (own_instances (x ∷ outer)) i → numbered lay.places i ≡ Some (place r f) → (is_evaluation x.purpose ≡ false) × (x.instance ≡ i)
+  in_tower x outer f (base owns laid_there) i m laid = in_base (subst (λ (xs : List ℕ). IsInSkeleton xs i) (own_first x [] owns) m)
     where
       in_base : (x.instance ≡ i) ⊎ ⊥ → (is_evaluation x.purpose ≡ false) × (x.instance ≡ i)
       in_base (inl same) = (owns, same)
       in_base (inr k) = absurd k
   in_tower x outer f (above {next = next} {parts} {home = home} laid_there leads low rest) i m laid = in_above (is_evaluation x.purpose) refl m
     where
-      lower : IsIn (own_instances (next ∷ parts)) i → (is_evaluation x.purpose ≡ false) × (x.instance ≡ i)
+      lower : IsInSkeleton (own_instances (next ∷ parts)) i → (is_evaluation x.purpose ≡ false) × (x.instance ≡ i)
       lower k = let u = own_under (next ∷ parts) home rest i k in let e = same_height lay r i u.0 f u.1 laid in let h = u.2 in absurd (omega (arith, e, h, low))
 
-      in_above : (b : Bool) → is_evaluation x.purpose ≡ b → IsIn (if b then own_instances (next ∷ parts) else x.instance ∷ own_instances (next ∷ parts)) i → (is_evaluation x.purpose ≡ false) × (x.instance ≡ i)
+      in_above : (b : Bool) → is_evaluation x.purpose ≡ b → IsInSkeleton (if b then own_instances (next ∷ parts) else x.instance ∷ own_instances (next ∷ parts)) i → (is_evaluation x.purpose ≡ false) × (x.instance ≡ i)
       in_above true e k = lower k
       in_above false e (inl same) = (e, same)
       in_above false e (inr k) = lower k
 
-  pub whose_frame : (newer : List Part) (x : Part) (outer : List Part) (f : ℕ) → Tower stacks lay r (x ∷ outer) f → AreHigher lay r newer f → (i : ℕ) → IsIn (own_instances (newer ++ x ∷ outer)) i →
+  pub whose_frame : (newer : List Part) (x : Part) (outer : List Part) (f : ℕ) → Tower stacks lay r (x ∷ outer) f → AreHigher lay r newer f → (i : ℕ) → IsInSkeleton (own_instances (newer ++ x ∷ outer)) i →
       numbered lay.places i ≡ Some (place r f) → (is_evaluation x.purpose ≡ false) × (x.instance ≡ i)
   whose_frame newer x outer f t high i n laid = by (own_either newer (x ∷ outer) i n)
     where
-      by : IsIn (own_instances newer) i ⊎ IsIn (own_instances (x ∷ outer)) i → (is_evaluation x.purpose ≡ false) × (x.instance ≡ i)
+      by : IsInSkeleton (own_instances newer) i ⊎ IsInSkeleton (own_instances (x ∷ outer)) i → (is_evaluation x.purpose ≡ false) × (x.instance ≡ i)
       by (inl m) = let u = high i m in let e = same_height lay r i u.0 f u.1 laid in let h = u.2 in absurd (omega (arith, e, h))
       by (inr m) = in_tower x outer f t i m laid
 
@@ -138,8 +138,8 @@ pub record Seat (stacks : Stacks) (lay : Layout) (r : ℕ) (todo : List Part) (i
   pub higher : AreHigher lay r newer at
 
 module _ {stacks : Stacks} {lay : Layout} {r : ℕ} (todo : List Part) (i : ℕ) where
-  pub seat_in : (newer parts : List Part) (f : ℕ) → Tower stacks lay r parts f → AreHigher lay r newer f → todo ≡ newer ++ parts → IsIn (own_instances parts) i → Seat stacks lay r todo i
-  seat_in newer parts f (base {part} owns laid) high is n = by (subst (λ (xs : List ℕ). IsIn xs i) (own_first part [] owns) n)
+  pub seat_in : (newer parts : List Part) (f : ℕ) → Tower stacks lay r parts f → AreHigher lay r newer f → todo ≡ newer ++ parts → IsInSkeleton (own_instances parts) i → Seat stacks lay r todo i
+  seat_in newer parts f (base {part} owns laid) high is n = by (subst (λ (xs : List ℕ). IsInSkeleton xs i) (own_first part [] owns) n)
     where
       by : (part.instance ≡ i) ⊎ ⊥ → Seat stacks lay r todo i
       by (inl same) = record { newer = newer; part = part; outer = []; todo_is = is; owns = owns; instance_is = same; at = 0; tower = base owns laid; higher = high }
@@ -148,8 +148,8 @@ module _ {stacks : Stacks} {lay : Layout} {r : ℕ} (todo : List Part) (i : ℕ)
       by (is_evaluation part.purpose) refl n
       (seat_in (newer ++ part ∷ []) (next ∷ outer) home t (higher_next lay r newer part f home high laid low) (is ∙ sym (append_assoc newer (part ∷ []) (next ∷ outer))))
     where
-      by : (b : Bool) → is_evaluation part.purpose ≡ b → IsIn (if b then own_instances (next ∷ outer) else part.instance ∷ own_instances (next ∷ outer)) i →
-          (IsIn (own_instances (next ∷ outer)) i → Seat stacks lay r todo i) → Seat stacks lay r todo i
+      by : (b : Bool) → is_evaluation part.purpose ≡ b → IsInSkeleton (if b then own_instances (next ∷ outer) else part.instance ∷ own_instances (next ∷ outer)) i →
+          (IsInSkeleton (own_instances (next ∷ outer)) i → Seat stacks lay r todo i) → Seat stacks lay r todo i
       by true e m later = later m
       by false e (inl same) later =
           record { newer = newer; part = part; outer = next ∷ outer; todo_is = is; owns = e; instance_is = same; at = f; tower = above laid leads low t; higher = high }

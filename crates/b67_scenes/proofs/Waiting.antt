@@ -1,7 +1,7 @@
 -- What processes wait for, and their woken numbers, stay where places stay and events stay events.
 use Rattle.std.proofs.Common.{◌≡◌, ◌≢◌, ◌⊎◌, inl, inr, refl, sym, ap, ◌∙◌, subst, ℕ, zero, suc, List, [], ◌∷◌, length, Option, Some, None, Bool, true, false}
 use Rattle.b67_scenes.proofs.Prelude.{if◌then◌else◌, slice_get, slice_set, numbered, set_numbered, IsListed, Scopes, Reference, Process, World, process_at, or_no_process, list_in, Place, Event, event_at, waiters_at, list_of, same_place, is_from, closed_from, one_event, same_place-self, ProcessState, Able, WaitsFor, WaitsAny, Procures, Ended, Image, woken_number, AwaitsAt, length_set_numbered, some_same, same_or_not, numbered_set, numbered_other, Layout, AreAwaiting, ListIs, WaitsAre}
-use Rattle.b67_events.specs.Events.{state_of, with_list, opened, fresh}
+use Rattle.b67_events.specs.Events.{state_of, with_list, event_opened, fresh}
 use Rattle.b67_events.proofs.Listed.{same_place-true}
 use Rattle.b67_events.proofs.OfSeveral.{list-own}
 use Rattle.b67_table.specs.Image.{is_able}
@@ -130,12 +130,12 @@ fewer_closed stack low es r at listed =
     by_test true gone = absurd gone
     by_test false there = there
 
-pub fewer_opened : (to : Place) (es : List Event) (r : ℕ) (at : Place) → IsListed (waiters_at at (opened to es)) r → IsListed (waiters_at at es) r
+pub fewer_opened : (to : Place) (es : List Event) (r : ℕ) (at : Place) → IsListed (waiters_at at (event_opened to es)) r → IsListed (waiters_at at es) r
 fewer_opened to es r at listed = by_test (same_place at to) refl
   where
     by_test : (b : Bool) → same_place at to ≡ b → IsListed (waiters_at at es) r
     by_test true same =
-        let here : event_at at (opened to es) ≡ Some (fresh to) = ap (λ (x : Place). event_at x (opened to es)) (same_place-true at to same) ∙ one_event.opened_here to es in
+        let here : event_at at (event_opened to es) ≡ Some (fresh to) = ap (λ (x : Place). event_at x (event_opened to es)) (same_place-true at to same) ∙ one_event.opened_here to es in
         absurd (subst (λ (o : Option Event). IsListed (state_of o).waiters r) here listed)
     by_test false other =
         subst (λ (o : Option Event). IsListed (state_of o).waiters r) (one_event.opened_elsewhere to at (λ (e : at ≡ to). apart (sym other ∙ same_place-self at to e)) es) listed

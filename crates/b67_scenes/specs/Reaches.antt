@@ -17,16 +17,16 @@ module _ (sc : Scopes) (w : World) (lay : Layout) where
   words_from_entry i = made_base sc (block_numbered sc.blocks ((instance_at w i).block))
 
   -- what the process of this core has still to push before it stands where the other is
-  pub data Reaches (p : ℕ) (part : Part) (now settled : Core) : Type 0 where
+  pub data CoreReaches (p : ℕ) (part : Part) (now settled : Core) : Type 0 where
     -- nothing
-    all : length now.below ≡ length settled.below → Reaches p part now settled
+    all : length now.below ≡ length settled.below → CoreReaches p part now settled
     -- words of what it has made: the words before them are there, and nobody comes to what is made
     low : (at : ℕ) → is_evaluation part.purpose ≡ false → numbered lay.places part.instance ≡ Some (place p at) → at + words_from_entry part.instance ≤ length now.below →
-        IsLow sc w part.instance → Reaches p part now settled
+        IsLow sc w part.instance → CoreReaches p part now settled
     -- cells of the frame that it has entered or with which it has begun: no live process depends on its instance
     none_yet : (at : ℕ) → is_evaluation part.purpose ≡ false → numbered lay.places part.instance ≡ Some (place p at) → at + 2 ≤ length now.below →
-        some_depends w.processes part.instance ≡ false → Reaches p part now settled
+        some_depends w.processes part.instance ≡ false → CoreReaches p part now settled
 
   abbrev pub ReachesFor : ℕ → List Part → Core → Core → Type 0
   ReachesFor p [] now settled = ⊥
-  ReachesFor p (part ∷ outer) now settled = Reaches p part now settled
+  ReachesFor p (part ∷ outer) now settled = CoreReaches p part now settled

@@ -4,10 +4,10 @@ use Rattle.std.specs.List.{All}
 use Rattle.std.proofs.lemmas.List.{length-append, length-replicate, length-take-le}
 use Rattle.std.proofs.lemmas.List.Elements.{All-get_or, All-head, All-tail, All-take}
 use Rattle.b67_schedule.specs.declared.Run.{Run}
-use Rattle.b67_schedule.specs.Schedules.{most, entries, IsRun, AreRuns}
+use Rattle.b67_schedule.specs.Schedules.{most_in_schedule, entries, IsRun, AreRuns}
 
 -- some runs are at most so many
-entries_few : (runs : List Run) → All IsRun runs → length (entries runs) ≤ length runs * most
+entries_few : (runs : List Run) → All IsRun runs → length (entries runs) ≤ length runs * most_in_schedule
 entries_few [] all = omega arith
 entries_few (run ∷ runs) all =
     let rest = entries_few runs (All-tail IsRun run runs all) in

@@ -3,11 +3,11 @@ use Rattle.std.proofs.Common.{◌≡◌, ◌≢◌, ℕ, ◌-◌, ◌<◌, ◌�
 use Rattle.std.specs.List.{flat_map}
 use Rattle.std.proofs.lemmas.List.{append-nil, length-append}
 use Rattle.std.proofs.lemmas.List.Concat.{flat_map-append}
-use Rattle.b67_text.specs.Texts.{StopsAt, Stands}
-use Rattle.b67_text.specs.Numerals.{IsIn}
+use Rattle.b67_text.specs.Texts.{StopsAt, PartStands}
+use Rattle.b67_text.specs.Numerals.{NumberIsIn}
 use Rattle.b67_text.proofs.Parts.{Parted, first_stops, Leads, second_stops, stands_on}
 use Rattle.b67_schedule.specs.Lines.{CanFollow, Follow, last_process, IsLine, AreLines}
-use Rattle.b67_schedule.specs.Reading.{numbers}
+use Rattle.b67_schedule.specs.Reading.{numbers_of_schedule}
 
 pub none_some : (n : ℕ) → None ≢ Some n
 none_some n e = cc
@@ -33,16 +33,16 @@ other_is zero = record { least = omega arith; greatest = omega arith; apart = λ
 other_is (suc zero) = record { least = omega arith; greatest = omega arith; apart = λ e. omega arith }
 other_is (suc (suc n)) = record { least = omega arith; greatest = omega arith; apart = λ e. omega arith }
 
-other_in : (before : ℕ) → IsIn (numbers 1 (Some before)) (other_than before)
+other_in : (before : ℕ) → NumberIsIn (numbers_of_schedule 1 (Some before)) (other_than before)
 other_in before =
     let is = other_is before in
     record { fits = omega (arith, is.greatest); least = is.least; most = omega (arith, is.greatest); other = λ e. is.apart (same_some before (other_than before) e) }
 
-pub one_in : IsIn (numbers 1 None) 1
+pub one_in : NumberIsIn (numbers_of_schedule 1 None) 1
 one_in = record { fits = omega arith; least = omega arith; most = omega arith; other = none_some 1 }
 
 -- a process may stand there
-pub some_number : (before : Option ℕ) → (n : ℕ) × IsIn (numbers 1 before) n
+pub some_number : (before : Option ℕ) → (n : ℕ) × NumberIsIn (numbers_of_schedule 1 before) n
 some_number None = (1, one_in)
 some_number (Some before) = (other_than before, other_in before)
 
@@ -170,7 +170,7 @@ module _ (L : Type 0) (process : L → ℕ) (Is : L → Type 0) (line : L → Li
 
   -- where the next line stops, the lines stop
   pub item_stops : (count : ℕ) (front : List L) (before : Option ℕ) (bytes : List ℕ) (at mid end : ℕ) → Fs None front → before ≡ Last None front → length front < count →
-      Stands (flat_map line front) bytes at mid → StopsAt (One before) bytes mid end → StopsAt (Lines None count) bytes at end
+      PartStands (flat_map line front) bytes at mid → StopsAt (One before) bytes mid end → StopsAt (Lines None count) bytes at end
   item_stops count front before bytes at mid end follow is_last few st stop =
       let one_more : suc (count - length front - 1) ≡ count - length front = omega arith in
       let behind = stops_first (Last None front) (count - length front - 1) bytes mid end (subst (λ (o : Option ℕ). StopsAt (One o) bytes mid end) is_last stop) in
@@ -181,14 +181,14 @@ module _ (L : Type 0) (process : L → ℕ) (Is : L → Type 0) (line : L → Li
   pub record More (front : List L) (item : L) (bytes : List ℕ) (at next : ℕ) : Type 0 where
     pub follow : Fs None (front ++ item ∷ [])
     pub before : Some (process item) ≡ Last None (front ++ item ∷ [])
-    pub stand : Stands (flat_map line (front ++ item ∷ [])) bytes at next
+    pub stand : PartStands (flat_map line (front ++ item ∷ [])) bytes at next
 
   pub items_more : (front : List L) (item : L) (before : Option ℕ) (bytes : List ℕ) (at mid next : ℕ) → Fs None front → before ≡ Last None front → CanFollow L process Is before item →
-      Stands (flat_map line front) bytes at mid → Stands (line item) bytes mid next → More front item bytes at next
+      PartStands (flat_map line front) bytes at mid → PartStands (line item) bytes mid next → More front item bytes at next
   items_more front item before bytes at mid next follow is_last can st one = record {
     follow = follow_on None front (item ∷ []) follow (subst (λ (o : Option ℕ). CanFollow L process Is o item) is_last can, tt);
     before = sym (last_more None front item);
-    stand = subst (λ (t : List ℕ). Stands t bytes at next)
+    stand = subst (λ (t : List ℕ). PartStands t bytes at next)
         (ap (λ (l : List ℕ). flat_map line front ++ l) (sym (append-nil (line item))) ∙ sym (flat_map-append line front (item ∷ [])))
         (stands_on (flat_map line front) (line item) bytes at mid next st one);
   }

@@ -3,8 +3,8 @@ use Rattle.std.proofs.Common.{◌≡◌, ℕ, ◌+◌, ◌^◌, ◌<◌, ◌≤�
 use Rattle.std.specs.Prelude.{slice_get}
 use Rattle.std.specs.Fmt.{decimal}
 use Rattle.std.proofs.lemmas.List.{append-nil, length-append, map-append}
-use Rattle.b67_text.specs.Texts.{Begins, StopsAt, Stands, AreApart, HasByte}
-use Rattle.b67_text.specs.Numerals.{IsDigit, IsIn, IsField}
+use Rattle.b67_text.specs.Texts.{Begins, StopsAt, PartStands, AreApart, HasByte}
+use Rattle.b67_text.specs.Numerals.{IsDigit, NumberIsIn, IsField}
 use Rattle.b67_text.proofs.Fronts.{fields_alike, Ends, stops_at, byte_at, stands_more, stands_none}
 use Rattle.b67_text.proofs.Parts.{first_stops, Leads, second_stops, stands_on}
 use Rattle.b67_deeds.specs.declared.Letter.{Letter}
@@ -13,8 +13,8 @@ use Rattle.b67_schedule.specs.declared.refusal.ReadSchedule.{ReadSchedule}
 use Rattle.b67_schedule.specs.declared.refusal.ReadSchedule.TheVariants.{Bad, NoMemory}
 use Rattle.b67_deeds.specs.Letters.{byte_of}
 use Rattle.b67_schedule.specs.Letters.{bytes_of}
-use Rattle.b67_schedule.specs.Schedules.{most}
-use Rattle.b67_schedule.specs.Reading.{numbers, Lettered, IsLettered, process_in, line_in, CanStand, IsLetterLine, AreLetters, AreMost, RefusesAt}
+use Rattle.b67_schedule.specs.Schedules.{most_in_schedule}
+use Rattle.b67_schedule.specs.Reading.{numbers_of_schedule, Lettered, IsLettered, process_in, line_in, EntryCanStand, IsLetterLine, AreLetters, AreMost, RefusesAt}
 use Rattle.b67_schedule.proofs.Items.{Alike, HaveLines, none_some}
 use Rattle.b67_schedule.proofs.Letters.{SameLetters, same_letters, Ahead, at_end, goes_on, ahead, not_ended}
 
@@ -33,13 +33,13 @@ letters_apart part other a b p q e =
     ∙ append_assoc (bytes_of q.letters) (10 ∷ []) b) in
     p.text_is ∙ ap (λ (ls : List Letter). bytes_of ls ++ 10 ∷ []) same.letters_are ∙ sym q.text_is
 
-letters_begin : (letters : List Letter) → length letters ≤ most → Begins AreLetters (bytes_of letters)
+letters_begin : (letters : List Letter) → length letters ≤ most_in_schedule → Begins AreLetters (bytes_of letters)
 letters_begin [] few = (byte_of Read ∷ 10 ∷ [], record { letters = Read ∷ []; some = omega arith; few = omega arith; text_is = refl })
 letters_begin (l ∷ letters) few = (10 ∷ [], record { letters = l ∷ letters; some = omega arith; few = few; text_is = refl })
 
 module _ (bytes : List ℕ) (at next times : ℕ) (before after : List Letter) (m : AreMost bytes at before after times next) where
   dead_by : (byte : ℕ) (more : List ℕ) → drop next bytes ≡ byte ∷ more → (1 ≤ times → HasByte 10 bytes next → ⊥)
-      → (is : List Letter) → 1 ≤ length is → length is ≤ most → Ahead is m.letters byte → ⊥
+      → (is : List Letter) → 1 ≤ length is → length is ≤ most_in_schedule → Ahead is m.letters byte → ⊥
   dead_by byte more e no_end is some few (at_end same end) =
       let there : slice_get bytes next ≡ Some byte = byte_at bytes next byte more e in
       no_end (omega (arith, some, ap length same, m.times_are)) (there ∙ ap Some end)
@@ -60,10 +60,10 @@ module _ (bytes : List ℕ) (at next times : ℕ) (before after : List Letter) (
       })
 
 -- one more letter stands
-pub one_stands : (bytes : List ℕ) (at next : ℕ) (letters : List Letter) (letter : Letter) → Stands (bytes_of letters) bytes at next → HasByte (byte_of letter) bytes next
-    → Stands (bytes_of (letters ++ letter ∷ [])) bytes at (next + 1)
+pub one_stands : (bytes : List ℕ) (at next : ℕ) (letters : List Letter) (letter : Letter) → PartStands (bytes_of letters) bytes at next → HasByte (byte_of letter) bytes next
+    → PartStands (bytes_of (letters ++ letter ∷ [])) bytes at (next + 1)
 one_stands bytes at next letters letter st here =
-    subst (λ (t : List ℕ). Stands t bytes at (next + 1)) (sym (map-append byte_of letters (letter ∷ []))) (stands_more (bytes_of letters) bytes at next (byte_of letter) st here)
+    subst (λ (t : List ℕ). PartStands t bytes at (next + 1)) (sym (map-append byte_of letters (letter ∷ []))) (stands_more (bytes_of letters) bytes at next (byte_of letter) st here)
 
 -- ---- lines
 
@@ -106,16 +106,16 @@ letter_lines_are = record {
   some_process = λ n. refl;
 }
 
-process_of_item : (before : Option ℕ) (item : Lettered) → CanStand before item → IsIn (numbers 1 before) item.process
+process_of_item : (before : Option ℕ) (item : Lettered) → EntryCanStand before item → NumberIsIn (numbers_of_schedule 1 before) item.process
 process_of_item before item is = record { fits = small item is.is; least = is.is.process_least; most = is.is.process_greatest; other = is.other }
 
-stands_by : (before : Option ℕ) (n : ℕ) (letters : List Letter) → IsIn (numbers 1 before) n → 1 ≤ length letters → length letters ≤ most
-    → CanStand before record { process = n; letters = letters }
+stands_by : (before : Option ℕ) (n : ℕ) (letters : List Letter) → NumberIsIn (numbers_of_schedule 1 before) n → 1 ≤ length letters → length letters ≤ most_in_schedule
+    → EntryCanStand before record { process = n; letters = letters }
 stands_by before n letters p some few = record { is = record { process_least = p.least; process_greatest = p.most; some = some; few = few }; other = p.other }
 
-pub process_stops : (before : Option ℕ) (bytes : List ℕ) (at end : ℕ) → StopsAt (IsField (numbers 1 before) blank) bytes at end → StopsAt (IsLetterLine before) bytes at end
+pub process_stops : (before : Option ℕ) (bytes : List ℕ) (at end : ℕ) → StopsAt (IsField (numbers_of_schedule 1 before) blank) bytes at end → StopsAt (IsLetterLine before) bytes at end
 process_stops before bytes at end stop =
-    first_stops (IsField (numbers 1 before) blank) (IsLetterLine before) bytes at end stop
+    first_stops (IsField (numbers_of_schedule 1 before) blank) (IsLetterLine before) bytes at end stop
     (λ text is. record {
       part = process_part is.item.process;
       rest = letters_part is.item.letters;
@@ -132,7 +132,7 @@ process_stops before bytes at end stop =
       },
     ))
 
-letters_lead : (before : Option ℕ) (n : ℕ) → IsIn (numbers 1 before) n → Leads (IsLetterLine before) AreLetters (process_part n)
+letters_lead : (before : Option ℕ) (n : ℕ) → NumberIsIn (numbers_of_schedule 1 before) n → Leads (IsLetterLine before) AreLetters (process_part n)
 letters_lead before n is_in = record {
   goes_on = λ text after items is e.
       let alike = fields_alike is.item.process n blank (letters_part is.item.letters ++ after) items (small is.item is.follows.is) is_in.fits blank_ends
@@ -152,21 +152,21 @@ letters_lead before n is_in = record {
       };
 }
 
-pub line_stops : (before : Option ℕ) (bytes : List ℕ) (at mid end n : ℕ) → IsIn (numbers 1 before) n → Stands (process_part n) bytes at mid →
+pub line_stops : (before : Option ℕ) (bytes : List ℕ) (at mid end n : ℕ) → NumberIsIn (numbers_of_schedule 1 before) n → PartStands (process_part n) bytes at mid →
     StopsAt AreLetters bytes mid end → StopsAt (IsLetterLine before) bytes at end
 line_stops before bytes at mid end n is_in st stop =
     second_stops (IsLetterLine before) AreLetters (process_part n) bytes at mid end (letters_lead before n is_in) st stop
 
 -- a line is read
 pub record LineRead (before : Option ℕ) (n : ℕ) (letters : List Letter) (bytes : List ℕ) (at next : ℕ) : Type 0 where
-  pub can : CanStand before record { process = n; letters = letters }
-  pub stand : Stands (line_in record { process = n; letters = letters }) bytes at next
+  pub can : EntryCanStand before record { process = n; letters = letters }
+  pub stand : PartStands (line_in record { process = n; letters = letters }) bytes at next
 
-pub line_read : (before : Option ℕ) (n : ℕ) (letters : List Letter) (bytes : List ℕ) (at mid next : ℕ) → IsIn (numbers 1 before) n → Stands (process_part n) bytes at mid →
-    1 ≤ length letters → length letters ≤ most → Stands (letters_part letters) bytes mid next → LineRead before n letters bytes at next
+pub line_read : (before : Option ℕ) (n : ℕ) (letters : List Letter) (bytes : List ℕ) (at mid next : ℕ) → NumberIsIn (numbers_of_schedule 1 before) n → PartStands (process_part n) bytes at mid →
+    1 ≤ length letters → length letters ≤ most_in_schedule → PartStands (letters_part letters) bytes mid next → LineRead before n letters bytes at next
 line_read before n letters bytes at mid next is_in st some few more = record {
   can = stands_by before n letters is_in some few;
-  stand = subst (λ (t : List ℕ). Stands t bytes at next) (sym (line_parts record { process = n; letters = letters }))
+  stand = subst (λ (t : List ℕ). PartStands t bytes at next) (sym (line_parts record { process = n; letters = letters }))
       (stands_on (process_part n) (letters_part letters) bytes at mid next st more);
 }
 
@@ -175,13 +175,13 @@ pub record SoFar (bytes : List ℕ) (at : ℕ) (before after : List Letter) (tim
   pub letters : List Letter
   pub added : after ≡ before ++ letters
   pub times_are : times ≡ length letters
-  pub few : length letters ≤ most
-  pub stand : Stands (bytes_of letters) bytes at next
+  pub few : length letters ≤ most_in_schedule
+  pub stand : PartStands (bytes_of letters) bytes at next
 
 pub none_yet : (bytes : List ℕ) (at : ℕ) (before : List Letter) → at ≤ length bytes → SoFar bytes at before before 0 at
 none_yet bytes at before within = record { letters = []; added = sym (append-nil before); times_are = refl; few = omega arith; stand = stands_none bytes at within }
 
-pub one_more : (bytes : List ℕ) (at : ℕ) (before after new : List Letter) (times next : ℕ) (letter : Letter) → SoFar bytes at before after times next → times < most
+pub one_more : (bytes : List ℕ) (at : ℕ) (before after new : List Letter) (times next : ℕ) (letter : Letter) → SoFar bytes at before after times next → times < most_in_schedule
     → HasByte (byte_of letter) bytes next → new ≡ after ++ letter ∷ [] → SoFar bytes at before new (times + 1) (next + 1)
 one_more bytes at before after new times next letter s less here is = record {
   letters = s.letters ++ letter ∷ [];
@@ -192,7 +192,7 @@ one_more bytes at before after new times next letter s less here is = record {
 }
 
 pub no_more : (bytes : List ℕ) (at : ℕ) (before after : List Letter) (times next : ℕ) → SoFar bytes at before after times next
-    → ((letter : Letter) → HasByte (byte_of letter) bytes next → times < most → ⊥) → AreMost bytes at before after times next
+    → ((letter : Letter) → HasByte (byte_of letter) bytes next → times < most_in_schedule → ⊥) → AreMost bytes at before after times next
 no_more bytes at before after times next s none = record {
   letters = s.letters;
   added = s.added;
@@ -202,7 +202,7 @@ no_more bytes at before after times next s none = record {
   longest = λ letter here less. none letter here (omega (arith, s.times_are, less));
 }
 
-pub line_refused : (e : ReadSchedule) (before : Option ℕ) (bytes : List ℕ) (at mid n : ℕ) → IsIn (numbers 1 before) n → Stands (process_part n) bytes at mid →
+pub line_refused : (e : ReadSchedule) (before : Option ℕ) (bytes : List ℕ) (at mid n : ℕ) → NumberIsIn (numbers_of_schedule 1 before) n → PartStands (process_part n) bytes at mid →
     RefusesAt e AreLetters bytes mid → RefusesAt e (IsLetterLine before) bytes at
 line_refused (Bad bad) before bytes at mid n is_in st stop = line_stops before bytes at mid bad.byte n is_in st stop
 line_refused NoMemory before bytes at mid n is_in st stop = tt

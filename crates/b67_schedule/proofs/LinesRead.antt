@@ -3,14 +3,14 @@ use Rattle.std.proofs.Common.{◌≡◌, ℕ, ◌+◌, ◌<◌, ◌≤◌, Optio
 use Rattle.std.specs.List.{flat_map}
 use Rattle.std.proofs.lemmas.List.{append-nil, length-append, length-map, map-append}
 use Rattle.std.proofs.lemmas.List.Concat.{flat_map-append}
-use Rattle.b67_text.specs.Texts.{StopsAt, Stands}
+use Rattle.b67_text.specs.Texts.{StopsAt, PartStands}
 use Rattle.b67_text.proofs.Fronts.{stands_none}
 use Rattle.b67_schedule.specs.declared.Run.{Run}
 use Rattle.b67_deeds.specs.declared.Letter.{Letter}
 use Rattle.b67_schedule.specs.declared.refusal.ReadSchedule.{ReadSchedule}
 use Rattle.b67_schedule.specs.declared.refusal.ReadSchedule.TheVariants.{Bad, NoMemory}
 use Rattle.b67_schedule.specs.Lines.{last_process}
-use Rattle.b67_schedule.specs.Reading.{Lettered, IsLettered, process_in, letters_in, run_in, line_in, CanStand, IsLetterLine, Stand, AreLetterLines, RefusesAt}
+use Rattle.b67_schedule.specs.Reading.{Lettered, IsLettered, process_in, letters_in, run_in, line_in, EntryCanStand, IsLetterLine, Stand, AreLetterLines, RefusesAt}
 use Rattle.b67_schedule.proofs.Items.{item_stops, items_more}
 use Rattle.b67_schedule.proofs.LetterLines.{letter_lines_are}
 
@@ -22,7 +22,7 @@ pub record LinesRead (bytes : List ℕ) (at next : ℕ) (before : Option ℕ) (r
   pub runs_are : runs ≡ map run_in items
   pub letters_are : letters ≡ flat_map letters_in items
   pub few : length runs ≤ count
-  pub lines : Stands (flat_map line_in items) bytes at next
+  pub lines : PartStands (flat_map line_in items) bytes at next
 
 pub no_lines : (bytes : List ℕ) (at count : ℕ) → at ≤ length bytes → LinesRead bytes at at None [] [] count
 no_lines bytes at count within = record {
@@ -40,8 +40,8 @@ module _ (bytes : List ℕ) (at next : ℕ) (before : Option ℕ) (runs : List R
   long : length r.items ≡ length runs
   long = sym (length-map r.items run_in) ∙ ap length (sym r.runs_are)
 
-  pub line_added : (run : Run) (more : List Letter) (behind : ℕ) (item : Lettered) → CanStand before item → run ≡ run_in item → more ≡ letters ++ item.letters →
-      Stands (line_in item) bytes next behind → LinesRead bytes at behind (Some run.process) (runs ++ run ∷ []) more count
+  pub line_added : (run : Run) (more : List Letter) (behind : ℕ) (item : Lettered) → EntryCanStand before item → run ≡ run_in item → more ≡ letters ++ item.letters →
+      PartStands (line_in item) bytes next behind → LinesRead bytes at behind (Some run.process) (runs ++ run ∷ []) more count
   line_added run more behind item can is ls st =
       let m = items_more Lettered process_in IsLettered line_in letter_lines_are r.items item before bytes at next behind r.stand r.before_is can r.lines st in
       record {

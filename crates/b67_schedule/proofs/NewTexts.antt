@@ -3,16 +3,16 @@ use Rattle.std.proofs.Common.{◌≡◌, ◌≢◌, ℕ, ◌+◌, ◌-◌, ◌<�
 use Rattle.std.specs.List.{All, flat_map}
 use Rattle.std.proofs.lemmas.List.{append-nil, length-append, length-replicate, length-take-le, length-map, take-append-drop}
 use Rattle.std.proofs.Math.Seq.{take-append_seam, drop-append_seam}
-use Rattle.b67_text.specs.Texts.{IsRefused, StopsAt, Stands, AreApart}
-use Rattle.b67_text.specs.Numerals.{IsIn, IsField}
+use Rattle.b67_text.specs.Texts.{IsRefused, StopsAt, PartStands, AreApart}
+use Rattle.b67_text.specs.Numerals.{NumberIsIn, IsField}
 use Rattle.b67_text.proofs.Fronts.{IsWord}
 use Rattle.b67_text.proofs.Parts.{first_stops, refused_where_it_stops, refused_behind}
 use Rattle.b67_schedule.specs.declared.Run.{Run}
 use Rattle.b67_deeds.specs.declared.Letter.{Letter}
 use Rattle.b67_schedule.specs.declared.refusal.ReadSchedule.{ReadSchedule}
 use Rattle.b67_schedule.specs.declared.refusal.ReadSchedule.TheVariants.{Bad, NoMemory}
-use Rattle.b67_schedule.specs.Schedules.{most, entries, IsRun, AreRuns, IsSchedule, letter_lines, ScheduleText}
-use Rattle.b67_schedule.specs.Reading.{IsScheduleText, numbers, Follow, Lettered, IsLettered, process_in, letters_in, run_in, line_in, Stand, AreLetterLines, Refuses, RefusesAt}
+use Rattle.b67_schedule.specs.Schedules.{most_in_schedule, entries, IsRun, AreRuns, IsSchedule, letter_lines, ScheduleText}
+use Rattle.b67_schedule.specs.Reading.{IsScheduleText, numbers_of_schedule, Follow, Lettered, IsLettered, process_in, letters_in, run_in, line_in, Stand, AreLetterLines, ScheduleRefuses, RefusesAt}
 use Rattle.b67_schedule.proofs.OldLines.{line_end}
 use Rattle.b67_schedule.proofs.OldTexts.{runs_follow, follow_runs}
 use Rattle.b67_schedule.proofs.LetterLines.{letter_lines_are}
@@ -110,7 +110,7 @@ lines_by (item ∷ items) =
     ∙ ap (λ (ls : List Letter). line_in item ++ letter_lines (map run_in items) ls) (drop-append_seam item.letters rest)
     ∙ ap (λ (t : List ℕ). line_in item ++ t) (lines_by items)
 
-pub schedule_by : (items : List Lettered) → Stand None items → length items ≤ most → IsSchedule (map run_in items) (flat_map letters_in items)
+pub schedule_by : (items : List Lettered) → Stand None items → length items ≤ most_in_schedule → IsSchedule (map run_in items) (flat_map letters_in items)
 schedule_by items stand few = record {
   runs_are = follow_runs (map run_in items) (follow_by None items stand) (omega (arith, few, length-map items run_in));
   each = each_by items;
@@ -161,15 +161,15 @@ new_stops bytes at end stop =
 pub head_stops : (bytes : List ℕ) (at end : ℕ) → StopsAt (IsWord head) bytes at end → StopsAt IsScheduleText bytes at end
 head_stops bytes at end stop = new_stops bytes at end (wholes.head_stops Lettered process_in IsLettered line_in letter_lines_are head bytes at end stop)
 
-pub count_stops : (bytes : List ℕ) (at mid end : ℕ) → Stands head bytes at mid → StopsAt (IsField (numbers 0 None) line_end) bytes mid end → StopsAt IsScheduleText bytes at end
+pub count_stops : (bytes : List ℕ) (at mid end : ℕ) → PartStands head bytes at mid → StopsAt (IsField (numbers_of_schedule 0 None) line_end) bytes mid end → StopsAt IsScheduleText bytes at end
 count_stops bytes at mid end st stop = new_stops bytes at end (wholes.count_stops Lettered process_in IsLettered line_in letter_lines_are head bytes at mid end st stop)
 
-lines_stop : (count : ℕ) (bytes : List ℕ) (at behind mid end : ℕ) → IsIn (numbers 0 None) count → Stands head bytes at behind → Stands (count_part count) bytes behind mid →
+lines_stop : (count : ℕ) (bytes : List ℕ) (at behind mid end : ℕ) → NumberIsIn (numbers_of_schedule 0 None) count → PartStands head bytes at behind → PartStands (count_part count) bytes behind mid →
     StopsAt (AreLetterLines None count) bytes mid end → StopsAt IsScheduleText bytes at end
 lines_stop count bytes at behind mid end is st field stop =
     new_stops bytes at end (wholes.lines_stop Lettered process_in IsLettered line_in letter_lines_are head count bytes at behind mid end is st field stop)
 
-pub lines_refused : (e : ReadSchedule) (count : ℕ) (bytes : List ℕ) (at behind mid : ℕ) → IsIn (numbers 0 None) count → Stands head bytes at behind → Stands (count_part count) bytes behind mid →
+pub lines_refused : (e : ReadSchedule) (count : ℕ) (bytes : List ℕ) (at behind mid : ℕ) → NumberIsIn (numbers_of_schedule 0 None) count → PartStands head bytes at behind → PartStands (count_part count) bytes behind mid →
     RefusesAt e (AreLetterLines None count) bytes mid → RefusesAt e IsScheduleText bytes at
 lines_refused (Bad bad) count bytes at behind mid is st field stop = lines_stop count bytes at behind mid bad.byte is st field stop
 lines_refused NoMemory count bytes at behind mid is st field stop = tt
@@ -177,17 +177,17 @@ lines_refused NoMemory count bytes at behind mid is st field stop = tt
 -- a schedule is read
 pub record WholeRead (runs : List Run) (letters : List Letter) (bytes : List ℕ) (at next : ℕ) : Type 0 where
   pub schedule : IsSchedule runs letters
-  pub stand : Stands (ScheduleText runs letters) bytes at next
+  pub stand : PartStands (ScheduleText runs letters) bytes at next
 
 pub whole_read : (items : List Lettered) (runs : List Run) (letters : List Letter) (count : ℕ) (bytes : List ℕ) (at behind mid next : ℕ) → Stand None items → length items ≡ count →
-    runs ≡ map run_in items → letters ≡ flat_map letters_in items → IsIn (numbers 0 None) count → Stands head bytes at behind → Stands (count_part count) bytes behind mid →
-    Stands (flat_map line_in items) bytes mid next → WholeRead runs letters bytes at next
+    runs ≡ map run_in items → letters ≡ flat_map letters_in items → NumberIsIn (numbers_of_schedule 0 None) count → PartStands head bytes at behind → PartStands (count_part count) bytes behind mid →
+    PartStands (flat_map line_in items) bytes mid next → WholeRead runs letters bytes at next
 whole_read items runs letters count bytes at behind mid next stand long r l is st field lines =
     subst (λ (rs : List Run). WholeRead rs letters bytes at next) (sym r)
     (subst (λ (ls : List Letter). WholeRead (map run_in items) ls bytes at next) (sym l)
     (record {
       schedule = schedule_by items stand (omega (arith, long, is.most));
-      stand = subst (λ (t : List ℕ). Stands t bytes at next) (sym (text_by items))
+      stand = subst (λ (t : List ℕ). PartStands t bytes at next) (sym (text_by items))
           (wholes.whole_stands Lettered process_in IsLettered line_in letter_lines_are head items count bytes at behind mid next long st field lines);
     }))
 
@@ -213,11 +213,11 @@ pub schedules_apart : AreApart IsScheduleText
 schedules_apart part other a b p q e =
     wholes.wholes_apart Lettered process_in IsLettered line_in letter_lines_are head part other a b (from part p) (from other q) e
 
-pub schedule_refused : (e : ReadSchedule) (bytes : List ℕ) → RefusesAt e IsScheduleText bytes 0 → Refuses IsScheduleText e bytes
+pub schedule_refused : (e : ReadSchedule) (bytes : List ℕ) → RefusesAt e IsScheduleText bytes 0 → ScheduleRefuses IsScheduleText e bytes
 schedule_refused (Bad bad) bytes stop = refused_where_it_stops IsScheduleText bytes bad.byte stop
 schedule_refused NoMemory bytes stop = tt
 
-pub behind_refused : (runs : List Run) (letters : List Letter) (bytes : List ℕ) (next : ℕ) → IsSchedule runs letters → Stands (ScheduleText runs letters) bytes 0 next → next < length bytes →
+pub behind_refused : (runs : List Run) (letters : List Letter) (bytes : List ℕ) (next : ℕ) → IsSchedule runs letters → PartStands (ScheduleText runs letters) bytes 0 next → next < length bytes →
     IsRefused IsScheduleText bytes next
 behind_refused runs letters bytes next is st more =
     refused_behind IsScheduleText (ScheduleText runs letters) bytes next schedules_apart (record { runs = runs; letters = letters; schedule = is; text_is = refl }) st more

@@ -8,7 +8,7 @@ use Rattle.std.proofs.lemmas.List.Elements.{All-head, All-tail, All-push, All-se
 use Rattle.std.proofs.lemmas.Bool.{cases_eq, cases_lt}
 use Rattle.b67_schedule.specs.declared.Run.{Run}
 use Rattle.b67_deeds.specs.declared.Letter.{Letter}
-use Rattle.b67_schedule.specs.Schedules.{most, entries, IsRun, AreRuns, IsSchedule, IsLast}
+use Rattle.b67_schedule.specs.Schedules.{most_in_schedule, entries, IsRun, AreRuns, IsSchedule, IsLastRun}
 
 -- the entries of a last run
 pub entries-push : (runs : List Run) (run : Run) → entries (runs ++ run ∷ []) ≡ entries runs ++ replicate run.times run.process
@@ -64,7 +64,7 @@ entries-raised runs last n some is =
     ∙ ap (λ e. e ++ replicate n last.process) (sym (entries-push front last))
     ∙ ap (λ rs. entries rs ++ replicate n last.process) (sym whole)
 
-pub AreRuns-raised : (runs : List Run) (last : Run) (n : ℕ) → 0 < length runs → last ≡ get_or runs (length runs - 1) last → AreRuns runs → length (entries runs) + n ≤ most →
+pub AreRuns-raised : (runs : List Run) (last : Run) (n : ℕ) → 0 < length runs → last ≡ get_or runs (length runs - 1) last → AreRuns runs → length (entries runs) + n ≤ most_in_schedule →
     AreRuns (set runs (length runs - 1) record { process = last.process; times = last.times + n })
 AreRuns-raised runs last n some is valid small =
     let inside : length runs - 1 < length runs = omega arith in
@@ -83,7 +83,7 @@ AreRuns-raised runs last n some is valid small =
     }
 
 -- a new last run
-pub AreRuns-pushed : (runs : List Run) (process n : ℕ) → AreRuns runs → length (entries runs) + n ≤ most → 1 ≤ n → 1 ≤ process → process ≤ most → (IsLast runs process → ⊥) →
+pub AreRuns-pushed : (runs : List Run) (process n : ℕ) → AreRuns runs → length (entries runs) + n ≤ most_in_schedule → 1 ≤ n → 1 ≤ process → process ≤ most_in_schedule → (IsLastRun runs process → ⊥) →
     AreRuns (runs ++ record { process = process; times = n } ∷ [])
 AreRuns-pushed runs process n valid small some least greatest new =
     let count = length-le-entries runs valid.numbers in
@@ -120,16 +120,16 @@ counted old new process n valid added = record {
   count = ap length added ∙ length-append (entries old) (replicate n process) ∙ ap (λ k. length (entries old) + k) (length-replicate n process);
 }
 
-pub raised : (runs : List Run) (count process n : ℕ) (last : Run) → count ≡ length runs → IsLast runs process → last ≡ get_or runs (count - 1) last →
-    AreRuns runs → length (entries runs) + n ≤ most → Added runs (set runs (count - 1) record { process = last.process; times = last.times + n }) process n
+pub raised : (runs : List Run) (count process n : ℕ) (last : Run) → count ≡ length runs → IsLastRun runs process → last ≡ get_or runs (count - 1) last →
+    AreRuns runs → length (entries runs) + n ≤ most_in_schedule → Added runs (set runs (count - 1) record { process = last.process; times = last.times + n }) process n
 raised runs count process n last is ends read valid small =
     let at_end : last ≡ get_or runs (length runs - 1) last = rw is at read in
     let same : last.process ≡ process = ap (λ (r : Run). r.process) at_end ∙ ends.1 last in
     rw (is, ← same) (counted runs (set runs (length runs - 1) record { process = last.process; times = last.times + n }) last.process n
     (AreRuns-raised runs last n ends.0 at_end valid small) (entries-raised runs last n ends.0 at_end))
 
-pub pushed : (runs new : List Run) (process n : ℕ) → new ≡ runs ++ record { process = process; times = n } ∷ [] → AreRuns runs → length (entries runs) + n ≤ most → 1 ≤ n →
-    1 ≤ process → process ≤ most → (IsLast runs process → ⊥) → Added runs new process n
+pub pushed : (runs new : List Run) (process n : ℕ) → new ≡ runs ++ record { process = process; times = n } ∷ [] → AreRuns runs → length (entries runs) + n ≤ most_in_schedule → 1 ≤ n →
+    1 ≤ process → process ≤ most_in_schedule → (IsLastRun runs process → ⊥) → Added runs new process n
 pushed runs new process n is valid small some least greatest other =
     rw is (counted runs (runs ++ record { process = process; times = n } ∷ []) process n
     (AreRuns-pushed runs process n valid small some least greatest other) (entries-push runs record { process = process; times = n }))

@@ -4,7 +4,7 @@ use Rattle.std.proofs.Common.{◌≡◌, ℕ, ◌-◌, ◌<◌, ◌≤◌, Some,
 use Rattle.std.proofs.lemmas.List.{append-nil}
 use Rattle.std.proofs.lemmas.Bool.{cases_lt}
 use Rattle.b67_text.specs.declared.BadText.{BadText}
-use Rattle.b67_text.specs.Texts.{Begins, IsRefused, StopsAt, Stands}
+use Rattle.b67_text.specs.Texts.{Begins, IsRefused, StopsAt, PartStands}
 use Rattle.b67_text.proofs.Fronts.{IsWord, word_stops}
 use Rattle.b67_text.proofs.Parts.{refused_where_it_stops}
 use Rattle.b67_schedule.specs.declared.Run.{Run}
@@ -14,7 +14,7 @@ use Rattle.b67_schedule.specs.declared.reading.Given.TheVariants.{One, Two}
 use Rattle.b67_schedule.specs.declared.refusal.ReadSchedule.{ReadSchedule}
 use Rattle.b67_schedule.specs.declared.refusal.ReadSchedule.TheVariants.{Bad, NoMemory}
 use Rattle.b67_schedule.specs.Schedules.{OldText, ScheduleText}
-use Rattle.b67_schedule.specs.Reading.{IsOldText, IsScheduleText, IsGivenText, Refuses}
+use Rattle.b67_schedule.specs.Reading.{IsOldText, IsScheduleText, IsGivenText, ScheduleRefuses}
 use Rattle.b67_schedule.specs.Giving.{IsTextOf, SaySame}
 use Rattle.b67_schedule.proofs.Items.{same_some}
 use Rattle.b67_schedule.proofs.Wholes.{count_part}
@@ -52,13 +52,13 @@ other_stops rest =
     differ : slice_get (old.head ++ rest) 9 ≡ Some 50 → ⊥
     differ e = let same : ◌≡◌ {A = ℕ} 49 50 = same_some 49 50 e in omega (arith, same)
 
-other_refused : (bytes : List ℕ) (next : ℕ) → Stands old.head bytes 0 next → IsRefused IsScheduleText bytes 9
+other_refused : (bytes : List ℕ) (next : ℕ) → PartStands old.head bytes 0 next → IsRefused IsScheduleText bytes 9
 other_refused bytes next st =
     refused_where_it_stops IsScheduleText bytes 9
     (new.head_stops bytes 0 9 (subst (λ (b : List ℕ). StopsAt (IsWord new.head) b 0 9) (sym st.part_is) (other_stops (drop next bytes))))
 
 -- a refusal as version 1 comes after its head
-head_behind : (bytes : List ℕ) (next byte : ℕ) → Stands old.head bytes 0 next → IsRefused IsOldText bytes byte → 11 ≤ byte
+head_behind : (bytes : List ℕ) (next byte : ℕ) → PartStands old.head bytes 0 next → IsRefused IsOldText bytes byte → 11 ≤ byte
 head_behind bytes next byte st refused =
     refused.reach.longest 11 (omega (arith, st.within, st.next_is)) (
       count_part 0,
@@ -66,7 +66,7 @@ head_behind bytes next byte st refused =
           (record { runs = []; are = follow_runs [] tt (omega arith); text_is = ap (λ (r : List ℕ). old.head ++ r) (sym (append-nil (count_part 0))) }),
     )
 
-pub one_refused : (e : ReadSchedule) (bytes : List ℕ) (next : ℕ) → Stands old.head bytes 0 next → Refuses IsOldText e bytes → Refuses IsGivenText e bytes
+pub one_refused : (e : ReadSchedule) (bytes : List ℕ) (next : ℕ) → PartStands old.head bytes 0 next → ScheduleRefuses IsOldText e bytes → ScheduleRefuses IsGivenText e bytes
 one_refused (Bad bad) bytes next st refused =
     let far = head_behind bytes next bad.byte st refused in
     let same : max bad.byte 9 ≡ bad.byte = omega (arith, far) in
@@ -96,6 +96,6 @@ given_is : (given : Given) (bytes : List ℕ) → IsTextOf given bytes → IsGiv
 given_is (One a) bytes is = inl (record { runs = a.runs; are = is.0; text_is = is.1 })
 given_is (Two a) bytes is = inr (record { runs = a.runs; letters = a.letters; schedule = is.0; text_is = is.1 })
 
-pub given_not_refused : (e : ReadSchedule) (given : Given) (bytes : List ℕ) → Refuses IsGivenText e bytes → IsTextOf given bytes → e ≡ NoMemory
+pub given_not_refused : (e : ReadSchedule) (given : Given) (bytes : List ℕ) → ScheduleRefuses IsGivenText e bytes → IsTextOf given bytes → e ≡ NoMemory
 given_not_refused (Bad bad) given bytes refused is = absurd (refused.none (given_is given bytes is))
 given_not_refused NoMemory given bytes refused is = refl

@@ -8,14 +8,14 @@ use Rattle.b67_deeds.specs.declared.Letter.{Letter}
 use Rattle.b67_schedule.specs.Letters.{bytes_of}
 
 -- what contracts see of a schedule: its runs, the letter of each action, and for how many actions there is room
-pub record Kept : Type 0 where
+pub record ScheduleModel : Type 0 where
   pub runs : List Run
   pub letters : List Letter
   pub room : ℕ
 
 -- the greatest number in a schedule
-abbrev pub most : ℕ
-most = MOST_NUMBER
+abbrev pub most_in_schedule : ℕ
+most_in_schedule = MOST_NUMBER
 
 -- the process of each action, in order
 abbrev pub entries : List Run → List ℕ
@@ -24,15 +24,15 @@ entries runs = flat_map (λ (run : Run). replicate run.times run.process) runs
 -- the numbers of a run are from 1 to the greatest
 pub record IsRun (run : Run) : Type 0 where
   pub process_least : 1 ≤ run.process
-  pub process_greatest : run.process ≤ most
+  pub process_greatest : run.process ≤ most_in_schedule
   pub times_least : 1 ≤ run.times
-  pub times_greatest : run.times ≤ most
+  pub times_greatest : run.times ≤ most_in_schedule
 
 -- the runs have numbers in range, neighbours are of different processes, and there are not too many of them
 pub record AreRuns (runs : List Run) : Type 0 where
   pub numbers : All IsRun runs
   pub differ : AllAdjacentBelow (λ (run next : Run). run.process ≢ next.process) runs (length runs)
-  pub few : length runs ≤ most
+  pub few : length runs ≤ most_in_schedule
 
 -- a schedule: its runs, and a letter for each of their actions
 pub record IsSchedule (runs : List Run) (letters : List Letter) : Type 0 where
@@ -40,8 +40,8 @@ pub record IsSchedule (runs : List Run) (letters : List Letter) : Type 0 where
   pub each : length letters ≡ length (entries runs)
 
 -- the last run is of this process
-abbrev pub IsLast : List Run → ℕ → Type 0
-IsLast runs process = (0 < length runs) × ((d : Run) → (slice_index_or runs (length runs - 1) d).process ≡ process)
+abbrev pub IsLastRun : List Run → ℕ → Type 0
+IsLastRun runs process = (0 < length runs) × ((d : Run) → (slice_index_or runs (length runs - 1) d).process ≡ process)
 
 -- ---- version 1, which has no letters
 

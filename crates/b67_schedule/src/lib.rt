@@ -12,7 +12,7 @@ ghost use Rattle.std.specs.Vec.{vec_capacity};
 ghost use Rattle.std.specs.List.{flat_map};
 ghost use Rattle.b67_schedule.specs.Letters.{bytes_of};
 ghost use Rattle.b67_schedule.specs.declared.TheConstants.{MOST_NUMBER};
-ghost use Rattle.b67_schedule.specs.Schedules.{most, entries, AreRuns, IsSchedule, IsLast, letter_line, letter_lines, ScheduleText};
+ghost use Rattle.b67_schedule.specs.Schedules.{most_in_schedule, entries, AreRuns, IsSchedule, IsLastRun, letter_line, letter_lines, ScheduleText};
 
 pub use b67_deeds::Letter;
 use b67_list::push_number;
@@ -44,9 +44,9 @@ pub struct Schedule {
 impl Model for Schedule {
     ghost use Rattle.std.specs.Prelude.{◌≡◌, length, min};
     ghost use Rattle.std.specs.Vec.{vec_capacity};
-    ghost use Rattle.b67_schedule.specs.Schedules.{Kept, entries, IsSchedule};
+    ghost use Rattle.b67_schedule.specs.Schedules.{ScheduleModel, entries, IsSchedule};
 
-    ghost Value = { Kept };
+    ghost Value = { ScheduleModel };
 
     ghost view = { λ schedule. record {
       runs = schedule.runs.items;
@@ -73,8 +73,8 @@ impl Schedule {
     pub fn push(&mut self, process: u32, letter: Letter)
         requires room { length self.old.letters < self.old.room }
         requires least { 1 ≤ process }
-        requires greatest { process ≤ most }
-        requires actions { length self.old.letters < most }
+        requires greatest { process ≤ most_in_schedule }
+        requires actions { length self.old.letters < most_in_schedule }
         ensures added { entries self.new.runs ≡ entries self.old.runs ++ process ∷ [] }
         ensures letters { self.new.letters ≡ self.old.letters ++ letter ∷ [] }
         ensures valid { IsSchedule self.new.runs self.new.letters }
@@ -89,8 +89,8 @@ impl Schedule {
     pub fn push_many(&mut self, process: u32, letters: &[Letter])
         requires room { length self.old.letters + length letters.now ≤ self.old.room }
         requires least { 1 ≤ process }
-        requires greatest { process ≤ most }
-        requires actions { length self.old.letters + length letters.now ≤ most }
+        requires greatest { process ≤ most_in_schedule }
+        requires actions { length self.old.letters + length letters.now ≤ most_in_schedule }
         ensures added { entries self.new.runs ≡ entries self.old.runs ++ replicate (length letters.now) process }
         ensures letters { self.new.letters ≡ self.old.letters ++ letters.now }
         ensures none { letters.now ≡ [] → self.new ≡ self.old }
@@ -160,9 +160,9 @@ fn add(runs: &mut Vec<Run>, process: u32, times: u32)
     requires room { length runs.old.items < vec_capacity runs.old }
     requires are { AreRuns runs.old.items }
     requires least { 1 ≤ process }
-    requires greatest { process ≤ most }
+    requires greatest { process ≤ most_in_schedule }
     requires some { 1 ≤ times }
-    requires few { length (entries runs.old.items) + times ≤ most }
+    requires few { length (entries runs.old.items) + times ≤ most_in_schedule }
     ensures are { AreRuns runs.new.items }
     ensures added { entries runs.new.items ≡ entries runs.old.items ++ replicate times process }
     ensures room { vec_capacity runs.old ≤ vec_capacity runs.new }
@@ -178,7 +178,7 @@ fn add(runs: &mut Vec<Run>, process: u32, times: u32)
 /// Tests that the last run is of this process.
 #[inline(always)]
 fn is_last(runs: &[Run], process: u32) -> bool
-    ensures { IsTrue result ↔ IsLast runs.now process }
+    ensures { IsTrue result ↔ IsLastRun runs.now process }
 {
     runs.last().is_some_and(|last| last.process == process)
 }

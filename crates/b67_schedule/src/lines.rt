@@ -2,12 +2,12 @@
 
 ghost use Rattle.std.specs.Prelude.{◌≡◌, ◌↔◌, ℕ, ◌<◌, ◌≤◌, ◌++◌, None, List, length, map, IfOk, IfErr, IfSome, IfNone, IsTrue, codes};
 ghost use Rattle.std.specs.List.{flat_map};
-ghost use Rattle.b67_text.specs.Texts.{Stands, HasByte};
+ghost use Rattle.b67_text.specs.Texts.{PartStands, HasByte};
 ghost use Rattle.b67_deeds.specs.declared.Letter.{Letter as TheLetter};
 ghost use Rattle.b67_deeds.specs.Letters.{byte_of};
 ghost use Rattle.b67_schedule.specs.Letters.{bytes_of};
-ghost use Rattle.b67_schedule.specs.Schedules.{most};
-ghost use Rattle.b67_schedule.specs.Reading.{Lettered, run_in, letters_in, line_in, CanStand, IsLetterLine, Stand, AreLetterLines, AreLetters, AreMost, RefusesAt, numbers};
+ghost use Rattle.b67_schedule.specs.Schedules.{most_in_schedule};
+ghost use Rattle.b67_schedule.specs.Reading.{Lettered, run_in, letters_in, line_in, EntryCanStand, IsLetterLine, Stand, AreLetterLines, AreLetters, AreMost, RefusesAt, numbers_of_schedule};
 
 use crate::letter::letter_of;
 use crate::reading::numbers;
@@ -24,7 +24,7 @@ pub fn read_lines(
 ) -> Result<(Vec<Run>, Vec<Letter>, usize), ReadSchedule>
     requires { at ≤ length bytes.now }
     ensures read { IfOk result (λ found. (items : List Lettered) × Stand None items × (length items ≡ count) × (found.0.items ≡ map run_in items)
-        × (found.1.items ≡ flat_map letters_in items) × Stands (flat_map line_in items) bytes.now at found.2) }
+        × (found.1.items ≡ flat_map letters_in items) × PartStands (flat_map line_in items) bytes.now at found.2) }
     ensures refused { IfErr result (λ e. RefusesAt e (AreLetterLines None count) bytes.now at) }
 {
     let mut runs = Vec::new(alloc);
@@ -49,8 +49,8 @@ fn read_line(
     letters: &mut Vec<Letter>,
 ) -> Result<(Run, usize), ReadSchedule>
     requires { at ≤ length bytes.now }
-    ensures read { IfOk result (λ found. (item : Lettered) × CanStand before item × (found.0 ≡ run_in item)
-        × (letters.new.items ≡ letters.old.items ++ item.letters) × Stands (line_in item) bytes.now at found.1) }
+    ensures read { IfOk result (λ found. (item : Lettered) × EntryCanStand before item × (found.0 ≡ run_in item)
+        × (letters.new.items ≡ letters.old.items ++ item.letters) × PartStands (line_in item) bytes.now at found.1) }
     ensures refused { IfErr result (λ e. RefusesAt e (IsLetterLine before) bytes.now at) }
 {
     let (process, next) = read_number(bytes, at, &numbers(1, before), b' ')?;
@@ -69,8 +69,8 @@ fn read_letters(
     letters: &mut Vec<Letter>,
 ) -> Result<(u32, usize), ReadSchedule>
     requires { at ≤ length bytes.now }
-    ensures read { IfOk result (λ found. (more : List TheLetter) × (1 ≤ length more) × (length more ≤ most) × (found.0 ≡ length more)
-        × (letters.new.items ≡ letters.old.items ++ more) × Stands (bytes_of more ++ codes "\n") bytes.now at found.1) }
+    ensures read { IfOk result (λ found. (more : List TheLetter) × (1 ≤ length more) × (length more ≤ most_in_schedule) × (found.0 ≡ length more)
+        × (letters.new.items ≡ letters.old.items ++ more) × PartStands (bytes_of more ++ codes "\n") bytes.now at found.1) }
     ensures refused { IfErr result (λ e. RefusesAt e AreLetters bytes.now at) }
 {
     let (times, next) = read_most(bytes, at, letters)?;
@@ -119,8 +119,8 @@ fn read_most(
 /// The letter of a byte, where one more can stand in a line after so many.
 #[inline(always)]
 fn one_more(byte: u8, times: u32) -> Option<Letter>
-    ensures found { IfSome result (λ letter. (byte_of letter ≡ byte) × (times < most)) }
-    ensures none { IfNone result ((letter : TheLetter) → byte_of letter ≡ byte → times < most → ⊥) }
+    ensures found { IfSome result (λ letter. (byte_of letter ≡ byte) × (times < most_in_schedule)) }
+    ensures none { IfNone result ((letter : TheLetter) → byte_of letter ≡ byte → times < most_in_schedule → ⊥) }
 {
     if times < MOST_NUMBER {
         letter_of(byte)

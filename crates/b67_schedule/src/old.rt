@@ -2,9 +2,9 @@
 
 ghost use Rattle.std.specs.Prelude.{◌≡◌, ℕ, ◌≤◌, None, length, IfOk, IfErr};
 ghost use Rattle.std.specs.List.{flat_map};
-ghost use Rattle.b67_text.specs.Texts.{Stands, StopsAt};
+ghost use Rattle.b67_text.specs.Texts.{PartStands, StopsAt};
 ghost use Rattle.b67_schedule.specs.Schedules.{entries, AreRuns, run_line};
-ghost use Rattle.b67_schedule.specs.Reading.{CanFollow, IsRunLine, Follow, AreRunLines, RefusesAt, numbers};
+ghost use Rattle.b67_schedule.specs.Reading.{CanFollow, IsRunLine, Follow, AreRunLines, RefusesAt, numbers_of_schedule};
 
 use crate::reading::numbers;
 use crate::{ReadSchedule, Run};
@@ -27,7 +27,7 @@ pub fn read_runs(
 ) -> Result<(Vec<Run>, usize), ReadSchedule>
     requires { at ≤ length bytes.now }
     ensures read { IfOk result (λ found. Follow None found.0.items × (length found.0.items ≡ count)
-        × Stands (flat_map run_line found.0.items) bytes.now at found.1) }
+        × PartStands (flat_map run_line found.0.items) bytes.now at found.1) }
     ensures refused { IfErr result (λ e. RefusesAt e (AreRunLines None count) bytes.now at) }
 {
     let mut runs = Vec::new(alloc);
@@ -45,7 +45,7 @@ pub fn read_runs(
 /// The run whose line stands at a place, of another process than the one before, and the place after it.
 fn read_run(bytes: &[u8], at: usize, before: Option<u64>) -> Result<(Run, usize), BadText>
     requires { at ≤ length bytes.now }
-    ensures read { IfOk result (λ found. CanFollow before found.0 × Stands (run_line found.0) bytes.now at found.1) }
+    ensures read { IfOk result (λ found. CanFollow before found.0 × PartStands (run_line found.0) bytes.now at found.1) }
     ensures refused { IfErr result (λ bad. StopsAt (IsRunLine before) bytes.now at bad.byte) }
 {
     let (process, next) = read_number(bytes, at, &numbers(1, before), b'*')?;

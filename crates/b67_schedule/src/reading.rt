@@ -1,12 +1,12 @@
 //! A schedule from its text.
 
 ghost use Rattle.std.specs.Prelude.{◌≡◌, ℕ, ◌≤◌, List, IfOk, IfErr, MatchResult, length};
-ghost use Rattle.b67_text.specs.Texts.{Stands, StopsAt};
+ghost use Rattle.b67_text.specs.Texts.{PartStands, StopsAt};
 ghost use Rattle.b67_schedule.specs.declared.Run.{Run as TheRun};
 ghost use Rattle.b67_deeds.specs.declared.Letter.{Letter as TheLetter};
 ghost use Rattle.b67_schedule.specs.declared.reading.Given.{Given as TheGiven};
 ghost use Rattle.b67_schedule.specs.Schedules.{AreRuns, IsSchedule, OldText, ScheduleText};
-ghost use Rattle.b67_schedule.specs.Reading.{IsOldText, IsScheduleText, IsGivenText, Refuses, RefusesAt, numbers};
+ghost use Rattle.b67_schedule.specs.Reading.{IsOldText, IsScheduleText, IsGivenText, ScheduleRefuses, RefusesAt, numbers_of_schedule};
 ghost use Rattle.b67_schedule.specs.Giving.{HasRuns, IsTextOf, given_entries, SaySame};
 
 use crate::lines::read_lines;
@@ -41,7 +41,7 @@ impl Given {
 pub fn read(alloc: Global, bytes: &[u8]) -> Result<Given, ReadSchedule>
     ensures read { IfOk result (λ given. IsTextOf given bytes.now) }
     ensures again { (given : TheGiven) → IsTextOf given bytes.now → MatchResult result (λ found. SaySame found given) (λ e. e ≡ ReadSchedule.NoMemory) }
-    ensures refused { IfErr result (λ e. Refuses IsGivenText e bytes.now) }
+    ensures refused { IfErr result (λ e. ScheduleRefuses IsGivenText e bytes.now) }
 {
     match read_word(bytes, 0, b"SCHEDULE 1 ") {
         Ok(_) => Ok(Given::One(read_old(alloc, bytes)?)),
@@ -58,7 +58,7 @@ pub fn read(alloc: Global, bytes: &[u8]) -> Result<Given, ReadSchedule>
 /// The runs whose text of version 1 the bytes are.
 fn read_old(alloc: Global, bytes: &[u8]) -> Result<OldSchedule, ReadSchedule>
     ensures read { IfOk result (λ old. AreRuns old.runs × (bytes.now ≡ OldText old.runs)) }
-    ensures refused { IfErr result (λ e. Refuses IsOldText e bytes.now) }
+    ensures refused { IfErr result (λ e. ScheduleRefuses IsOldText e bytes.now) }
 {
     let next = read_word(bytes, 0, b"SCHEDULE 1 ")?;
     let (count, next) = read_number(bytes, next, &numbers(0, None), b'\n')?;
@@ -74,7 +74,7 @@ fn read_old(alloc: Global, bytes: &[u8]) -> Result<OldSchedule, ReadSchedule>
 /// The schedule whose text the bytes are.
 fn read_new(alloc: Global, bytes: &[u8]) -> Result<Schedule, ReadSchedule>
     ensures read { IfOk result (λ schedule. IsSchedule schedule.runs schedule.letters × (bytes.now ≡ ScheduleText schedule.runs schedule.letters)) }
-    ensures refused { IfErr result (λ e. Refuses IsScheduleText e bytes.now) }
+    ensures refused { IfErr result (λ e. ScheduleRefuses IsScheduleText e bytes.now) }
 {
     let (schedule, next) = read_from(alloc, bytes, 0)?;
     if next < bytes.len() {
@@ -87,7 +87,7 @@ fn read_new(alloc: Global, bytes: &[u8]) -> Result<Schedule, ReadSchedule>
 /// place where the longest beginning of such a text ends.
 pub fn read_from(alloc: Global, bytes: &[u8], at: usize) -> Result<(Schedule, usize), ReadSchedule>
     requires { at ≤ length bytes.now }
-    ensures read { IfOk result (λ found. IsSchedule found.0.runs found.0.letters × Stands (ScheduleText found.0.runs found.0.letters) bytes.now at found.1) }
+    ensures read { IfOk result (λ found. IsSchedule found.0.runs found.0.letters × PartStands (ScheduleText found.0.runs found.0.letters) bytes.now at found.1) }
     ensures refused { IfErr result (λ e. RefusesAt e IsScheduleText bytes.now at) }
 {
     let next = read_word(bytes, at, b"SCHEDULE 2 ")?;
@@ -98,7 +98,7 @@ pub fn read_from(alloc: Global, bytes: &[u8], at: usize) -> Result<(Schedule, us
 
 /// The numbers of a schedule's text from this one on, without the other.
 pub fn numbers(least: u64, except: Option<u64>) -> Numbers
-    ensures { result ≡ numbers least except }
+    ensures { result ≡ numbers_of_schedule least except }
 {
     Numbers {
         least,

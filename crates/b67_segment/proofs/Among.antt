@@ -6,7 +6,7 @@ use Rattle.std.proofs.lemmas.List.{append-nil, drop_at}
 use Rattle.b67_ops.specs.declared.Operator.{Operator}
 use Rattle.b67_ops.specs.declared.Operator.TheVariants.{Valc, Namc, Lt8, Lt16, Lt48, Mpcw, Branch, Plain}
 use Rattle.b67_ops.specs.declared.BranchKind.{BranchKind}
-use Rattle.b67_ops.specs.Spelling.{spelling, Stands}
+use Rattle.b67_ops.specs.Spelling.{spelling, OperatorStands}
 use Rattle.b67_ops.proofs.Laws.{decoded-stands}
 use Rattle.b67_segment.specs.declared.code.Segment.{Segment}
 use Rattle.b67_segment.specs.declared.code.Code.{Code}
@@ -138,7 +138,7 @@ IsFit-among {ps} {at} {level} {op} {next} fit s =
 
 -- an operator stands in the code that spells it
 pub Stands-spelled : {ps : List Placed} {segment : Segment} {at level : ℕ} {op : Operator} {next : ℕ} → Spells ps segment
-    → StandsAmong ps at level op next → Stands (syllables segment.words) at level op next
+    → StandsAmong ps at level op next → OperatorStands (syllables segment.words) at level op next
 Stands-spelled {ps} {segment} {at} {level} {op} {next} sp s =
     let p : Placed = record { level = level; operator = op } in
     let bytes = syllables segment.words in

@@ -10,7 +10,7 @@ use Rattle.b67_ops.specs.declared.Operator.{Operator}
 use Rattle.b67_ops.specs.Spelling.{spelling, Fits}
 use Rattle.b67_segment.specs.declared.code.Mark.{Mark}
 use Rattle.b67_segment.specs.Operators.{Placed, text, is_level, marks_after, marks_of, last_level}
-use Rattle.b67_segment.specs.Building.{Built, level_set, appended, operators_of, marked, marks_with, Builds, IsBuilt}
+use Rattle.b67_segment.specs.Building.{Built, level_set, appended, operators_of, level_marked, marks_with, Builds, IsBuilt}
 use Rattle.b67_segment.proofs.Texts.{same-level, text-append, marks_after-append, AreFit-append, marked-marks}
 use Rattle.b67_segment.proofs.Parsing.{operators_of-built}
 
@@ -23,7 +23,7 @@ operators_of-none = operators_of-built Builds-none
 
 -- what is built is kept
 pub IsBuilt-from : {ps : List Placed} {bytes : List ℕ} {ms : List Mark} (level : Option ℕ) (room : ℕ) → Builds ps bytes ms
-    → ForSome level (λ l. (OUTER_LEVEL ≤ l) × (l ≤ MOST_LEVEL)) → (marked None ms ≢ level → 0 < room) → IsBuilt bytes ms level room
+    → ForSome level (λ l. (OUTER_LEVEL ≤ l) × (l ≤ MOST_LEVEL)) → (level_marked None ms ≢ level → 0 < room) → IsBuilt bytes ms level room
 IsBuilt-from {ps} {bytes} {ms} level room b known marking = record {
   builds = subst (λ qs. Builds qs bytes ms) (sym (operators_of-built b)) b;
   known = known;
@@ -50,13 +50,13 @@ Builds-append {ps} {bytes} {ms} level op b outer most fits room =
     let more : text (0 + length (text 0 ps)) (p ∷ []) ≡ sp ++ [] = ap (λ k. text k (p ∷ [])) (omega arith) in
     let all : text 0 (ps ++ p ∷ []) ≡ bytes ++ sp =
     text-append 0 ps (p ∷ []) ∙ ap (λ xs. text 0 ps ++ xs) (more ∙ append-nil sp) ∙ ap (λ xs. xs ++ sp) (sym b.code) in
-    let before : last_level None ps ≡ marked None ms = sym (marked-marks 0 None ps) ∙ ap (marked None) (sym b.marks) in
+    let before : last_level None ps ≡ level_marked None ms = sym (marked-marks 0 None ps) ∙ ap (level_marked None) (sym b.marks) in
     let m : Mark = record { place = at; level = level } in
-    let last : marks_after (0 + length (text 0 ps)) (last_level None ps) (p ∷ []) ≡ cond (is_level (marked None ms) level) [] (m ∷ []) =
+    let last : marks_after (0 + length (text 0 ps)) (last_level None ps) (p ∷ []) ≡ cond (is_level (level_marked None ms) level) [] (m ∷ []) =
     ap (λ k. marks_after k (last_level None ps) (p ∷ [])) (omega arith) ∙ ap (λ k. marks_after at k (p ∷ [])) before in
     let told : marks_of (ps ++ p ∷ []) ≡ marks_with ms at level =
-    marks_after-append 0 None ps (p ∷ []) ∙ ap (λ xs. marks_of ps ++ xs) last ∙ ap (λ xs. xs ++ cond (is_level (marked None ms) level) [] (m ∷ [])) (sym b.marks)
-    ∙ marks_with-append (is_level (marked None ms) level) m ms in
+    marks_after-append 0 None ps (p ∷ []) ∙ ap (λ xs. marks_of ps ++ xs) last ∙ ap (λ xs. xs ++ cond (is_level (level_marked None ms) level) [] (m ∷ [])) (sym b.marks)
+    ∙ marks_with-append (is_level (level_marked None ms) level) m ms in
     record {
       code = sym all;
       marks = sym told;
@@ -65,16 +65,16 @@ Builds-append {ps} {bytes} {ms} level op b outer most fits room =
     }
 
 -- the level of the last mark is the one that was set last for an operator
-marked-with : (ms : List Mark) (at level : ℕ) → marked None (marks_with ms at level) ≡ Some level
-marked-with ms at level = marked-cases (is_level (marked None ms) level) ms at level refl
+marked-with : (ms : List Mark) (at level : ℕ) → level_marked None (marks_with ms at level) ≡ Some level
+marked-with ms at level = marked-cases (is_level (level_marked None ms) level) ms at level refl
   where
-    marked-push : (before : Option ℕ) (ms : List Mark) (m : Mark) → marked before (ms ++ m ∷ []) ≡ Some m.level
+    marked-push : (before : Option ℕ) (ms : List Mark) (m : Mark) → level_marked before (ms ++ m ∷ []) ≡ Some m.level
     marked-push before [] m = refl
     marked-push before (x ∷ ms) m = marked-push (Some x.level) ms m
 
-    marked-cases : (b : Bool) (ms : List Mark) (at level : ℕ) → is_level (marked None ms) level ≡ b
-        → marked None (cond b ms (ms ++ record { place = at; level = level } ∷ [])) ≡ Some level
-    marked-cases true ms at level h = same-level (marked None ms) level h
+    marked-cases : (b : Bool) (ms : List Mark) (at level : ℕ) → is_level (level_marked None ms) level ≡ b
+        → level_marked None (cond b ms (ms ++ record { place = at; level = level } ∷ [])) ≡ Some level
+    marked-cases true ms at level h = same-level (level_marked None ms) level h
     marked-cases false ms at level h = marked-push None ms (record { place = at; level = level })
 
 module _ (bytes : List ℕ) (ms : List Mark) (room level : ℕ) (op : Operator) (built : IsBuilt bytes ms (Some level) room) (fits : Fits level op)

@@ -7,7 +7,7 @@ use Rattle.b67_ops.specs.declared.TheConstants.{MOST_LEVEL}
 use Rattle.b67_ops.specs.declared.Operator.{Operator}
 use Rattle.b67_ops.specs.declared.BadCode.{BadCode}
 use Rattle.b67_ops.specs.declared.BadCode.TheVariants.{CutShort, BadLevel, Unknown}
-use Rattle.b67_ops.specs.Spelling.{Stands}
+use Rattle.b67_ops.specs.Spelling.{OperatorStands}
 use Rattle.b67_ops.specs.Decoding.{decoded}
 use Rattle.b67_ops.specs.Refusals.{IsCutShort, NamesLevelAbove, IsUnknown}
 use Rattle.b67_ops.proofs.Laws.{decoded-ok, decoded-past, decoded-cut_short, decoded-above, decoded-unknown}
@@ -79,7 +79,7 @@ fetched-some code at level (Some segment) there most op next =
     let found = decoded-ok (syllables segment.words) at.place level most (syllables-bytes segment.words) op next in (
       λ h. record { segment = segment; there = there; stands = found.0 h },
       λ s. let same : s.segment ≡ segment = some-same s.segment segment (sym s.there ∙ there) in
-          found.1 (subst (λ g. Stands (syllables g.words) at.place level op next) same s.stands),
+          found.1 (subst (λ g. OperatorStands (syllables g.words) at.place level op next) same s.stands),
     )
   where
     some-same : (a b : Segment) → Some a ≡ Some b → a ≡ b

@@ -10,12 +10,12 @@ use Rattle.b67_ops.proofs.Spelled.{front-spelling}
 use Rattle.b67_ops.proofs.Refusing.{front-none}
 use Rattle.b67_segment.specs.declared.code.Mark.{Mark}
 use Rattle.b67_segment.specs.Operators.{Placed, width, text, is_level, marks_after, marks_of, AreFit}
-use Rattle.b67_segment.specs.Building.{level_at, marks_left, with_first, operators_from, operators_of, Builds}
+use Rattle.b67_segment.specs.Building.{marked_level_at, marks_left, with_first, operators_from, operators_of, Builds}
 use Rattle.b67_segment.proofs.Texts.{same-level}
 
 -- marks of operators from a place on leave an earlier place only
 no-mark : (at next : ℕ) (level : ℕ) (before : Option ℕ) (ps : List Placed) → at < next
-    → (level_at at level (marks_after next before ps) ≡ level) × (marks_left at (marks_after next before ps) ≡ marks_after next before ps)
+    → (marked_level_at at level (marks_after next before ps) ≡ level) × (marks_left at (marks_after next before ps) ≡ marks_after next before ps)
 no-mark at next level before [] h = (refl, refl)
 no-mark at next level before (p ∷ ps) h =
     let b = is_level before p.level in
@@ -27,15 +27,15 @@ no-mark at next level before (p ∷ ps) h =
       | inl same ↦
           let is = cond-true b rest all same in
           let below = no-mark at (next + width next p) level (Some p.level) ps (omega arith) in
-          (ap (level_at at level) is ∙ below.0, ap (marks_left at) is ∙ below.1 ∙ sym is)
+          (ap (marked_level_at at level) is ∙ below.0, ap (marks_left at) is ∙ below.1 ∙ sym is)
       | inr other ↦
           let is = cond-false b rest all other in
-          (ap (level_at at level) is ∙ cond-false (eqb next at) p.level level later, ap (marks_left at) is ∙ cond-false (eqb next at) rest all later ∙ sym is)
+          (ap (marked_level_at at level) is ∙ cond-false (eqb next at) p.level level later, ap (marks_left at) is ∙ cond-false (eqb next at) rest all later ∙ sym is)
     ]
 
 -- at an operator's own place the marks tell its level, and leave those of the operators after it
 first-mark : (at : ℕ) (before : Option ℕ) (p : Placed) (ps : List Placed)
-    → (level_at at (unwrap_or before 0) (marks_after at before (p ∷ ps)) ≡ p.level)
+    → (marked_level_at at (unwrap_or before 0) (marks_after at before (p ∷ ps)) ≡ p.level)
     × (marks_left at (marks_after at before (p ∷ ps)) ≡ marks_after (at + width at p) (Some p.level) ps)
 first-mark at before p ps =
     let b = is_level before p.level in
@@ -48,18 +48,18 @@ first-mark at before p ps =
       | inl same ↦
           let is = cond-true b rest (m ∷ rest) same in
           let none = no-mark at (at + width at p) level (Some p.level) ps (omega (arith, wide.0)) in
-          (ap (level_at at level) is ∙ none.0 ∙ ap (λ k. unwrap_or k 0) (same-level before p.level same), ap (marks_left at) is ∙ none.1)
+          (ap (marked_level_at at level) is ∙ none.0 ∙ ap (λ k. unwrap_or k 0) (same-level before p.level same), ap (marks_left at) is ∙ none.1)
       | inr other ↦
           let is = cond-false b rest (m ∷ rest) other in
-          (ap (level_at at level) is ∙ cond-true (eqb at at) p.level level here, ap (marks_left at) is ∙ cond-true (eqb at at) rest (m ∷ rest) here)
+          (ap (marked_level_at at level) is ∙ cond-true (eqb at at) p.level level here, ap (marks_left at) is ∙ cond-true (eqb at at) rest (m ∷ rest) here)
     ]
 
 operators-none : (most at level : ℕ) (ms : List Mark) → operators_from most at level ms [] ≡ []
 unfolding operators_from
 operators-none zero at level ms = refl
 operators-none (suc most) at level ms =
-    ap (λ r. with_first (level_at at level ms) r (λ count. operators_from most (at + count) (level_at at level ms) (marks_left at ms) (drop count [])))
-    (front-none (filling at) (level_at at level ms))
+    ap (λ r. with_first (marked_level_at at level ms) r (λ count. operators_from most (at + count) (marked_level_at at level ms) (marks_left at ms) (drop count [])))
+    (front-none (filling at) (marked_level_at at level ms))
 
 -- what operators spell is read as those operators
 pub operators_from-text : (ps : List Placed) (most at : ℕ) (before : Option ℕ) → AreFit ps → length ps ≤ most

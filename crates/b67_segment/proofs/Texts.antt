@@ -5,7 +5,7 @@ use Rattle.std.specs.Prelude.{slice_get}
 use Rattle.b67_ops.specs.Spelling.{spelling}
 use Rattle.b67_segment.specs.declared.code.Mark.{Mark}
 use Rattle.b67_segment.specs.Operators.{Placed, width, text, is_level, marks_after, AreFit, last_level}
-use Rattle.b67_segment.specs.Building.{marked}
+use Rattle.b67_segment.specs.Building.{level_marked}
 
 pub text-append : (at : ℕ) (ps qs : List Placed) → text at (ps ++ qs) ≡ text at ps ++ text (at + length (text at ps)) qs
 text-append at [] qs = ap (λ k. text k qs) (omega arith)
@@ -47,7 +47,7 @@ same-level None level h = cc
 same-level (Some k) level h = ap Some (eqb-true k level h)
 
 -- it is the level of the last operator
-pub marked-marks : (at : ℕ) (before : Option ℕ) (ps : List Placed) → marked before (marks_after at before ps) ≡ last_level before ps
+pub marked-marks : (at : ℕ) (before : Option ℕ) (ps : List Placed) → level_marked before (marks_after at before ps) ≡ last_level before ps
 marked-marks at before [] = refl
 marked-marks at before (p ∷ ps) =
     let b = is_level before p.level in
@@ -56,12 +56,12 @@ marked-marks at before (p ∷ ps) =
     let m : Mark = record { place = at; level = p.level } in
     elim (cases_Bool b) [
       | inl same ↦
-          ap (marked before) (cond-true b rest (m ∷ rest) same) ∙ ap (λ k. marked k rest) (same-level before p.level same) ∙ marked-marks next (Some p.level) ps
-      | inr other ↦ ap (marked before) (cond-false b rest (m ∷ rest) other) ∙ marked-marks next (Some p.level) ps
+          ap (level_marked before) (cond-true b rest (m ∷ rest) same) ∙ ap (λ k. level_marked k rest) (same-level before p.level same) ∙ marked-marks next (Some p.level) ps
+      | inr other ↦ ap (level_marked before) (cond-false b rest (m ∷ rest) other) ∙ marked-marks next (Some p.level) ps
     ]
 
 -- it is the level of the last mark
-pub marked-last : (before : Option ℕ) (ms : List Mark) (m : Mark) → slice_get ms (length ms - 1) ≡ Some m → marked before ms ≡ Some m.level
+pub marked-last : (before : Option ℕ) (ms : List Mark) (m : Mark) → slice_get ms (length ms - 1) ≡ Some m → level_marked before ms ≡ Some m.level
 marked-last before [] m h = cc
 marked-last before (x ∷ []) m h = let same : x ≡ m = cc in ap (λ k. Some k.level) same
 marked-last before (x ∷ y ∷ ms) m h =

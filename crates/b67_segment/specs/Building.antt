@@ -26,9 +26,9 @@ abbrev pub appended : Built → Operator → Built
 appended b op = record b { operators = b.operators ++ record { level = level_set b; operator = op } ∷ [] }
 
 -- the level at a place after operators of this level, and the marks that are left there
-abbrev pub level_at : ℕ → ℕ → List Mark → ℕ
-level_at at level [] = level
-level_at at level (m ∷ ms) = if nat_eq m.place at then m.level else level
+abbrev pub marked_level_at : ℕ → ℕ → List Mark → ℕ
+marked_level_at at level [] = level
+marked_level_at at level (m ∷ ms) = if nat_eq m.place at then m.level else level
 
 abbrev pub marks_left : ℕ → List Mark → List Mark
 marks_left at [] = []
@@ -42,7 +42,7 @@ with_first level (Err e) rest = []
 unfoldable pub operators_from : ℕ → ℕ → ℕ → List Mark → List ℕ → List Placed
 operators_from zero at level ms bytes = []
 operators_from (suc most) at level ms bytes =
-    let here = level_at at level ms in
+    let here = marked_level_at at level ms in
     with_first here (front (filling at) here bytes)
     (λ count. operators_from most (at + count) here (marks_left at ms) (drop count bytes))
 
@@ -58,19 +58,19 @@ pub record Builds (ps : List Placed) (bytes : List ℕ) (ms : List Mark) : Type 
   pub room : length bytes ≤ 6 * MOST_SEGMENT_WORDS
 
 -- the level that marks leave, after this one
-abbrev pub marked : Option ℕ → List Mark → Option ℕ
-marked before [] = before
-marked before (m ∷ ms) = marked (Some m.level) ms
+abbrev pub level_marked : Option ℕ → List Mark → Option ℕ
+level_marked before [] = before
+level_marked before (m ∷ ms) = level_marked (Some m.level) ms
 
 -- marks after one more operator at this place and level
 abbrev pub marks_with : List Mark → ℕ → ℕ → List Mark
-marks_with ms at level = if is_level (marked None ms) level then ms else (ms ++ record { place = at; level = level } ∷ [])
+marks_with ms at level = if is_level (level_marked None ms) level then ms else (ms ++ record { place = at; level = level } ∷ [])
 
 -- what a builder keeps: its syllables and marks are those of operators, and there is room for the next mark
 pub record IsBuilt (bytes : List ℕ) (ms : List Mark) (level : Option ℕ) (room : ℕ) : Type 0 where
   pub builds : Builds (operators_of bytes ms) bytes ms
   pub known : ForSome level (λ l. (OUTER_LEVEL ≤ l) × (l ≤ MOST_LEVEL))
-  pub marking : marked None ms ≢ level → 0 < room
+  pub marking : level_marked None ms ≢ level → 0 < room
 
 -- a branch stands at this place
 pub record IsBranchAt (ps : List Placed) (at : ℕ) : Type 0 where

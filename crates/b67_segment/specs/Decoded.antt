@@ -13,13 +13,13 @@ if_good (Err bad) = None
 abbrev pub found : Code → ℕ → ℕ → ℕ → Option (Operator × ℕ)
 found code segment level place = if_good (fetched code (record { segment = segment; place = place }) level)
 
-abbrev pub flat : Option (Option (Operator × ℕ)) → Option (Operator × ℕ)
-flat None = None
-flat (Some operator) = operator
+abbrev pub flat_operator : Option (Option (Operator × ℕ)) → Option (Operator × ℕ)
+flat_operator None = None
+flat_operator (Some operator) = operator
 
 -- the operator that a list has at a place, none past its end
 abbrev pub at_place : List (Option (Operator × ℕ)) → ℕ → Option (Operator × ℕ)
-at_place places place = flat (slice_get places place)
+at_place places place = flat_operator (slice_get places place)
 
 -- at every place of the segment the list has what is fetched there at this level
 abbrev pub AreDecoded : Code → ℕ → ℕ → List (Option (Operator × ℕ)) → Type 0

@@ -3,7 +3,7 @@ use Rattle.std.specs.Prelude.{◌≡◌, ℕ, ◌*◌, ◌≤◌, Option, Some, 
 use Rattle.b67_ops.specs.declared.Operator.{Operator}
 use Rattle.b67_ops.specs.declared.BadCode.{BadCode}
 use Rattle.b67_ops.specs.declared.BadCode.TheVariants.{CutShort}
-use Rattle.b67_ops.specs.Spelling.{Stands}
+use Rattle.b67_ops.specs.Spelling.{OperatorStands}
 use Rattle.b67_ops.specs.Decoding.{decoded}
 use Rattle.b67_ops.specs.Refusals.{IsCutShort, NamesLevelAbove, IsUnknown}
 use Rattle.b67_segment.specs.declared.code.Segment.{Segment}
@@ -24,7 +24,7 @@ fetched code at level = fetched_from (slice_get code.segments at.segment) at.pla
 pub record StandsIn (code : Code) (at : Pointer) (level : ℕ) (op : Operator) (next : ℕ) : Type 0 where
   pub segment : Segment
   pub there : slice_get code.segments at.segment ≡ Some segment
-  pub stands : Stands (syllables segment.words) at.place level op next
+  pub stands : OperatorStands (syllables segment.words) at.place level op next
 
 -- the pointer's segment is not there, or ends before its place
 abbrev pub IsPast : Code → Pointer → Type 0

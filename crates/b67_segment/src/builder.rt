@@ -4,7 +4,7 @@ ghost use Rattle.b67_segment.specs.declared.TheConstants.{MOST_SEGMENT_WORDS};
 ghost use Rattle.b67_ops.specs.declared.TheConstants.{OUTER_LEVEL, MOST_LEVEL};
 ghost use Rattle.b67_ops.specs.Spelling.{spelling, Fits};
 ghost use Rattle.b67_segment.specs.Operators.{is_level, size, aimed_from, missing, filler, filled};
-ghost use Rattle.b67_segment.specs.Building.{level_set, appended, marked, marks_with, spliced, IsBranchAt};
+ghost use Rattle.b67_segment.specs.Building.{level_set, appended, level_marked, marks_with, spliced, IsBranchAt};
 ghost use Rattle.b67_segment.specs.Syllables.{syllables, Spells};
 
 use crate::code::{Mark, Segment};
@@ -41,7 +41,7 @@ impl Model for Builder {
 
 /// Tests that the operators that these marks are of end at this level.
 fn is_at(marks: &[Mark], level: u8) -> bool
-    ensures { result ≡ is_level (marked None marks.now) level }
+    ensures { result ≡ is_level (level_marked None marks.now) level }
 {
     match marks.last() {
         Some(mark) => mark.level == level,
@@ -60,7 +60,7 @@ fn append_to(
     requires fits { Fits level op.now }
     requires room { length syllables.old.items
         + length (spelling (length syllables.old.items) level op.now) ≤ 6 * MOST_SEGMENT_WORDS }
-    requires marking { marked None marks.old.items ≢ Some level
+    requires marking { level_marked None marks.old.items ≢ Some level
         → vec_len marks.old < vec_capacity marks.old }
     ensures place { IfOk result (λ place. place ≡ length syllables.old.items) }
     ensures ok { OnOk result (syllables.new.items

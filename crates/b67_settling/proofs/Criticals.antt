@@ -28,11 +28,11 @@ use Rattle.b67_table.specs.declared.Reached.{Reached}
 use Rattle.b67_table.specs.Arguments.{three, wholes, no_such, if_chained, event_of, events_of, finished_at}
 use Rattle.b67_num.specs.declared.FaultKind.TheVariants.{NotAVariable, CriticalBlockExit, BadGoTo, ProcessLimit}
 use Rattle.b67_ops.specs.declared.Couple.{Couple}
-use Rattle.b67_table.specs.Arrays.{Extents, one, two, array_word, rows_made, array_made, arrays_made, as_indexed, element, index, index_and_load, index_mother, subscripted, index_or_fault, index_in, subscripted_element, if_held}
-use Rattle.b67_table.specs.Chains.{place, below, entered_from, entered_below, frame_below, mark_at, broken, rebuilt}
+use Rattle.b67_table.specs.Arrays.{Extents, one, two, array_word, rows_made, array_made, arrays_made, as_indexed, element, index_program, index_and_load, index_mother, subscripted, index_or_fault, index_in, subscripted_element, if_held}
+use Rattle.b67_table.specs.Chains.{place, below, entered_from, entered_below, frame_below, mark_at, chain_broken, rebuilt}
 use Rattle.b67_table.specs.GoingTo.{Passed, frames_left, go_to, target_of, passed_by, passed_frames}
 use Rattle.b67_table.specs.Image.{Image, critical_of}
-use Rattle.b67_table.specs.Intrinsics.{row_of_intrinsic, intrinsic_row, intrinsic, gone_or_waiting, woken_or_not, on_event, tell_event, make_event, wait_for_any, gone_to_case, select, case_place, case_in, arrays, wanted, extents}
+use Rattle.b67_table.specs.Intrinsics.{row_of_intrinsic, intrinsic_row, intrinsic, gone_or_waiting, woken_or_not, on_event, tell_event, make_event, wait_for_any, gone_to_case, select, case_place, case_in, arrays, intrinsic_wanted as wanted, extents}
 use Rattle.b67_table.specs.Intrinsics as intrinsics
 use Rattle.b67_table.specs.Linkage.{entry, accidental, leave, leave_base, leave_other, frame_left, arrays_closed, array_closed, rows_closed, closed_by, caused_by, selected, is_critical, entering, leaving, if_not_critical}
 use Rattle.b67_table.specs.Limits.{most_events, most_processes, most_cells}
@@ -44,9 +44,9 @@ use Rattle.b67_table.specs.PrivateRows.{branch}
 use Rattle.b67_table.specs.Names.{intrinsic_numbered}
 use Rattle.b67_table.specs.Private.{frame}
 use Rattle.b67_table.specs.Program.{Test, answer, interrupt, fault, ask, ◌>>=◌, see, Change, done, look_up, write, Program}
-use Rattle.b67_table.specs.Questions.{Question, Answer, told}
+use Rattle.b67_table.specs.Questions.{Question, AnswerTo, told}
 use Rattle.b67_table.specs.Questions as questions
-use Rattle.b67_table.specs.Rows.{private_part, action, row, plain_row, acts, turn, value_call, value_or_entry, evaluate, cell_or_entry, loaded, load_value, is_passed, load_through, stored, store, store_by, level_below, marked, enter, enter_by, enter_procedure, is_result, return_value}
+use Rattle.b67_table.specs.Rows.{private_part, action, row, plain_row, acts, branch_turn, value_call, value_or_entry, evaluate, cell_or_entry, loaded, load_value, is_passed, load_through, stored, store, store_by, level_below, marked, enter, enter_by, enter_procedure, is_result, return_value}
 use Rattle.b67_table.specs.Rows as table
 use Rattle.b67_table.specs.Starting.{starting, first_display, frames_with, named_frames, is_among, down, on_path, or_none, start_process}
 use Rattle.b67_table.specs.Writes.{Write}
@@ -62,7 +62,7 @@ Still r _ = Unit {0}
 
 abbrev pub Calm : Registers → Change → Type 0
 Calm r done = Unit {0}
-Calm r (look_up q more) = (a : Answer q) → Calm r (more a)
+Calm r (look_up q more) = (a : AnswerTo q) → Calm r (more a)
 Calm r (write w next) = Still r w × Calm r next
 
 -- ---- and one that starts
@@ -214,14 +214,14 @@ module _ (img : Image) (code : Code) (r : Registers) (next : ℕ) where
 
   -- a mark stands below where one is wanted
   chained : (m : Mscw) (t : Program) → Keeps t → Keeps (if_chained r m t)
-  chained m t h = bind (see (cond (nat_le m.df r.f) (mark_at (place r.stack (r.f - m.df))) broken)) _ (λ a. h)
+  chained m t h = bind (see (cond (nat_le m.df r.f) (mark_at (place r.stack (r.f - m.df))) chain_broken)) _ (λ a. h)
 
   finished : (m : Mscw) (words : List Word) (pointer : ℕ) → Fine (finished_at r m words pointer)
   finished m words pointer = inl (calm_finished r m words pointer)
 
   -- ---- branches and values
 
-  turn_keeps : (kind : BranchKind) (target : ℕ) → Keeps (turn kind target r next)
+  turn_keeps : (kind : BranchKind) (target : ℕ) → Keeps (branch_turn kind target r next)
   turn_keeps Brun target = inl (simple, tt)
   turn_keeps Brfl target = bind (see (popped r >-> operand_in)) _ (λ w. inl (tt, (simple, tt)))
   turn_keeps Brtr target = bind (see (popped r >-> operand_in)) _ (λ w. inl (tt, (simple, tt)))
@@ -266,7 +266,7 @@ module _ (img : Image) (code : Code) (r : Registers) (next : ℕ) where
       by_variable x y None =
           bind (see (named (cell_of r y))) _ (λ w. bind (see (operand_in w.word)) _ (λ old. by_kept keeps (write (writes.save (cell_place w.cell) x)) x (λ c k. (tt, k))))
 
-  index_keeps : Keeps (index r next)
+  index_keeps : Keeps (index_program r next)
   index_keeps =
       bind (see (subscripted r false)) _ (λ t. bind (index_or_fault (index_in t.subscript t.array.length)) _ (λ n. inl (tt, (tt, (simple, tt)))))
 
@@ -366,7 +366,7 @@ module _ (img : Image) (code : Code) (r : Registers) (next : ℕ) where
     entered_low (suc steps) stack here =
         look_then img.stacks (λ (x : Mscw). Unit {0}) (λ (n : ℕ). n ≤ here) (mark_at (place stack here)) _ (anything_seen img.stacks (mark_at (place stack here)))
         (λ x u. look_if img.stacks (λ (n : ℕ). n ≤ here) x.entered (found here) _ (λ b. omega arith)
-        (look_if img.stacks (λ (n : ℕ). n ≤ here) (nat_le 1 x.df && nat_le x.df here) _ broken
+        (look_if img.stacks (λ (n : ℕ). n ≤ here) (nat_le 1 x.df && nat_le x.df here) _ chain_broken
         (λ b. weaker (here - x.df) (entered_from steps stack (here - x.df)) (omega arith) (entered_low steps stack (here - x.df))) tt))
       where
         weaker : (n : ℕ) (l : Look ℕ) → n ≤ here → LookSays img.stacks (λ (k : ℕ). k ≤ n) l → LookSays img.stacks (λ (k : ℕ). k ≤ here) l
@@ -379,7 +379,7 @@ module _ (img : Image) (code : Code) (r : Registers) (next : ℕ) where
     below_low f lies =
         look_then img.stacks (λ (x : Mscw). Unit {0}) Low (mark_at f) _ (anything_seen img.stacks (mark_at f)) (λ x u.
         look_then img.stacks (λ (n : ℕ). n ≤ f.at) Low (below f.at x.df (λ (n : ℕ). entered_below f.stack n)) _
-        (look_if img.stacks (λ (n : ℕ). n ≤ f.at) (nat_le 1 x.df && nat_le x.df f.at) _ broken
+        (look_if img.stacks (λ (n : ℕ). n ≤ f.at) (nat_le 1 x.df && nat_le x.df f.at) _ chain_broken
         (λ b. weaker_so (f.at - x.df) (entered_from (f.at - x.df + 1) f.stack (f.at - x.df)) (omega arith) (entered_low (f.at - x.df + 1) f.stack (f.at - x.df))) tt)
         (λ n low. lower_lies f n low lies))
       where
@@ -452,7 +452,7 @@ module _ (img : Image) (code : Code) (r : Registers) (next : ℕ) where
 
   -- ---- all of them
 
-  abbrev pub RowFine : table.Row → Type 0
+  abbrev pub RowFine : table.TableRow → Type 0
   RowFine (private_part change) = Unit {0}
   RowFine (action program) = Keeps (program code r next)
 
@@ -495,7 +495,7 @@ module _ (img : Image) (code : Code) (r : Registers) (next : ℕ) where
   plain_fine kinds.Load = load_keeps
   plain_fine kinds.Noop = tt
 
-  branch_fine : (b : Bool) (kind : BranchKind) (target : ℕ) → RowFine (cond b (private_part (branch kind target)) (acts (turn kind target)))
+  branch_fine : (b : Bool) (kind : BranchKind) (target : ℕ) → RowFine (cond b (private_part (branch kind target)) (acts (branch_turn kind target)))
   branch_fine true kind target = tt
   branch_fine false kind target = turn_keeps kind target
 

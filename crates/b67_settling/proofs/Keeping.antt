@@ -2,17 +2,17 @@
 use Rattle.std.proofs.Common.{ℕ, zero, suc, ◌+◌, ◌≤◌, List, ◌∷◌, length, arith}
 use Rattle.b67_segment.specs.declared.code.Code.{Code}
 use Rattle.b67_table.specs.Image.{Image}
-use Rattle.b67_table.specs.Runs.{Runs, Entry}
+use Rattle.b67_table.specs.Runs.{Runs, RunEntry}
 use Rattle.b67_table.specs.Runs as runs
 use Rattle.b67_table.specs.Sound.{Sound}
-use Rattle.b67_settling.specs.Settling.{Result, ComesTo, now, entry}
+use Rattle.b67_settling.specs.Settling.{Result, ImageComesTo, now, entry}
 use Rattle.b67_settling.specs.Laws.{SettlesToKept, IsOfKept, KeptAreEnough}
 use Rattle.b67_settling.proofs.Earlier.{settled}
 
 module _ (code : Code) (Kept : Image → Type 0) (sound : Sound code) (led : (a : Image) → Kept a → (h counts : List ℕ) × Runs code h counts a)
-    (next : (a b : Image) (p n : ℕ) → Kept a → Entry code p a n b → SettlesToKept code Kept b) where
+    (next : (a b : Image) (p n : ℕ) → Kept a → RunEntry code p a n b → SettlesToKept code Kept b) where
   -- by so many entries at most
-  within : (most : ℕ) (a : Image) (o : Result) (s : List ℕ) → length s ≤ most → Kept a → ComesTo code o a s → IsOfKept code Kept o
+  within : (most : ℕ) (a : Image) (o : Result) (s : List ℕ) → length s ≤ most → Kept a → ImageComesTo code o a s → IsOfKept code Kept o
   within most a o s few kept (now at) = record { image = a; kept = kept; at = at }
   within zero a o s few kept (entry {b = b} {p = p} {n = n} {s = rest} e more) = absurd (omega (arith, few))
   within (suc most) a o s few kept (entry {b = b} {p = p} {n = n} {s = rest} e more) =

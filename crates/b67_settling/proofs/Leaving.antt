@@ -14,7 +14,7 @@ use Rattle.b67_table.specs.Table.{table}
 use Rattle.b67_table.specs.Valid.{IsValid}
 use Rattle.b67_table.proofs.Limit.{limit_comes_last}
 use Rattle.b67_table.proofs.OwnValid.{opened}
-use Rattle.b67_settling.specs.Own.{Reaches, own_of}
+use Rattle.b67_settling.specs.Own.{StackReaches, own_of}
 use Rattle.b67_settling.specs.Local.{NobodyDepends, StacksStayOwn}
 use Rattle.b67_settling.specs.Laws.{LeavesStack, OthersLeaveStacks}
 use Rattle.b67_settling.proofs.Others.{Left, Apartly, raw_apart}
@@ -22,7 +22,7 @@ use Rattle.b67_settling.proofs.Stacks.{nobody_still}
 
 module _ (code : Code) (schedule tails : List ℕ) (a b : Image) (p q : ℕ) (r : Registers) (stay_own : StacksStayOwn code) (run : TableRun code schedule tails a) (valid : IsValid code a)
     (lives : Lives a p r) (nobody : NobodyDepends a r.stack) (differs : q ≢ p) (given : table code a q ≡ gives b) where
-  here : Reaches a p r 0
+  here : StackReaches a p r 0
   here =
       let stack : r.stack ≡ p = (valid.processes p r lives.live lives.is).stack in
       record {

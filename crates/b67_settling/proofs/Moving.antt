@@ -15,9 +15,9 @@ use Rattle.b67_table.specs.Effect.{gives, interrupts}
 use Rattle.b67_table.specs.Outcome as outcomes
 use Rattle.b67_table.specs.Outcome.{Outcome, limited}
 use Rattle.b67_table.specs.Private.{floor}
-use Rattle.b67_table.specs.Privacy.{Stands, Keeps}
+use Rattle.b67_table.specs.Privacy.{ProcessStands, RegistersStay}
 use Rattle.b67_table.specs.Program.{does}
-use Rattle.b67_table.specs.Rows.{Row}
+use Rattle.b67_table.specs.Rows.{TableRow}
 use Rattle.b67_table.specs.Image.{Image, private_of, with_private, with_effect, is_able, is_live}
 use Rattle.b67_table.specs.Runs.{Plains, stay, go, acts}
 use Rattle.b67_table.specs.Ending.{may_act, goes_on, image_end, ImageEnd}
@@ -30,14 +30,14 @@ use Rattle.b67_table.proofs.Privacy.{Next, next_private, raw_is, part_keeps, put
 use Rattle.b67_table.proofs.PrivateValid.{private_keeps_valid}
 use Rattle.b67_table.proofs.Waking.{able_live}
 use Rattle.b67_private.proofs.Floors.{private_op_rises}
-use Rattle.b67_settling.specs.Own.{Reaches, own_of, Stay, MovesOwn, IsOwnAction}
+use Rattle.b67_settling.specs.Own.{StackReaches, own_of, Stay, MovesOwn, IsOwnAction}
 use Rattle.b67_settling.specs.Local.{IsOwnEntry}
 use Rattle.b67_settling.proofs.Own.{within, high, unchanged, put_own, put_words, put_reaches, put_twice, private_told, drop_put, reversed_same}
 use Rattle.b67_settling.proofs.Owned.{DoesAlike, does_alike}
 
 -- ---- images with the same own words
 
-length_told : (x y : Image) (p : ℕ) (r : Registers) (base : ℕ) → Reaches x p r base → Reaches y p r base → own_of y r base ≡ own_of x r base
+length_told : (x y : Image) (p : ℕ) (r : Registers) (base : ℕ) → StackReaches x p r base → StackReaches y p r base → own_of y r base ≡ own_of x r base
     → length (words_of x.stacks r.stack) ≤ length (words_of y.stacks r.stack)
 length_told x y p r base at_x at_y e =
     let words : drop base (words_of y.stacks r.stack) ≡ drop base (words_of x.stacks r.stack) = reversed_same _ _ (ap (λ (m : Private). m.words) e) in
@@ -47,8 +47,8 @@ length_told x y p r base at_x at_y e =
     dropped n xs = length-drop n xs
 
 -- the same put higher leaves the same from the base on
-put_told : (x y : Image) (p : ℕ) (r : Registers) (base upper : ℕ) (part : Private) → Reaches x p r base → Reaches y p r base → own_of y r base ≡ own_of x r base
-    → base ≤ upper → upper ≤ length (words_of x.stacks r.stack) → Reaches x p r upper → Reaches y p r upper → part.regs.stack ≡ r.stack
+put_told : (x y : Image) (p : ℕ) (r : Registers) (base upper : ℕ) (part : Private) → StackReaches x p r base → StackReaches y p r base → own_of y r base ≡ own_of x r base
+    → base ≤ upper → upper ≤ length (words_of x.stacks r.stack) → StackReaches x p r upper → StackReaches y p r upper → part.regs.stack ≡ r.stack
     → own_of (with_private y p upper part) part.regs base ≡ own_of (with_private x p upper part) part.regs base
 put_told x y p r base upper part at_x at_y e low up up_x up_y k =
     let words : drop base (words_of y.stacks r.stack) ≡ drop base (words_of x.stacks r.stack) = reversed_same _ _ (ap (λ (m : Private). m.words) e) in
@@ -56,7 +56,7 @@ put_told x y p r base upper part at_x at_y e low up up_x up_y k =
     ∙ ap (λ (us : List Word). record { regs = part.regs; words = reverse (take (upper - base) us ++ reverse part.words) }) words
     ∙ sym (own_by x up_x up)
   where
-    own_by : (z : Image) → Reaches z p r upper → upper ≤ length (words_of z.stacks r.stack) → own_of (with_private z p upper part) part.regs base
+    own_by : (z : Image) → StackReaches z p r upper → upper ≤ length (words_of z.stacks r.stack) → own_of (with_private z p upper part) part.regs base
         ≡ record { regs = part.regs; words = reverse (take (upper - base) (drop base (words_of z.stacks r.stack)) ++ reverse part.words) }
     own_by z at h =
         ap (λ (n : ℕ). record { regs = part.regs; words = reverse (drop base (words_of (with_private z p upper part).stacks n)) }) k
@@ -64,11 +64,11 @@ put_told x y p r base upper part at_x at_y e low up up_x up_y k =
         ∙ ap (λ (us : List Word). record { regs = part.regs; words = reverse us }) (drop_put base upper (words_of z.stacks r.stack) (reverse part.words) low h)
 
 -- what reaches a place reaches a lower one
-lower : (x : Image) (p : ℕ) (r : Registers) (base upper : ℕ) → base ≤ upper → Reaches x p r upper → Reaches x p r base
+lower : (x : Image) (p : ℕ) (r : Registers) (base upper : ℕ) → base ≤ upper → StackReaches x p r upper → StackReaches x p r base
 lower x p r base upper low at =
     record { live = at.live; has = at.has; words = at.words; opened = at.opened; high = omega (arith, low, at.high) }
 
-higher : (x : Image) (p : ℕ) (r : Registers) (base upper : ℕ) → Reaches x p r base → upper ≤ length (words_of x.stacks r.stack) → Reaches x p r upper
+higher : (x : Image) (p : ℕ) (r : Registers) (base upper : ℕ) → StackReaches x p r base → upper ≤ length (words_of x.stacks r.stack) → StackReaches x p r upper
 higher x p r base upper at up =
     record { live = at.live; has = at.has; words = at.words; opened = at.opened; high = subst (λ (us : List Word). upper ≤ length us) (ap words_or at.opened) up }
 
@@ -100,7 +100,7 @@ steps code x b p r live has inside own t =
 
 -- it does the same beside the same private part
 steps_alike : (code : Code) (x b y : Image) (p : ℕ) (r : Registers) (s : Steps code x b p r) → private_next code x p ≡ true → numbered x.regs p ≡ Some r
-    → (at : Reaches y p r (floor r)) → private_of y r ≡ private_of x r
+    → (at : StackReaches y p r (floor r)) → private_of y r ≡ private_of x r
     → (table code y p ≡ outcomes.gives (with_private y p (floor r) s.part)) × (plain code y p ≡ true)
 unfolding table plain
 steps_alike code x b y p r s own has at e =
@@ -126,7 +126,7 @@ pub record Stretched (code : Code) (p : ℕ) (r : Registers) (base : ℕ) (x : I
   pub is : quiet ≡ with_private x p base part
   pub valid : IsValid code quiet
   pub low : base ≤ floor part.regs
-  pub alike : (y : Image) → Reaches y p r base → own_of y r base ≡ own_of x r base → Plains code p y n (with_private y p base part)
+  pub alike : (y : Image) → StackReaches y p r base → own_of y r base ≡ own_of x r base → Plains code p y n (with_private y p base part)
 
 both : (a b : Bool) → a && b ≡ true → a ≡ true
 both true b e = refl
@@ -136,8 +136,8 @@ pub stretched : (code : Code) (p : ℕ) (base n : ℕ) (x quiet : Image) (r : Re
     → numbered x.regs p ≡ Some r → base ≤ floor r → Stretched code p r base x n quiet
 unfolding plain private_op
 stretched code p base n x quiet r stay v live has low =
-    let st : Stands x p r = valid_stands code x p r v live has in
-    let at : Reaches x p r base = record { live = live; has = has; words = st.words; opened = st.opened; high = omega (arith, low, st.high) } in
+    let st : ProcessStands x p r = valid_stands code x p r v live has in
+    let at : StackReaches x p r base = record { live = live; has = has; words = st.words; opened = st.opened; high = omega (arith, low, st.high) } in
     record {
       part = own_of x r base;
       stays = (refl, refl);
@@ -148,19 +148,19 @@ stretched code p base n x quiet r stay v live has low =
           subst (λ (z : Image). Plains code p y 0 z) (sym (ap (with_private y p base) (sym e) ∙ unchanged y p r base at_y)) stay;
     }
 stretched code p base n x quiet r (go {b = b} {n = k} h t more) v live has low =
-    let st : Stands x p r = valid_stands code x p r v live has in
+    let st : ProcessStands x p r = valid_stands code x p r v live has in
     let own : private_next code x p ≡ true = both (private_next code x p) (is_new (table code x p)) h in
     let up : floor r ≤ length (words_of x.stacks r.stack) = subst (λ (us : List Word). floor r ≤ length us) (sym (ap words_or st.opened)) st.high in
-    let at_floor : Reaches x p r (floor r) = record { live = live; has = has; words = st.words; opened = st.opened; high = st.high } in
-    let at : Reaches x p r base = lower x p r base (floor r) low at_floor in
+    let at_floor : StackReaches x p r (floor r) = record { live = live; has = has; words = st.words; opened = st.opened; high = st.high } in
+    let at : StackReaches x p r base = lower x p r base (floor r) low at_floor in
     let s : Steps code x b p r = steps code x b p r live has (within x p r base at) own t in
-    let keeps : Keeps r s.part.regs = part_keeps code r s.next (private_of x r) s.part s.given in
+    let keeps : RegistersStay r s.part.regs = part_keeps code r s.next (private_of x r) s.part s.given in
     let process : IsProcess x p r = v.processes p r live has in
     let rises : base ≤ floor s.part.regs =
     private_op_rises base s.next.op r.place s.next.next (private_of x r) s.part low process.above
-    (ap (λ (w : Row). part_by w s.next.next (private_of x r)) s.next.is ∙ s.given) in
-    let at_b : Reaches b p s.part.regs (floor r) =
-    subst (λ (z : Image). Reaches z p s.part.regs (floor r)) (sym s.is) (put_reaches x p r (floor r) at_floor s.part keeps.0) in
+    (ap (λ (w : TableRow). part_by w s.next.next (private_of x r)) s.next.is ∙ s.given) in
+    let at_b : StackReaches b p s.part.regs (floor r) =
+    subst (λ (z : Image). StackReaches z p s.part.regs (floor r)) (sym s.is) (put_reaches x p r (floor r) at_floor s.part keeps.0) in
     let rest : Stretched code p s.part.regs base b k quiet =
     stretched code p base k b quiet s.part.regs more (private_keeps_valid code x b p v live own t) at_b.live at_b.has rises in
     let rest_stack : rest.part.regs.stack ≡ r.stack = rest.stays.0 ∙ keeps.0 in
@@ -173,9 +173,9 @@ stretched code p base n x quiet r (go {b = b} {n = k} h t more) v live has low =
       low = rest.low;
       alike = λ y at_y e.
           let up_y : floor r ≤ length (words_of y.stacks r.stack) = omega (arith, up, length_told x y p r base at at_y e) in
-          let floor_y : Reaches y p r (floor r) = higher y p r base (floor r) at_y up_y in
+          let floor_y : StackReaches y p r (floor r) = higher y p r base (floor r) at_y up_y in
           let one = steps_alike code x b y p r s own has floor_y (private_told y x r base low e) in
-          let next_y : Reaches (with_private y p (floor r) s.part) p s.part.regs base =
+          let next_y : StackReaches (with_private y p (floor r) s.part) p s.part.regs base =
           lower (with_private y p (floor r) s.part) p s.part.regs base (floor r) low (put_reaches y p r (floor r) floor_y s.part keeps.0) in
           let same_then : own_of (with_private y p (floor r) s.part) s.part.regs base ≡ own_of b s.part.regs base =
           put_told x y p r base (floor r) s.part at at_y e low up at_floor floor_y keeps.0 ∙ ap (λ (z : Image). own_of z s.part.regs base) (sym s.is) in
@@ -196,14 +196,14 @@ acts_by code img p r base live has a z live_z has_z =
     ap (λ (b : Bool). cond b (by_registers code z p (numbered z.regs p)) (interrupts bad_code)) live_z
     ∙ ap (λ (o : Option Registers). by_registers code z p o) has_z
     ∙ ap (λ (o : Result (Operator × ℕ) BadCode). by_operator code z p r o) a.stands
-    ∙ ap (λ (w : Row). by_row w code z p r a.next) a.is
+    ∙ ap (λ (w : TableRow). by_row w code z p r a.next) a.is
 
 no_private : (code : Code) (img : Image) (p : ℕ) (r : Registers) (base : ℕ) → numbered img.regs p ≡ Some r → {x : Image} → IsOwnAction code x r base
     → plain code img p ≡ false
 unfolding plain class_at
 no_private code img p r base has a =
     ap (λ (b : Bool). b && is_new (table code img p))
-    (ap (private_in code) has ∙ ap (private_at r) a.stands ∙ ap (λ (w : Row). is_private (class_by w)) a.is)
+    (ap (private_in code) has ∙ ap (private_at r) a.stands ∙ ap (λ (w : TableRow). is_private (class_by w)) a.is)
 
 -- ---- the entry
 
@@ -222,11 +222,11 @@ pub moves : (code : Code) (a : Image) (p : ℕ) (r : Registers) (base : ℕ) →
 unfolding table
 moves code a p r base o =
     let live : is_live (numbered a.states p) ≡ true = may_live a p o.may in
-    let st : Stands a p r = valid_stands code a p r o.valid live o.has in
-    let at : Reaches a p r base = record { live = live; has = o.has; words = st.words; opened = st.opened; high = omega (arith, o.low, st.high) } in
+    let st : ProcessStands a p r = valid_stands code a p r o.valid live o.has in
+    let at : StackReaches a p r base = record { live = live; has = o.has; words = st.words; opened = st.opened; high = omega (arith, o.low, st.high) } in
     let s : Stretched code p r base a o.count o.quiet = stretched code p base o.count a o.quiet r o.plains o.valid live o.has o.low in
-    let quiet_put : Reaches (with_private a p base s.part) p s.part.regs base = put_reaches a p r base at s.part s.stays.0 in
-    let quiet_at : Reaches o.quiet p s.part.regs base = subst (λ (z : Image). Reaches z p s.part.regs base) (sym s.is) quiet_put in
+    let quiet_put : StackReaches (with_private a p base s.part) p s.part.regs base = put_reaches a p r base at s.part s.stays.0 in
+    let quiet_at : StackReaches o.quiet p s.part.regs base = subst (λ (z : Image). StackReaches z p s.part.regs base) (sym s.is) quiet_put in
     let regs_are : o.then ≡ s.part.regs = some_is o.then s.part.regs (sym o.then_has ∙ quiet_at.has) in
     let action : IsOwnAction code o.quiet s.part.regs base = subst (λ (z : Registers). IsOwnAction code o.quiet z base) regs_are o.action in
     let new = new_of (stack_length p) (raw code o.quiet p) o.after o.performed in
@@ -247,7 +247,7 @@ moves code a p r base o =
       count = o.count;
       enters = λ y at_y e may.
           let z : Image = with_private y p base s.part in
-          let at_z : Reaches (with_private y p base s.part) p s.part.regs base = put_reaches y p r base at_y s.part s.stays.0 in
+          let at_z : StackReaches (with_private y p base s.part) p s.part.regs base = put_reaches y p r base at_y s.part s.stays.0 in
           let same : own_of (with_private y p base s.part) s.part.regs base ≡ own_of o.quiet s.part.regs base =
           put_own y p r base at_y s.part s.stays.0 ∙ sym (put_own a p r base at s.part s.stays.0) ∙ ap (λ (i : Image). own_of i s.part.regs base) (sym s.is) in
           let does_it : table code (with_private y p base s.part) p ≡ outcomes.gives (with_private (with_private y p base s.part) p base d.part) =

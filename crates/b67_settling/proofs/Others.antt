@@ -19,7 +19,7 @@ use Rattle.b67_table.specs.Effect.{Effect, gives, faults, interrupts}
 use Rattle.b67_table.specs.Private.{floor}
 use Rattle.b67_table.specs.Image.{Image, with_private, private_of, with_effect, is_able, is_live, critical_in}
 use Rattle.b67_table.specs.Program.{Change, Program, asked, does, effect_of, changed}
-use Rattle.b67_table.specs.Rows.{Row, private_part, action, row}
+use Rattle.b67_table.specs.Rows.{TableRow, private_part, action, row}
 use Rattle.b67_table.specs.Table.{raw, operator_at, by_row, by_operator, by_registers}
 use Rattle.b67_table.specs.Touches.{RowTouches, Touches}
 use Rattle.b67_table.specs.Sound.{OperatorTouches}
@@ -31,12 +31,12 @@ use Rattle.b67_table.proofs.Parts.{others_stay_apart, program_beneath}
 use Rattle.b67_table.proofs.States.{changed_passes}
 use Rattle.b67_table.proofs.Privacy.{Next, part_keeps, put_by}
 use Rattle.b67_table.proofs.Commuting.{gives_is}
-use Rattle.b67_settling.specs.Own.{Reaches, own_of, Stay}
+use Rattle.b67_settling.specs.Own.{StackReaches, own_of, Stay}
 use Rattle.b67_settling.proofs.Own.{within, unchanged}
 
 -- p is as it was after an operator of another
 pub record Left (p : ℕ) (r : Registers) (base : ℕ) (img new : Image) : Type 0 where
-  pub reaches : Reaches new p r base
+  pub reaches : StackReaches new p r base
   pub same : own_of new r base ≡ own_of img r base
   pub able : is_able (numbered img.states p) ≡ true → is_able (numbered new.states p) ≡ true
 
@@ -45,7 +45,7 @@ pub record Apart (p : ℕ) (r : Registers) (base : ℕ) (part : Private) (img : 
   pub same : beside ≡ put_into p base part alone
   pub after : (b : Image) → alone ≡ gives b → Left p r base img b
 
-module _ (code : Code) (q p : ℕ) (r : Registers) (base : ℕ) (part : Private) (img : Image) (h : q ≢ p) (at : Reaches img p r base) (k : Stay r part.regs) where
+module _ (code : Code) (q p : ℕ) (r : Registers) (base : ℕ) (part : Private) (img : Image) (h : q ≢ p) (at : StackReaches img p r base) (k : Stay r part.regs) where
   unfoldable pub X : Image
   X = with_private img p base part
 
@@ -186,7 +186,7 @@ module _ (code : Code) (q p : ℕ) (r : Registers) (base : ℕ) (part : Private)
   not_same o apart e =
       apart (record { stack = r.stack; at = max (floor o) base }) (sym e, le-max_left (floor o) base) refl (le-max_right (floor o) base)
 
-  by_rows : (o : Registers) → numbered img.regs q ≡ Some o → (op : Operator) (next : ℕ) → operator_at code o ≡ Ok (op, next) → (w : Row) → row op o.place ≡ w
+  by_rows : (o : Registers) → numbered img.regs q ≡ Some o → (op : Operator) (next : ℕ) → operator_at code o ≡ Ok (op, next) → (w : TableRow) → row op o.place ≡ w
       → ((x : Place) → RowTouches w code img q o next x → Not x) → Apart p r base part img (by_row w code X q o next) (by_row w code img q o next)
   by_rows o has op next s (private_part change) i apart =
       private_apart o has (not_same o apart) (record { op = op; next = next; stands = s; change = change; is = i })

@@ -10,7 +10,7 @@ use Rattle.b67_table.specs.Private.{floor}
 use Rattle.b67_table.specs.Image.{Image, with_private, private_of}
 use Rattle.b67_table.proofs.Stacks.{set_here, set_set_here}
 use Rattle.b67_table.proofs.Lists.{set_there, numbered_same, numbered_within, numbered_set, numbered_from, above_put}
-use Rattle.b67_settling.specs.Own.{Reaches, own_of}
+use Rattle.b67_settling.specs.Own.{StackReaches, own_of}
 
 pub take_put : {X : Type 0} (low high : ℕ) (xs ys : List X) → low ≤ high → high ≤ length xs → take low (take high xs ++ ys) ≡ take low xs
 take_put zero high xs ys l h = refl
@@ -48,7 +48,7 @@ reversed_same xs ys e = sym (reverse-reverse xs) ∙ ap reverse e ∙ reverse-re
 
 -- ---- what is put into an image
 
-module _ (img : Image) (p : ℕ) (r : Registers) (base : ℕ) (at : Reaches img p r base) where
+module _ (img : Image) (p : ℕ) (r : Registers) (base : ℕ) (at : StackReaches img p r base) where
   pub within : p ≤ length img.regs
   within = numbered_within img.regs p r at.has
 
@@ -80,7 +80,7 @@ module _ (img : Image) (p : ℕ) (r : Registers) (base : ℕ) (at : Reaches img 
       ∙ ap (λ (us : List Word). record { regs = part.regs; words = reverse us }) (above_put (words_of img.stacks r.stack) (reverse part.words) base high)
       ∙ ap (λ (us : List Word). record { regs = part.regs; words = us }) (reverse-reverse part.words)
 
-  pub put_reaches : (part : Private) → part.regs.stack ≡ r.stack → Reaches (with_private img p base part) p part.regs base
+  pub put_reaches : (part : Private) → part.regs.stack ≡ r.stack → StackReaches (with_private img p base part) p part.regs base
   put_reaches part k = record {
     live = at.live;
     has = numbered_set img.regs p part.regs (numbered_from img.regs p r at.has) within;

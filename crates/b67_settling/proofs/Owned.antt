@@ -9,13 +9,13 @@ use Rattle.b67_store.specs.Store.{Stacks, words_or, words_of, with_stack}
 use Rattle.b67_table.specs.declared.Private.{Private}
 use Rattle.b67_table.specs.Effect.{gives}
 use Rattle.b67_table.specs.Image.{Image, with_private}
-use Rattle.b67_table.specs.Questions.{Question, Answer, told}
+use Rattle.b67_table.specs.Questions.{Question, AnswerTo, told}
 use Rattle.b67_table.specs.Questions as questions
-use Rattle.b67_table.specs.Writes.{Write, written}
+use Rattle.b67_table.specs.Writes.{Write, write_made}
 use Rattle.b67_table.specs.Writes as writes
 use Rattle.b67_table.specs.Program.{Test, answer, interrupt, fault, ask, asked, Change, done, look_up, write, changed, effect_of, does}
 use Rattle.b67_table.proofs.Stacks.{set_here, set_set_here}
-use Rattle.b67_settling.specs.Own.{Reaches, own_of, Stay, AsksOwn, ChangeIsOwn, TestIsOwn}
+use Rattle.b67_settling.specs.Own.{StackReaches, own_of, Stay, AsksOwn, ChangeIsOwn, TestIsOwn}
 use Rattle.b67_settling.proofs.Own.{high, unchanged, nothing_off, less_each, drop_drop, reversed_same}
 
 -- ---- lists
@@ -90,7 +90,7 @@ module _ (p : ℕ) (r : Registers) (base : ℕ) (x y : Image) (same : drop base 
         change = s.change;
         own = s.own;
         here = s.here;
-        there = ap (λ (a : Answer q). asked y (more a)) (sym (told_same q own.0)) ∙ s.there;
+        there = ap (λ (a : AnswerTo q). asked y (more a)) (sym (told_same q own.0)) ∙ s.there;
       }
 
 -- ---- what is written
@@ -129,7 +129,7 @@ regs_stay r base (write (writes.line bytes) next) s own k = absurd own.0
 regs_stay r base (write (writes.start q words) next) s own k = absurd own.0
 regs_stay r base (write (writes.end_process stack) next) s own k = absurd own.0
 
-module _ (img : Image) (p : ℕ) (r : Registers) (base : ℕ) (at : Reaches img p r base) where
+module _ (img : Image) (p : ℕ) (r : Registers) (base : ℕ) (at : StackReaches img p r base) where
   abbrev old : List Word
   old = words_of img.stacks r.stack
 
@@ -154,7 +154,7 @@ module _ (img : Image) (p : ℕ) (r : Registers) (base : ℕ) (at : Reaches img 
   there : (us : List Word) (s : Registers) (n : ℕ) → n ≡ r.stack → words_of (put_in us s).stacks n ≡ take base (words_of img.stacks r.stack) ++ us
   there us s n k = ap (λ (m : ℕ). words_of (put_in us s).stacks m) k ∙ words_in us s
 
-  registers_in : (us : List Word) (s new : Registers) → written p (writes.registers new) (put_in us s) ≡ put_in us new
+  registers_in : (us : List Word) (s new : Registers) → write_made p (writes.registers new) (put_in us s) ≡ put_in us new
   unfolding put_in
   registers_in us s new =
       ap (λ (rs : List Registers). record img { stacks = with_stack img.stacks r.stack (take base (words_of img.stacks r.stack) ++ us); regs = rs }) (again img.regs p s new)
@@ -214,7 +214,7 @@ module _ (img : Image) (p : ℕ) (r : Registers) (base : ℕ) (at : Reaches img 
 pub record DoesAlike (p : ℕ) (r : Registers) (base : ℕ) (x : Image) (t : Test Change) : Type 0 where
   pub part : Private
   pub stay : Stay r part.regs
-  pub alike : (y : Image) → Reaches y p r base → own_of y r base ≡ own_of x r base → does p t y ≡ gives (with_private y p base part)
+  pub alike : (y : Image) → StackReaches y p r base → own_of y r base ≡ own_of x r base → does p t y ≡ gives (with_private y p base part)
 
 pub does_alike : (p : ℕ) (r : Registers) (base : ℕ) (x new : Image) (t : Test Change) → TestIsOwn x r base t → does p t x ≡ gives new → DoesAlike p r base x t
 does_alike p r base x new t own g =

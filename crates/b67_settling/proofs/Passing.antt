@@ -15,14 +15,14 @@ use Rattle.b67_table.specs.Outcome.{Outcome, gives, faults, interrupts, limit, l
 use Rattle.b67_table.specs.Ending.{may_act, image_end, failed}
 use Rattle.b67_table.specs.Image.{Image, with_private, is_able}
 use Rattle.b67_table.specs.Parts.{put_into}
-use Rattle.b67_table.specs.Runs.{Plains, stay, go, Acts, acts, fails, Entry, Runs, entry}
+use Rattle.b67_table.specs.Runs.{Plains, stay, go, ProcessActs, acts, fails, RunEntry, Runs, entry}
 use Rattle.b67_table.specs.Sound.{OperatorTouches}
 use Rattle.b67_table.specs.Table.{raw, table, plain, private_in, private_next, is_new, stack_length, length_in}
 use Rattle.b67_table.proofs.Limit.{new_of}
 use Rattle.b67_table.proofs.Stacks.{get_numbered_other}
-use Rattle.b67_settling.specs.Own.{Reaches, own_of, Stay}
+use Rattle.b67_settling.specs.Own.{StackReaches, own_of, Stay}
 use Rattle.b67_settling.specs.Laws.{StopsThere}
-use Rattle.b67_settling.specs.Settling.{Result, IsAt, ends, stops, ComesTo, now, entry as then_entry}
+use Rattle.b67_settling.specs.Settling.{Result, ResultIsAt, ends, stops, ImageComesTo, now, entry as then_entry}
 use Rattle.b67_settling.proofs.Others.{Left, Apart, raw_apart, X, Apartly}
 use Rattle.b67_settling.proofs.Moving.{may_still}
 use Rattle.b67_settling.proofs.Tails.{IsRun, is_run, one_more, number_of}
@@ -60,8 +60,8 @@ limited_put q p base part h (effects.interrupts kind) = refl
 -- What others leave of a process, and why: in each image to which a run leads and in which this holds, no operator of another touches what is the
 -- process's own, and it still holds after the operator.
 pub record Guards (code : Code) (p : ℕ) (r : Registers) (base : ℕ) (Guarded : Image → Type 0) : Type 0 where
-  pub apart : (x : Image) (q : ℕ) → IsRun code x → Guarded x → Reaches x p r base → q ≢ p → (y : Place) → OperatorTouches code x q y → y.stack ≡ r.stack → base ≤ y.at → ⊥
-  pub on : (x b : Image) (q : ℕ) → IsRun code x → Guarded x → Reaches x p r base → q ≢ p → may_act x q ≡ true → table code x q ≡ gives b → Guarded b
+  pub apart : (x : Image) (q : ℕ) → IsRun code x → Guarded x → StackReaches x p r base → q ≢ p → (y : Place) → OperatorTouches code x q y → y.stack ≡ r.stack → base ≤ y.at → ⊥
+  pub on : (x b : Image) (q : ℕ) → IsRun code x → Guarded x → StackReaches x p r base → q ≢ p → may_act x q ≡ true → table code x q ≡ gives b → Guarded b
   pub failed : (x : Image) (q : ℕ) (kind : FaultKind) → Guarded x → Guarded (failed x q kind)
 
 module _ (code : Code) (p : ℕ) (r : Registers) (base : ℕ) (part : Private) (k : Stay r part.regs) (own : Private) (Guarded : Image → Type 0)
@@ -73,7 +73,7 @@ module _ (code : Code) (p : ℕ) (r : Registers) (base : ℕ) (part : Private) (
   -- it is as it was
   pub record Is (x : Image) : Type 0 where
     pub guarded : Guarded x
-    pub reaches : Reaches x p r base
+    pub reaches : StackReaches x p r base
     pub same : own_of x r base ≡ own
 
   -- ---- one operator
@@ -141,7 +141,7 @@ module _ (code : Code) (p : ℕ) (r : Registers) (base : ℕ) (part : Private) (
         }
 
     pub record Passed (n : ℕ) (b : Image) : Type 0 where
-      pub its : Entry code q (T a) n (T b)
+      pub its : RunEntry code q (T a) n (T b)
       pub is : Is b
       pub able : is_able (numbered a.states p) ≡ true → is_able (numbered b.states p) ≡ true
 
@@ -149,7 +149,7 @@ module _ (code : Code) (p : ℕ) (r : Registers) (base : ℕ) (part : Private) (
     unfolding T may_act image_end
     may_same x = refl
 
-    by_acts : (quiet b : Image) → IsRun code quiet → Is quiet → may_act quiet q ≡ true → Acts code q quiet b → Acts code q (T quiet) (T b) × Is b × (Able quiet → Able b)
+    by_acts : (quiet b : Image) → IsRun code quiet → Is quiet → may_act quiet q ≡ true → ProcessActs code q quiet b → ProcessActs code q (T quiet) (T b) × Is b × (Able quiet → Able b)
     unfolding T put_outcome failed
     by_acts quiet b led is may (acts e t) = (acts (plain_same q h quiet led is ∙ e) (gives_after q h quiet led is b t), is_after q h quiet led is b may t, able_after q h quiet led is b t)
     by_acts quiet b led is may (fails kind t) = (
@@ -162,7 +162,7 @@ module _ (code : Code) (p : ℕ) (r : Registers) (base : ℕ) (part : Private) (
       λ m. m,
     )
 
-    pub passed : (n : ℕ) (b : Image) → Is a → Entry code q a n b → Passed n b
+    pub passed : (n : ℕ) (b : Image) → Is a → RunEntry code q a n b → Passed n b
     passed n b is e =
         let s : Stretch a n e.quiet = stretch a e.quiet 0 n stay is e.may e.plains in
         let x = by_acts e.quiet b s.led s.is s.may e.action in
@@ -183,11 +183,11 @@ module _ (code : Code) (p : ℕ) (r : Registers) (base : ℕ) (part : Private) (
         }
 
     stopped : (n : ℕ) (quiet : Image) → Is a → may_act a q ≡ true → Plains code q a n quiet → table code quiet q ≡ limit
-        → IsAt code (T a) (Result.limited a.output q (length_in (numbered quiet.regs q)))
+        → ResultIsAt code (T a) (Result.limited a.output q (length_in (numbered quiet.regs q)))
     unfolding T
     stopped n quiet is may plains l =
         let t : StopsThere code q quiet (T a) = limited_there n quiet is may plains l in
-        subst (λ (m : ℕ). IsAt code (T a) (Result.limited a.output q m)) t.words (stops t.may t.plains t.at_limit)
+        subst (λ (m : ℕ). ResultIsAt code (T a) (Result.limited a.output q m)) t.words (stops t.may t.plains t.at_limit)
 
   -- ---- many entries
 
@@ -195,34 +195,34 @@ module _ (code : Code) (p : ℕ) (r : Registers) (base : ℕ) (part : Private) (
   pub record Comes (o : Result) (img : Image) (s : List ℕ) : Type 0 where
     pub entries : List ℕ
     pub few : length entries ≤ length s
-    pub comes_so : ComesTo code o img entries
+    pub comes_so : ImageComesTo code o img entries
 
-  module _ (count : ℕ) (enters : (y : Image) → Reaches y p r base → own_of y r base ≡ own → may_act y p ≡ true → Entry code p y count (with_private y p base part)) where
-    its_own : (x : Image) → Is x → may_act x p ≡ true → Entry code p x count (T x)
+  module _ (count : ℕ) (enters : (y : Image) → StackReaches y p r base → own_of y r base ≡ own → may_act y p ≡ true → RunEntry code p y count (with_private y p base part)) where
+    its_own : (x : Image) → Is x → may_act x p ≡ true → RunEntry code p x count (T x)
     unfolding T
     its_own x is may = enters x is.reaches is.same may
 
-    at_end : (hist counts : List ℕ) (x : Image) (o : Result) → Runs code hist counts x → Is x → IsAt code x o → IsAt code (T x) o
+    at_end : (hist counts : List ℕ) (x : Image) (o : Result) → Runs code hist counts x → Is x → ResultIsAt code x o → ResultIsAt code (T x) o
     unfolding T image_end
     at_end hist counts x o run is (ends e) = ends e
     at_end hist counts x o run is (stops {p = q} {n = n} {quiet = quiet} may plains l) = by_process (ℕ_discrete q p)
       where
-        by_process : Dec (q ≡ p) → IsAt code (T x) (Result.limited x.output q (length_in (numbered quiet.regs q)))
+        by_process : Dec (q ≡ p) → ResultIsAt code (T x) (Result.limited x.output q (length_in (numbered quiet.regs q)))
         by_process (no h) = stopped q h hist counts x run (number_of x q may) n quiet is may plains l
         by_process (yes e) =
             no_entry code q x quiet (T x) n count _ plains l
-            (subst (λ (m : ℕ). Entry code m x count (T x)) (sym e) (its_own x is (subst (λ (m : ℕ). may_act x m ≡ true) e may)))
+            (subst (λ (m : ℕ). RunEntry code m x count (T x)) (sym e) (its_own x is (subst (λ (m : ℕ). may_act x m ≡ true) e may)))
 
-    pub comes : (o : Result) (hist counts : List ℕ) (x : Image) (s : List ℕ) → Runs code hist counts x → Is x → ComesTo code o x s → Comes o (T x) s
+    pub comes : (o : Result) (hist counts : List ℕ) (x : Image) (s : List ℕ) → Runs code hist counts x → Is x → ImageComesTo code o x s → Comes o (T x) s
     comes o hist counts x s run is (now at) = record { entries = []; few = omega arith; comes_so = now (at_end hist counts x o run is at) }
     comes o hist counts x s run is (then_entry {b = b} {p = q} {n = n} {s = rest} e more) =
         by_process (ℕ_discrete q p) (λ on. comes o (q ∷ hist) ((n + 1) ∷ counts) b rest (entry run e) on more)
       where
         by_process : Dec (q ≡ p) → (Is b → Comes o (T b) rest) → Comes o (T x) (q ∷ rest)
         by_process (yes i) on =
-            let its : Entry code p x n b = subst (λ (m : ℕ). Entry code m x n b) i e in
+            let its : RunEntry code p x n b = subst (λ (m : ℕ). RunEntry code m x n b) i e in
             let same : b ≡ T x = entry_one code p x b (T x) n count its (its_own x is its.may) in
-            record { entries = rest; few = omega arith; comes_so = subst (λ (z : Image). ComesTo code o z rest) same more }
+            record { entries = rest; few = omega arith; comes_so = subst (λ (z : Image). ImageComesTo code o z rest) same more }
         by_process (no h) on =
             let t : Passed q h hist counts x run (number_of x q e.may) n b = passed q h hist counts x run (number_of x q e.may) n b is e in
             let c : Comes o (T b) rest = on t.is in

@@ -14,9 +14,9 @@ use Rattle.b67_table.specs.Image.{Image, private_of, with_private, is_live}
 use Rattle.b67_table.specs.Outcome as outcomes
 use Rattle.b67_table.specs.Outcome.{limited}
 use Rattle.b67_table.specs.Private.{floor}
-use Rattle.b67_table.specs.Privacy.{Stands}
+use Rattle.b67_table.specs.Privacy.{ProcessStands}
 use Rattle.b67_table.specs.Program.{Test, asked, effect_of, changed, Change, Program}
-use Rattle.b67_table.specs.Rows.{Row, action, row}
+use Rattle.b67_table.specs.Rows.{TableRow, action, row}
 use Rattle.b67_table.specs.Runs.{Plains}
 use Rattle.b67_table.specs.Table.{raw, table, operator_at, by_row, by_operator, by_registers, stack_length, length_in}
 use Rattle.b67_table.specs.Valid.{IsValid, IsProcess}
@@ -25,7 +25,7 @@ use Rattle.b67_table.proofs.Limit.{fits}
 use Rattle.b67_table.proofs.Lists.{numbered_set, numbered_from, numbered_within}
 use Rattle.b67_private.specs.Parts.{PlainParts}
 use Rattle.b67_private.proofs.Plains.{stretches_are_own}
-use Rattle.b67_settling.specs.Own.{Reaches, TestIsOwn}
+use Rattle.b67_settling.specs.Own.{StackReaches, TestIsOwn}
 use Rattle.b67_settling.specs.Local.{IsOwnEntry}
 use Rattle.b67_settling.proofs.Moving.{Stretched, stretched, may_live}
 
@@ -49,7 +49,7 @@ performs code img p r op next program live has stands is a =
     ap (λ (b : Bool). cond b (by_registers code img p (numbered img.regs p)) (interrupts bad_code)) live
     ∙ ap (λ (o : Option Registers). by_registers code img p o) has
     ∙ ap (λ (o : Result (Operator × ℕ) BadCode). by_operator code img p r o) stands
-    ∙ ap (λ (w : Row). by_row w code img p r next) is
+    ∙ ap (λ (w : TableRow). by_row w code img p r next) is
     ∙ ap (effect_of p img) a.is in
     record {
       after = changed p a.change img;
@@ -68,10 +68,10 @@ module _ (code : Code) (a : Image) (p n : ℕ) (r : Registers) (part : Private) 
   stretch : Stretched code p r (floor r) a n (with_private a p (floor r) part)
   stretch = stretched code p (floor r) n a (with_private a p (floor r) part) r plains v live has (omega arith)
 
-  st : Stands a p r
+  st : ProcessStands a p r
   st = valid_stands code a p r v live has
 
-  pub floor_at : Reaches a p r (floor r)
+  pub floor_at : StackReaches a p r (floor r)
   floor_at = record { live = live; has = has; words = st.words; opened = st.opened; high = st.high }
 
   pub then_has : numbered (with_private a p (floor r) part).regs p ≡ Some part.regs

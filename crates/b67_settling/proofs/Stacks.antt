@@ -21,11 +21,11 @@ use Rattle.b67_table.specs.Image.{Image, critical_in, critical_of, with_private,
 use Rattle.b67_table.specs.Private.{floor}
 use Rattle.b67_table.specs.Program.{Test, answer, interrupt, fault, ask, does, Change, done, look_up, write, changed}
 use Rattle.b67_table.specs.Questions.{told}
-use Rattle.b67_table.specs.Rows.{Row, private_part, action, row}
-use Rattle.b67_table.specs.Runs.{Plains, stay, go, Acts, acts, fails, Entry, Runs, begin, entry, Tails, TableRun}
+use Rattle.b67_table.specs.Rows.{TableRow, private_part, action, row}
+use Rattle.b67_table.specs.Runs.{Plains, stay, go, ProcessActs, acts, fails, RunEntry, Runs, begin, entry, Tails, TableRun}
 use Rattle.b67_table.specs.Runs as runs
 use Rattle.b67_table.specs.Table.{raw, table, operator_at, by_row, by_operator, by_registers, stack_length, private_op, part_by}
-use Rattle.b67_table.specs.Writes.{Write, written}
+use Rattle.b67_table.specs.Writes.{Write, write_made}
 use Rattle.b67_table.specs.Writes as writes
 use Rattle.b67_table.proofs.Keeping.{private_keeps}
 use Rattle.b67_table.proofs.Limit.{new_of}
@@ -99,33 +99,33 @@ module _ (img : Image) (q : ℕ) (r : Registers) (has : numbered img.regs q ≡ 
   changed_calm : (extra : ℕ) (c : Change) (now : Image) → Calm r c → Kept img r extra now → Kept img r extra (changed q c now)
   changed_calm extra done now h k = k
   changed_calm extra (look_up a more) now h k = changed_calm extra (more (told now a)) now (h (told now a)) k
-  changed_calm extra (write (writes.save x w) next) now h k = changed_calm extra next (written q (writes.save x w) now) h.1 (record { many = k.many; started = k.started; each = k.each })
-  changed_calm extra (write (writes.cut stack n) next) now h k = changed_calm extra next (written q (writes.cut stack n) now) h.1 (record { many = k.many; started = k.started; each = k.each })
-  changed_calm extra (write (writes.push stack w) next) now h k = changed_calm extra next (written q (writes.push stack w) now) h.1 (record { many = k.many; started = k.started; each = k.each })
+  changed_calm extra (write (writes.save x w) next) now h k = changed_calm extra next (write_made q (writes.save x w) now) h.1 (record { many = k.many; started = k.started; each = k.each })
+  changed_calm extra (write (writes.cut stack n) next) now h k = changed_calm extra next (write_made q (writes.cut stack n) now) h.1 (record { many = k.many; started = k.started; each = k.each })
+  changed_calm extra (write (writes.push stack w) next) now h k = changed_calm extra next (write_made q (writes.push stack w) now) h.1 (record { many = k.many; started = k.started; each = k.each })
   changed_calm extra (write (writes.registers new) next) now h k =
-      changed_calm extra next (written q (writes.registers new) now) h.1
-      (set_kept extra now new h.0.0 h.0.1 k (written q (writes.registers new) now) refl refl (length_set now.regs q new))
+      changed_calm extra next (write_made q (writes.registers new) now) h.1
+      (set_kept extra now new h.0.0 h.0.1 k (write_made q (writes.registers new) now) refl refl (length_set now.regs q new))
   changed_calm extra (write (writes.open_row n count counted) next) now h k =
-      changed_calm extra next (written q (writes.open_row n count counted) now) h.1 (record { many = k.many; started = k.started; each = k.each })
+      changed_calm extra next (write_made q (writes.open_row n count counted) now) h.1 (record { many = k.many; started = k.started; each = k.each })
   changed_calm extra (write (writes.write_row n at w) next) now h k =
-      changed_calm extra next (written q (writes.write_row n at w) now) h.1 (record { many = k.many; started = k.started; each = k.each })
-  changed_calm extra (write (writes.close_row n) next) now h k = changed_calm extra next (written q (writes.close_row n) now) h.1 (record { many = k.many; started = k.started; each = k.each })
-  changed_calm extra (write (writes.open_event x) next) now h k = changed_calm extra next (written q (writes.open_event x) now) h.1 (record { many = k.many; started = k.started; each = k.each })
+      changed_calm extra next (write_made q (writes.write_row n at w) now) h.1 (record { many = k.many; started = k.started; each = k.each })
+  changed_calm extra (write (writes.close_row n) next) now h k = changed_calm extra next (write_made q (writes.close_row n) now) h.1 (record { many = k.many; started = k.started; each = k.each })
+  changed_calm extra (write (writes.open_event x) next) now h k = changed_calm extra next (write_made q (writes.open_event x) now) h.1 (record { many = k.many; started = k.started; each = k.each })
   changed_calm extra (write (writes.close_events stack at) next) now h k =
-      changed_calm extra next (written q (writes.close_events stack at) now) h.1 (record { many = k.many; started = k.started; each = k.each })
+      changed_calm extra next (write_made q (writes.close_events stack at) now) h.1 (record { many = k.many; started = k.started; each = k.each })
   changed_calm extra (write (writes.event_deed d x) next) now h k =
-      changed_calm extra next (written q (writes.event_deed d x) now) h.1 (record { many = k.many; started = k.started; each = k.each })
+      changed_calm extra next (write_made q (writes.event_deed d x) now) h.1 (record { many = k.many; started = k.started; each = k.each })
   changed_calm extra (write (writes.wait_any places) next) now h k =
-      changed_calm extra next (written q (writes.wait_any places) now) h.1 (record { many = k.many; started = k.started; each = k.each })
-  changed_calm extra (write writes.go_on next) now h k = changed_calm extra next (written q writes.go_on now) h.1 (record { many = k.many; started = k.started; each = k.each })
-  changed_calm extra (write (writes.line bytes) next) now h k = changed_calm extra next (written q (writes.line bytes) now) h.1 (record { many = k.many; started = k.started; each = k.each })
+      changed_calm extra next (write_made q (writes.wait_any places) now) h.1 (record { many = k.many; started = k.started; each = k.each })
+  changed_calm extra (write writes.go_on next) now h k = changed_calm extra next (write_made q writes.go_on now) h.1 (record { many = k.many; started = k.started; each = k.each })
+  changed_calm extra (write (writes.line bytes) next) now h k = changed_calm extra next (write_made q (writes.line bytes) now) h.1 (record { many = k.many; started = k.started; each = k.each })
   changed_calm extra (write (writes.start new words) next) now h k = absurd h.0
   changed_calm extra (write (writes.end_process stack) next) now h k =
-      changed_calm extra next (written q (writes.end_process stack) now) h.1 (record { many = k.many; started = k.started; each = k.each })
+      changed_calm extra next (write_made q (writes.end_process stack) now) h.1 (record { many = k.many; started = k.started; each = k.each })
 
   -- one is started
   start_kept : (new : Registers) (words : List Word) → new.stack ≡ img.started + 1 → ((c : Place) → new.critical ≡ Some c → Lies img r c)
-      → Kept img r 1 (written q (writes.start new words) img)
+      → Kept img r 1 (write_made q (writes.start new words) img)
   start_kept new words stack lies =
       record {
         many = length-append img.regs (new ∷ []);
@@ -154,7 +154,7 @@ module _ (img : Image) (q : ℕ) (r : Registers) (has : numbered img.regs q ≡ 
       by_number k o (no h) e = inr (newest k o h e)
 
   changed_begins : (c : Change) → Begins img r c → Kept img r 1 (changed q c img)
-  changed_begins (write (writes.start new words) next) b = changed_calm 1 next (written q (writes.start new words) img) b.2 (start_kept new words b.0 b.1)
+  changed_begins (write (writes.start new words) next) b = changed_calm 1 next (write_made q (writes.start new words) img) b.2 (start_kept new words b.0 b.1)
   changed_begins done b = absurd b
   changed_begins (look_up q more) b = absurd b
   changed_begins (write (writes.save x w) next) b = absurd b
@@ -188,11 +188,11 @@ module _ (img : Image) (q : ℕ) (r : Registers) (has : numbered img.regs q ≡ 
 
   -- ---- any operator
 
-  by_rows : (code : Code) (new : Image) (op : Operator) (next : ℕ) (w : Row) → row op r.place ≡ w → by_row w code img q r next ≡ gives new → Leaves new
+  by_rows : (code : Code) (new : Image) (op : Operator) (next : ℕ) (w : TableRow) → row op r.place ≡ w → by_row w code img q r next ≡ gives new → Leaves new
   unfolding private_op
   by_rows code new op next (private_part change) i e =
       let put : Put img new q (floor r) (change next (private_of img r)) = put_by img new q (floor r) (change next (private_of img r)) e in
-      let k = private_keeps op r.place next (private_of img r) put.part (ap (λ (w : Row). part_by w next (private_of img r)) i ∙ put.given) in
+      let k = private_keeps op r.place next (private_of img r) put.part (ap (λ (w : TableRow). part_by w next (private_of img r)) i ∙ put.given) in
       subst Leaves (sym put.is)
       (record {
         extra = 0;
@@ -200,7 +200,7 @@ module _ (img : Image) (q : ℕ) (r : Registers) (has : numbered img.regs q ≡ 
       })
   by_rows code new op next (action program) i e = does_leave (program code r next) new (fine_by (row op r.place) (row_fine img code r next op r.place) i) e
     where
-      fine_by : (w : Row) → RowFine img code r next w → w ≡ action program → Says img (λ (c : Change). Calm r c ⊎ Begins img r c) (program code r next)
+      fine_by : (w : TableRow) → RowFine img code r next w → w ≡ action program → Says img (λ (c : Change). Calm r c ⊎ Begins img r c) (program code r next)
       fine_by w f j = subst (RowFine img code r next) j f
 
   by_fetch : (code : Code) (new : Image) (f : Result (Operator × ℕ) BadCode) → by_operator code img q r f ≡ gives new → Leaves new
@@ -248,7 +248,7 @@ own_plains : (code : Code) (q n : ℕ) (a b : Image) → AreOwn a → Plains cod
 own_plains code q n a b own stay = own
 own_plains code q n a b own (go {b = x} {n = k} e t more) = own_plains code q k x b (own_after a x q own (left_of code a x q t)) more
 
-own_acts : (code : Code) (q : ℕ) (a b : Image) → AreOwn a → Acts code q a b → AreOwn b
+own_acts : (code : Code) (q : ℕ) (a b : Image) → AreOwn a → ProcessActs code q a b → AreOwn b
 unfolding failed
 own_acts code q a b own (acts e t) = own_after a b q own (left_of code a b q t)
 own_acts code q a b own (fails kind t) = record { many = own.many; each = own.each }

@@ -22,7 +22,7 @@ use Rattle.b67_table.specs.PrivateRows.{is_taken, branch}
 use Rattle.b67_table.specs.Program.{Test, answer, ◌>>=◌, see, asked, changed, Change, registers, done}
 use Rattle.b67_table.specs.Moves as moves_of
 use Rattle.b67_table.specs.References.{from_top, operand_in, invalid}
-use Rattle.b67_table.specs.Rows.{private_part, acts, row, turn, turn_by}
+use Rattle.b67_table.specs.Rows.{private_part, acts, row, branch_turn, turn_by}
 use Rattle.b67_table.specs.Table.{operator_at}
 use Rattle.b67_table.specs.Valid.{IsValid, IsProcess}
 use Rattle.b67_table.proofs.Lists.{numbered_set, numbered_from, numbered_within}
@@ -68,22 +68,22 @@ module _ (img : Image) (r : Registers) (base next : ℕ) (low : base ≤ floor r
   bit_own : (kind : BranchKind) (target : ℕ) → TestIsOwn img r base (turn_by kind target r next)
   bit_own kind target = by_need kind target (nat_le (floor r + 1) r.s) (λ e. omega (arith, low, leb-true (floor r + 1) r.s e))
 
-  turn_own : (kind : BranchKind) (target : ℕ) → TestIsOwn img r base (turn kind target r next)
+  turn_own : (kind : BranchKind) (target : ℕ) → TestIsOwn img r base (branch_turn kind target r next)
   turn_own Brun target = ((refl, refl), tt)
   turn_own Brfl target = bit_own Brfl target
   turn_own Brtr target = bit_own Brtr target
 
 -- ---- what it does
 
-is_turn : (kind : BranchKind) (target here : ℕ) → nat_lt here target ≡ false → row (ops.Branch kind target) here ≡ acts (turn kind target)
+is_turn : (kind : BranchKind) (target here : ℕ) → nat_lt here target ≡ false → row (ops.Branch kind target) here ≡ acts (branch_turn kind target)
 unfolding row
-is_turn kind target here e = ap (λ (b : Bool). cond b (private_part (branch kind target)) (acts (turn kind target))) e
+is_turn kind target here e = ap (λ (b : Bool). cond b (private_part (branch kind target)) (acts (branch_turn kind target))) e
 
 module _ (img : Image) (p : ℕ) (r : Registers) (here : numbered img.regs p ≡ Some r) (room : r.s ≤ stack_limit) (next : ℕ) where
   set : (s : Registers) → numbered (changed p (registers s done) img).regs p ≡ Some s
   set s = numbered_set img.regs p s (numbered_from img.regs p r here) (numbered_within img.regs p r here)
 
-  jump_answers : (target : ℕ) → Answers img p (turn Brun target r next)
+  jump_answers : (target : ℕ) → Answers img p (branch_turn Brun target r next)
   jump_answers target = record {
     change = registers (record r { place = target }) done;
     is = refl;
@@ -110,7 +110,7 @@ module _ (img : Image) (p : ℕ) (r : Registers) (here : numbered img.regs p ≡
       }
 
   turn_answers : (kind : BranchKind) (target : ℕ) (w : Word) → floor r < r.s → word_at img.stacks (place r.stack (r.s - 1)) ≡ Some w → w.tag ≡ 0
-      → Answers img p (turn kind target r next)
+      → Answers img p (branch_turn kind target r next)
   turn_answers Brun target w some there operand = jump_answers target
   turn_answers Brfl target w some there operand = bit_answers Brfl target w some there operand
   turn_answers Brtr target w some there operand = bit_answers Brtr target w some there operand
@@ -155,10 +155,10 @@ module _ (code : Code) (a : Image) (p n : ℕ) (r : Registers) (part : Private) 
   process_is = process code a p n r part v may has parts
 
   turns_by : (kind : BranchKind) (target next : ℕ) → operator_at code part.regs ≡ Ok (ops.Branch kind target, next) → nat_lt part.regs.place target ≡ false
-      → Answers (with_private a p (floor r) part) p (turn kind target part.regs next) → IsLocal code a p
+      → Answers (with_private a p (floor r) part) p (branch_turn kind target part.regs next) → IsLocal code a p
   turns_by kind target next stands back answers =
       own_entries_are_local code a p r
-      (own_entry code a p n r part v may has parts (floor r) (omega arith) (ops.Branch kind target) next (λ c. turn kind target) stands (is_turn kind target part.regs.place back)
+      (own_entry code a p n r part v may has parts (floor r) (omega arith) (ops.Branch kind target) next (λ c. branch_turn kind target) stands (is_turn kind target part.regs.place back)
       (turn_own (with_private a p (floor r) part) part.regs (floor r) next (raised code a p n r part v may has parts) kind target) answers)
 
   words_put : words_of (with_private a p (floor r) part).stacks r.stack ≡ take (floor r) (words_of a.stacks r.stack) ++ reverse part.words

@@ -10,21 +10,21 @@ use Rattle.b67_table.specs.Ending.{ImageEnd, image_end, may_act}
 use Rattle.b67_table.specs.Image.{Image, private_of}
 use Rattle.b67_table.specs.Outcome.{gives, limit}
 use Rattle.b67_table.specs.Private.{floor}
-use Rattle.b67_table.specs.Runs.{Plains, Runs, Entry, TableRun}
+use Rattle.b67_table.specs.Runs.{Plains, Runs, RunEntry, TableRun}
 use Rattle.b67_table.specs.Sound.{Sound, Lives}
 use Rattle.b67_table.specs.Table.{table, length_in}
 use Rattle.b67_table.specs.Valid.{IsValid}
 use Rattle.b67_private.specs.Parts.{PlainParts}
 use Rattle.b67_settling.specs.Local.{NobodyDepends, StacksStayOwn, IsLocal, IsOwnEntry, Turns, ReadsCell, StoresCell}
-use Rattle.b67_settling.specs.Settling.{Settles, Result, IsAt, ComesTo}
+use Rattle.b67_settling.specs.Settling.{Settles, Result, ResultIsAt, ImageComesTo}
 
 -- ---- one local entry
 
 -- p's entry leads to b, and q's to c. q may have its entry after p's too, and p its own after q's, which is local there and leads to the same image; or
 -- q's entry ends the run, in the same way and with the same output before p's and after it.
-pub data Passes (code : Code) (p q : ℕ) (b c : Image) : Type 0 where
-  both : {d : Image} {n m : ℕ} → Entry code q b m d → Entry code p c n d → IsLocal code c p → Passes code p q b c
-  ends : {d : Image} {m : ℕ} {e : ImageEnd} → Entry code q b m d → image_end c ≡ Some e → image_end d ≡ Some e → d.output ≡ c.output → Passes code p q b c
+pub data PassesLocally (code : Code) (p q : ℕ) (b c : Image) : Type 0 where
+  both : {d : Image} {n m : ℕ} → RunEntry code q b m d → RunEntry code p c n d → IsLocal code c p → PassesLocally code p q b c
+  ends : {d : Image} {m : ℕ} {e : ImageEnd} → RunEntry code q b m d → image_end c ≡ Some e → image_end d ≡ Some e → d.output ≡ c.output → PassesLocally code p q b c
 
 -- q comes to the stack limit after p's entry as before it, with as many words on its stack
 pub record StopsThere (code : Code) (q : ℕ) (quiet b : Image) : Type 0 where
@@ -38,11 +38,11 @@ pub record StopsThere (code : Code) (q : ℕ) (quiet b : Image) : Type 0 where
 -- In each image to which a run of sound code leads:
 pub record LocalEntriesPass : Type 0 where
   -- a local entry ends no run, and writes no line
-  pub goes_on : (code : Code) (a b : Image) (p n : ℕ) → IsLocal code a p → Entry code p a n b → (image_end b ≡ None) × (b.output ≡ a.output)
+  pub goes_on : (code : Code) (a b : Image) (p n : ℕ) → IsLocal code a p → RunEntry code p a n b → (image_end b ≡ None) × (b.output ≡ a.output)
   pub entries : (code : Code) (h counts : List ℕ) (a b c : Image) (p q n m : ℕ) → Sound code → Runs code h counts a → IsLocal code a p → p ≢ q
-      → Entry code p a n b → Entry code q a m c → Passes code p q b c
+      → RunEntry code p a n b → RunEntry code q a m c → PassesLocally code p q b c
   pub stops : (code : Code) (h counts : List ℕ) (a b quiet : Image) (p q n m : ℕ) → Sound code → Runs code h counts a → IsLocal code a p → p ≢ q
-      → Entry code p a n b → may_act a q ≡ true → Plains code q a m quiet → table code quiet q ≡ limit → StopsThere code q quiet b
+      → RunEntry code p a n b → may_act a q ≡ true → Plains code q a m quiet → table code quiet q ≡ limit → StopsThere code q quiet b
 
 -- ---- which entries are local
 
@@ -92,13 +92,13 @@ OthersLeaveStacks =
 -- What comes of an image comes of the one to which it settles, by no more entries.
 abbrev pub Settled : Type 0
 Settled =
-    (code : Code) (h counts l s : List ℕ) (a b : Image) (o : Result) → Sound code → Runs code h counts a → Settles code a l b → ComesTo code o a s
-    → (t : List ℕ) × (length t ≤ length s) × ComesTo code o b t
+    (code : Code) (h counts l s : List ℕ) (a b : Image) (o : Result) → Sound code → Runs code h counts a → Settles code a l b → ImageComesTo code o a s
+    → (t : List ℕ) × (length t ≤ length s) × ImageComesTo code o b t
 
 -- What a run comes to comes of the first image.
 abbrev pub RunsComeTo : Type 0
 RunsComeTo =
-    (code : Code) (h counts : List ℕ) (a : Image) (o : Result) → Runs code h counts a → IsAt code a o → (s : List ℕ) × ComesTo code o first_image s
+    (code : Code) (h counts : List ℕ) (a : Image) (o : Result) → Runs code h counts a → ResultIsAt code a o → (s : List ℕ) × ImageComesTo code o first_image s
 
 -- the image settles to a kept one
 pub record SettlesToKept (code : Code) (Kept : Image → Type 0) (a : Image) : Type 0 where
@@ -111,11 +111,11 @@ pub record SettlesToKept (code : Code) (Kept : Image → Type 0) (a : Image) : T
 pub record IsOfKept (code : Code) (Kept : Image → Type 0) (o : Result) : Type 0 where
   pub image : Image
   pub kept : Kept image
-  pub at : IsAt code image o
+  pub at : ResultIsAt code image o
 
 -- Where each entry of a kept image leads to one that settles to a kept one, all that comes of a kept image is that of a kept image.
 abbrev pub KeptAreEnough : Type 1
 KeptAreEnough =
     (code : Code) (Kept : Image → Type 0) → Sound code → ((a : Image) → Kept a → (h counts : List ℕ) × Runs code h counts a)
-    → ((a b : Image) (p n : ℕ) → Kept a → Entry code p a n b → SettlesToKept code Kept b)
-    → (a : Image) (o : Result) (s : List ℕ) → Kept a → ComesTo code o a s → IsOfKept code Kept o
+    → ((a b : Image) (p n : ℕ) → Kept a → RunEntry code p a n b → SettlesToKept code Kept b)
+    → (a : Image) (o : Result) (s : List ℕ) → Kept a → ImageComesTo code o a s → IsOfKept code Kept o

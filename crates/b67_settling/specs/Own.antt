@@ -11,15 +11,15 @@ use Rattle.b67_table.specs.Ending.{may_act}
 use Rattle.b67_table.specs.Image.{Image, with_private, is_live}
 use Rattle.b67_table.specs.Questions.{Question, told}
 use Rattle.b67_table.specs.Questions as questions
-use Rattle.b67_table.specs.Writes.{Write, written}
+use Rattle.b67_table.specs.Writes.{Write, write_made}
 use Rattle.b67_table.specs.Writes as writes
 use Rattle.b67_table.specs.Program.{Test, answer, interrupt, fault, ask, Change, done, look_up, write, Program}
 use Rattle.b67_table.specs.Rows.{row, action}
-use Rattle.b67_table.specs.Runs.{Entry}
+use Rattle.b67_table.specs.Runs.{RunEntry}
 use Rattle.b67_table.specs.Table.{operator_at}
 
 -- the process lives, its registers are these, and its stack is open and reaches the base
-pub record Reaches (img : Image) (p : ℕ) (r : Registers) (base : ℕ) : Type 0 where
+pub record StackReaches (img : Image) (p : ℕ) (r : Registers) (base : ℕ) : Type 0 where
   pub live : is_live (numbered img.states p) ≡ true
   pub has : numbered img.regs p ≡ Some r
   pub words : List Word
@@ -36,11 +36,11 @@ Stay r new = (new.stack ≡ r.stack) × (new.critical ≡ r.critical)
 
 -- The process's next entry makes one and the same of its own, wherever that is as it is in this image, and leaves all else as it is.
 pub record MovesOwn (code : Code) (img : Image) (p : ℕ) (r : Registers) (base : ℕ) : Type 0 where
-  pub reaches : Reaches img p r base
+  pub reaches : StackReaches img p r base
   pub part : Private
   pub stays : Stay r part.regs
   pub count : ℕ
-  pub enters : (x : Image) → Reaches x p r base → own_of x r base ≡ own_of img r base → may_act x p ≡ true → Entry code p x count (with_private x p base part)
+  pub enters : (x : Image) → StackReaches x p r base → own_of x r base ≡ own_of img r base → may_act x p ≡ true → RunEntry code p x count (with_private x p base part)
 
 -- ---- actions
 

@@ -19,8 +19,8 @@ use Rattle.b67_templates.specs.Code.{ArrayActualAt, NameActualAt, ActualsAt}
 use Rattle.b67_templates.specs.Events as events
 use Rattle.b67_templates.specs.Events.{EventActualAt}
 use Rattle.b67_templates.specs.Depths.{line_depth}
-use Rattle.b67_standing.specs.Stepping.{Slot, operand, reference, HasRoom, cell_named, actual as actual_held, of_array, of_variable, of_event, of_actual, push_reference, stuff, Leads, there, first}
-use Rattle.b67_standing.specs.Standing.{operands, given_slot, given_slots, AreGiven, array_passed, name_passed, event_passed, Fills, Shows}
+use Rattle.b67_standing.specs.Stepping.{Slot, operand, reference, SlotsHaveRoom, cell_named, actual as actual_held, of_array, of_variable, of_event, of_actual, push_reference, stuff, StepsLead, there, first}
+use Rattle.b67_standing.specs.Standing.{operands, given_slot, given_slots, ActualsAreGiven, array_passed, name_passed, event_passed, Fills, Shows}
 use Rattle.b67_standing.proofs.Leading.{on, valued_at}
 use Rattle.b67_standing.proofs.Values.{variable_refers, own_names}
 
@@ -56,14 +56,14 @@ given_slots-more [] (h ∷ gs) w g below e = absurd (omega (arith, e))
 given_slots-more (x ∷ wanted) [] w g below e = absurd (omega (arith, e))
 
 module _ (sc : Scopes) (context : Context) where
-  given-length : (wanted : List Wanted) (gs : List Given) → AreGiven sc context wanted gs → length wanted ≡ length gs
+  given-length : (wanted : List Wanted) (gs : List Given) → ActualsAreGiven sc context wanted gs → length wanted ≡ length gs
   given-length [] [] h = refl
   given-length (w ∷ wanted) (g ∷ gs) h = omega (arith, given-length wanted gs h.1)
   given-length [] (g ∷ gs) h = absurd h
   given-length (w ∷ wanted) [] h = absurd h
 
-  given-more : (wanted : List Wanted) (gs : List Given) (w : Wanted) (g : Given) → AreGiven sc context wanted gs → AreGiven sc context (w ∷ []) (g ∷ []) →
-      AreGiven sc context (wanted ++ w ∷ []) (gs ++ g ∷ [])
+  given-more : (wanted : List Wanted) (gs : List Given) (w : Wanted) (g : Given) → ActualsAreGiven sc context wanted gs → ActualsAreGiven sc context (w ∷ []) (g ∷ []) →
+      ActualsAreGiven sc context (wanted ++ w ∷ []) (gs ++ g ∷ [])
   given-more [] [] w g h one = one
   given-more (x ∷ wanted) (y ∷ gs) w g h one = (h.0, given-more wanted gs w g h.1 one)
   given-more [] (y ∷ gs) w g h one = absurd h
@@ -75,17 +75,17 @@ module _ (sc : Scopes) (context : Context) (ps : List Placed) (level most : ℕ)
   -- Here the machine stands for actuals, of which these are wanted, that are evaluated up to their head, or that all lie on the start of their call
   -- or PROCESS. They are to do that at the place `filled`.
   abbrev pub Filled : List Wanted → HalfGiven → ℕ → List Slot → List Slot → ℕ → Type 0
-  Filled all (given gs) pc slots begun filled = (pc ≡ filled) × AreGiven sc context all gs × (slots ≡ given_slots all gs begun)
+  Filled all (given gs) pc slots begun filled = (pc ≡ filled) × ActualsAreGiven sc context all gs × (slots ≡ given_slots all gs begun)
   Filled all (rests.wants x) pc slots begun filled = Fills sc context ps level most all x pc slots begun filled
 
   -- by private operators the machine comes there
   pub record ComesFilled (all : List Wanted) (x : HalfGiven) (pc : ℕ) (slots begun : List Slot) (filled : ℕ) : Type 0 where
     pub at : ℕ
     pub with_slots : List Slot
-    pub leads : Leads sc context ps level most pc slots at with_slots
+    pub leads : StepsLead sc context ps level most pc slots at with_slots
     pub fills : Filled all x at with_slots begun filled
 
-  pub after_filled : (all : List Wanted) (x : HalfGiven) (begun : List Slot) (filled : ℕ) {a b : ℕ} {y z : List Slot} → Leads sc context ps level most a y b z →
+  pub after_filled : (all : List Wanted) (x : HalfGiven) (begun : List Slot) (filled : ℕ) {a b : ℕ} {y z : List Slot} → StepsLead sc context ps level most a y b z →
       ComesFilled all x b z begun filled → ComesFilled all x a y begun filled
   after_filled all x begun filled l c =
       record { at = c.at; with_slots = c.with_slots; leads = on sc context ps level most l c.leads; fills = c.fills }
@@ -93,21 +93,21 @@ module _ (sc : Scopes) (context : Context) (ps : List Placed) (level most : ℕ)
   -- what becomes of the actuals once these lie there
   abbrev pub ActualsOn : List Wanted → PExprs → List Sort → List Wanted → ℕ → List Slot → ℕ → Type 0
   ActualsOn all es sorts after m begun filled =
-      (gs : List Given) (before : List Wanted) → all ≡ before ++ after → AreGiven sc context before gs → HasRoom most begun (length gs + line_depth es) →
+      (gs : List Given) (before : List Wanted) → all ≡ before ++ after → ActualsAreGiven sc context before gs → SlotsHaveRoom most begun (length gs + line_depth es) →
       ComesFilled all (settle_actuals sc es sorts gs) m (given_slots before gs begun) begun filled
 
   -- what is asked of an actual, and of those before and after it
   pub record ActualAt (all : List Wanted) (gs : List Given) (before : List Wanted) (wanted : Wanted) (after : List Wanted) (sorts : List Sort) (es : PExprs)
       (m filled : ℕ) (begun : List Slot) : Type 0 where
     pub wants_are : all ≡ before ++ wanted ∷ after
-    pub fit : AreGiven sc context before gs
+    pub fit : ActualsAreGiven sc context before gs
     pub actuals : ActualsAt sc context ps level sorts after es m filled
-    pub room : HasRoom most begun (length gs + 1 + line_depth es)
+    pub room : SlotsHaveRoom most begun (length gs + 1 + line_depth es)
 
   -- the actual is done, and those after it come
   pub actual_done : (all : List Wanted) (gs : List Given) (before : List Wanted) (wanted : Wanted) (after : List Wanted) (sorts : List Sort) (es : PExprs)
       (m filled : ℕ) (begun : List Slot) (g : Given) → ActualAt all gs before wanted after sorts es m filled begun →
-      AreGiven sc context (wanted ∷ []) (g ∷ []) → ActualsOn all es sorts after m begun filled →
+      ActualsAreGiven sc context (wanted ∷ []) (g ∷ []) → ActualsOn all es sorts after m begun filled →
       ComesFilled all (settle_actuals sc es sorts (gs ++ g ∷ [])) m (given_slot wanted g ∷ given_slots before gs begun) begun filled
   actual_done all gs before wanted after sorts es m filled begun g a fits c =
       let hs = gs ++ g ∷ [] in
@@ -217,6 +217,6 @@ module _ (sc : Scopes) (context : Context) (ps : List Placed) (level most : ℕ)
       (actual_done all gs before (wants.by_name kind) after sorts es m filled begun (rests.names e) a ((c, i), tt) go))
 
   -- there is room for a word more
-  pub fills_room : (all : List Wanted) (x : Actuals) (pc : ℕ) (slots begun : List Slot) (filled : ℕ) → Fills sc context ps level most all x pc slots begun filled → HasRoom most begun 1
+  pub fills_room : (all : List Wanted) (x : Actuals) (pc : ℕ) (slots begun : List Slot) (filled : ℕ) → Fills sc context ps level most all x pc slots begun filled → SlotsHaveRoom most begun 1
   fills_room all (rests.in_value gs h sorts es) pc slots begun filled s = omega (arith, s.8)
   fills_room all (rests.pass gs x sorts es) pc slots begun filled s = omega (arith, s.8)

@@ -10,14 +10,14 @@ use Rattle.algol_tree.specs.Scopes.{Scopes}
 use Rattle.algol_meaning.specs.Value.{Value}
 use Rattle.algol_meaning.specs.Rest as rests
 use Rattle.algol_meaning.specs.Rest.{Hole, Half, Aim, HalfPlace, Rest, Answer}
-use Rattle.algol_meaning.specs.Settle.{aimed_of, half_place_of, settle, put, put_place}
+use Rattle.algol_meaning.specs.Settle.{aimed_of, half_place_of, settle, answer_put, put_place}
 use Rattle.algol_meaning.specs.Asks.{Ask, nothing, indexes, resolves, ask_aim, ask, resume}
 use Rattle.b67_segment.specs.Operators.{Placed}
 use Rattle.b67_templates.specs.Contexts as yielding
 use Rattle.b67_templates.specs.Contexts.{Yields, Context}
 use Rattle.b67_templates.specs.Fragments.{stop}
 use Rattle.b67_standing.specs.Stepping.{row, Slot, descriptor}
-use Rattle.b67_standing.specs.Standing.{Gives, pushed, IsNext, of_row, of_element, Aims, ComesTo, ActionAt, Acted, Entered, GoesOn}
+use Rattle.b67_standing.specs.Standing.{Gives, pushed, IsNext, of_row, of_element, Aims, ComesTo, ActionAt, Acted, Entered, CodeGoesOn}
 use Rattle.b67_standing.proofs.Seeking.{Seeking, sought_in}
 use Rattle.b67_standing.proofs.Halves.{Comes}
 use Rattle.b67_standing.proofs.Settling.{settle_at}
@@ -118,8 +118,8 @@ module _ (sc : Scopes) (context : Context) (ps : List Placed) (level most : ℕ)
         (w.back z c.at c.with_slots c.shows)) in
         record {
           action = p.action;
-          answered = λ a at left l. go (put sc h a) at left (p.answered a at left l);
-          returns = λ at left wanted l a fits. go (put sc h a) at (pushed wanted a left) (p.returns at left wanted l a fits);
+          answered = λ a at left l. go (answer_put sc h a) at left (p.answered a at left l);
+          returns = λ at left wanted l a fits. go (answer_put sc h a) at (pushed wanted a left) (p.returns at left wanted l a fits);
           inside = λ at left wanted l.
               let i = p.inside at left wanted l in record { inner = ap (λ z. aimed_of n ks z es) i.inner; same = λ a. ap (λ z. aimed_of n ks z es) (i.same a) };
         }
@@ -181,7 +181,7 @@ module _ (sc : Scopes) (context : Context) (ps : List Placed) (level most : ℕ)
     -- What has its head in a place does with the place what it does, whether its head answers or what it entered: `f` is what stands there
     -- for the place.
     pub by_aim : (x : Aim) (pc : ℕ) (slots : List Slot) → Standing x pc slots → ((y : Aim) → ask (f (rests.aims y)) ≡ ask_aim y) →
-        ((y : Aim) (a : Answer) → resume sc (f (rests.aims y)) a ≡ f (put_place sc y a)) → GoesOn sc context ps level most (f (rests.aims x)) pc slots
+        ((y : Aim) (a : Answer) → resume sc (f (rests.aims y)) a ≡ f (put_place sc y a)) → CodeGoesOn sc context ps level most (f (rests.aims x)) pc slots
     by_aim x pc slots s asks resumes =
         let p : AimsOn (ask (f (rests.aims x))) x f pc slots = subst (λ q. AimsOn q x f pc slots) (sym (asks x)) (aims_on x pc slots s) in
         record {

@@ -17,12 +17,12 @@ use Rattle.b67_ops.specs.declared.PlainKind.TheVariants as kinds
 use Rattle.b67_ops.specs.declared.intrinsic.Intrinsic.TheVariants.{Arrays, Event}
 use Rattle.b67_segment.specs.Operators.{Placed}
 use Rattle.b67_templates.specs.Contexts.{Context}
-use Rattle.b67_templates.specs.Fragments.{IsWhole, Has, stop}
+use Rattle.b67_templates.specs.Fragments.{IsWholeNumber, Has, stop}
 use Rattle.b67_templates.specs.Events.{EventMadeAt}
 use Rattle.b67_templates.specs.Code.{AreDimensions, HasNoCounts, BoundsAt, ArraysAt}
 use Rattle.b67_templates.specs.Depths.{depth, bounds_depth, arrays_depth}
-use Rattle.b67_standing.specs.Stepping.{Slot, operand, intrinsic, mark, HasRoom, push_number, call, there, first}
-use Rattle.b67_standing.specs.Standing.{pend, AreNumbers, arrays_begun, extents, AreWholeLows, Follows, Shows, ComesTo}
+use Rattle.b67_standing.specs.Stepping.{Slot, operand, intrinsic, mark, SlotsHaveRoom, push_number, call, there, first}
+use Rattle.b67_standing.specs.Standing.{pend, AreNumbers, arrays_begun, extents, AreWholeLows, SlotsFollow, Shows, ComesTo}
 use Rattle.b67_standing.proofs.Leading.{depth-positive, pend-none}
 use Rattle.b67_standing.proofs.Asking.{arrays_ask, event_asks}
 use Rattle.b67_standing.proofs.Settling.{settle_at}
@@ -53,26 +53,26 @@ module _ (sc : Scopes) (context : Context) (ps : List Placed) (level most : ℕ)
   -- what is asked of the arrays, whose bounds end at the place b
   pub record BoundsOf (ns : List Named) (pairs : List PPair) (k : List Item) (b : ℕ) : Type 0 where
     pub dimensions : AreDimensions pairs
-    pub many : IsWhole (pos (length ns))
+    pub many : IsWholeNumber (pos (length ns))
     pub lows : AreWholeLows pairs
     pub made : ℕ
     pub next : ℕ
     pub enter : Has ps level b (ops.Plain kinds.Entr) made
     pub push : Has ps level made (ops.Plain kinds.Push) next
     pub none : HasNoCounts k
-    pub follows : Follows sc context ps level most k next
+    pub follows : SlotsFollow sc context ps level most k next
     pub some : 1 ≤ length ns
 
   -- what becomes of the arrays once the upper bounds before these have values
   abbrev pub BoundsOn : List PPair → Kind → List Named → List PPair → List Item → ℕ → Type 0
   BoundsOn later kind ns pairs k m =
-      (before : List PPair) (vs : List Value) → pairs ≡ before ++ later → length vs ≡ length before → AreNumbers vs → HasRoom most [] (3 + 2 * length vs + bounds_depth later + length ns) →
+      (before : List PPair) (vs : List Value) → pairs ≡ before ++ later → length vs ≡ length before → AreNumbers vs → SlotsHaveRoom most [] (3 + 2 * length vs + bounds_depth later + length ns) →
       Coming (settle_bounds sc later kind ns pairs k vs) m (extents before vs (arrays_begun (length ns) []))
 
   pub bound_stands : (kind : Kind) (ns : List Named) (pairs : List PPair) (k : List Item) (before : List PPair) (p : PPair) (later : List PPair) (vs : List Value) (x : Half) (pc : ℕ)
       (slots : List Slot) (m b : ℕ) → BoundsOf ns pairs k b → pairs ≡ before ++ p ∷ later → length vs ≡ length before → AreNumbers vs →
       Shows sc context ps level most types.Number x pc slots (operand (number p.low) ∷ extents before vs (arrays_begun (length ns) [])) m → BoundsAt sc context ps level later m b →
-      HasRoom most [] (3 + 2 * length vs + 2 + bounds_depth later + length ns) → BoundsOn later kind ns pairs k m →
+      SlotsHaveRoom most [] (3 + 2 * length vs + 2 + bounds_depth later + length ns) → BoundsOn later kind ns pairs k m →
       Coming (bound_of kind ns pairs vs x later k (settle_bounds sc later kind ns pairs k)) pc slots
   bound_stands kind ns pairs k before p later vs (val v) pc slots m b o e same fits sh l room c =
       let begun = arrays_begun (length ns) [] in
@@ -121,7 +121,7 @@ module _ (sc : Scopes) (context : Context) (ps : List Placed) (level most : ℕ)
 
   -- the whole of their making, where nothing waits
   pub arrays_at : (kind : Kind) (ns : List Named) (pairs : List PPair) (k : List Item) (f t : ℕ) → ArraysAt sc context ps level (length ns) pairs f t → HasNoCounts k →
-      Follows sc context ps level most k t → HasRoom most [] (arrays_depth ns pairs) → Coming (settle_bounds sc pairs kind ns pairs k []) f (pend k)
+      SlotsFollow sc context ps level most k t → SlotsHaveRoom most [] (arrays_depth ns pairs) → Coming (settle_bounds sc pairs kind ns pairs k []) f (pend k)
   arrays_at kind ns pairs k f t h none follows room =
       let o : BoundsOf ns pairs k h.bounded = record {
         dimensions = h.dimensions;
@@ -141,7 +141,7 @@ module _ (sc : Scopes) (context : Context) (ps : List Placed) (level most : ℕ)
       (bounds_at pairs kind ns pairs k h.numbered h.bounded o h.bounds [] [] refl refl tt (omega (arith, room))))
 
   -- the making of an event, where nothing waits
-  pub event_at : (n : Named) (k : List Item) (f t : ℕ) → EventMadeAt sc context ps level f t → HasNoCounts k → Follows sc context ps level most k t → HasRoom most [] 2 →
+  pub event_at : (n : Named) (k : List Item) (f t : ℕ) → EventMadeAt sc context ps level f t → HasNoCounts k → SlotsFollow sc context ps level most k t → SlotsHaveRoom most [] 2 →
       Coming (rests.event n k) f (pend k)
   event_at n k f t h none follows room =
       subst (λ y. Coming (rests.event n k) f y) (sym (pend-none k none))

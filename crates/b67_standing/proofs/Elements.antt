@@ -18,12 +18,12 @@ use Rattle.b67_ops.specs.declared.Operator.TheVariants as ops
 use Rattle.b67_ops.specs.declared.PlainKind.TheVariants as kinds
 use Rattle.b67_segment.specs.Operators.{Placed}
 use Rattle.b67_templates.specs.Contexts.{Context}
-use Rattle.b67_templates.specs.Fragments.{Has, moved, stop}
+use Rattle.b67_templates.specs.Fragments.{Has, moved_number, stop}
 use Rattle.b67_templates.specs.Cells.{IsArray}
 use Rattle.b67_templates.specs.Code.{ExprAt, SubscriptsAt, ElementAssignAt}
 use Rattle.b67_templates.specs.Depths.{depth, line_depth}
-use Rattle.b67_standing.specs.Stepping.{IsFound, held_at, Slot, operand, reference, descriptor, HasRoom}
-use Rattle.b67_standing.specs.Standing.{pend, Follows, Shows, Aims, ComesTo}
+use Rattle.b67_standing.specs.Stepping.{PlaceIsFound, held_at, Slot, operand, reference, descriptor, SlotsHaveRoom}
+use Rattle.b67_standing.specs.Standing.{pend, SlotsFollow, Shows, Aims, ComesTo}
 use Rattle.b67_standing.proofs.Asking.{stores_asks, aims_asks}
 use Rattle.b67_standing.proofs.Seeking.{Seeking, no_third}
 use Rattle.b67_standing.proofs.Subscripts.{begun_at, last_moved, first_moved}
@@ -35,11 +35,11 @@ module _ (sc : Scopes) (context : Context) (ps : List Placed) (level most : ℕ)
   Coming = ComesTo sc context ps level most
 
   abbrev Following : List Item → ℕ → Type 0
-  Following = Follows sc context ps level most
+  Following = SlotsFollow sc context ps level most
 
   -- ---- the right side
 
-  pub found_assigned : (p : Place) → IsFound p → (kind : Kind) (x : Half) (pc : ℕ) (slots : List Slot) (k : List Item) (m next : ℕ) →
+  pub found_assigned : (p : Place) → PlaceIsFound p → (kind : Kind) (x : Half) (pc : ℕ) (slots : List Slot) (k : List Item) (m next : ℕ) →
       Shows sc context ps level most kind x pc slots (descriptor (held_at p kind) ∷ pend k) m → Has ps level m (ops.Plain kinds.Stod) next → Following k next →
       Coming (assigned_of p x k) pc slots
   found_assigned (rests.there r) found kind (val v) pc slots k m next s h f =
@@ -64,12 +64,12 @@ module _ (sc : Scopes) (context : Context) (ps : List Placed) (level most : ℕ)
 
   -- What is done with a place of that kind whose word is to lie on `below`: whether it was found, or the machine stands for it.
   pub record AfterPlace (kind : Kind) (below : List Slot) (m : ℕ) (f : HalfPlace → Rest) : Type 0 where
-    pub found : (p : Place) → IsFound p → Coming (f (rests.at p)) m (descriptor (held_at p kind) ∷ below)
+    pub found : (p : Place) → PlaceIsFound p → Coming (f (rests.at p)) m (descriptor (held_at p kind) ∷ below)
     pub stands : (x : Aim) (pc : ℕ) (slots : List Slot) → Aims sc context ps level most kind x pc slots below m → Coming (f (rests.aims x)) pc slots
 
   -- an assignment goes on with its right side
   pub assigns : (kind : Kind) (e : PExpr) (k : List Item) (m q next : ℕ) → ExprAt sc context ps level kind e m q q → Has ps level q (ops.Plain kinds.Stod) next →
-      Following k next → HasRoom most (pend k) (1 + depth e) → AfterPlace kind (pend k) m (λ z. aimed_at z e (settle sc e) k)
+      Following k next → SlotsHaveRoom most (pend k) (1 + depth e) → AfterPlace kind (pend k) m (λ z. aimed_at z e (settle sc e) k)
   assigns kind e k m q next right store follows room = record {
     found = λ p found.
         let d = settle_at sc context ps level most kind e m q q right stop (descriptor (held_at p kind) ∷ pend k) (omega (arith, room)) in
@@ -106,7 +106,7 @@ module _ (sc : Scopes) (context : Context) (ps : List Placed) (level most : ℕ)
   aimed_stands n a c kind t m below f then i (val v) pc slots ks (tree.more e tree.none) s =
       let l = first_moved sc context ps level most v pc slots n a c a.lows ks e below t i.is_array s in
       after_rest sc context ps level most l.leads
-      (then.stands (rests.place_index n ks v (tree.more e tree.none)) l.at (reference c ∷ operand (number (moved l.low (whole_of v))) ∷ below) (
+      (then.stands (rests.place_index n ks v (tree.more e tree.none)) l.at (reference c ∷ operand (number (moved_number l.low (whole_of v))) ∷ below) (
         l.low,
         l.second,
         l.next,
@@ -133,7 +133,7 @@ module _ (sc : Scopes) (context : Context) (ps : List Placed) (level most : ℕ)
 
   -- from the start of the code of an element
   pub element_at : (n : Named) (a : Shape) (c : Couple) (kind : Kind) (i : PExpr) (is : PExprs) (from t m : ℕ) (below : List Slot) (f : HalfPlace → Rest) →
-      AfterPlace kind below m f → IndexAt n a c kind t m → SubscriptsAt sc context ps level c a.lows (tree.more i is) from t → HasRoom most below (5 + (depth i + line_depth is)) →
+      AfterPlace kind below m f → IndexAt n a c kind t m → SubscriptsAt sc context ps level c a.lows (tree.more i is) from t → SlotsHaveRoom most below (5 + (depth i + line_depth is)) →
       Coming (f (settle_place sc (tree.subscripted n (tree.more i is)))) from below
   element_at n a c kind i is from t m below f then index subscripts room =
       let begun = begun_at sc context ps level most n c a.lows i is from t below room
@@ -142,7 +142,7 @@ module _ (sc : Scopes) (context : Context) (ps : List Placed) (level most : ℕ)
 
   -- the whole statement
   pub element_assign_at : (n : Named) (i : PExpr) (is : PExprs) (e : PExpr) (f t : ℕ) (k : List Item) → ElementAssignAt sc context ps level n (tree.more i is) e f t → Following k t →
-      HasRoom most (pend k) (5 + (depth i + line_depth is) + 1 + depth e) →
+      SlotsHaveRoom most (pend k) (5 + (depth i + line_depth is) + 1 + depth e) →
       Coming (aimed_at (settle_place sc (tree.subscripted n (tree.more i is))) e (settle sc e) k) f (pend k)
   element_assign_at n i is e f t k h follows room =
       let a = h.0 in

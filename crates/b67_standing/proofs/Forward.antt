@@ -17,8 +17,8 @@ use Rattle.b67_segment.specs.Operators.{Placed}
 use Rattle.b67_templates.specs.Contexts.{Context}
 use Rattle.b67_templates.specs.Cells.{parameter_wants}
 use Rattle.b67_templates.specs.Code.{StepSign, up, down, still, SignedAt}
-use Rattle.b67_standing.specs.Stepping.{Slot, Step, push_number, push_truth, push_reference, stuff, move, exchange, calculate, negate, invert, false_stays, false_goes, true_stays, true_goes, go, call, announce, summon, drop, counts, spent, within, past, within_literal, past_literal}
-use Rattle.b67_standing.specs.Standing.{line_begun, start_begun, IsLast, of_row, of_element, ActionAt, Acted}
+use Rattle.b67_standing.specs.Stepping.{Slot, FragmentStep, push_number, push_truth, push_reference, stuff, move, exchange, calculate, negate, invert, false_stays, false_goes, true_stays, true_goes, go, call, announce, summon, drop, counts, spent, within, past, within_literal, past_literal}
+use Rattle.b67_standing.specs.Standing.{line_begun, start_begun, IsLastSubscript, of_row, of_element, ActionAt, Acted}
 use Rattle.b67_standing.specs.Laws.{LeadsHaveRoom, ActionsHaveRoom, StepsGoForward}
 use Rattle.b67_standing.proofs.OnEvents.{acted_on-length}
 use Rattle.b67_standing.proofs.Leading.{forward, all_forward, leads_within}
@@ -46,7 +46,7 @@ module _ (sc : Scopes) (context : Context) (ps : List Placed) (level most : ℕ)
   abbrev count_kinds : List PlainKind
   count_kinds = kinds.Dupl ∷ kinds.One ∷ kinds.Less ∷ []
 
-  step_forward : {a b : ℕ} {x y : List Slot} → Step sc context ps level most a x b y → a < b
+  step_forward : {a b : ℕ} {x y : List Slot} → FragmentStep sc context ps level most a x b y → a < b
   step_forward (push_number z h room) = forward ps level h.stands
   step_forward (push_truth b h room) = forward ps level h
   step_forward (push_reference c h room) = forward ps level h
@@ -74,7 +74,7 @@ module _ (sc : Scopes) (context : Context) (ps : List Placed) (level most : ℕ)
   step_forward {a} {b} (past_literal next d z s h w e room) = signed_out s d a b next h e
 
   -- under the last subscript that is moved
-  last_within : (n : Named) (c : Couple) (lows : List ℤ) (ks : List ℕ) (i : ℤ) (slots below : List Slot) → IsLast n c lows ks i slots below → length slots ≡ 2 + length below
+  last_within : (n : Named) (c : Couple) (lows : List ℤ) (ks : List ℕ) (i : ℤ) (slots below : List Slot) → IsLastSubscript n c lows ks i slots below → length slots ≡ 2 + length below
   last_within n c (low ∷ []) [] i slots below e = omega (arith, ap length e)
   last_within n c (low ∷ low' ∷ []) (k ∷ []) i slots below e = omega (arith, ap length e)
   last_within n c _ _ i slots below e = absurd e

@@ -16,7 +16,7 @@ use Rattle.algol_meaning.specs.Rest as rests
 use Rattle.algol_meaning.specs.Rest.{own, Given, Hole, Actuals, Item, Rest, Answer}
 use Rattle.algol_meaning.specs.Settle.{half_of, is_typed, settle}
 use Rattle.algol_meaning.specs.Statements.{run_and, turn_and, assigned_of, aimed_at, chosen_of, looped_of, checked_of, counted_of, counted_body, selected_of, statement_called_of, prepared_of, item_of, bound_of, tested_of, differed_of, settle_line, settle_bounds, settle_stmt, settle_items}
-use Rattle.algol_meaning.specs.Asks.{nothing, reads_result, leaves, stores, selects, turns, writes, makes_arrays, makes_event, event_deed, starts, ask, evaluated_of, located_of, nth_stmt, called, resume}
+use Rattle.algol_meaning.specs.Asks.{nothing, reads_result, leaves, stores, selects, turns, writes, makes_arrays, makes_event, event_deed, starts, ask, evaluated_of, located_of, nth_stmt, asks_called, resume}
 use Rattle.b67_deeds.specs.Deeds as deeds
 use Rattle.b67_ops.specs.declared.Operator.TheVariants as ops
 use Rattle.b67_ops.specs.declared.PlainKind.TheVariants as kinds
@@ -24,12 +24,12 @@ use Rattle.b67_ops.specs.declared.BranchKind.TheVariants.{Brun}
 use Rattle.b67_ops.specs.declared.intrinsic.Intrinsic.TheVariants.{Select}
 use Rattle.b67_segment.specs.Operators.{Placed}
 use Rattle.b67_templates.specs.Contexts.{Yields, yields_of, Context}
-use Rattle.b67_templates.specs.Fragments.{Has, BranchAt, Goes, stop}
+use Rattle.b67_templates.specs.Fragments.{Has, BranchAt, FragmentGoes, stop}
 use Rattle.b67_templates.specs.Cells.{parameter_wants}
 use Rattle.b67_templates.specs.Code.{DroppedAt, StmtAt, CasesAt, any, stmts_count}
 use Rattle.b67_templates.specs.Depths.{stmt_depth, stmts_depth}
-use Rattle.b67_standing.specs.Stepping.{held_at, Slot, operand, reference, intrinsic, descriptor, mark, HasRoom, go, drop, there, first}
-use Rattle.b67_standing.specs.Standing.{pend, operands, call_begun, start_begun, Gives, pushed, line_begun, arrays_begun, extents, Follows, StandsFor, ComesTo, ActionAt, Acted, GoesOn}
+use Rattle.b67_standing.specs.Stepping.{held_at, Slot, operand, reference, intrinsic, descriptor, mark, SlotsHaveRoom, go, drop, there, first}
+use Rattle.b67_standing.specs.Standing.{pend, operands, call_begun, start_begun, Gives, pushed, line_begun, arrays_begun, extents, SlotsFollow, StandsFor, ComesTo, ActionAt, Acted, CodeGoesOn}
 use Rattle.b67_standing.specs.Laws.{RestsGoOn}
 use Rattle.b67_standing.proofs.Leading.{pend-none}
 use Rattle.b67_standing.proofs.Asking.{leaves_asks}
@@ -53,10 +53,10 @@ module _ (sc : Scopes) (context : Context) (ps : List Placed) (level most : ℕ)
   Coming = ComesTo sc context ps level most
 
   abbrev Going : Rest → ℕ → List Slot → Type 0
-  Going = GoesOn sc context ps level most
+  Going = CodeGoesOn sc context ps level most
 
   abbrev Following : List Item → ℕ → Type 0
-  Following = Follows sc context ps level most
+  Following = SlotsFollow sc context ps level most
 
   -- ---- the answers of statements, which are all `done`
 
@@ -224,11 +224,11 @@ module _ (sc : Scopes) (context : Context) (ps : List Placed) (level most : ℕ)
   }
 
   -- a call waits for the procedure, whether it has a result or not
-  call_waits : (typed : Bool) (k : List Item) → ask (called sc typed rests.entered k) ≡ nothing
+  call_waits : (typed : Bool) (k : List Item) → ask (asks_called sc typed rests.entered k) ≡ nothing
   call_waits true k = refl
   call_waits false k = refl
 
-  call_returns : (typed : Bool) (k : List Item) (a : Answer) → resume sc (called sc typed rests.entered k) a ≡ settle_items sc k
+  call_returns : (typed : Bool) (k : List Item) (a : Answer) → resume sc (asks_called sc typed rests.entered k) a ≡ settle_items sc k
   call_returns true k a = refl
   call_returns false k a = refl
 
@@ -252,7 +252,7 @@ module _ (sc : Scopes) (context : Context) (ps : List Placed) (level most : ℕ)
     pub to : ℕ
     pub branch : BranchAt ps level Brun (entry + 3 * i) from next
     pub stands : StmtAt sc context ps level (nth_stmt ss i) from to u
-    pub out : Goes ps level to u
+    pub out : FragmentGoes ps level to u
 
   case_at : (ss : PStmts) (i entry u : ℕ) → CasesAt sc context ps level ss entry u → i < stmts_count ss → CaseAt ss i entry u
   case_at tree.no_stmts i entry u h b = absurd (omega (arith, b))
@@ -264,7 +264,7 @@ module _ (sc : Scopes) (context : Context) (ps : List Placed) (level most : ℕ)
       let same : entry + 3 + 3 * i ≡ entry + 3 * suc i = omega arith in
       record { from = c.from; next = c.next; to = c.to; branch = subst (λ z. BranchAt ps level Brun z c.from c.next) same c.branch; stands = c.stands; out = c.out }
 
-  case_entered : (ss : PStmts) (i table u : ℕ) (k : List Item) → CasesAt sc context ps level ss table u → i < stmts_count ss → Following k u → HasRoom most (pend k) (stmts_depth ss) →
+  case_entered : (ss : PStmts) (i table u : ℕ) (k : List Item) → CasesAt sc context ps level ss table u → i < stmts_count ss → Following k u → SlotsHaveRoom most (pend k) (stmts_depth ss) →
       Coming (settle_stmt sc (nth_stmt ss i) k (settle_items sc k)) (table + 3 * i) (pend k)
   case_entered ss i table u k h b follows room =
       let c = case_at ss i table u h b in

@@ -10,8 +10,8 @@ use Rattle.b67_segment.specs.Operators.{Placed}
 use Rattle.b67_templates.specs.Contexts.{Context}
 use Rattle.b67_templates.specs.Fragments.{stop}
 use Rattle.b67_templates.specs.Depths.{depth, stmt_depth}
-use Rattle.b67_standing.specs.Stepping.{HasRoom}
-use Rattle.b67_standing.specs.Standing.{pend, Follows, RoundAt, ComesTo}
+use Rattle.b67_standing.specs.Stepping.{SlotsHaveRoom}
+use Rattle.b67_standing.specs.Standing.{pend, SlotsFollow, RoundAt, ComesTo}
 use Rattle.b67_standing.specs.Laws.{ItemsStand}
 use Rattle.b67_standing.proofs.Leading.{pend-length, leads_by}
 use Rattle.b67_standing.proofs.Asking.{leaves_asks, result_asks}
@@ -22,29 +22,29 @@ use Rattle.b67_standing.proofs.Loops.{RoundRoom, repeated_at, again_at, differed
 use Rattle.b67_standing.proofs.Performing.{stmt_at}
 
 module _ (sc : Scopes) (context : Context) (ps : List Placed) (level most : ℕ) where
-  pub items_at : (k : List Item) (pc : ℕ) → Follows sc context ps level most k pc → ComesTo sc context ps level most (settle_items sc k) pc (pend k)
+  pub items_at : (k : List Item) (pc : ℕ) → SlotsFollow sc context ps level most k pc → ComesTo sc context ps level most (settle_items sc k) pc (pend k)
   items_at [] pc s =
       let h = s.at in after_rest sc context ps level most (leads_by sc context ps level most h.3) (stays_here sc context ps level most h.0 [] rests.over (leaves_asks rests.done) (h.1, h.2, h.4, refl))
   items_at (rests.run x ∷ k) pc s =
       let h = s.at in
-      let more : Follows sc context ps level most k h.2 = record { at = h.6; shallow = (s.shallow).1; counts = s.counts } in
+      let more : SlotsFollow sc context ps level most k h.2 = record { at = h.6; shallow = (s.shallow).1; counts = s.counts } in
       after_rest sc context ps level most (leads_by sc context ps level most h.3)
       (stmt_at sc context ps level most x h.0 h.1 h.2 h.4 h.5 k (settle_items sc k) more (omega (arith, (s.shallow).0, pend-length k)) (items_at k h.2 more))
   items_at (rests.turn ∷ k) pc s =
       let h = s.at in
-      let more : Follows sc context ps level most k h.1 = record { at = h.5; shallow = (s.shallow).1; counts = s.counts } in
+      let more : SlotsFollow sc context ps level most k h.1 = record { at = h.5; shallow = (s.shallow).1; counts = s.counts } in
       after_rest sc context ps level most (leads_by sc context ps level most h.3) (turning_at sc context ps level most k h.0 h.1 h.2 h.4 more)
   items_at (rests.count n b ∷ k) pc s =
       let h = s.at in
-      let more : Follows sc context ps level most k h.2 = record { at = h.6; shallow = (s.shallow).1; counts = (s.counts).1 } in
+      let more : SlotsFollow sc context ps level most k h.2 = record { at = h.6; shallow = (s.shallow).1; counts = (s.counts).1 } in
       after_rest sc context ps level most (leads_by sc context ps level most h.3)
       (repeated_at sc context ps level most b k (settle_items sc k) h.0 h.1 h.2 h.4 h.5 more (omega (arith, (s.shallow).0, pend-length k))
       (stmt_at sc context ps level most b (h.4).1 (h.4).2 (h.4).2 (h.4).4 stop) (items_at k h.2 more) n (s.counts).0)
   items_at (rests.check b c ∷ k) pc s =
       let h = s.at in
       let w = h.6 in
-      let more : Follows sc context ps level most k h.3 = record { at = h.8; shallow = (s.shallow).1; counts = s.counts } in
-      let room : HasRoom most (pend k) (stmt_depth b + depth c) = omega (arith, (s.shallow).0, pend-length k) in
+      let more : SlotsFollow sc context ps level most k h.3 = record { at = h.8; shallow = (s.shallow).1; counts = s.counts } in
+      let room : SlotsHaveRoom most (pend k) (stmt_depth b + depth c) = omega (arith, (s.shallow).0, pend-length k) in
       let d = settle_at sc context ps level most types.Truth c h.0 w.0 w.0 w.2 stop (pend k) (omega (arith, room)) in
       after_rest sc context ps level most (leads_by sc context ps level most h.4)
       (after_rest sc context ps level most d.leads
@@ -52,7 +52,7 @@ module _ (sc : Scopes) (context : Context) (ps : List Placed) (level most : ℕ)
   items_at (rests.test loop ∷ k) pc s =
       let h = s.at in
       let l = h.4 in
-      let more : Follows sc context ps level most k h.2 = record { at = h.5; shallow = (s.shallow).1; counts = s.counts } in
+      let more : SlotsFollow sc context ps level most k h.2 = record { at = h.5; shallow = (s.shallow).1; counts = s.counts } in
       let room : RoundRoom sc context ps level most loop k = omega (arith, (s.shallow).0, pend-length k) in
       let d = settle_at sc context ps level most types.Number (difference_in loop) h.0 l.0 l.0 l.4 stop (pend k) (omega (arith, room)) in
       let round : RoundAt sc context ps level most loop h.0 l.1 h.1 = (l.2, l.3, l.6, l.7, l.8) in
@@ -67,12 +67,12 @@ module _ (sc : Scopes) (context : Context) (ps : List Placed) (level most : ℕ)
   items_at (rests.result name ∷ item ∷ k) pc s = absurd s.at
   items_at (rests.make_arrays kind ns pairs ∷ k) pc s =
       let h = s.at in
-      let more : Follows sc context ps level most k h.1 = record { at = h.5; shallow = (s.shallow).1; counts = s.counts } in
+      let more : SlotsFollow sc context ps level most k h.1 = record { at = h.5; shallow = (s.shallow).1; counts = s.counts } in
       after_rest sc context ps level most (leads_by sc context ps level most h.2)
       (arrays_at sc context ps level most kind ns pairs k h.0 h.1 h.3 h.4 more (omega (arith, (s.shallow).0)))
   items_at (rests.make_event n ∷ k) pc s =
       let h = s.at in
-      let more : Follows sc context ps level most k h.1 = record { at = h.5; shallow = (s.shallow).1; counts = s.counts } in
+      let more : SlotsFollow sc context ps level most k h.1 = record { at = h.5; shallow = (s.shallow).1; counts = s.counts } in
       after_rest sc context ps level most (leads_by sc context ps level most h.2)
       (event_at sc context ps level most n k h.0 h.1 h.3 h.4 more (omega (arith, (s.shallow).0)))
 

@@ -11,11 +11,11 @@ use Rattle.b67_ops.specs.declared.PlainKind.{PlainKind}
 use Rattle.b67_ops.proofs.Laws.{length-spelling}
 use Rattle.b67_segment.specs.Operators.{Placed}
 use Rattle.b67_templates.specs.Contexts.{Context}
-use Rattle.b67_templates.specs.Fragments.{Has, AllAt, Goes, stop, over}
+use Rattle.b67_templates.specs.Fragments.{Has, AllAt, FragmentGoes, stop, over}
 use Rattle.b67_templates.specs.Code.{HasNoCounts, StmtAt, KAt}
 use Rattle.b67_templates.specs.Depths.{depth, stmt_depth, counts_in}
-use Rattle.b67_standing.specs.Stepping.{Slot, operand, HasRoom, Step, push_number, push_truth, push_reference, stuff, move, exchange, calculate, negate, invert, false_stays, false_goes, true_stays, true_goes, go, call, announce, summon, drop, counts, spent, within, past, within_literal, past_literal, Leads, there, first}
-use Rattle.b67_standing.specs.Standing.{pend, Follows}
+use Rattle.b67_standing.specs.Stepping.{Slot, operand, SlotsHaveRoom, FragmentStep, push_number, push_truth, push_reference, stuff, move, exchange, calculate, negate, invert, false_stays, false_goes, true_stays, true_goes, go, call, announce, summon, drop, counts, spent, within, past, within_literal, past_literal, StepsLead, there, first}
+use Rattle.b67_standing.specs.Standing.{pend, SlotsFollow}
 
 -- an expression needs a word at least
 pub depth-positive : (e : PExpr) → 1 ≤ depth e
@@ -61,27 +61,27 @@ module _ (ps : List Placed) (level : ℕ) where
   all_forward [] from to h = omega (arith, h)
   all_forward (kind ∷ more) from to h = omega (arith, forward h.1, all_forward more h.0 to h.2)
 
-  pub goes_on : {a b c : ℕ} → Goes ps level a b → Goes ps level b c → Goes ps level a c
+  pub goes_on : {a b c : ℕ} → FragmentGoes ps level a b → FragmentGoes ps level b c → FragmentGoes ps level a c
   goes_on stop g = g
   goes_on (over next h k) g = over next h (goes_on k g)
 
 module _ (sc : Scopes) (context : Context) (ps : List Placed) (level most : ℕ) where
-  pub on : {a b c : ℕ} {x y z : List Slot} → Leads sc context ps level most a x b y → Leads sc context ps level most b y c z → Leads sc context ps level most a x c z
+  pub on : {a b c : ℕ} {x y z : List Slot} → StepsLead sc context ps level most a x b y → StepsLead sc context ps level most b y c z → StepsLead sc context ps level most a x c z
   on there l = l
   on (first s k) l = first s (on k l)
 
-  pub leads_by : {a b : ℕ} {slots : List Slot} → Goes ps level a b → Leads sc context ps level most a slots b slots
+  pub leads_by : {a b : ℕ} {slots : List Slot} → FragmentGoes ps level a b → StepsLead sc context ps level most a slots b slots
   leads_by stop = there
   leads_by (over next h g) = first (go h) (leads_by g)
 
   -- a value stands at that place on top of that
-  pub valued_at : (pc : ℕ) (slots : List Slot) (v : Value) (below : List Slot) (to : ℕ) → Goes ps level pc to → slots ≡ operand v ∷ below →
-      Leads sc context ps level most pc slots to (operand v ∷ below)
-  valued_at pc slots v below to g q = subst (λ o. Leads sc context ps level most pc o to (operand v ∷ below)) (sym q) (leads_by g)
+  pub valued_at : (pc : ℕ) (slots : List Slot) (v : Value) (below : List Slot) (to : ℕ) → FragmentGoes ps level pc to → slots ≡ operand v ∷ below →
+      StepsLead sc context ps level most pc slots to (operand v ∷ below)
+  valued_at pc slots v below to g q = subst (λ o. StepsLead sc context ps level most pc o to (operand v ∷ below)) (sym q) (leads_by g)
 
   -- ---- what is still to be done
 
-  before : (k : List Item) {a b : ℕ} → Goes ps level a b → KAt sc context ps level k b → KAt sc context ps level k a
+  before : (k : List Item) {a b : ℕ} → FragmentGoes ps level a b → KAt sc context ps level k b → KAt sc context ps level k a
   before [] g s = (s.0, s.1, s.2, goes_on ps level g s.3, s.4)
   before (rests.run x ∷ k) g s = (s.0, s.1, s.2, goes_on ps level g s.3, s.4, s.5, s.6)
   before (rests.turn ∷ k) g s = (s.0, s.1, s.2, goes_on ps level g s.3, s.4, s.5)
@@ -93,11 +93,11 @@ module _ (sc : Scopes) (context : Context) (ps : List Placed) (level most : ℕ)
   before (rests.make_arrays kind ns pairs ∷ k) g s = (s.0, s.1, goes_on ps level g s.2, s.3, s.4, s.5)
   before (rests.make_event n ∷ k) g s = (s.0, s.1, goes_on ps level g s.2, s.3, s.4, s.5)
 
-  pub follows_before : (k : List Item) {a b : ℕ} → Goes ps level a b → Follows sc context ps level most k b → Follows sc context ps level most k a
+  pub follows_before : (k : List Item) {a b : ℕ} → FragmentGoes ps level a b → SlotsFollow sc context ps level most k b → SlotsFollow sc context ps level most k a
   follows_before k g f = record { at = before k g f.at; shallow = f.shallow; counts = f.counts }
 
-  pub follows_run : (s : PStmt) (k : List Item) (q t u : ℕ) → StmtAt sc context ps level s q t u → Goes ps level t u → HasRoom most (pend k) (stmt_depth s) →
-      Follows sc context ps level most k u → Follows sc context ps level most (rests.run s ∷ k) q
+  pub follows_run : (s : PStmt) (k : List Item) (q t u : ℕ) → StmtAt sc context ps level s q t u → FragmentGoes ps level t u → SlotsHaveRoom most (pend k) (stmt_depth s) →
+      SlotsFollow sc context ps level most k u → SlotsFollow sc context ps level most (rests.run s ∷ k) q
   follows_run s k q t u h g room f = record {
     at = (q, t, u, stop, h, g, f.at);
     shallow = (omega (arith, room, pend-length k), f.shallow);
@@ -106,7 +106,7 @@ module _ (sc : Scopes) (context : Context) (ps : List Placed) (level most : ℕ)
 
   -- ---- room
 
-  within_most : {a b : ℕ} {x y : List Slot} → Step sc context ps level most a x b y → length x ≤ most → length y ≤ most
+  within_most : {a b : ℕ} {x y : List Slot} → FragmentStep sc context ps level most a x b y → length x ≤ most → length y ≤ most
   within_most (push_number z h room) l = omega (arith, room)
   within_most (push_truth b h room) l = omega (arith, room)
   within_most (push_reference c h room) l = omega (arith, room)
@@ -132,6 +132,6 @@ module _ (sc : Scopes) (context : Context) (ps : List Placed) (level most : ℕ)
   within_most (within_literal u d z s h w e room) l = omega (arith, l)
   within_most (past_literal next d z s h w e room) l = omega (arith, l)
 
-  pub leads_within : {a b : ℕ} {x y : List Slot} → Leads sc context ps level most a x b y → length x ≤ most → length y ≤ most
+  pub leads_within : {a b : ℕ} {x y : List Slot} → StepsLead sc context ps level most a x b y → length x ≤ most → length y ≤ most
   leads_within there l = l
   leads_within (first s k) l = leads_within k (within_most s l)

@@ -13,11 +13,11 @@ use Rattle.algol_meaning.specs.Settle.{settle}
 use Rattle.algol_meaning.specs.Statements.{after_count, counted_of, counted_body, is_past, alone, difference_in, stepped, again, tested_of, differed_of, settle_stmt}
 use Rattle.b67_segment.specs.Operators.{Placed}
 use Rattle.b67_templates.specs.Contexts.{Context}
-use Rattle.b67_templates.specs.Fragments.{IsWhole, HasKind, Goes, stop}
+use Rattle.b67_templates.specs.Fragments.{IsWholeNumber, HasKind, FragmentGoes, stop}
 use Rattle.b67_templates.specs.Code.{ExprAt, PastAt, StepSign, SignedAt, StepAt, any, literal, ThruAt}
 use Rattle.b67_templates.specs.Depths.{loop_depth, stmt_depth}
-use Rattle.b67_standing.specs.Stepping.{Slot, operand, HasRoom, counts, spent, drop, within, past, within_literal, past_literal, there, first}
-use Rattle.b67_standing.specs.Standing.{pend, Follows, Shows, RoundAt, ComesTo}
+use Rattle.b67_standing.specs.Stepping.{Slot, operand, SlotsHaveRoom, counts, spent, drop, within, past, within_literal, past_literal, there, first}
+use Rattle.b67_standing.specs.Standing.{pend, SlotsFollow, Shows, RoundAt, ComesTo}
 use Rattle.b67_standing.proofs.Leading.{depth-positive, pend-length, leads_by, valued_at, follows_run}
 use Rattle.b67_standing.proofs.Asking.{holds_asks}
 use Rattle.b67_standing.proofs.Settling.{settle_at}
@@ -29,17 +29,17 @@ module _ (sc : Scopes) (context : Context) (ps : List Placed) (level most : ℕ)
   Coming = ComesTo sc context ps level most
 
   abbrev Following : List Item → ℕ → Type 0
-  Following = Follows sc context ps level most
+  Following = SlotsFollow sc context ps level most
 
   -- From f the statement leads on: whatever comes after it, from u on, the machine comes to where it stands for the two.
   abbrev pub Performs : PStmt → ℕ → ℕ → Type 0
   Performs s f u =
-      (k : List Item) (r : Rest) → Following k u → HasRoom most (pend k) (stmt_depth s) → Coming r u (pend k) → Coming (settle_stmt sc s k r) f (pend k)
+      (k : List Item) (r : Rest) → Following k u → SlotsHaveRoom most (pend k) (stmt_depth s) → Coming r u (pend k) → Coming (settle_stmt sc s k r) f (pend k)
 
   -- ---- THRU
 
-  count_body : (b : PStmt) (k : List Item) (q t u : ℕ) (h : ThruAt sc context ps level b q t) → Goes ps level t u → Following k u → HasRoom most (pend k) (3 + stmt_depth b) →
-      Performs b h.1 h.2 → (z : ℤ) → IsWhole z → int_lt (pos 0) z ≡ true → Coming (counted_body sc b k z) h.1 (pend (after_count z b k))
+  count_body : (b : PStmt) (k : List Item) (q t u : ℕ) (h : ThruAt sc context ps level b q t) → FragmentGoes ps level t u → Following k u → SlotsHaveRoom most (pend k) (3 + stmt_depth b) →
+      Performs b h.1 h.2 → (z : ℤ) → IsWholeNumber z → int_lt (pos 0) z ≡ true → Coming (counted_body sc b k z) h.1 (pend (after_count z b k))
   count_body b k q t u h g follows room p z w e =
       let further : Following (after_count z b k) q = record {
         at = (q, t, u, stop, h, g, follows.at);
@@ -49,8 +49,8 @@ module _ (sc : Scopes) (context : Context) (ps : List Placed) (level most : ℕ)
       p (rests.turn ∷ after_count z b k) (rests.turning (after_count z b k)) (follows_turn sc context ps level most (after_count z b k) h.2 q h.0 h.5 further) (omega (arith, room))
       (turning_at sc context ps level most (after_count z b k) h.2 q h.0 h.5 further)
 
-  repeated_by : (c : Bool) (b : PStmt) (k : List Item) (r : Rest) (q t u : ℕ) (h : ThruAt sc context ps level b q t) → Goes ps level t u → Following k u →
-      HasRoom most (pend k) (3 + stmt_depth b) → Performs b h.1 h.2 → Coming r u (pend k) → (z : ℤ) → IsWhole z → int_lt (pos 0) z ≡ c →
+  repeated_by : (c : Bool) (b : PStmt) (k : List Item) (r : Rest) (q t u : ℕ) (h : ThruAt sc context ps level b q t) → FragmentGoes ps level t u → Following k u →
+      SlotsHaveRoom most (pend k) (3 + stmt_depth b) → Performs b h.1 h.2 → Coming r u (pend k) → (z : ℤ) → IsWholeNumber z → int_lt (pos 0) z ≡ c →
       Coming (if c then counted_body sc b k z else r) q (operand (number z) ∷ pend k)
   repeated_by true b k r q t u h g follows room p y z w e =
       after_rest sc context ps level most (first (counts z h.3 w e (omega (arith, room))) there) (count_body b k q t u h g follows room p z w e)
@@ -58,13 +58,13 @@ module _ (sc : Scopes) (context : Context) (ps : List Placed) (level most : ℕ)
       after_rest sc context ps level most (first (spent z h.3 w e (omega (arith, room))) (first (drop (number z) h.6) (leads_by sc context ps level most g))) y
 
   -- at its number
-  pub repeated_at : (b : PStmt) (k : List Item) (r : Rest) (q t u : ℕ) (h : ThruAt sc context ps level b q t) → Goes ps level t u → Following k u →
-      HasRoom most (pend k) (3 + stmt_depth b) → Performs b h.1 h.2 → Coming r u (pend k) → (z : ℤ) → IsWhole z →
+  pub repeated_at : (b : PStmt) (k : List Item) (r : Rest) (q t u : ℕ) (h : ThruAt sc context ps level b q t) → FragmentGoes ps level t u → Following k u →
+      SlotsHaveRoom most (pend k) (3 + stmt_depth b) → Performs b h.1 h.2 → Coming r u (pend k) → (z : ℤ) → IsWholeNumber z →
       Coming (counted_of (val (number z)) b k (counted_body sc b k) r) q (operand (number z) ∷ pend k)
   repeated_at b k r q t u h g follows room p y z w = repeated_by (int_lt (pos 0) z) b k r q t u h g follows room p y z w refl
 
   pub counted_stands : (x : Half) (b : PStmt) (k : List Item) (r : Rest) (pc : ℕ) (slots : List Slot) (q t u : ℕ) → Shows sc context ps level most types.Number x pc slots (pend k) q →
-      (h : ThruAt sc context ps level b q t) → Goes ps level t u → Following k u → HasRoom most (pend k) (3 + stmt_depth b) → Performs b h.1 h.2 → Coming r u (pend k) →
+      (h : ThruAt sc context ps level b q t) → FragmentGoes ps level t u → Following k u → SlotsHaveRoom most (pend k) (3 + stmt_depth b) → Performs b h.1 h.2 → Coming r u (pend k) →
       Coming (counted_of x b k (counted_body sc b k) r) pc slots
   counted_stands (val (number z)) b k r pc slots q t u sh h g follows room p y =
       after_rest sc context ps level most (valued_at sc context ps level most pc slots (number z) (pend k) q sh.0 sh.1) (repeated_at b k r q t u h g follows room p y z sh.2)
@@ -75,7 +75,7 @@ module _ (sc : Scopes) (context : Context) (ps : List Placed) (level most : ℕ)
   -- ---- FOR
 
   abbrev pub RoundRoom : Loop → List Item → Type 0
-  RoundRoom loop k = HasRoom most (pend k) (loop_depth loop.step loop.last + stmt_depth loop.body)
+  RoundRoom loop k = SlotsHaveRoom most (pend k) (loop_depth loop.step loop.last + stmt_depth loop.body)
 
   follows_test : (loop : Loop) (k : List Item) (q m n t u : ℕ) → ExprAt sc context ps level types.Number (difference_in loop) q m m → StepAt sc context ps level loop.step m u n →
       RoundAt sc context ps level most loop q n t → Following k u → RoundRoom loop k → Following (rests.test loop ∷ k) q
@@ -91,19 +91,19 @@ module _ (sc : Scopes) (context : Context) (ps : List Placed) (level most : ℕ)
   again_at loop k q m n t u d s h follows room p =
       let tested = follows_test loop k q m n t u d s h follows room in
       let turned = follows_turn sc context ps level most (rests.test loop ∷ k) h.1 q t h.4 tested in
-      let deep : HasRoom most (pend k) (stmt_depth (stepped loop)) = omega (arith, room, depth-positive loop.last) in
+      let deep : SlotsHaveRoom most (pend k) (stmt_depth (stepped loop)) = omega (arith, room, depth-positive loop.last) in
       let run = follows_run sc context ps level most (stepped loop) (rests.turn ∷ rests.test loop ∷ k) h.0 h.1 h.1 h.3 stop deep turned in
       p (rests.run (stepped loop) ∷ rests.turn ∷ rests.test loop ∷ k) (settle_stmt sc (stepped loop) (rests.turn ∷ rests.test loop ∷ k) (rests.turning (rests.test loop ∷ k))) run
       (omega (arith, room))
       (assign_at sc context ps level most loop.control (tree.two operators.Add (alone loop.control) loop.step) h.0 h.1 (rests.turn ∷ rests.test loop ∷ k) h.3 turned (omega (arith, deep)))
 
-  past_by : (c : Bool) (d z : ℤ) (x y : Rest) (m u n : ℕ) (below : List Slot) → is_past d z ≡ c → PastAt sc context ps level m u n → IsWhole d → IsWhole z → HasRoom most below 4 →
+  past_by : (c : Bool) (d z : ℤ) (x y : Rest) (m u n : ℕ) (below : List Slot) → is_past d z ≡ c → PastAt sc context ps level m u n → IsWholeNumber d → IsWholeNumber z → SlotsHaveRoom most below 4 →
       Coming x u below → Coming y n below → Coming (if c then x else y) m (operand (number z) ∷ operand (number d) ∷ below)
   past_by true d z x y m u n below e h i j room a b = after_rest sc context ps level most (first (past d z h i j e room) there) a
   past_by false d z x y m u n below e h i j room a b = after_rest sc context ps level most (first (within d z h i j e room) there) b
 
-  literal_by : (c : Bool) (d z : ℤ) (x y : Rest) (m u n : ℕ) (below : List Slot) → is_past d z ≡ c → (s : StepSign z) → SignedAt sc context ps level s m u n → IsWhole d →
-      HasRoom most below 2 → Coming x u below → Coming y n below → Coming (if c then x else y) m (operand (number d) ∷ below)
+  literal_by : (c : Bool) (d z : ℤ) (x y : Rest) (m u n : ℕ) (below : List Slot) → is_past d z ≡ c → (s : StepSign z) → SignedAt sc context ps level s m u n → IsWholeNumber d →
+      SlotsHaveRoom most below 2 → Coming x u below → Coming y n below → Coming (if c then x else y) m (operand (number d) ∷ below)
   literal_by true d z x y m u n below e s h i room a b = after_rest sc context ps level most (first (past_literal n d z s h i e room) there) a
   literal_by false d z x y m u n below e s h i room a b = after_rest sc context ps level most (first (within_literal u d z s h i e room) there) b
 
@@ -122,7 +122,7 @@ module _ (sc : Scopes) (context : Context) (ps : List Placed) (level most : ℕ)
       (holds_asks sc context ps level most types.Number x pc slots (operand (number d) ∷ pend k) m' sh) (q, m, m', n, t, u, kd, sh, e, s, h, o, follows, room)
 
   -- the difference lies there
-  differed_by : (d : ℤ) (loop : Loop) (k : List Item) (r : Rest) (q m n t u : ℕ) → IsWhole d → ExprAt sc context ps level types.Number (difference_in loop) q m m →
+  differed_by : (d : ℤ) (loop : Loop) (k : List Item) (r : Rest) (q m n t u : ℕ) → IsWholeNumber d → ExprAt sc context ps level types.Number (difference_in loop) q m m →
       StepAt sc context ps level loop.step m u n → RoundAt sc context ps level most loop q n t → Following k u → RoundRoom loop k → Coming r u (pend k) →
       Coming (again sc loop k) n (pend k) → Coming (tested_of sc (number d) (settle sc loop.step) loop k r) m (operand (number d) ∷ pend k)
   differed_by d loop k r q m n t u w e (any m' s h) o follows room a b =

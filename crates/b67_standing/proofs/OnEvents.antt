@@ -14,7 +14,7 @@ use Rattle.b67_templates.specs.Contexts.{Context}
 use Rattle.b67_templates.specs.Cells.{IsEvent, AreEvents}
 use Rattle.b67_templates.specs.Fragments.{Has, ReferencesAt}
 use Rattle.b67_templates.specs.Events.{OnEventsAt, AreSoMany}
-use Rattle.b67_standing.specs.Stepping.{Slot, reference, intrinsic, mark, HasRoom, push_reference, call, Leads, there, first}
+use Rattle.b67_standing.specs.Stepping.{Slot, reference, intrinsic, mark, SlotsHaveRoom, push_reference, call, StepsLead, there, first}
 use Rattle.b67_standing.specs.Standing.{references, ActsOnAt}
 
 pub references-length : (cs : List Couple) (below : List Slot) → length (references cs below) ≡ length cs + length below
@@ -29,9 +29,9 @@ couples-length sc level [] (c ∷ cs) h = absurd h
 couples-length sc level (n ∷ ns) [] h = absurd h
 
 module _ (sc : Scopes) (context : Context) (ps : List Placed) (level most : ℕ) where
-  references_lead : (cs : List Couple) (f t : ℕ) (below : List Slot) → ReferencesAt ps level cs f t → HasRoom most below (length cs) →
-      Leads sc context ps level most f below t (references cs below)
-  references_lead [] f t below h room = subst (λ z. Leads sc context ps level most f below z below) h there
+  references_lead : (cs : List Couple) (f t : ℕ) (below : List Slot) → ReferencesAt ps level cs f t → SlotsHaveRoom most below (length cs) →
+      StepsLead sc context ps level most f below t (references cs below)
+  references_lead [] f t below h room = subst (λ z. StepsLead sc context ps level most f below z below) h there
   references_lead (c ∷ cs) f t below h room =
       first (push_reference c h.1 (omega (arith, room))) (references_lead cs h.0 t (reference c ∷ below) h.2 (omega (arith, room)))
 
@@ -40,7 +40,7 @@ module _ (sc : Scopes) (context : Context) (ps : List Placed) (level most : ℕ)
     all_named = references h.couples (intrinsic (intrinsic_of x) ∷ mark ∷ below)
 
     -- from the start of its code to where the entry stands
-    pub events_named : HasRoom most below (2 + length ns) → Leads sc context ps level most f below h.referred all_named
+    pub events_named : SlotsHaveRoom most below (2 + length ns) → StepsLead sc context ps level most f below h.referred all_named
     events_named room =
         first (call (intrinsic_of x) h.intrinsic (omega (arith, room)))
         (references_lead h.couples h.named h.referred (intrinsic (intrinsic_of x) ∷ mark ∷ below) h.references

@@ -14,12 +14,12 @@ use Rattle.algol_tree.specs.Scopes.{Scopes}
 use Rattle.algol_meaning.specs.Value.{number}
 use Rattle.algol_meaning.specs.Rest as rests
 use Rattle.algol_meaning.specs.Rest.{HalfGiven, Item, Rest}
-use Rattle.algol_meaning.specs.Settle.{sorts_of, block_of, settle, settle_actuals}
+use Rattle.algol_meaning.specs.Settle.{sorts_of, block_of_sort, settle, settle_actuals}
 use Rattle.algol_meaning.specs.Statements.{items, checked_of, statement_called_of, prepared_of, settle_stmt, settle_stmts}
 use Rattle.b67_ops.specs.declared.intrinsic.Intrinsic.TheVariants.{Write, Select, Start, GoTo}
 use Rattle.b67_segment.specs.Operators.{Placed}
 use Rattle.b67_templates.specs.Contexts.{Context}
-use Rattle.b67_templates.specs.Fragments.{Goes, stop, over, code_at}
+use Rattle.b67_templates.specs.Fragments.{FragmentGoes, stop, over, code_at}
 use Rattle.b67_templates.specs.Cells.{parameter_wants}
 use Rattle.b67_templates.specs.Labels.{GoToAt}
 use Rattle.b67_deeds.specs.Deeds as deeds
@@ -27,8 +27,8 @@ use Rattle.b67_ops.specs.Intrinsics.{intrinsic_of}
 use Rattle.b67_templates.specs.Events.{OnEventsAt, TaskAt}
 use Rattle.b67_templates.specs.Code.{FormatIs, CallStmtAt, StartAt, StmtAt, StmtsAt, WriteAt}
 use Rattle.b67_templates.specs.Depths.{depth, stmt_depth, stmts_depth}
-use Rattle.b67_standing.specs.Stepping.{Slot, operand, reference, intrinsic, control, mark, HasRoom, push_number, push_reference, call, announce, summon, Leads, there, first}
-use Rattle.b67_standing.specs.Standing.{pend, call_begun, start_begun, IsTask, Follows, WhileAt, ComesTo}
+use Rattle.b67_standing.specs.Stepping.{Slot, operand, reference, intrinsic, control, mark, SlotsHaveRoom, push_number, push_reference, call, announce, summon, StepsLead, there, first}
+use Rattle.b67_standing.specs.Standing.{pend, call_begun, start_begun, IsTask, SlotsFollow, WhileAt, ComesTo}
 use Rattle.b67_standing.proofs.OnEvents.{all_named, events_named, events_there}
 use Rattle.b67_standing.proofs.Leading.{depth-positive, pend-length, leads_by, follows_before, follows_run}
 use Rattle.b67_standing.proofs.Asking.{deed_asks, going_asks, enters_asks}
@@ -47,15 +47,15 @@ module _ (sc : Scopes) (context : Context) (ps : List Placed) (level most : ℕ)
   Coming = ComesTo sc context ps level most
 
   abbrev Following : List Item → ℕ → Type 0
-  Following = Follows sc context ps level most
+  Following = SlotsFollow sc context ps level most
 
   abbrev Doing : PStmt → ℕ → ℕ → Type 0
   Doing = Performs sc context ps level most
 
   -- ---- loops with a test
 
-  pub while_body : (c : PExpr) (b : PStmt) (k : List Item) (f m t u : ℕ) (w : WhileAt sc context ps level most c b f m t u) → Goes ps level t u → Following k u →
-      HasRoom most (pend k) (depth c + stmt_depth b) → Doing b w.0 w.1 →
+  pub while_body : (c : PExpr) (b : PStmt) (k : List Item) (f m t u : ℕ) (w : WhileAt sc context ps level most c b f m t u) → FragmentGoes ps level t u → Following k u →
+      SlotsHaveRoom most (pend k) (depth c + stmt_depth b) → Doing b w.0 w.1 →
       Coming (settle_stmt sc b (rests.turn ∷ rests.run (tree.while c b) ∷ k) (rests.turning (rests.run (tree.while c b) ∷ k))) w.0 (pend k)
   while_body c b k f m t u w g follows room p =
       let again = follows_run sc context ps level most (tree.while c b) k f t u (m, w.0, w.1, w.2, w.3, w.4, w.5) g room follows in
@@ -65,7 +65,7 @@ module _ (sc : Scopes) (context : Context) (ps : List Placed) (level most : ℕ)
 
   -- ---- lines
 
-  write_at : (n : Named) (spot : Spot) (phrases : List PhraseText) (es : PExprs) (f t u : ℕ) → WriteAt sc context ps level phrases es f t → Goes ps level t u →
+  write_at : (n : Named) (spot : Spot) (phrases : List PhraseText) (es : PExprs) (f t u : ℕ) → WriteAt sc context ps level phrases es f t → FragmentGoes ps level t u →
       Doing (tree.write n spot phrases es) f u
   write_at n spot phrases es f t u h g k r follows room c =
       after_rest sc context ps level most
@@ -75,7 +75,7 @@ module _ (sc : Scopes) (context : Context) (ps : List Placed) (level most : ℕ)
 
   -- ---- events and labels
 
-  acted_at : (act : EventAct) (e : EventName) (f t u : ℕ) → OnEventsAt sc context ps level (intrinsic_of (deeds.acts act)) (e.name ∷ []) f t → Goes ps level t u →
+  acted_at : (act : EventAct) (e : EventName) (f t u : ℕ) → OnEventsAt sc context ps level (intrinsic_of (deeds.acts act)) (e.name ∷ []) f t → FragmentGoes ps level t u →
       Doing (tree.event act e) f u
   acted_at act e f t u h g k r follows room c =
       let one = e.name ∷ [] in
@@ -112,7 +112,7 @@ module _ (sc : Scopes) (context : Context) (ps : List Placed) (level most : ℕ)
 
   -- over the block's code to its entry, which its control word and a mark announce
   inner_at : (spot : Spot) (d : PDecl) (ds : PDecls) (ss : PStmts) (f t u : ℕ) → StmtAt sc context ps level (tree.block (tree.body spot (tree.decls d ds) ss)) f t u →
-      Goes ps level t u → Doing (tree.block (tree.body spot (tree.decls d ds) ss)) f u
+      FragmentGoes ps level t u → Doing (tree.block (tree.body spot (tree.decls d ds) ss)) f u
   inner_at spot d ds ss f t u h g k r follows room c =
       let e = h.4 in
       let word = code_at context.segment h.1 (level + 1) in
@@ -128,7 +128,7 @@ module _ (sc : Scopes) (context : Context) (ps : List Placed) (level most : ℕ)
   -- ---- calls
 
   -- a mark, the reference of the procedure's control word, the actuals, after which it is entered
-  call_at : (n : Named) (es : PExprs) (f t u : ℕ) → CallStmtAt sc context ps level n es f t → Goes ps level t u → Doing (tree.call_of (tree.called n es)) f u
+  call_at : (n : Named) (es : PExprs) (f t u : ℕ) → CallStmtAt sc context ps level n es f t → FragmentGoes ps level t u → Doing (tree.call_of (tree.called n es)) f u
   call_at n es f t u h g k r follows room c =
       let entry = h.2 in
       let b = entry.2 in
@@ -137,7 +137,7 @@ module _ (sc : Scopes) (context : Context) (ps : List Placed) (level most : ℕ)
       let filled : ComesFilled sc context ps level most (parameter_wants sc h.0) (settled h.0) entry.0 begun begun entry.1 =
       actuals_at sc context ps level most es (sorts_of ((block_numbered sc.blocks h.0).parameters)) (parameter_wants sc h.0) (parameter_wants sc h.0) entry.0 entry.1 begun entry.3 [] [] refl tt
       (omega (arith, room)) in
-      subst (λ z. Coming (statement_called_of n (settled z) k) f (pend k)) (sym (ap block_of (b.procedure).sort_is))
+      subst (λ z. Coming (statement_called_of n (settled z) k) f (pend k)) (sym (ap block_of_sort (b.procedure).sort_is))
       (after_rest sc context ps level most (first (summon n h.0 b (omega (arith, room))) there)
       (after_rest sc context ps level most filled.leads
       (called_stands sc context ps level most n h.0 b.couple (settled h.0) k filled.at filled.with_slots entry.1 h.1 t b.procedure filled.fills entry.4 h.3
@@ -149,16 +149,16 @@ module _ (sc : Scopes) (context : Context) (ps : List Placed) (level most : ℕ)
   record Tasked (task : Option Named) (from to : ℕ) (below : List Slot) : Type 0 where
     tasked : Slot
     is : IsTask sc context task tasked
-    leads : Leads sc context ps level most from below to (tasked ∷ below)
+    leads : StepsLead sc context ps level most from below to (tasked ∷ below)
 
-  tasked_at : (task : Option Named) (from to : ℕ) (below : List Slot) → TaskAt sc context ps level task from to → HasRoom most below 1 → Tasked task from to below
+  tasked_at : (task : Option Named) (from to : ℕ) (below : List Slot) → TaskAt sc context ps level task from to → SlotsHaveRoom most below 1 → Tasked task from to below
   tasked_at None from to below h room =
       record { tasked = operand (number (pos 0)); is = refl; leads = first (push_number (pos 0) h room) there }
   tasked_at (Some n) from to below h room =
       record { tasked = reference h.0; is = (h.0, h.1, refl); leads = first (push_reference h.0 h.2 room) there }
 
   -- a mark, the references of the intrinsic and of the procedure's control word, the task, the actuals, after which the process is started
-  process_at : (n : Named) (es : PExprs) (task : Option Named) (f t u : ℕ) → StartAt sc context ps level n es task f t → Goes ps level t u →
+  process_at : (n : Named) (es : PExprs) (task : Option Named) (f t u : ℕ) → StartAt sc context ps level n es task f t → FragmentGoes ps level t u →
       Doing (tree.process (tree.called n es) task) f u
   process_at n es task f t u h g k r follows room c =
       let b = h.3 in
@@ -169,7 +169,7 @@ module _ (sc : Scopes) (context : Context) (ps : List Placed) (level most : ℕ)
       let filled : ComesFilled sc context ps level most (parameter_wants sc h.0) (settled h.0) h.1 begun begun h.2 =
       actuals_at sc context ps level most es (sorts_of ((block_numbered sc.blocks h.0).parameters)) (parameter_wants sc h.0) (parameter_wants sc h.0) h.1 h.2 begun h.4 [] [] refl tt
       (omega (arith, room)) in
-      subst (λ z. Coming (prepared_of n (settled z) task k) f (pend k)) (sym (ap block_of (b.procedure).sort_is))
+      subst (λ z. Coming (prepared_of n (settled z) task k) f (pend k)) (sym (ap block_of_sort (b.procedure).sort_is))
       (after_rest sc context ps level most (first (call Start b.intrinsic (omega (arith, room))) (first (push_reference b.couple b.reference (omega (arith, room))) d.leads))
       (after_rest sc context ps level most filled.leads
       (prepared_stands sc context ps level most n task h.0 b.couple d.tasked (settled h.0) k filled.at filled.with_slots h.2 t b.procedure b.untyped d.is filled.fills h.5
@@ -177,22 +177,22 @@ module _ (sc : Scopes) (context : Context) (ps : List Placed) (level most : ℕ)
 
   -- ---- all statements
 
-  pub items_follow : (ss : PStmts) (k : List Item) (f t u : ℕ) → StmtsAt sc context ps level ss f t u → Goes ps level t u → Following k u → HasRoom most (pend k) (stmts_depth ss) →
+  pub items_follow : (ss : PStmts) (k : List Item) (f t u : ℕ) → StmtsAt sc context ps level ss f t u → FragmentGoes ps level t u → Following k u → SlotsHaveRoom most (pend k) (stmts_depth ss) →
       Following (items ss k) f
   items_follow tree.no_stmts k f t u h g follows room = subst (Following k) (sym h) (follows_before sc context ps level most k g follows)
   items_follow (tree.stmts s tree.no_stmts) k f t u h g follows room = follows_run sc context ps level most s k f t u h g (omega (arith, room)) follows
   items_follow (tree.stmts s (tree.stmts s' ss)) k f t u h g follows room =
-      let deep : HasRoom most (pend (items (tree.stmts s' ss) k)) (stmt_depth s) = omega (arith, room, ap length (pend-items (tree.stmts s' ss) k)) in
+      let deep : SlotsHaveRoom most (pend (items (tree.stmts s' ss) k)) (stmt_depth s) = omega (arith, room, ap length (pend-items (tree.stmts s' ss) k)) in
       follows_run sc context ps level most s (items (tree.stmts s' ss) k) f h.0 h.0 h.1 stop deep
       (items_follow (tree.stmts s' ss) k h.0 t u h.2 g follows (omega (arith, room)))
 
   abbrev DoingAll : PStmts → ℕ → ℕ → Type 0
   DoingAll ss f u =
-      (k : List Item) (r : Rest) → Following k u → HasRoom most (pend k) (stmts_depth ss) → Coming r u (pend k) → Coming (settle_stmts sc ss k r) f (pend k)
+      (k : List Item) (r : Rest) → Following k u → SlotsHaveRoom most (pend k) (stmts_depth ss) → Coming r u (pend k) → Coming (settle_stmts sc ss k r) f (pend k)
 
   mutual
-    pub stmt_at : (s : PStmt) (f t u : ℕ) → StmtAt sc context ps level s f t u → Goes ps level t u → Doing s f u
-    stmt_at tree.empty f t u h g k r follows room c = after_rest sc context ps level most (leads_by sc context ps level most (subst (λ z. Goes ps level z u) (sym h) g)) c
+    pub stmt_at : (s : PStmt) (f t u : ℕ) → StmtAt sc context ps level s f t u → FragmentGoes ps level t u → Doing s f u
+    stmt_at tree.empty f t u h g k r follows room c = after_rest sc context ps level most (leads_by sc context ps level most (subst (λ z. FragmentGoes ps level z u) (sym h) g)) c
     stmt_at (tree.assign (tree.subscripted n tree.none) e) f t u h g k r follows room c =
         assign_at sc context ps level most n e f t k h (follows_before sc context ps level most k g follows) (omega (arith, room))
     stmt_at (tree.assign (tree.subscripted n (tree.more i is)) e) f t u h g k r follows room c =
@@ -247,8 +247,8 @@ module _ (sc : Scopes) (context : Context) (ps : List Placed) (level most : ℕ)
     stmt_at (tree.event act e) f t u h g k r follows room c = acted_at act e f t u h g k r follows room c
     stmt_at (tree.process (tree.called n es) task) f t u h g k r follows room c = process_at n es task f t u h g k r follows room c
 
-    pub stmts_at : (ss : PStmts) (f t u : ℕ) → StmtsAt sc context ps level ss f t u → Goes ps level t u → DoingAll ss f u
-    stmts_at tree.no_stmts f t u h g k r follows room c = after_rest sc context ps level most (leads_by sc context ps level most (subst (λ z. Goes ps level z u) (sym h) g)) c
+    pub stmts_at : (ss : PStmts) (f t u : ℕ) → StmtsAt sc context ps level ss f t u → FragmentGoes ps level t u → DoingAll ss f u
+    stmts_at tree.no_stmts f t u h g k r follows room c = after_rest sc context ps level most (leads_by sc context ps level most (subst (λ z. FragmentGoes ps level z u) (sym h) g)) c
     stmts_at (tree.stmts s tree.no_stmts) f t u h g k r follows room c = stmt_at s f t u h g k r follows (omega (arith, room)) c
     stmts_at (tree.stmts s (tree.stmts s' ss)) f t u h g k r follows room c =
         let more = tree.stmts s' ss in

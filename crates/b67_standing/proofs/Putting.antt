@@ -15,15 +15,15 @@ use Rattle.algol_meaning.specs.Rest as rests
 use Rattle.b67_deeds.specs.declared.EventTest.{EventTest}
 use Rattle.b67_deeds.specs.Deeds as deeds
 use Rattle.algol_meaning.specs.Rest.{Given, Hole, Actuals, Half, val, busy, HalfGiven, Answer}
-use Rattle.algol_meaning.specs.Settle.{subscripted_of, right_of, left_of, negated_of, inverted_of, condition_of, called_of, valued_of, half_of, settle, settle_actuals, put, put_actuals}
+use Rattle.algol_meaning.specs.Settle.{subscripted_of, right_of, left_of, negated_of, inverted_of, condition_of, called_of, valued_of, half_of, settle, settle_actuals, answer_put, put_actuals}
 use Rattle.algol_meaning.specs.Asks.{Ask, nothing, reads, reads_element, indexes, passes, event_deed, fails, ask_hole, ask_actuals}
 use Rattle.b67_segment.specs.Operators.{Placed}
 use Rattle.b67_templates.specs.Contexts as yielding
 use Rattle.b67_templates.specs.Contexts.{Yields, yields_of, Context}
-use Rattle.b67_templates.specs.Fragments.{HasKind, Goes, stop, over}
+use Rattle.b67_templates.specs.Fragments.{HasKind, FragmentGoes, stop, over}
 use Rattle.b67_templates.specs.Cells.{Wanted, parameter_wants}
 use Rattle.b67_templates.specs.Code.{ReadAt}
-use Rattle.b67_standing.specs.Stepping.{row, Slot, operand, descriptor, ready, HasRoom}
+use Rattle.b67_standing.specs.Stepping.{row, Slot, operand, descriptor, ready, SlotsHaveRoom}
 use Rattle.b67_standing.specs.Standing.{given_slots, call_begun, Gives, pushed, IsNext, ActsOnAt, ElementReadAt, of_row, Holds, Fills, ActionAt, Acted, Entered}
 use Rattle.b67_standing.proofs.Actuals.{ComesFilled, after_filled, actual_done, actual_stands, fills_room}
 use Rattle.b67_standing.proofs.Seeking.{Seeking, sought_in}
@@ -65,8 +65,8 @@ mutual
 
 -- where the head enters a procedure, the expression is in progress, and goes on with its value as after an answer
 pub record Inside (sc : Scopes) (h : Hole) : Type 0 where
-  pub inner : put sc h rests.entered ≡ busy (inside_of h)
-  pub same : (a : Answer) → put sc (inside_of h) a ≡ put sc h a
+  pub inner : answer_put sc h rests.entered ≡ busy (inside_of h)
+  pub same : (a : Answer) → answer_put sc (inside_of h) a ≡ answer_put sc h a
 
 pub record InsideActuals (sc : Scopes) (x : Actuals) : Type 0 where
   pub inner : put_actuals sc x rests.entered ≡ rests.wants (inside_actuals x)
@@ -77,9 +77,9 @@ pub record InsideActuals (sc : Scopes) (x : Actuals) : Type 0 where
 pub record PutsOn (sc : Scopes) (context : Context) (ps : List Placed) (level most : ℕ) (q : Ask) (k : Kind) (h : Hole) (pc : ℕ) (slots below : List Slot) (to : ℕ) : Type 0 where
   pub action : ActionAt sc context ps level most q pc slots
   pub answered : (a : Answer) (at : ℕ) (after : List Slot) → Acted sc context ps level most q pc slots action a at after →
-      Comes sc context ps level most k at after (put sc h a) below to
+      Comes sc context ps level most k at after (answer_put sc h a) below to
   pub returns : (at : ℕ) (after : List Slot) (wanted : Yields) → Entered sc context ps level most q pc slots action at after wanted → (a : Answer) → Gives wanted a →
-      Comes sc context ps level most k at (pushed wanted a after) (put sc h a) below to
+      Comes sc context ps level most k at (pushed wanted a after) (answer_put sc h a) below to
   pub inside : (at : ℕ) (after : List Slot) (wanted : Yields) → Entered sc context ps level most q pc slots action at after wanted → Inside sc h
 
 -- the same of actuals
@@ -99,31 +99,31 @@ module _ (sc : Scopes) (context : Context) (ps : List Placed) (level most : ℕ)
   abbrev Coming : Kind → ℕ → List Slot → Half → List Slot → ℕ → Type 0
   Coming = Comes sc context ps level most
 
-  read_answered : (k : Kind) (n : Named) (pc next : ℕ) (slots below : List Slot) (to : ℕ) (h : ReadAt sc context ps level n k pc next) (room : HasRoom most slots 1) → slots ≡ below →
-      Goes ps level next to → (a : Answer) (at : ℕ) (left : List Slot) → Acted sc context ps level most (reads n) pc slots (k, next, h, room) a at left →
+  read_answered : (k : Kind) (n : Named) (pc next : ℕ) (slots below : List Slot) (to : ℕ) (h : ReadAt sc context ps level n k pc next) (room : SlotsHaveRoom most slots 1) → slots ≡ below →
+      FragmentGoes ps level next to → (a : Answer) (at : ℕ) (left : List Slot) → Acted sc context ps level most (reads n) pc slots (k, next, h, room) a at left →
       Coming k at left (half_of a) below to
   read_answered k n pc next slots below to h room e g (rests.value v) at left l =
-      here sc context ps level most k at left (val v) below to (subst (λ z. Goes ps level z to) (sym l.0) g, l.1 ∙ ap (λ o. operand v ∷ o) e, l.2)
+      here sc context ps level most k at left (val v) below to (subst (λ z. FragmentGoes ps level z to) (sym l.0) g, l.1 ∙ ap (λ o. operand v ∷ o) e, l.2)
   read_answered k n pc next slots below to h room e g rests.done at left l = absurd l
   read_answered k n pc next slots below to h room e g (rests.cell c) at left l = absurd l
   read_answered k n pc next slots below to h room e g (rests.place p) at left l = absurd l
   read_answered k n pc next slots below to h room e g rests.entered at left l = absurd l
 
   element_answered : (k : Kind) (n : Named) (ks : List ℕ) (v : Value) (pc next : ℕ) (slots below : List Slot) (to : ℕ)
-      (r : ElementReadAt sc context ps level most n ks v pc next slots below) → (r.array).kind ≡ k → Goes ps level next to → (a : Answer) (at : ℕ) (left : List Slot) →
+      (r : ElementReadAt sc context ps level most n ks v pc next slots below) → (r.array).kind ≡ k → FragmentGoes ps level next to → (a : Answer) (at : ℕ) (left : List Slot) →
       Acted sc context ps level most (reads_element n ks v) pc slots (next, below, r) a at left → Coming k at left (half_of a) below to
   element_answered k n ks v pc next slots below to r same g (rests.value w) at left l =
-      here sc context ps level most k at left (val w) below to (subst (λ z. Goes ps level z to) (sym l.0) g, l.1, subst (λ z. HasKind z w) same l.2)
+      here sc context ps level most k at left (val w) below to (subst (λ z. FragmentGoes ps level z to) (sym l.0) g, l.1, subst (λ z. HasKind z w) same l.2)
   element_answered k n ks v pc next slots below to r same g rests.done at left l = absurd l
   element_answered k n ks v pc next slots below to r same g (rests.cell c) at left l = absurd l
   element_answered k n ks v pc next slots below to r same g (rests.place p) at left l = absurd l
   element_answered k n ks v pc next slots below to r same g rests.entered at left l = absurd l
 
   tested_answered : (k : Kind) (x : EventTest) (ns : List Named) (pc next : ℕ) (slots below : List Slot) (to : ℕ) → k ≡ told_by x →
-      (r : ActsOnAt sc context ps level most (deeds.tests x) ns pc next slots below) → Goes ps level next to → (a : Answer) (at : ℕ) (left : List Slot) →
+      (r : ActsOnAt sc context ps level most (deeds.tests x) ns pc next slots below) → FragmentGoes ps level next to → (a : Answer) (at : ℕ) (left : List Slot) →
       Acted sc context ps level most (event_deed (deeds.tests x) ns) pc slots (next, below, r) a at left → Coming k at left (half_of a) below to
   tested_answered k x ns pc next slots below to same r g (rests.value v) at left l =
-      here sc context ps level most k at left (val v) below to (subst (λ z. Goes ps level z to) (sym l.0) g, l.1, subst (λ z. HasKind z v) (sym same) l.2)
+      here sc context ps level most k at left (val v) below to (subst (λ z. FragmentGoes ps level z to) (sym l.0) g, l.1, subst (λ z. HasKind z v) (sym same) l.2)
   tested_answered k x ns pc next slots below to same r g rests.done at left l = absurd l
   tested_answered k x ns pc next slots below to same r g (rests.cell c) at left l = absurd l
   tested_answered k x ns pc next slots below to same r g (rests.place p) at left l = absurd l
@@ -149,7 +149,7 @@ module _ (sc : Scopes) (context : Context) (ps : List Placed) (level most : ℕ)
   row_answered : (k : Kind) (n : Named) (ks : List ℕ) (v : Value) (e : PExpr) (pc : ℕ) (slots below : List Slot) (to : ℕ)
       (s : Holds sc context ps level most k (rests.index n ks v e tree.none) pc slots below to) (a : Answer) (at : ℕ) (left : List Slot) →
       Acted sc context ps level most (indexes n ks v) pc slots (of_row s.0 s.1 s.2 below s.5) a at left →
-      Coming k at left (put sc (rests.index n ks v e tree.none) a) below to
+      Coming k at left (answer_put sc (rests.index n ks v e tree.none) a) below to
   row_answered k n ks v e pc slots below to s (rests.place (rests.element_of r more)) at left l =
       let half = subscripted_of n more (settle sc e) tree.none in
       subst (λ z. Coming k z left half below to) (sym l.0) (subst (λ o. Coming k s.2 o half below to) (sym l.1) (row_on k n ks v e pc slots below to s more l.2))
@@ -169,16 +169,16 @@ module _ (sc : Scopes) (context : Context) (ps : List Placed) (level most : ℕ)
   no_answer fault pc slots h rests.entered at left l = l
 
   -- the value that a part inside gives lies where that of the expression is to lie
-  value_given : (k : Kind) (next : ℕ) (below : List Slot) (to : ℕ) → Goes ps level next to → (a : Answer) (at : ℕ) (left : List Slot) → at ≡ next → left ≡ below →
+  value_given : (k : Kind) (next : ℕ) (below : List Slot) (to : ℕ) → FragmentGoes ps level next to → (a : Answer) (at : ℕ) (left : List Slot) → at ≡ next → left ≡ below →
       Gives (yielding.value k) a → Coming k at (pushed (yielding.value k) a left) (half_of a) below to
   value_given k next below to g (rests.value v) at left e l fits =
-      here sc context ps level most k at (operand v ∷ left) (val v) below to (subst (λ z. Goes ps level z to) (sym e) g, ap (λ o. operand v ∷ o) l, fits)
+      here sc context ps level most k at (operand v ∷ left) (val v) below to (subst (λ z. FragmentGoes ps level z to) (sym e) g, ap (λ o. operand v ∷ o) l, fits)
   value_given k next below to g rests.done at left e l fits = absurd fits
   value_given k next below to g (rests.cell c) at left e l fits = absurd fits
   value_given k next below to g (rests.place p) at left e l fits = absurd fits
   value_given k next below to g rests.entered at left e l fits = absurd fits
 
-  given_back : (k : Kind) (next : ℕ) (below : List Slot) (to : ℕ) → Goes ps level next to → (wanted : Yields) → wanted ≡ yielding.value k → (a : Answer) (at : ℕ) (left : List Slot) →
+  given_back : (k : Kind) (next : ℕ) (below : List Slot) (to : ℕ) → FragmentGoes ps level next to → (wanted : Yields) → wanted ≡ yielding.value k → (a : Answer) (at : ℕ) (left : List Slot) →
       at ≡ next → left ≡ below → Gives wanted a → Coming k at (pushed wanted a left) (half_of a) below to
   given_back k next below to g wanted is a at left e l fits =
       subst (λ (y : Yields). Gives y a → Coming k at (pushed y a left) (half_of a) below to) (sym is) (λ f. value_given k next below to g a at left e l f) fits
@@ -202,7 +202,7 @@ module _ (sc : Scopes) (context : Context) (ps : List Placed) (level most : ℕ)
   mutual
     pub puts_on : (k : Kind) (h : Hole) (pc : ℕ) (slots below : List Slot) (to : ℕ) → Holds sc context ps level most k h pc slots below to → Putting k h pc slots below to
     puts_on k (rests.read n) pc slots below to s =
-        let room : HasRoom most slots 1 = subst (λ o. HasRoom most o 1) (sym s.2) s.3 in
+        let room : SlotsHaveRoom most slots 1 = subst (λ o. SlotsHaveRoom most o 1) (sym s.2) s.3 in
         record {
           action = (k, s.0, s.1, room);
           answered = read_answered k n pc s.0 slots below to s.1 room s.2 s.4;
@@ -241,8 +241,8 @@ module _ (sc : Scopes) (context : Context) (ps : List Placed) (level most : ℕ)
         (subscript_at sc context ps level most k n s.0 s.1 z c.at c.with_slots ks es below s.2 s.3 to s.4 s.5 (w.back z c.at c.with_slots c.shows) s.7 s.8) in
         record {
           action = p.action;
-          answered = λ a at left l. go (put sc h a) at left (p.answered a at left l);
-          returns = λ at left wanted l a fits. go (put sc h a) at (pushed wanted a left) (p.returns at left wanted l a fits);
+          answered = λ a at left l. go (answer_put sc h a) at left (p.answered a at left l);
+          returns = λ at left wanted l a fits. go (answer_put sc h a) at (pushed wanted a left) (p.returns at left wanted l a fits);
           inside = λ at left wanted l.
               let i = p.inside at left wanted l in record { inner = ap (λ z. subscripted_of n ks z es) i.inner; same = λ a. ap (λ z. subscripted_of n ks z es) (i.same a) };
         }
@@ -262,8 +262,8 @@ module _ (sc : Scopes) (context : Context) (ps : List Placed) (level most : ℕ)
         (λ o room. settle_at sc context ps level most (taken_by op) b s.1 s.2 s.2 s.7 stop o room) s.9 s.10)) in
         record {
           action = p.action;
-          answered = λ a at left l. go (put sc h a) at left (p.answered a at left l);
-          returns = λ at left wanted l a fits. go (put sc h a) at (pushed wanted a left) (p.returns at left wanted l a fits);
+          answered = λ a at left l. go (answer_put sc h a) at left (p.answered a at left l);
+          returns = λ at left wanted l a fits. go (answer_put sc h a) at (pushed wanted a left) (p.returns at left wanted l a fits);
           inside = λ at left wanted l.
               let i = p.inside at left wanted l in record { inner = ap around i.inner; same = λ a. ap around (i.same a) };
         }
@@ -274,8 +274,8 @@ module _ (sc : Scopes) (context : Context) (ps : List Placed) (level most : ℕ)
         (after sc context ps level most (given_by op) c.leads (right_at sc context ps level most op v z c.at c.with_slots below s.0 s.1 to c.shows s.3 s.5 s.6)) in
         record {
           action = p.action;
-          answered = λ a at left l. go (put sc h a) at left (p.answered a at left l);
-          returns = λ at left wanted l a fits. go (put sc h a) at (pushed wanted a left) (p.returns at left wanted l a fits);
+          answered = λ a at left l. go (answer_put sc h a) at left (p.answered a at left l);
+          returns = λ at left wanted l a fits. go (answer_put sc h a) at (pushed wanted a left) (p.returns at left wanted l a fits);
           inside = λ at left wanted l.
               let i = p.inside at left wanted l in record { inner = ap (right_of op v) i.inner; same = λ a. ap (right_of op v) (i.same a) };
         }
@@ -286,8 +286,8 @@ module _ (sc : Scopes) (context : Context) (ps : List Placed) (level most : ℕ)
         (after sc context ps level most types.Number c.leads (negated_at sc context ps level most z c.at c.with_slots below s.0 s.1 to c.shows s.4 s.5)) in
         record {
           action = p.action;
-          answered = λ a at left l. go (put sc h a) at left (p.answered a at left l);
-          returns = λ at left wanted l a fits. go (put sc h a) at (pushed wanted a left) (p.returns at left wanted l a fits);
+          answered = λ a at left l. go (answer_put sc h a) at left (p.answered a at left l);
+          returns = λ at left wanted l a fits. go (answer_put sc h a) at (pushed wanted a left) (p.returns at left wanted l a fits);
           inside = λ at left wanted l.
               let i = p.inside at left wanted l in record { inner = ap negated_of i.inner; same = λ a. ap negated_of (i.same a) };
         }
@@ -298,8 +298,8 @@ module _ (sc : Scopes) (context : Context) (ps : List Placed) (level most : ℕ)
         (after sc context ps level most types.Truth c.leads (inverted_at sc context ps level most z c.at c.with_slots below s.0 s.1 to c.shows s.4 s.5)) in
         record {
           action = p.action;
-          answered = λ a at left l. go (put sc h a) at left (p.answered a at left l);
-          returns = λ at left wanted l a fits. go (put sc h a) at (pushed wanted a left) (p.returns at left wanted l a fits);
+          answered = λ a at left l. go (answer_put sc h a) at left (p.answered a at left l);
+          returns = λ at left wanted l a fits. go (answer_put sc h a) at (pushed wanted a left) (p.returns at left wanted l a fits);
           inside = λ at left wanted l.
               let i = p.inside at left wanted l in record { inner = ap inverted_of i.inner; same = λ a. ap inverted_of (i.same a) };
         }
@@ -313,8 +313,8 @@ module _ (sc : Scopes) (context : Context) (ps : List Placed) (level most : ℕ)
         (settle_at sc context ps level most k y s.3 s.4 s.5 s.10 s.11 below (omega (arith, s.13)))) in
         record {
           action = p.action;
-          answered = λ a at left l. go (put sc h a) at left (p.answered a at left l);
-          returns = λ at left wanted l a fits. go (put sc h a) at (pushed wanted a left) (p.returns at left wanted l a fits);
+          answered = λ a at left l. go (answer_put sc h a) at left (p.answered a at left l);
+          returns = λ at left wanted l a fits. go (answer_put sc h a) at (pushed wanted a left) (p.returns at left wanted l a fits);
           inside = λ at left wanted l.
               let i = p.inside at left wanted l in record { inner = ap around i.inner; same = λ a. ap around (i.same a) };
         }
@@ -347,8 +347,8 @@ module _ (sc : Scopes) (context : Context) (ps : List Placed) (level most : ℕ)
         (record { wants_are = s.4; fit = s.5; actuals = s.7; room = s.8 }) c.shows (actuals_at sc context ps level most es sorts s.2 all s.3 filled begun s.7)) in
         record {
           action = p.action;
-          answered = λ a at left l. go (put sc h a) at left (p.answered a at left l);
-          returns = λ at left wanted l a fits. go (put sc h a) at (pushed wanted a left) (p.returns at left wanted l a fits);
+          answered = λ a at left l. go (answer_put sc h a) at left (p.answered a at left l);
+          returns = λ at left wanted l a fits. go (answer_put sc h a) at (pushed wanted a left) (p.returns at left wanted l a fits);
           inside = λ at left wanted l.
               let i = p.inside at left wanted l in record { inner = ap around i.inner; same = λ a. ap around (i.same a) };
         }

@@ -22,13 +22,13 @@ use Rattle.b67_ops.specs.declared.BranchKind.TheVariants.{Brfl, Brtr}
 use Rattle.b67_ops.specs.declared.intrinsic.Intrinsic.TheVariants.{Select}
 use Rattle.b67_segment.specs.Operators.{Placed}
 use Rattle.b67_templates.specs.Contexts.{Context}
-use Rattle.b67_templates.specs.Fragments.{IsWhole, HasKind, Has, BranchAt, TurnAt, Goes, stop}
+use Rattle.b67_templates.specs.Fragments.{IsWholeNumber, HasKind, Has, BranchAt, TurnAt, FragmentGoes, stop}
 use Rattle.b67_templates.specs.Cells.{parameter_wants, IsVariable, IsProcedure}
 use Rattle.b67_templates.specs.Code as code
 use Rattle.b67_templates.specs.Code.{FormatIs, DroppedAt, PlaceAt, ExprAt, AssignAt, LineAt, TableAt, StmtAt, CasesAt, exprs_count, stmts_count}
 use Rattle.b67_templates.specs.Depths.{depth, line_depth, stmt_depth, stmts_depth, counts_in, AreShallow}
-use Rattle.b67_standing.specs.Stepping.{Slot, operand, reference, intrinsic, mark, HasRoom, push_number, push_reference, false_stays, false_goes, true_stays, true_goes, Leads, there, first}
-use Rattle.b67_standing.specs.Standing.{pend, operands, AreNumbers, line_begun, call_begun, start_begun, IsTask, Follows, CallsAt, StartsAt, Holds, Shows, WhileAt, StandsFor, ComesTo}
+use Rattle.b67_standing.specs.Stepping.{Slot, operand, reference, intrinsic, mark, SlotsHaveRoom, push_number, push_reference, false_stays, false_goes, true_stays, true_goes, StepsLead, there, first}
+use Rattle.b67_standing.specs.Standing.{pend, operands, AreNumbers, line_begun, call_begun, start_begun, IsTask, SlotsFollow, CallsAt, StartsAt, Holds, Shows, WhileAt, StandsFor, ComesTo}
 use Rattle.b67_standing.proofs.Leading.{depth-positive, on, valued_at, follows_run}
 use Rattle.b67_standing.proofs.Asking.{resolves_asks, stores_asks, selects_asks, turns_asks, writes_asks, calls_asks, starts_asks, holds_asks, fills_asks}
 use Rattle.b67_standing.proofs.Actuals.{operands-more, operands-length, Filled}
@@ -56,12 +56,12 @@ module _ (sc : Scopes) (context : Context) (ps : List Placed) (level most : ℕ)
   Coming = ComesTo sc context ps level most
 
   abbrev Following : List Item → ℕ → Type 0
-  Following = Follows sc context ps level most
+  Following = SlotsFollow sc context ps level most
 
   abbrev Showing : Kind → Half → ℕ → List Slot → List Slot → ℕ → Type 0
   Showing = Shows sc context ps level most
 
-  pub after_rest : {a b : ℕ} {x y : List Slot} {r : Rest} → Leads sc context ps level most a x b y → Coming r b y → Coming r a x
+  pub after_rest : {a b : ℕ} {x y : List Slot} {r : Rest} → StepsLead sc context ps level most a x b y → Coming r b y → Coming r a x
   after_rest l c = record { at = c.at; with_slots = c.with_slots; leads = on sc context ps level most l c.leads; stands = c.stands; asks = c.asks }
 
   pub stays_here : (pc : ℕ) (slots : List Slot) (r : Rest) → (ask r ≡ nothing → ⊥) → StandsFor sc context ps level most r pc slots → Coming r pc slots
@@ -70,8 +70,8 @@ module _ (sc : Scopes) (context : Context) (ps : List Placed) (level most : ℕ)
   pub heads_ask : (k : Kind) (h : Hole) (pc : ℕ) (slots below : List Slot) (to : ℕ) → Holds sc context ps level most k h pc slots below to → ask_hole h ≡ nothing → ⊥
   heads_ask = holds_asks sc context ps level most
 
-  pub value_at : (pc : ℕ) (slots : List Slot) (v : Value) (below : List Slot) (to : ℕ) → Goes ps level pc to → slots ≡ operand v ∷ below →
-      Leads sc context ps level most pc slots to (operand v ∷ below)
+  pub value_at : (pc : ℕ) (slots : List Slot) (v : Value) (below : List Slot) (to : ℕ) → FragmentGoes ps level pc to → slots ≡ operand v ∷ below →
+      StepsLead sc context ps level most pc slots to (operand v ∷ below)
   value_at = valued_at sc context ps level most
 
   -- ---- turns
@@ -98,7 +98,7 @@ module _ (sc : Scopes) (context : Context) (ps : List Placed) (level most : ℕ)
       stays_here pc slots (rests.storing (own n) x k) (heads_ask kind x pc slots (reference couple ∷ pend k) m s) (kind, couple, m, next, i, s, h, f)
 
   assign_by : (n : Named) (kind : Kind) (e : PExpr) (f m q t : ℕ) (k : List Item) → PlaceAt sc context ps level n kind f m → ExprAt sc context ps level kind e m q q →
-      Has ps level q (ops.Plain kinds.Stod) t → Following k t → HasRoom most (pend k) (1 + depth e) →
+      Has ps level q (ops.Plain kinds.Stod) t → Following k t → SlotsHaveRoom most (pend k) (1 + depth e) →
       Coming (aimed_at (settle_place sc (tree.subscripted n tree.none)) e (settle sc e) k) f (pend k)
   assign_by n kind e f m q t k (code.own i) right store follows room =
       let c = settle_at sc context ps level most kind e m q q right stop (reference i.0 ∷ pend k) (omega (arith, room)) in
@@ -111,7 +111,7 @@ module _ (sc : Scopes) (context : Context) (ps : List Placed) (level most : ℕ)
       (stays_here p (reference c ∷ pend k) (rests.aiming (rests.resolve n) e k) (resolves_asks n)
       (kind, m, q, t, record { couple = c; is_formal = i; lies = refl; stands = resolves }, right, store, follows, room)))
 
-  pub assign_at : (n : Named) (e : PExpr) (f t : ℕ) (k : List Item) → AssignAt sc context ps level n e f t → Following k t → HasRoom most (pend k) (1 + depth e) →
+  pub assign_at : (n : Named) (e : PExpr) (f t : ℕ) (k : List Item) → AssignAt sc context ps level n e f t → Following k t → SlotsHaveRoom most (pend k) (1 + depth e) →
       Coming (aimed_at (settle_place sc (tree.subscripted n tree.none)) e (settle sc e) k) f (pend k)
   assign_at n e f t k h follows room = assign_by n h.0 e f h.1 h.2 t k h.3 h.4 h.5 follows room
 
@@ -123,8 +123,8 @@ module _ (sc : Scopes) (context : Context) (ps : List Placed) (level most : ℕ)
   rest_parted false x y m f m' below h c d = after_rest (first (false_goes h) there) d
 
   pub chosen_stands : (x : Half) (a b : PStmt) (k : List Item) (s r : Rest) (pc : ℕ) (slots : List Slot) (m m' n f t u : ℕ) → Showing types.Truth x pc slots (pend k) m →
-      BranchAt ps level Brfl m f m' → StmtAt sc context ps level a m' n u → Goes ps level n u → StmtAt sc context ps level b f t u → Goes ps level t u → Following k u →
-      HasRoom most (pend k) (stmt_depth a + stmt_depth b) → Coming s m' (pend k) → Coming r f (pend k) → Coming (chosen_of x a b k s r) pc slots
+      BranchAt ps level Brfl m f m' → StmtAt sc context ps level a m' n u → FragmentGoes ps level n u → StmtAt sc context ps level b f t u → FragmentGoes ps level t u → Following k u →
+      SlotsHaveRoom most (pend k) (stmt_depth a + stmt_depth b) → Coming s m' (pend k) → Coming r f (pend k) → Coming (chosen_of x a b k s r) pc slots
   chosen_stands (val (truth c)) a b k s r pc slots m m' n f t u sh h i g j l follows room y z =
       after_rest (value_at pc slots (truth c) (pend k) m sh.0 sh.1) (rest_parted c s r m f m' (pend k) h y z)
   chosen_stands (val (number c)) a b k s r pc slots m m' n f t u sh h i g j l follows room y z = absurd sh.2
@@ -132,7 +132,7 @@ module _ (sc : Scopes) (context : Context) (ps : List Placed) (level most : ℕ)
       stays_here pc slots (rests.choosing x a b k) (heads_ask types.Truth x pc slots (pend k) m sh) (m, m', n, f, t, u, sh, h, i, g, j, l, follows, room)
 
   pub looped_stands : (x : Half) (c : PExpr) (b : PStmt) (k : List Item) (s r : Rest) (pc : ℕ) (slots : List Slot) (f m t u : ℕ) → Showing types.Truth x pc slots (pend k) m →
-      (w : WhileAt sc context ps level most c b f m t u) → Goes ps level t u → Following k u → HasRoom most (pend k) (depth c + stmt_depth b) → Coming s w.0 (pend k) →
+      (w : WhileAt sc context ps level most c b f m t u) → FragmentGoes ps level t u → Following k u → SlotsHaveRoom most (pend k) (depth c + stmt_depth b) → Coming s w.0 (pend k) →
       Coming r u (pend k) → Coming (looped_of x c b k s r) pc slots
   looped_stands (val (truth v)) c b k s r pc slots f m t u sh w g follows room y z =
       after_rest (value_at pc slots (truth v) (pend k) m sh.0 sh.1) (rest_parted v s r m u w.0 (pend k) w.3 y z)
@@ -141,8 +141,8 @@ module _ (sc : Scopes) (context : Context) (ps : List Placed) (level most : ℕ)
       stays_here pc slots (rests.looping x c b k) (heads_ask types.Truth x pc slots (pend k) m sh) (f, m, t, u, sh, w, g, follows, room)
 
   pub checked_stands : (x : Half) (b : PStmt) (c : PExpr) (k : List Item) (r : Rest) (pc : ℕ) (slots : List Slot) (f q m m' t u : ℕ) → Showing types.Truth x pc slots (pend k) m →
-      StmtAt sc context ps level b f q q → ExprAt sc context ps level types.Truth c q m m → BranchAt ps level Brtr m u m' → TurnAt ps level m' f t → Goes ps level t u →
-      Following k u → HasRoom most (pend k) (stmt_depth b + depth c) → Coming r u (pend k) → Coming (checked_of x b c k r) pc slots
+      StmtAt sc context ps level b f q q → ExprAt sc context ps level types.Truth c q m m → BranchAt ps level Brtr m u m' → TurnAt ps level m' f t → FragmentGoes ps level t u →
+      Following k u → SlotsHaveRoom most (pend k) (stmt_depth b + depth c) → Coming r u (pend k) → Coming (checked_of x b c k r) pc slots
   checked_stands (val (truth true)) b c k r pc slots f q m m' t u sh i e h j g follows room y =
       after_rest (value_at pc slots (truth true) (pend k) m sh.0 sh.1) (after_rest (first (true_goes h) there) y)
   checked_stands (val (truth false)) b c k r pc slots f q m m' t u sh i e h j g follows room y =
@@ -156,7 +156,7 @@ module _ (sc : Scopes) (context : Context) (ps : List Placed) (level most : ℕ)
   -- ---- the number of a CASE
 
   pub selected_stands : (x : Half) (ss : PStmts) (k : List Item) (pc : ℕ) (slots : List Slot) (m table u : ℕ) → Showing types.Number x pc slots (intrinsic Select ∷ mark ∷ pend k) m →
-      TableAt sc context ps level (stmts_count ss) m table → CasesAt sc context ps level ss table u → Following k u → HasRoom most (pend k) (5 + stmts_depth ss) →
+      TableAt sc context ps level (stmts_count ss) m table → CasesAt sc context ps level ss table u → Following k u → SlotsHaveRoom most (pend k) (5 + stmts_depth ss) →
       Coming (selected_of x ss k) pc slots
   selected_stands (val v) ss k pc slots m table u sh h c follows room =
       let begun = intrinsic Select ∷ mark ∷ pend k in
@@ -172,7 +172,7 @@ module _ (sc : Scopes) (context : Context) (ps : List Placed) (level most : ℕ)
 
   pub called_stands : (n : Named) (callee : ℕ) (couple : Couple) (x : HalfGiven) (k : List Item) (pc : ℕ) (slots : List Slot) (filled next u : ℕ) → IsProcedure sc context.level n callee couple →
       Filled sc context ps level most (parameter_wants sc callee) x pc slots (call_begun couple (pend k)) filled → Has ps level filled (ops.Plain kinds.Entr) next →
-      DroppedAt sc context ps level (block_numbered sc.blocks callee).result next u → Following k u → HasRoom most (pend k) 2 → Coming (statement_called_of n x k) pc slots
+      DroppedAt sc context ps level (block_numbered sc.blocks callee).result next u → Following k u → SlotsHaveRoom most (pend k) 2 → Coming (statement_called_of n x k) pc slots
   called_stands n callee couple (given gs) k pc slots filled next u p s h d follows room =
       let calls : CallsAt sc context ps level most n gs callee pc next slots (pend k) =
       record { couple = couple; procedure = p; fit = s.1; lies = s.2; stands = subst (λ z. Has ps level z (ops.Plain kinds.Entr) next) (sym s.0) h } in
@@ -207,13 +207,13 @@ module _ (sc : Scopes) (context : Context) (ps : List Placed) (level most : ℕ)
   -- what becomes of the line once these items have values
   abbrev LineOn : PExprs → List PhraseText → List Item → ℕ → ℕ → Type 0
   LineOn es phrases k format m =
-      (us : List Value) → FormatIs sc context ps level format phrases (length us + exprs_count es) → AreNumbers us → HasRoom most (pend k) (3 + length us + line_depth es) →
+      (us : List Value) → FormatIs sc context ps level format phrases (length us + exprs_count es) → AreNumbers us → SlotsHaveRoom most (pend k) (3 + length us + line_depth es) →
       Coming (settle_line sc es phrases k us) m (operands us (line_begun format (pend k)))
 
   pub item_stands : (phrases : List PhraseText) (vs : List Value) (x : Half) (es : PExprs) (k : List Item) (format m n next pc : ℕ) (slots : List Slot) →
       Showing types.Number x pc slots (operands vs (line_begun format (pend k))) m → LineAt sc context ps level es m n → Has ps level n (ops.Plain kinds.Entr) next →
-      FormatIs sc context ps level format phrases (length vs + 1 + exprs_count es) → IsWhole (pos format) → AreNumbers vs → Following k next →
-      HasRoom most (pend k) (3 + length vs + 1 + line_depth es) → LineOn es phrases k format m → Coming (item_of phrases vs x es k (settle_line sc es phrases k)) pc slots
+      FormatIs sc context ps level format phrases (length vs + 1 + exprs_count es) → IsWholeNumber (pos format) → AreNumbers vs → Following k next →
+      SlotsHaveRoom most (pend k) (3 + length vs + 1 + line_depth es) → LineOn es phrases k format m → Coming (item_of phrases vs x es k (settle_line sc es phrases k)) pc slots
   item_stands phrases vs (val v) es k format m n next pc slots sh l h is whole fits follows room c =
       let begun = line_begun format (pend k) in
       let us = vs ++ v ∷ [] in
@@ -227,7 +227,7 @@ module _ (sc : Scopes) (context : Context) (ps : List Placed) (level most : ℕ)
       (format, m, n, next, is, whole, fits, sh, l, h, follows, room)
 
   pub line_at : (es : PExprs) (phrases : List PhraseText) (k : List Item) (format f n next : ℕ) → LineAt sc context ps level es f n → Has ps level n (ops.Plain kinds.Entr) next →
-      IsWhole (pos format) → Following k next → LineOn es phrases k format f
+      IsWholeNumber (pos format) → Following k next → LineOn es phrases k format f
   line_at tree.none phrases k format f n next l h whole follows vs is fits room =
       let begun = line_begun format (pend k) in
       let same : length vs + 0 ≡ length vs = omega arith in

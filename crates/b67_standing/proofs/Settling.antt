@@ -17,20 +17,20 @@ use Rattle.algol_tree.specs.Scopes.{Scopes}
 use Rattle.algol_meaning.specs.Value.{number, truth}
 use Rattle.algol_meaning.specs.Rest as rests
 use Rattle.algol_meaning.specs.Rest.{Half, val, busy, HalfGiven, given}
-use Rattle.algol_meaning.specs.Settle.{left_of, negated_of, inverted_of, named_of, called_of, sorts_of, block_of, sort_at, actual_of, settle, settle_actuals}
+use Rattle.algol_meaning.specs.Settle.{left_of, negated_of, inverted_of, named_of, called_of, sorts_of, block_of_sort, sort_at, actual_of, settle, settle_actuals}
 use Rattle.b67_ops.specs.declared.Couple.{Couple}
 use Rattle.b67_ops.specs.declared.Operator.TheVariants as ops
 use Rattle.b67_ops.specs.declared.PlainKind.TheVariants as kinds
 use Rattle.b67_segment.specs.Operators.{Placed}
 use Rattle.b67_templates.specs.Contexts.{Context}
-use Rattle.b67_templates.specs.Fragments.{Has, Goes, stop, over}
+use Rattle.b67_templates.specs.Fragments.{Has, FragmentGoes, stop, over}
 use Rattle.b67_templates.specs.Cells as wants
 use Rattle.b67_templates.specs.Cells.{Wanted, parameter_wants, IsProcedure, IsRead, of_variable, of_formal}
 use Rattle.b67_templates.specs.Code.{NameAt, reads, calls, ExprAt, ActualsAt}
 use Rattle.b67_templates.specs.Events.{names_of, AreSoMany, OnEventsAt}
 use Rattle.b67_templates.specs.Depths.{depth}
-use Rattle.b67_standing.specs.Stepping.{Slot, operand, reference, mark, HasRoom, push_number, push_truth, summon, there, first}
-use Rattle.b67_standing.specs.Standing.{given_slots, call_begun, AreGiven}
+use Rattle.b67_standing.specs.Stepping.{Slot, operand, reference, mark, SlotsHaveRoom, push_number, push_truth, summon, there, first}
+use Rattle.b67_standing.specs.Standing.{given_slots, call_begun, ActualsAreGiven}
 use Rattle.b67_standing.proofs.Leading.{depth-positive}
 use Rattle.b67_standing.proofs.OnEvents.{all_named, events_named, events_there}
 use Rattle.b67_standing.proofs.Actuals.{given_slots-length, Filled, ComesFilled, after_filled, ActualsOn, actual_stands, array_stands, event_stands, name_stands}
@@ -47,7 +47,7 @@ module _ (sc : Scopes) (context : Context) (ps : List Placed) (level most : ℕ)
   read_alone k n c (of_variable i) = variable_reads (sort_at sc n) n i.variable
   read_alone k n c (of_formal i) = formal_reads (sort_at sc n) n i.sort_is
 
-  name_at : (k : Kind) (n : Named) (f t u : ℕ) → NameAt sc context ps level k n f t → Goes ps level t u → (below : List Slot) → HasRoom most below 2 →
+  name_at : (k : Kind) (n : Named) (f t u : ℕ) → NameAt sc context ps level k n f t → FragmentGoes ps level t u → (below : List Slot) → SlotsHaveRoom most below 2 →
       Coming k f below (named_of (procedure_in (sort_at sc n)) n) below u
   name_at k n f t u (reads h) g below room =
       subst (λ x. Coming k f below x below u) (sym (read_alone k n h.0 h.1))
@@ -62,7 +62,7 @@ module _ (sc : Scopes) (context : Context) (ps : List Placed) (level most : ℕ)
         record {
           couple = b.couple;
           procedure = b.procedure;
-          fit = subst (λ o. AreGiven sc context o []) (sym none) tt;
+          fit = subst (λ o. ActualsAreGiven sc context o []) (sym none) tt;
           lies = ap (λ o. given_slots o [] (reference b.couple ∷ mark ∷ below)) (sym none);
           stands = subst (λ z. Has ps level z (ops.Plain kinds.Entr) t) (sym c.3) c.4;
         },
@@ -74,7 +74,7 @@ module _ (sc : Scopes) (context : Context) (ps : List Placed) (level most : ℕ)
   -- a call whose actuals are settled as far as that goes
   pub called_stands : (k : Kind) (n : Named) (callee : ℕ) (couple : Couple) (x : HalfGiven) (pc : ℕ) (slots below : List Slot) (filled next to : ℕ) → IsProcedure sc context.level n callee couple →
       Filled sc context ps level most (parameter_wants sc callee) x pc slots (call_begun couple below) filled → Has ps level filled (ops.Plain kinds.Entr) next →
-      (block_numbered sc.blocks callee).result ≡ Some k → HasRoom most below 2 → Goes ps level next to → Coming k pc slots (called_of n x) below to
+      (block_numbered sc.blocks callee).result ≡ Some k → SlotsHaveRoom most below 2 → FragmentGoes ps level next to → Coming k pc slots (called_of n x) below to
   called_stands k n callee couple (given gs) pc slots below filled next to p s h e room g =
       here sc context ps level most k pc slots (busy (rests.enter n gs)) below to (
         callee,
@@ -88,15 +88,15 @@ module _ (sc : Scopes) (context : Context) (ps : List Placed) (level most : ℕ)
       here sc context ps level most k pc slots (busy (rests.argument n x)) below to (callee, couple, filled, next, e, p, s, h, g)
 
   -- a test of events
-  event_tested : (x : EventTest) (ns : List Named) (f t u : ℕ) → AreSoMany (deeds.tests x) ns → OnEventsAt sc context ps level (intrinsic_of (deeds.tests x)) ns f t → Goes ps level t u →
-      (below : List Slot) → HasRoom most below (2 + length ns) → Coming (told_by x) f below (busy (rests.tests x ns)) below u
+  event_tested : (x : EventTest) (ns : List Named) (f t u : ℕ) → AreSoMany (deeds.tests x) ns → OnEventsAt sc context ps level (intrinsic_of (deeds.tests x)) ns f t → FragmentGoes ps level t u →
+      (below : List Slot) → SlotsHaveRoom most below (2 + length ns) → Coming (told_by x) f below (busy (rests.tests x ns)) below u
   event_tested x ns f t u many h g below room =
       after sc context ps level most (told_by x) (events_named sc context ps level most (deeds.tests x) ns f t h below room)
       (here sc context ps level most (told_by x) h.referred (all_named sc context ps level most (deeds.tests x) ns f t h below) (busy (rests.tests x ns)) below u
       (t, refl, events_there sc context ps level most (deeds.tests x) ns f t h below many, g))
 
   mutual
-    pub settle_at : (k : Kind) (e : PExpr) (f t u : ℕ) → ExprAt sc context ps level k e f t u → Goes ps level t u → (below : List Slot) → HasRoom most below (depth e) →
+    pub settle_at : (k : Kind) (e : PExpr) (f t u : ℕ) → ExprAt sc context ps level k e f t u → FragmentGoes ps level t u → (below : List Slot) → SlotsHaveRoom most below (depth e) →
         Coming k f below (settle sc e) below u
     settle_at k (tree.number z spot) f t u h g below room =
         of_kind sc context ps level most f below (val (number z)) below u h.0
@@ -134,7 +134,7 @@ module _ (sc : Scopes) (context : Context) (ps : List Placed) (level most : ℕ)
         let filled : ComesFilled sc context ps level most (parameter_wants sc h.0) (settled h.0) c.0 (call_begun b.couple below) (call_begun b.couple below) c.1 =
         actuals_at es (sorts_of ((block_numbered sc.blocks h.0).parameters)) (parameter_wants sc h.0) (parameter_wants sc h.0) c.0 c.1 (call_begun b.couple below) c.3 [] [] refl tt
         (omega (arith, room)) in
-        subst (λ z. Coming k f below (called_of n (settled z)) below u) (sym (ap block_of (b.procedure).sort_is))
+        subst (λ z. Coming k f below (called_of n (settled z)) below u) (sym (ap block_of_sort (b.procedure).sort_is))
         (after sc context ps level most k (first (summon n h.0 b (omega (arith, room))) there)
         (after sc context ps level most k filled.leads
         (called_stands k n h.0 b.couple (settled h.0) filled.at filled.with_slots below c.1 t u b.procedure filled.fills c.4 h.2 (omega (arith, room)) g)))
@@ -151,7 +151,7 @@ module _ (sc : Scopes) (context : Context) (ps : List Placed) (level most : ℕ)
           at = f;
           with_slots = given_slots before gs begun;
           leads = there;
-          fills = (l, subst (λ o. AreGiven sc context o gs) (sym same) fit, ap (λ o. given_slots o gs begun) (sym same));
+          fills = (l, subst (λ o. ActualsAreGiven sc context o gs) (sym same) fit, ap (λ o. given_slots o gs begun) (sym same));
         }
     actuals_at (tree.more e es) (sort ∷ sorts) (wants.value kind ∷ later) all f filled begun l gs before wants_are fit room =
         let floor = given_slots before gs begun in

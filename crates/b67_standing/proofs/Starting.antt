@@ -15,7 +15,7 @@ use Rattle.b67_templates.specs.Fragments.{stop}
 use Rattle.b67_templates.specs.Events.{EventsMadeAt}
 use Rattle.b67_templates.specs.Code.{HasNoCounts, DeclsAt, KAt}
 use Rattle.b67_templates.specs.Depths.{decls_depth, stmts_depth, counts_in, AreShallow}
-use Rattle.b67_standing.specs.Standing.{AreCounts, Follows, ComesTo}
+use Rattle.b67_standing.specs.Standing.{ItemsAreCounts, SlotsFollow, ComesTo}
 use Rattle.b67_standing.specs.Laws.{BlocksStart, InnerBlocksStart, InnerBlocksFollow, CountsHaveRoom}
 use Rattle.b67_standing.proofs.Leading.{pend-length, pend-none}
 use Rattle.b67_standing.proofs.Rests.{counts_within}
@@ -59,7 +59,7 @@ uncounted (rests.result name ∷ k) h = uncounted k h
 uncounted (rests.make_arrays kind ns pairs ∷ k) h = uncounted k h
 uncounted (rests.make_event n ∷ k) h = uncounted k h
 
-pub none_wait : (k : List Item) → HasNoCounts k → AreCounts k
+pub none_wait : (k : List Item) → HasNoCounts k → ItemsAreCounts k
 none_wait [] h = tt
 none_wait (rests.count n b ∷ k) h = absurd h
 none_wait (rests.run s ∷ k) h = none_wait k h
@@ -112,7 +112,7 @@ ends most b (Some kind) e l =
     subst (Ends most) (sym last) (record { none = tt; shallow = (omega (arith, l), tt) })
 
 -- where nothing waits, nothing lies there
-pub bare_start : (sc : Scopes) (context : Context) (ps : List Placed) (level most : ℕ) (k : List Item) (pc : ℕ) → HasNoCounts k → Follows sc context ps level most k pc →
+pub bare_start : (sc : Scopes) (context : Context) (ps : List Placed) (level most : ℕ) (k : List Item) (pc : ℕ) → HasNoCounts k → SlotsFollow sc context ps level most k pc →
     ComesTo sc context ps level most (settle_items sc k) pc []
 bare_start sc context ps level most k pc h follows =
     subst (λ o. ComesTo sc context ps level most (settle_items sc k) pc o) (pend-none k h) (items_at sc context ps level most k pc follows)
@@ -155,7 +155,7 @@ decls_at sc context ps level (tree.decls (tree.procedure heading x) ds) k f t n 
 
 pub inner_blocks_start : InnerBlocksStart
 inner_blocks_start sc context ps level most ds ss pc from end over h i none exit l =
-    let last : Follows sc context ps level most [] end = record { at = (end, over, none, stop, exit); shallow = tt; counts = tt } in
+    let last : SlotsFollow sc context ps level most [] end = record { at = (end, over, none, stop, exit); shallow = tt; counts = tt } in
     let statements = items_follow sc context ps level most ss [] from end end i stop last (omega (arith, l)) in
     let uncounts : HasNoCounts (items ss []) = items-uncounted ss [] tt in
     let all : HasNoCounts (decls_items ds ++ items ss []) = decls-uncounted ds (items ss []) uncounts in
@@ -168,7 +168,7 @@ inner_blocks_start sc context ps level most ds ss pc from end over h i none exit
 pub inner_blocks_follow : InnerBlocksFollow
 inner_blocks_follow sc context ps level ds ss pc from end over h i none exit =
     let most : ℕ = stmts_depth ss in
-    let last : Follows sc context ps level most [] end = record { at = (end, over, none, stop, exit); shallow = tt; counts = tt } in
+    let last : SlotsFollow sc context ps level most [] end = record { at = (end, over, none, stop, exit); shallow = tt; counts = tt } in
     let statements = items_follow sc context ps level most ss [] from end end i stop last (omega arith) in
     decls_at sc context ps level ds (items ss []) pc from (items-uncounted ss [] tt) h statements.at
 

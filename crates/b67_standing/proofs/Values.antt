@@ -21,7 +21,7 @@ use Rattle.algol_meaning.specs.Value.{Value, number, truth, whole_of}
 use Rattle.algol_meaning.specs.Operators.{numeric, logical, result_of}
 use Rattle.algol_meaning.specs.Rest.{own, Given, refers, names, val, busy, read, enter, HalfGiven, resolve, at, aims}
 use Rattle.algol_meaning.specs.Settle.{named_of, alone_of, left_alone_of, sort_at, other_of, settle}
-use Rattle.b67_templates.specs.Fragments.{IsWhole, HasKind, is_implication}
+use Rattle.b67_templates.specs.Fragments.{IsWholeNumber, HasKind, is_implication}
 use Rattle.b67_templates.specs.Cells.{by_name, Actual, own_actual}
 use Rattle.b67_templates.specs.Code.{literal_of}
 
@@ -30,14 +30,14 @@ pub number_is : (v : Value) → HasKind types.Number v → v ≡ number (whole_o
 number_is (number z) h = refl
 number_is (truth b) h = absurd h
 
-pub number_whole : (v : Value) → HasKind types.Number v → IsWhole (whole_of v)
+pub number_whole : (v : Value) → HasKind types.Number v → IsWholeNumber (whole_of v)
 number_whole (number z) h = h
 number_whole (truth b) h = absurd h
 
 ok_is : (r : Result Value NumFault) {a b : Value} → r ≡ Ok a → r ≡ Ok b → a ≡ b
 ok_is r e f = cc
 
-numeric_whole : (r : Result ℤ NumFault) (x : Value) → ((z : ℤ) → r ≡ Ok z → IsWhole z) → numeric r ≡ Ok x → HasKind types.Number x
+numeric_whole : (r : Result ℤ NumFault) (x : Value) → ((z : ℤ) → r ≡ Ok z → IsWholeNumber z) → numeric r ≡ Ok x → HasKind types.Number x
 numeric_whole (Ok z) x h e = subst (HasKind types.Number) (ok_is (numeric (Ok z)) refl e) (h z refl)
 numeric_whole (Err fault) x h e = cc
 
@@ -63,11 +63,11 @@ result_kind operators.Or v w x e = logical_kind _ x e
 result_kind operators.Imp v w x e = logical_kind _ x e
 result_kind operators.Eqv v w x e = logical_kind _ x e
 
-pub negation_whole : (z : ℤ) → IsWhole z → IsWhole (negation_of z)
+pub negation_whole : (z : ℤ) → IsWholeNumber z → IsWholeNumber (negation_of z)
 negation_whole z h = negation_of-fits z h
 
 -- a count that is above 0 is whole without one turn too
-pub less_whole : (z : ℤ) → IsWhole z → int_lt (pos 0) z ≡ true → IsWhole (z -ℤ pos 1)
+pub less_whole : (z : ℤ) → IsWholeNumber z → int_lt (pos 0) z ≡ true → IsWholeNumber (z -ℤ pos 1)
 less_whole z h e = omega (arith, ints)
 
 pub implication_takes : (op : Op) → is_implication op ≡ true → taken_by op ≡ types.Truth

@@ -17,14 +17,14 @@ use Rattle.b67_templates.specs.Cells.{Actual, has_place}
 use Rattle.b67_templates.specs.Labels.{table_place, LabelAt}
 use Rattle.b67_templates.specs.Code.{DeclsAt, StmtsAt, KAt, in_routine, RoutineAt}
 use Rattle.b67_templates.specs.Depths.{depth, decls_depth, stmts_depth}
-use Rattle.b67_standing.specs.Stepping.{Slot, Step, Leads}
-use Rattle.b67_standing.specs.Standing.{pend, selected, Follows, StandsFor, ComesTo, ActionAt, Acted, GoesOn}
+use Rattle.b67_standing.specs.Stepping.{Slot, FragmentStep, StepsLead}
+use Rattle.b67_standing.specs.Standing.{pend, selected, SlotsFollow, StandsFor, ComesTo, ActionAt, Acted, CodeGoesOn}
 
 -- from where the items stand the machine comes to where it stands for them after the silent steps
 abbrev pub ItemsStand : Type 0
 ItemsStand =
     (sc : Scopes) (context : Context) (ps : List Placed) (level most : ℕ) (k : List Item) (pc : ℕ) →
-    Follows sc context ps level most k pc → ComesTo sc context ps level most (settle_items sc k) pc (pend k)
+    SlotsFollow sc context ps level most k pc → ComesTo sc context ps level most (settle_items sc k) pc (pend k)
 
 -- so it does from the start of what a block has to do, with nothing above the floor
 abbrev pub BlocksStart : Type 0
@@ -71,20 +71,20 @@ JumpsStand =
 abbrev pub RestsGoOn : Type 0
 RestsGoOn =
     (sc : Scopes) (context : Context) (ps : List Placed) (level most : ℕ) (r : Rest) (pc : ℕ) (slots : List Slot) →
-    StandsFor sc context ps level most r pc slots → (ask r ≡ nothing → ⊥) → GoesOn sc context ps level most r pc slots
+    StandsFor sc context ps level most r pc slots → (ask r ≡ nothing → ⊥) → CodeGoesOn sc context ps level most r pc slots
 
 -- ---- room
 
 -- what waits has room
 abbrev pub CountsHaveRoom : Type 0
 CountsHaveRoom =
-    (sc : Scopes) (context : Context) (ps : List Placed) (level most : ℕ) (k : List Item) (pc : ℕ) → Follows sc context ps level most k pc → length (pend k) ≤ most
+    (sc : Scopes) (context : Context) (ps : List Placed) (level most : ℕ) (k : List Item) (pc : ℕ) → SlotsFollow sc context ps level most k pc → length (pend k) ≤ most
 
 -- private operators leave no more words than there may be
 abbrev pub LeadsHaveRoom : Type 0
 LeadsHaveRoom =
     (sc : Scopes) (context : Context) (ps : List Placed) (level most a b : ℕ) (x y : List Slot) →
-    Leads sc context ps level most a x b y → length x ≤ most → length y ≤ most
+    StepsLead sc context ps level most a x b y → length x ≤ most → length y ≤ most
 
 -- nor do actions
 abbrev pub ActionsHaveRoom : Type 0
@@ -97,4 +97,4 @@ ActionsHaveRoom =
 -- private operators lead forward
 abbrev pub StepsGoForward : Type 0
 StepsGoForward =
-    (sc : Scopes) (context : Context) (ps : List Placed) (level most a b : ℕ) (x y : List Slot) → Step sc context ps level most a x b y → a < b
+    (sc : Scopes) (context : Context) (ps : List Placed) (level most a b : ℕ) (x y : List Slot) → FragmentStep sc context ps level most a x b y → a < b

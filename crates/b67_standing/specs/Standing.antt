@@ -29,9 +29,9 @@ use Rattle.b67_ops.specs.declared.intrinsic.Intrinsic.TheVariants.{Write, Select
 use Rattle.b67_segment.specs.Operators.{Placed}
 use Rattle.b67_templates.specs.Contexts as yielding
 use Rattle.b67_templates.specs.Contexts.{Yields, yields_of, Context}
-use Rattle.b67_templates.specs.Fragments.{IsWhole, HasKind, Has, moved, MovedAt, ReadyAt, BranchAt, TurnAt, Goes, code_at, operator_for, is_implication}
+use Rattle.b67_templates.specs.Fragments.{IsWholeNumber, HasKind, Has, moved_number, MovedAt, ReadyAt, BranchAt, TurnAt, FragmentGoes, code_at, operator_for, is_implication}
 use Rattle.b67_templates.specs.Cells as wants
-use Rattle.b67_templates.specs.Cells.{Wanted, parameter_wants, Agrees, procedures, IsVariable, IsFormalName, IsProcedure, IsDeclaredArray, IsFormalArray, IsArray, IsDeclaredEvent, IsFormalEvent, AreEvents, IsOwnActual}
+use Rattle.b67_templates.specs.Cells.{Wanted, parameter_wants, ShapeAgrees, procedures, IsVariable, IsFormalName, IsProcedure, IsDeclaredArray, IsFormalArray, IsArray, IsDeclaredEvent, IsFormalEvent, AreEvents, IsOwnActual}
 use Rattle.b67_templates.specs.Events.{AreSoMany}
 use Rattle.b67_templates.specs.Labels.{IsLabel}
 use Rattle.b67_deeds.specs.Deeds as deeds
@@ -40,7 +40,7 @@ use Rattle.b67_ops.specs.Intrinsics.{intrinsic_of}
 use Rattle.b67_templates.specs.Code.{FormatIs, DroppedAt, ResultAt, AreDimensions, HasNoCounts, in_block, ReadAt, ExprAt, SecondAt, ActualsAt, BoundsAt, LineAt, TableAt, PastAt, StepAt, StmtAt, CasesAt, InnerAt, ThruAt, KAt, exprs_count, stmts_count}
 use Rattle.b67_templates.specs.Arguments.{arguments_in_decls, arguments_in_stmts}
 use Rattle.b67_templates.specs.Depths.{depth, line_depth, bounds_depth, decls_depth, loop_depth, stmt_depth, stmts_depth, AreShallow}
-use Rattle.b67_standing.specs.Stepping.{row, element as element_held, variable as variable_held, cell_named, actual as actual_held, passed as passed_held, IsFound, held_at, Slot, operand, reference, intrinsic, control, descriptor, mark, ready, HasRoom, Leads}
+use Rattle.b67_standing.specs.Stepping.{row, element as element_held, variable as variable_held, cell_named, actual as actual_held, passed as passed_held, PlaceIsFound, held_at, Slot, operand, reference, intrinsic, control, descriptor, mark, ready, SlotsHaveRoom, StepsLead}
 
 -- the counts that lie there while these items wait
 abbrev pub pend : List Item → List Slot
@@ -49,10 +49,10 @@ pend (count n b ∷ k) = operand (number n) ∷ pend k
 pend (_ ∷ k) = pend k
 
 -- each of them is a whole number
-abbrev pub AreCounts : List Item → Type 0
-AreCounts [] = Unit {0}
-AreCounts (count n b ∷ k) = IsWhole n × AreCounts k
-AreCounts (_ ∷ k) = AreCounts k
+abbrev pub ItemsAreCounts : List Item → Type 0
+ItemsAreCounts [] = Unit {0}
+ItemsAreCounts (count n b ∷ k) = IsWholeNumber n × ItemsAreCounts k
+ItemsAreCounts (_ ∷ k) = ItemsAreCounts k
 
 -- these values, the last on top
 abbrev pub operands : List Value → List Slot → List Slot
@@ -93,7 +93,7 @@ start_begun couple task below = task ∷ reference couple ∷ intrinsic Start �
 abbrev pub Gives : Yields → Answer → Type 0
 Gives yielding.nothing done = Unit {0}
 Gives (yielding.value kind) (value v) = HasKind kind v
-Gives (yielding.element kind) (place p) = IsFound p
+Gives (yielding.element kind) (place p) = PlaceIsFound p
 Gives _ _ = ⊥
 
 -- the value lies on top, or the word of the place
@@ -125,13 +125,13 @@ extents _ _ below = below
 
 abbrev pub AreWholeLows : List PPair → Type 0
 AreWholeLows [] = Unit {0}
-AreWholeLows (p ∷ pairs) = IsWhole p.low × AreWholeLows pairs
+AreWholeLows (p ∷ pairs) = IsWholeNumber p.low × AreWholeLows pairs
 
 -- the last subscript, after these, moved by its lower bound: it lies under the reference of the array, or the descriptor of its row
-abbrev pub IsLast : Named → Couple → List ℤ → List ℕ → ℤ → List Slot → List Slot → Type 0
-IsLast n c (low ∷ []) [] i slots below = slots ≡ reference c ∷ operand (number (moved low i)) ∷ below
-IsLast n c (low ∷ low' ∷ []) (k ∷ []) i slots below = slots ≡ descriptor (row n (k ∷ [])) ∷ operand (number (moved low' i)) ∷ below
-IsLast n c _ _ i slots below = ⊥
+abbrev pub IsLastSubscript : Named → Couple → List ℤ → List ℕ → ℤ → List Slot → List Slot → Type 0
+IsLastSubscript n c (low ∷ []) [] i slots below = slots ≡ reference c ∷ operand (number (moved_number low i)) ∷ below
+IsLastSubscript n c (low ∷ low' ∷ []) (k ∷ []) i slots below = slots ≡ descriptor (row n (k ∷ [])) ∷ operand (number (moved_number low' i)) ∷ below
+IsLastSubscript n c _ _ i slots below = ⊥
 
 -- a subscript after the others
 abbrev pub IsNext : List ℕ → List ℕ → Type 0
@@ -152,27 +152,27 @@ IsTask sc context (Some n) slot = (c : Couple) × IsDeclaredEvent sc context.lev
 
 -- At the text of this context the actual is what is wanted: a value of that kind; an array, and a declared one agrees with the shape; an event; a
 -- variable of that kind, or an actual that has a cell.
-abbrev pub IsGiven : Scopes → Context → Given → Wanted → Type 0
-IsGiven sc context (valued v) (wants.value kind) = HasKind kind v
-IsGiven sc context (refers n) (wants.array shape) = (d : DeclaredArray) × (c : Couple) × IsDeclaredArray sc context.level n d c × Agrees shape (shape_of d)
-IsGiven sc context (refers n) wants.event = (c : Couple) × IsDeclaredEvent sc context.level n c
-IsGiven sc context (refers n) (wants.by_name kind) = (c : Couple) × IsVariable sc context.level n kind c × (OUTER_LEVEL ≤ c.level)
-IsGiven sc context (names e) (wants.by_name kind) = (c : Couple) × IsOwnActual sc context.block context.level e kind c
-IsGiven sc context (passed c) wanted = IsPassed wanted c
-IsGiven sc context _ _ = ⊥
+abbrev pub ActualIsGiven : Scopes → Context → Given → Wanted → Type 0
+ActualIsGiven sc context (valued v) (wants.value kind) = HasKind kind v
+ActualIsGiven sc context (refers n) (wants.array shape) = (d : DeclaredArray) × (c : Couple) × IsDeclaredArray sc context.level n d c × ShapeAgrees shape (shape_of d)
+ActualIsGiven sc context (refers n) wants.event = (c : Couple) × IsDeclaredEvent sc context.level n c
+ActualIsGiven sc context (refers n) (wants.by_name kind) = (c : Couple) × IsVariable sc context.level n kind c × (OUTER_LEVEL ≤ c.level)
+ActualIsGiven sc context (names e) (wants.by_name kind) = (c : Couple) × IsOwnActual sc context.block context.level e kind c
+ActualIsGiven sc context (passed c) wanted = IsPassed wanted c
+ActualIsGiven sc context _ _ = ⊥
 
 -- .. each of them
-abbrev pub AreGiven : Scopes → Context → List Wanted → List Given → Type 0
-AreGiven sc context [] [] = Unit {0}
-AreGiven sc context (w ∷ wanted) (g ∷ gs) = IsGiven sc context g w × AreGiven sc context wanted gs
-AreGiven sc context _ _ = ⊥
+abbrev pub ActualsAreGiven : Scopes → Context → List Wanted → List Given → Type 0
+ActualsAreGiven sc context [] [] = Unit {0}
+ActualsAreGiven sc context (w ∷ wanted) (g ∷ gs) = ActualIsGiven sc context g w × ActualsAreGiven sc context wanted gs
+ActualsAreGiven sc context _ _ = ⊥
 
 module _ (sc : Scopes) (context : Context) (ps : List Placed) (level most : ℕ) where
   -- what is still to be done stands from there on, no item of it needs more words than there may be, and its counts are whole
-  pub record Follows (k : List Item) (pc : ℕ) : Type 0 where
+  pub record SlotsFollow (k : List Item) (pc : ℕ) : Type 0 where
     pub at : KAt sc context ps level k pc
     pub shallow : AreShallow most k
-    pub counts : AreCounts k
+    pub counts : ItemsAreCounts k
 
   -- ---- operators that are actions, and what they find there; the operator after them stands at the place `next`
 
@@ -196,16 +196,16 @@ module _ (sc : Scopes) (context : Context) (ps : List Placed) (level most : ℕ)
   -- the number of a statement of CASE, how many there are, and their table, which begins after the entry
   pub record SelectAt (v : Value) (ss : PStmts) (pc table : ℕ) (slots below : List Slot) : Type 0 where
     pub fits : HasKind types.Number v
-    pub many : IsWhole (pos (stmts_count ss))
-    pub place : IsWhole (pos table)
+    pub many : IsWholeNumber (pos (stmts_count ss))
+    pub place : IsWholeNumber (pos table)
     pub lies : slots ≡ operand (number (pos table)) ∷ operand (number (pos (stmts_count ss))) ∷ operand v ∷ intrinsic Select ∷ mark ∷ below
     pub stands : Has ps level pc (ops.Plain kinds.Entr) table
 
   -- the format has as many numbers as there are items
-  pub record WriteAt (phrases : List PhraseText) (vs : List Value) (pc next : ℕ) (slots below : List Slot) : Type 0 where
+  pub record WriteStandsAt (phrases : List PhraseText) (vs : List Value) (pc next : ℕ) (slots below : List Slot) : Type 0 where
     pub format : ℕ
     pub is : FormatIs sc context ps level format phrases (length vs)
-    pub whole : IsWhole (pos format)
+    pub whole : IsWholeNumber (pos format)
     pub fits : AreNumbers vs
     pub lies : slots ≡ operands vs (line_begun format below)
     pub stands : Has ps level pc (ops.Plain kinds.Entr) next
@@ -224,7 +224,7 @@ module _ (sc : Scopes) (context : Context) (ps : List Placed) (level most : ℕ)
   pub record CallsAt (n : Named) (gs : List Given) (callee pc next : ℕ) (slots below : List Slot) : Type 0 where
     pub couple : Couple
     pub procedure : IsProcedure sc context.level n callee couple
-    pub fit : AreGiven sc context (parameter_wants sc callee) gs
+    pub fit : ActualsAreGiven sc context (parameter_wants sc callee) gs
     pub lies : slots ≡ given_slots (parameter_wants sc callee) gs (call_begun couple below)
     pub stands : Has ps level pc (ops.Plain kinds.Entr) next
 
@@ -236,13 +236,13 @@ module _ (sc : Scopes) (context : Context) (ps : List Placed) (level most : ℕ)
     pub untyped : (block_numbered sc.blocks callee).result ≡ None
     pub tasked : Slot
     pub task_is : IsTask sc context task tasked
-    pub fit : AreGiven sc context (parameter_wants sc callee) gs
+    pub fit : ActualsAreGiven sc context (parameter_wants sc callee) gs
     pub lies : slots ≡ given_slots (parameter_wants sc callee) gs (start_begun couple tasked below)
     pub stands : Has ps level pc (ops.Plain kinds.Entr) next
 
   -- the couple is that of a parameter's cell, and what that has is passed where this is wanted
   pub data Passable (n : Named) (couple : Couple) : Wanted → Type 0 where
-    array_passed : (shape actual : Shape) → IsFormalArray sc context.level n actual couple → Agrees shape actual → Passable n couple (wants.array shape)
+    array_passed : (shape actual : Shape) → IsFormalArray sc context.level n actual couple → ShapeAgrees shape actual → Passable n couple (wants.array shape)
     name_passed : (kind : Kind) → IsFormalName sc context.level n kind couple → Passable n couple (wants.by_name kind)
     event_passed : IsFormalEvent sc context.level n couple → Passable n couple wants.event
 
@@ -284,9 +284,9 @@ module _ (sc : Scopes) (context : Context) (ps : List Placed) (level most : ℕ)
     pub segment : ℕ
     pub entry : ℕ
     pub label : IsLabel sc context.level n target segment entry
-    pub level_whole : IsWhole (pos target)
-    pub segment_whole : IsWhole (pos segment)
-    pub entry_whole : IsWhole (pos entry)
+    pub level_whole : IsWholeNumber (pos target)
+    pub segment_whole : IsWholeNumber (pos segment)
+    pub entry_whole : IsWholeNumber (pos entry)
     pub lies : slots ≡ operand (number (pos entry)) ∷ operand (number (pos segment)) ∷ operand (number (pos target)) ∷ intrinsic GoTo ∷ mark ∷ below
     pub stands : Has ps level pc (ops.Plain kinds.Entr) next
 
@@ -299,8 +299,8 @@ module _ (sc : Scopes) (context : Context) (ps : List Placed) (level most : ℕ)
     pub subscript : ℤ
     pub is_array : IsArray sc context.level n array couple
     pub is : v ≡ number subscript
-    pub whole : IsWhole subscript
-    pub lies : IsLast n couple array.lows ks subscript slots below
+    pub whole : IsWholeNumber subscript
+    pub lies : IsLastSubscript n couple array.lows ks subscript slots below
     pub stands : Has ps level pc (ops.Plain kinds.Nxlv) next
 
   -- .. INDX
@@ -311,8 +311,8 @@ module _ (sc : Scopes) (context : Context) (ps : List Placed) (level most : ℕ)
     pub is_array : IsArray sc context.level n array couple
     pub kind_is : array.kind ≡ kind
     pub is : v ≡ number subscript
-    pub whole : IsWhole subscript
-    pub lies : IsLast n couple array.lows ks subscript slots below
+    pub whole : IsWholeNumber subscript
+    pub lies : IsLastSubscript n couple array.lows ks subscript slots below
     pub stands : Has ps level pc (ops.Plain kinds.Indx) next
 
   -- .. NXLN, which is for the first of two subscripts
@@ -324,8 +324,8 @@ module _ (sc : Scopes) (context : Context) (ps : List Placed) (level most : ℕ)
     pub lows_are : array.lows ≡ low ∷ second ∷ []
     pub first : ks ≡ []
     pub is : v ≡ number subscript
-    pub whole : IsWhole subscript
-    pub lies : slots ≡ reference couple ∷ operand (number (moved low subscript)) ∷ below
+    pub whole : IsWholeNumber subscript
+    pub lies : slots ≡ reference couple ∷ operand (number (moved_number low subscript)) ∷ below
     pub stands : Has ps level pc (ops.Plain kinds.Nxln) next
 
   -- an index leads to a row, or to an element
@@ -337,13 +337,13 @@ module _ (sc : Scopes) (context : Context) (ps : List Placed) (level most : ℕ)
   -- the last subscript is moved.
   abbrev pub Seeks : (List Slot → ℕ → Type 0) → Named → Couple → List ℤ → List ℕ → PExprs → List Slot → ℕ → Type 0
   Seeks holds n c (low ∷ []) [] tree.none below to =
-      (a : ℕ) × (b : ℕ) × holds below a × MovedAt ps level low a b × Has ps level b (ops.Namc c) to × HasRoom most below 5
+      (a : ℕ) × (b : ℕ) × holds below a × MovedAt ps level low a b × Has ps level b (ops.Namc c) to × SlotsHaveRoom most below 5
   Seeks holds n c (low ∷ low' ∷ []) [] (tree.more e tree.none) below to =
       (a : ℕ) × (b : ℕ) × (q : ℕ) × (r : ℕ) × holds below a × MovedAt ps level low a b × Has ps level b (ops.Namc c) q
-      × Has ps level q (ops.Plain kinds.Nxln) r × SecondAt sc context ps level low' e r to × HasRoom most below (5 + depth e)
+      × Has ps level q (ops.Plain kinds.Nxln) r × SecondAt sc context ps level low' e r to × SlotsHaveRoom most below (5 + depth e)
   Seeks holds n c (low ∷ low' ∷ []) (k ∷ []) tree.none below to =
       (a : ℕ) × (b : ℕ) × holds (descriptor (row n (k ∷ [])) ∷ below) a × MovedAt ps level low' a b × Has ps level b (ops.Plain kinds.Exch) to
-      × HasRoom most below 5
+      × SlotsHaveRoom most below 5
   Seeks holds n c _ _ _ below to = ⊥
 
   -- ---- expressions
@@ -353,57 +353,57 @@ module _ (sc : Scopes) (context : Context) (ps : List Placed) (level most : ℕ)
   abbrev mutual
     pub Holds : Kind → Hole → ℕ → List Slot → List Slot → ℕ → Type 0
     Holds k (read n) pc slots below to =
-        (next : ℕ) × ReadAt sc context ps level n k pc next × (slots ≡ below) × HasRoom most below 1 × Goes ps level next to
+        (next : ℕ) × ReadAt sc context ps level n k pc next × (slots ≡ below) × SlotsHaveRoom most below 1 × FragmentGoes ps level next to
     Holds k (enter n gs) pc slots below to =
-        (callee : ℕ) × (next : ℕ) × CallsAt n gs callee pc next slots below × ((block_numbered sc.blocks callee).result ≡ Some k) × HasRoom most below 2 × Goes ps level next to
+        (callee : ℕ) × (next : ℕ) × CallsAt n gs callee pc next slots below × ((block_numbered sc.blocks callee).result ≡ Some k) × SlotsHaveRoom most below 2 × FragmentGoes ps level next to
     Holds k (tests x ns) pc slots below to =
-        (next : ℕ) × (k ≡ told_by x) × ActsOnAt (deeds.tests x) ns pc next slots below × Goes ps level next to
+        (next : ℕ) × (k ≡ told_by x) × ActsOnAt (deeds.tests x) ns pc next slots below × FragmentGoes ps level next to
     Holds k (broken op v w fault) pc slots below to = (next : ℕ) × (k ≡ given_by op) × BreaksAt op v w fault pc next slots below
     Holds k (left op h b) pc slots below to =
         (m : ℕ) × (r : ℕ) × (n : ℕ) × (next : ℕ) × (k ≡ given_by op) × Holds (taken_by op) h pc slots below m × ReadyAt ps level (is_implication op) m r
-        × ExprAt sc context ps level (taken_by op) b r n n × HasRoom most below (1 + depth b) × Has ps level n (ops.Plain (operator_for op)) next
-        × Goes ps level next to
+        × ExprAt sc context ps level (taken_by op) b r n n × SlotsHaveRoom most below (1 + depth b) × Has ps level n (ops.Plain (operator_for op)) next
+        × FragmentGoes ps level next to
     Holds k (right op v h) pc slots below to =
         (n : ℕ) × (next : ℕ) × (k ≡ given_by op) × HasKind (taken_by op) v × Holds (taken_by op) h pc slots (operand (ready op v) ∷ below) n
-        × Has ps level n (ops.Plain (operator_for op)) next × Goes ps level next to
+        × Has ps level n (ops.Plain (operator_for op)) next × FragmentGoes ps level next to
     Holds k (negated h) pc slots below to =
-        (m : ℕ) × (next : ℕ) × (k ≡ types.Number) × Holds types.Number h pc slots below m × Has ps level m (ops.Plain kinds.Chsn) next × Goes ps level next to
+        (m : ℕ) × (next : ℕ) × (k ≡ types.Number) × Holds types.Number h pc slots below m × Has ps level m (ops.Plain kinds.Chsn) next × FragmentGoes ps level next to
     Holds k (inverted h) pc slots below to =
-        (m : ℕ) × (next : ℕ) × (k ≡ types.Truth) × Holds types.Truth h pc slots below m × Has ps level m (ops.Plain kinds.Lnot) next × Goes ps level next to
+        (m : ℕ) × (next : ℕ) × (k ≡ types.Truth) × Holds types.Truth h pc slots below m × Has ps level m (ops.Plain kinds.Lnot) next × FragmentGoes ps level next to
     Holds k (condition h x y) pc slots below to =
         (m : ℕ) × (m' : ℕ) × (n : ℕ) × (n' : ℕ) × (t : ℕ) × (u : ℕ) × Holds types.Truth h pc slots below m × BranchAt ps level Brfl m n' m'
-        × ExprAt sc context ps level k x m' n u × BranchAt ps level Brun n u n' × ExprAt sc context ps level k y n' t u × Goes ps level t u × Goes ps level u to
-        × HasRoom most below (depth x + depth y)
+        × ExprAt sc context ps level k x m' n u × BranchAt ps level Brun n u n' × ExprAt sc context ps level k y n' t u × FragmentGoes ps level t u × FragmentGoes ps level u to
+        × SlotsHaveRoom most below (depth x + depth y)
     Holds k (element n ks v) pc slots below to =
-        (next : ℕ) × (r : ElementReadAt n ks v pc next slots below) × (r.array.kind ≡ k) × HasRoom most below 2 × Goes ps level next to
+        (next : ℕ) × (r : ElementReadAt n ks v pc next slots below) × (r.array.kind ≡ k) × SlotsHaveRoom most below 2 × FragmentGoes ps level next to
     -- the head is the first of two subscripts
     Holds k (index n ks v e tree.none) pc slots below to =
         (low : ℤ) × (second : ℤ) × (q : ℕ) × (t : ℕ) × (next : ℕ) × (r : RowIndexAt n ks v low second pc q slots below) × (r.array.kind ≡ k)
-        × SecondAt sc context ps level second e q t × Has ps level t (ops.Plain kinds.Nxlv) next × HasRoom most below (5 + depth e) × Goes ps level next to
+        × SecondAt sc context ps level second e q t × Has ps level t (ops.Plain kinds.Nxlv) next × SlotsHaveRoom most below (5 + depth e) × FragmentGoes ps level next to
     Holds k (subscript n ks h es) pc slots below to =
         (a : Shape) × (c : Couple) × (t : ℕ) × (next : ℕ) × IsArray sc context.level n a c × (a.kind ≡ k)
-        × Seeks (λ over m. Holds types.Number h pc slots over m) n c a.lows ks es below t × Has ps level t (ops.Plain kinds.Nxlv) next × Goes ps level next to
+        × Seeks (λ over m. Holds types.Number h pc slots over m) n c a.lows ks es below t × Has ps level t (ops.Plain kinds.Nxlv) next × FragmentGoes ps level next to
     Holds k (argument n x) pc slots below to =
         (callee : ℕ) × (couple : Couple) × (filled : ℕ) × (next : ℕ) × ((block_numbered sc.blocks callee).result ≡ Some k)
         × IsProcedure sc context.level n callee couple × Fills (parameter_wants sc callee) x pc slots (call_begun couple below) filled
-        × Has ps level filled (ops.Plain kinds.Entr) next × Goes ps level next to
+        × Has ps level filled (ops.Plain kinds.Entr) next × FragmentGoes ps level next to
     Holds k _ pc slots below to = ⊥
 
     -- .. for actuals, of which these are wanted: those before the head lie on the start of the call or of the PROCESS
     pub Fills : List Wanted → Actuals → ℕ → List Slot → List Slot → ℕ → Type 0
     Fills all (in_value gs h sorts es) pc slots begun filled =
-        (before : List Wanted) × (kind : Kind) × (after : List Wanted) × (m : ℕ) × (all ≡ before ++ wants.value kind ∷ after) × AreGiven sc context before gs
+        (before : List Wanted) × (kind : Kind) × (after : List Wanted) × (m : ℕ) × (all ≡ before ++ wants.value kind ∷ after) × ActualsAreGiven sc context before gs
         × Holds kind h pc slots (given_slots before gs begun) m × ActualsAt sc context ps level sorts after es m filled
-        × HasRoom most begun (length gs + 1 + line_depth es)
+        × SlotsHaveRoom most begun (length gs + 1 + line_depth es)
     -- the head is the passing of what a parameter's cell has
     Fills all (pass gs p sorts es) pc slots begun filled =
-        (before : List Wanted) × (wanted : Wanted) × (after : List Wanted) × (m : ℕ) × (all ≡ before ++ wanted ∷ after) × AreGiven sc context before gs
+        (before : List Wanted) × (wanted : Wanted) × (after : List Wanted) × (m : ℕ) × (all ≡ before ++ wanted ∷ after) × ActualsAreGiven sc context before gs
         × PassesAt p wanted pc m slots (given_slots before gs begun) × ActualsAt sc context ps level sorts after es m filled
-        × HasRoom most begun (length gs + 1 + line_depth es)
+        × SlotsHaveRoom most begun (length gs + 1 + line_depth es)
 
   -- the same of an expression after the silent steps: its value lies there already, or it has a head
   abbrev pub Shows : Kind → Half → ℕ → List Slot → List Slot → ℕ → Type 0
-  Shows k (val v) pc slots below to = Goes ps level pc to × (slots ≡ operand v ∷ below) × HasKind k v
+  Shows k (val v) pc slots below to = FragmentGoes ps level pc to × (slots ≡ operand v ∷ below) × HasKind k v
   Shows k (busy h) pc slots below to = Holds k h pc slots below to
 
   -- the same of a left side: the word of a place of that kind is to lie on `below`, at the place `to`
@@ -412,7 +412,7 @@ module _ (sc : Scopes) (context : Context) (ps : List Placed) (level most : ℕ)
   Aims k (place_index n ks v tree.none) pc slots below to = ElementIndexAt n ks v k pc to slots below
   Aims k (place_index n ks v (tree.more e tree.none)) pc slots below to =
       (low : ℤ) × (second : ℤ) × (q : ℕ) × (t : ℕ) × (r : RowIndexAt n ks v low second pc q slots below) × (r.array.kind ≡ k) × SecondAt sc context ps level second e q t
-      × Has ps level t (ops.Plain kinds.Indx) to × HasRoom most below (5 + depth e)
+      × Has ps level t (ops.Plain kinds.Indx) to × SlotsHaveRoom most below (5 + depth e)
   Aims k (place_subscript n ks h es) pc slots below to =
       (a : Shape) × (c : Couple) × (t : ℕ) × IsArray sc context.level n a c × (a.kind ≡ k)
       × Seeks (λ over m. Holds types.Number h pc slots over m) n c a.lows ks es below t × Has ps level t (ops.Plain kinds.Indx) to
@@ -431,7 +431,7 @@ module _ (sc : Scopes) (context : Context) (ps : List Placed) (level most : ℕ)
   -- and no more than there may be words.
   pub record MakesAt (ns : List Named) (pairs : List PPair) (vs : List Value) (pc next : ℕ) (slots : List Slot) : Type 0 where
     pub dimensions : AreDimensions pairs
-    pub many : IsWhole (pos (length ns))
+    pub many : IsWholeNumber (pos (length ns))
     pub lows : AreWholeLows pairs
     pub highs : AreNumbers vs
     pub each : length vs ≡ length pairs
@@ -456,47 +456,47 @@ module _ (sc : Scopes) (context : Context) (ps : List Placed) (level most : ℕ)
   abbrev pub StandsFor : Rest → ℕ → List Slot → Type 0
   StandsFor over pc slots =
       (next : ℕ) × (context.yields ≡ yielding.nothing) × Has ps level pc (ops.Plain kinds.Exit) next × (slots ≡ [])
-  StandsFor (store (own n) v k) pc slots = (next : ℕ) × StoreAt n v pc next slots (pend k) × Follows k next
+  StandsFor (store (own n) v k) pc slots = (next : ℕ) × StoreAt n v pc next slots (pend k) × SlotsFollow k next
   StandsFor (select v ss k) pc slots =
-      (table : ℕ) × (u : ℕ) × SelectAt v ss pc table slots (pend k) × CasesAt sc context ps level ss table u × Follows k u × HasRoom most (pend k) (stmts_depth ss)
-  StandsFor (turning k) pc slots = (l : ℕ) × (next : ℕ) × TurnAt ps level pc l next × (slots ≡ pend k) × Follows k l
+      (table : ℕ) × (u : ℕ) × SelectAt v ss pc table slots (pend k) × CasesAt sc context ps level ss table u × SlotsFollow k u × SlotsHaveRoom most (pend k) (stmts_depth ss)
+  StandsFor (turning k) pc slots = (l : ℕ) × (next : ℕ) × TurnAt ps level pc l next × (slots ≡ pend k) × SlotsFollow k l
   -- all that lies below is dropped
   StandsFor (going n) pc slots = (next : ℕ) × (below : List Slot) × GoesToAt n pc next slots below
-  StandsFor (acting act n k) pc slots = (next : ℕ) × ActsOnAt (deeds.acts act) (n ∷ []) pc next slots (pend k) × Follows k next
-  StandsFor (line phrases vs k) pc slots = (next : ℕ) × WriteAt phrases vs pc next slots (pend k) × Follows k next
-  StandsFor (entering_block (tree.body spot ds ss) k) pc slots = (next : ℕ) × EntersAt spot ds ss pc next slots (pend k) × Follows k next
+  StandsFor (acting act n k) pc slots = (next : ℕ) × ActsOnAt (deeds.acts act) (n ∷ []) pc next slots (pend k) × SlotsFollow k next
+  StandsFor (line phrases vs k) pc slots = (next : ℕ) × WriteStandsAt phrases vs pc next slots (pend k) × SlotsFollow k next
+  StandsFor (entering_block (tree.body spot ds ss) k) pc slots = (next : ℕ) × EntersAt spot ds ss pc next slots (pend k) × SlotsFollow k next
   StandsFor (entering n gs k) pc slots =
-      (callee : ℕ) × (next : ℕ) × (u : ℕ) × CallsAt n gs callee pc next slots (pend k) × DroppedAt sc context ps level (block_numbered sc.blocks callee).result next u × Follows k u
-      × HasRoom most (pend k) 2
+      (callee : ℕ) × (next : ℕ) × (u : ℕ) × CallsAt n gs callee pc next slots (pend k) × DroppedAt sc context ps level (block_numbered sc.blocks callee).result next u × SlotsFollow k u
+      × SlotsHaveRoom most (pend k) 2
   StandsFor (calling n x k) pc slots =
       (callee : ℕ) × (couple : Couple) × (filled : ℕ) × (next : ℕ) × (u : ℕ) × IsProcedure sc context.level n callee couple
       × Fills (parameter_wants sc callee) x pc slots (call_begun couple (pend k)) filled × Has ps level filled (ops.Plain kinds.Entr) next
-      × DroppedAt sc context ps level (block_numbered sc.blocks callee).result next u × Follows k u × HasRoom most (pend k) 2
-  StandsFor (starting n gs task k) pc slots = (callee : ℕ) × (next : ℕ) × StartsAt n gs task callee pc next slots (pend k) × Follows k next
+      × DroppedAt sc context ps level (block_numbered sc.blocks callee).result next u × SlotsFollow k u × SlotsHaveRoom most (pend k) 2
+  StandsFor (starting n gs task k) pc slots = (callee : ℕ) × (next : ℕ) × StartsAt n gs task callee pc next slots (pend k) × SlotsFollow k next
   StandsFor (preparing n x task k) pc slots =
       (callee : ℕ) × (couple : Couple) × (tasked : Slot) × (filled : ℕ) × (next : ℕ) × IsProcedure sc context.level n callee couple
       × ((block_numbered sc.blocks callee).result ≡ None) × IsTask sc context task tasked
-      × Fills (parameter_wants sc callee) x pc slots (start_begun couple tasked (pend k)) filled × Has ps level filled (ops.Plain kinds.Entr) next × Follows k next
-  StandsFor (store (there r) v k) pc slots = (next : ℕ) × FoundStoreAt (there r) v pc next slots (pend k) × Follows k next
-  StandsFor (store (element_of r ks) v k) pc slots = (next : ℕ) × FoundStoreAt (element_of r ks) v pc next slots (pend k) × Follows k next
+      × Fills (parameter_wants sc callee) x pc slots (start_begun couple tasked (pend k)) filled × Has ps level filled (ops.Plain kinds.Entr) next × SlotsFollow k next
+  StandsFor (store (there r) v k) pc slots = (next : ℕ) × FoundStoreAt (there r) v pc next slots (pend k) × SlotsFollow k next
+  StandsFor (store (element_of r ks) v k) pc slots = (next : ℕ) × FoundStoreAt (element_of r ks) v pc next slots (pend k) × SlotsFollow k next
   StandsFor (storing (there r) h k) pc slots =
       (kind : Kind) × (m : ℕ) × (next : ℕ) × Holds kind h pc slots (descriptor (held_at (there r) kind) ∷ pend k) m × Has ps level m (ops.Plain kinds.Stod) next
-      × Follows k next
+      × SlotsFollow k next
   StandsFor (storing (element_of r ks) h k) pc slots =
       (kind : Kind) × (m : ℕ) × (next : ℕ) × Holds kind h pc slots (descriptor (held_at (element_of r ks) kind) ∷ pend k) m × Has ps level m (ops.Plain kinds.Stod) next
-      × Follows k next
+      × SlotsFollow k next
   StandsFor (aiming x e k) pc slots =
       (kind : Kind) × (m : ℕ) × (r : ℕ) × (next : ℕ) × Aims kind x pc slots (pend k) m × ExprAt sc context ps level kind e m r r × Has ps level r (ops.Plain kinds.Stod) next
-      × Follows k next × HasRoom most (pend k) (1 + depth e)
-  StandsFor (arrays kind ns pairs vs k) pc slots = (next : ℕ) × MakesAt ns pairs vs pc next slots × HasNoCounts k × Follows k next
-  StandsFor (event n k) pc slots = (next : ℕ) × MakesEventAt pc next slots × HasNoCounts k × Follows k next
+      × SlotsFollow k next × SlotsHaveRoom most (pend k) (1 + depth e)
+  StandsFor (arrays kind ns pairs vs k) pc slots = (next : ℕ) × MakesAt ns pairs vs pc next slots × HasNoCounts k × SlotsFollow k next
+  StandsFor (event n k) pc slots = (next : ℕ) × MakesEventAt pc next slots × HasNoCounts k × SlotsFollow k next
   -- vs are the values of the upper bounds before the head, and those before it are these
   StandsFor (bounding kind ns pairs vs h later k) pc slots =
       (before : List PPair) × (p : PPair) × (m : ℕ) × (b : ℕ) × (made : ℕ) × (next : ℕ) × (pairs ≡ before ++ p ∷ later) × (length vs ≡ length before)
-      × AreDimensions pairs × IsWhole (pos (length ns)) × AreWholeLows pairs × AreNumbers vs
+      × AreDimensions pairs × IsWholeNumber (pos (length ns)) × AreWholeLows pairs × AreNumbers vs
       × Holds types.Number h pc slots (operand (number p.low) ∷ extents before vs (arrays_begun (length ns) [])) m × BoundsAt sc context ps level later m b
-      × Has ps level b (ops.Plain kinds.Entr) made × Has ps level made (ops.Plain kinds.Push) next × HasNoCounts k × Follows k next
-      × HasRoom most [] (3 + 2 * length vs + 2 + bounds_depth later + length ns) × (1 ≤ length ns)
+      × Has ps level b (ops.Plain kinds.Entr) made × Has ps level made (ops.Plain kinds.Push) next × HasNoCounts k × SlotsFollow k next
+      × SlotsHaveRoom most [] (3 + 2 * length vs + 2 + bounds_depth later + length ns) × (1 ≤ length ns)
   -- the result of the procedure is read, and given back
   StandsFor (reading name) pc slots = ResultAt sc context ps level name pc × (slots ≡ []) × (1 ≤ most)
   StandsFor (giving v) pc slots =
@@ -508,51 +508,51 @@ module _ (sc : Scopes) (context : Context) (ps : List Placed) (level most : ℕ)
   StandsFor (locating x) pc slots =
       (kind : Kind) × (m : ℕ) × (over : ℕ) × (context.yields ≡ yielding.element kind) × Aims kind x pc slots [] m × Has ps level m (ops.Plain kinds.Retn) over
   StandsFor (giving_place p) pc slots =
-      (kind : Kind) × (over : ℕ) × (context.yields ≡ yielding.element kind) × IsFound p × Has ps level pc (ops.Plain kinds.Retn) over
+      (kind : Kind) × (over : ℕ) × (context.yields ≡ yielding.element kind) × PlaceIsFound p × Has ps level pc (ops.Plain kinds.Retn) over
       × (slots ≡ descriptor (held_at p kind) ∷ [])
   StandsFor (storing (own n) h k) pc slots =
       (kind : Kind) × (c : Couple) × (m : ℕ) × (next : ℕ) × IsVariable sc context.level n kind c × Holds kind h pc slots (reference c ∷ pend k) m
-      × Has ps level m (ops.Plain kinds.Stod) next × Follows k next
+      × Has ps level m (ops.Plain kinds.Stod) next × SlotsFollow k next
   StandsFor (choosing h x y k) pc slots =
       (m : ℕ) × (m' : ℕ) × (n : ℕ) × (f : ℕ) × (t : ℕ) × (u : ℕ) × Holds types.Truth h pc slots (pend k) m × BranchAt ps level Brfl m f m'
-      × StmtAt sc context ps level x m' n u × Goes ps level n u × StmtAt sc context ps level y f t u × Goes ps level t u × Follows k u
-      × HasRoom most (pend k) (stmt_depth x + stmt_depth y)
+      × StmtAt sc context ps level x m' n u × FragmentGoes ps level n u × StmtAt sc context ps level y f t u × FragmentGoes ps level t u × SlotsFollow k u
+      × SlotsHaveRoom most (pend k) (stmt_depth x + stmt_depth y)
   StandsFor (looping h c b k) pc slots =
-      (f : ℕ) × (m : ℕ) × (t : ℕ) × (u : ℕ) × Holds types.Truth h pc slots (pend k) m × WhileAt c b f m t u × Goes ps level t u × Follows k u
-      × HasRoom most (pend k) (depth c + stmt_depth b)
+      (f : ℕ) × (m : ℕ) × (t : ℕ) × (u : ℕ) × Holds types.Truth h pc slots (pend k) m × WhileAt c b f m t u × FragmentGoes ps level t u × SlotsFollow k u
+      × SlotsHaveRoom most (pend k) (depth c + stmt_depth b)
   StandsFor (checking h b c k) pc slots =
       (f : ℕ) × (q : ℕ) × (m : ℕ) × (m' : ℕ) × (t : ℕ) × (u : ℕ) × Holds types.Truth h pc slots (pend k) m × StmtAt sc context ps level b f q q
-      × ExprAt sc context ps level types.Truth c q m m × BranchAt ps level Brtr m u m' × TurnAt ps level m' f t × Goes ps level t u × Follows k u
-      × HasRoom most (pend k) (stmt_depth b + depth c)
+      × ExprAt sc context ps level types.Truth c q m m × BranchAt ps level Brtr m u m' × TurnAt ps level m' f t × FragmentGoes ps level t u × SlotsFollow k u
+      × SlotsHaveRoom most (pend k) (stmt_depth b + depth c)
   StandsFor (counting h b k) pc slots =
-      (q : ℕ) × (t : ℕ) × (u : ℕ) × Holds types.Number h pc slots (pend k) q × ThruAt sc context ps level b q t × Goes ps level t u × Follows k u
-      × HasRoom most (pend k) (3 + stmt_depth b)
+      (q : ℕ) × (t : ℕ) × (u : ℕ) × Holds types.Number h pc slots (pend k) q × ThruAt sc context ps level b q t × FragmentGoes ps level t u × SlotsFollow k u
+      × SlotsHaveRoom most (pend k) (3 + stmt_depth b)
   StandsFor (differing h loop k) pc slots =
       (q : ℕ) × (m : ℕ) × (n : ℕ) × (t : ℕ) × (u : ℕ) × Holds types.Number h pc slots (pend k) m
-      × ExprAt sc context ps level types.Number (difference_in loop) q m m × StepAt sc context ps level loop.step m u n × RoundAt loop q n t × Follows k u
-      × HasRoom most (pend k) (loop_depth loop.step loop.last + stmt_depth loop.body)
+      × ExprAt sc context ps level types.Number (difference_in loop) q m m × StepAt sc context ps level loop.step m u n × RoundAt loop q n t × SlotsFollow k u
+      × SlotsHaveRoom most (pend k) (loop_depth loop.step loop.last + stmt_depth loop.body)
   -- the difference lies below; a step that is a literal has no head
   StandsFor (stepping d h loop k) pc slots =
       (q : ℕ) × (m : ℕ) × (m' : ℕ) × (n : ℕ) × (t : ℕ) × (u : ℕ) × HasKind types.Number d × Holds types.Number h pc slots (operand d ∷ pend k) m'
       × ExprAt sc context ps level types.Number (difference_in loop) q m m × ExprAt sc context ps level types.Number loop.step m m' m'
-      × PastAt sc context ps level m' u n × RoundAt loop q n t × Follows k u
-      × HasRoom most (pend k) (loop_depth loop.step loop.last + stmt_depth loop.body)
+      × PastAt sc context ps level m' u n × RoundAt loop q n t × SlotsFollow k u
+      × SlotsHaveRoom most (pend k) (loop_depth loop.step loop.last + stmt_depth loop.body)
   StandsFor (selecting h ss k) pc slots =
       (m : ℕ) × (table : ℕ) × (u : ℕ) × Holds types.Number h pc slots (intrinsic Select ∷ mark ∷ pend k) m
-      × TableAt sc context ps level (stmts_count ss) m table × CasesAt sc context ps level ss table u × Follows k u
-      × HasRoom most (pend k) (5 + stmts_depth ss)
+      × TableAt sc context ps level (stmts_count ss) m table × CasesAt sc context ps level ss table u × SlotsFollow k u
+      × SlotsHaveRoom most (pend k) (5 + stmts_depth ss)
   -- vs are the items before the head, es those after it
   StandsFor (writing phrases vs h es k) pc slots =
-      (format : ℕ) × (m : ℕ) × (n : ℕ) × (next : ℕ) × FormatIs sc context ps level format phrases (length vs + 1 + exprs_count es) × IsWhole (pos format)
+      (format : ℕ) × (m : ℕ) × (n : ℕ) × (next : ℕ) × FormatIs sc context ps level format phrases (length vs + 1 + exprs_count es) × IsWholeNumber (pos format)
       × AreNumbers vs × Holds types.Number h pc slots (operands vs (line_begun format (pend k))) m × LineAt sc context ps level es m n
-      × Has ps level n (ops.Plain kinds.Entr) next × Follows k next × HasRoom most (pend k) (3 + length vs + 1 + line_depth es)
+      × Has ps level n (ops.Plain kinds.Entr) next × SlotsFollow k next × SlotsHaveRoom most (pend k) (3 + length vs + 1 + line_depth es)
   StandsFor _ pc slots = ⊥
 
   -- from this place private operators lead to where the machine stands for this rest, whose head asks for an action
   pub record ComesTo (r : Rest) (pc : ℕ) (slots : List Slot) : Type 0 where
     pub at : ℕ
     pub with_slots : List Slot
-    pub leads : Leads sc context ps level most pc slots at with_slots
+    pub leads : StepsLead sc context ps level most pc slots at with_slots
     pub stands : StandsFor r at with_slots
     pub asks : ask r ≡ nothing → ⊥
 
@@ -560,7 +560,7 @@ module _ (sc : Scopes) (context : Context) (ps : List Placed) (level most : ℕ)
 
   -- the operator that does what the head asks for stands there, with what it takes
   abbrev pub ActionAt : Ask → ℕ → List Slot → Type 0
-  ActionAt (reads n) pc slots = (kind : Kind) × (next : ℕ) × ReadAt sc context ps level n kind pc next × HasRoom most slots 1
+  ActionAt (reads n) pc slots = (kind : Kind) × (next : ℕ) × ReadAt sc context ps level n kind pc next × SlotsHaveRoom most slots 1
   ActionAt (reads_element n ks v) pc slots = (next : ℕ) × (below : List Slot) × ElementReadAt n ks v pc next slots below
   ActionAt (indexes n ks v) pc slots = IndexesAt n ks v pc slots
   ActionAt (resolves n) pc slots = (kind : Kind) × (next : ℕ) × (below : List Slot) × ResolvesAt n kind pc next slots below
@@ -579,7 +579,7 @@ module _ (sc : Scopes) (context : Context) (ps : List Placed) (level most : ℕ)
       (kind : Kind) × (over : ℕ) × (context.yields ≡ yielding.value kind) × HasKind kind v × Has ps level pc (ops.Plain kinds.Retn) over
       × (slots ≡ operand v ∷ [])
   ActionAt (leaves (place p)) pc slots =
-      (kind : Kind) × (over : ℕ) × (context.yields ≡ yielding.element kind) × IsFound p × Has ps level pc (ops.Plain kinds.Retn) over
+      (kind : Kind) × (over : ℕ) × (context.yields ≡ yielding.element kind) × PlaceIsFound p × Has ps level pc (ops.Plain kinds.Retn) over
       × (slots ≡ descriptor (held_at p kind) ∷ [])
   ActionAt (reads_result name) pc slots = ResultAt sc context ps level name pc × (slots ≡ []) × (1 ≤ most)
   ActionAt (enters n gs) pc slots = (callee : ℕ) × (next : ℕ) × (below : List Slot) × CallsAt n gs callee pc next slots below
@@ -590,7 +590,7 @@ module _ (sc : Scopes) (context : Context) (ps : List Placed) (level most : ℕ)
       (table : ℕ) × (below : List Slot) × SelectAt v ss pc table slots below
       × ((i : ℕ) → i < stmts_count ss → (target : ℕ) × (next : ℕ) × BranchAt ps level Brun (table + 3 * i) target next)
   ActionAt turns pc slots = (l : ℕ) × (next : ℕ) × TurnAt ps level pc l next
-  ActionAt (writes phrases vs) pc slots = (next : ℕ) × (below : List Slot) × WriteAt phrases vs pc next slots below
+  ActionAt (writes phrases vs) pc slots = (next : ℕ) × (below : List Slot) × WriteStandsAt phrases vs pc next slots below
   ActionAt (enters_block (tree.body spot ds ss)) pc slots = (next : ℕ) × (below : List Slot) × EntersAt spot ds ss pc next slots below
   ActionAt _ pc slots = ⊥
 
@@ -631,7 +631,7 @@ module _ (sc : Scopes) (context : Context) (ps : List Placed) (level most : ℕ)
 
   -- The head's action stands at this place. Whatever it answers, the machine then comes to where it stands for what is left. Where a part
   -- inside was entered, it does so after the entry once that has left with what is wanted of it.
-  pub record GoesOn (r : Rest) (pc : ℕ) (slots : List Slot) : Type 0 where
+  pub record CodeGoesOn (r : Rest) (pc : ℕ) (slots : List Slot) : Type 0 where
     pub action : ActionAt (ask r) pc slots
     pub answered : (a : Answer) (at : ℕ) (after : List Slot) → Acted (ask r) pc slots action a at after → ComesTo (resume sc r a) at after
     pub waits : (at : ℕ) (after : List Slot) (wanted : Yields) → Entered (ask r) pc slots action at after wanted → ask (resume sc r entered) ≡ nothing

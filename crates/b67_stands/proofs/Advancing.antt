@@ -12,12 +12,12 @@ use Rattle.b67_table.specs.declared.ProcessState.{ProcessState}
 use Rattle.b67_table.specs.declared.ProcessState.TheVariants as states
 use Rattle.b67_table.specs.Effect.{Effect}
 use Rattle.b67_table.specs.Effect as effects
-use Rattle.b67_table.specs.Ending.{ImageEnd, finished, has_ended, end_by, image_end, may_act, goes_on, failed}
+use Rattle.b67_table.specs.Ending.{ImageEnd, finished, has_ended, image_end_by, image_end, may_act, goes_on, failed}
 use Rattle.b67_table.specs.Image.{Image, Failure, is_able, is_live, private_of, with_private, with_effect}
 use Rattle.b67_table.specs.Outcome.{Outcome, gives, limited}
 use Rattle.b67_table.specs.Private.{floor}
 use Rattle.b67_table.specs.Privacy.{Commute}
-use Rattle.b67_table.specs.Runs.{Plains, stay, go, Acts, acts, fails, entry, Tails, none, next}
+use Rattle.b67_table.specs.Runs.{Plains, stay, go, ProcessActs, acts, fails, entry, Tails, none, next}
 use Rattle.b67_table.specs.Sound.{Sound}
 use Rattle.b67_table.specs.Table.{raw, table, plain, private_in, private_next, is_new, stack_length}
 use Rattle.b67_table.specs.Valid.{IsValid}
@@ -113,7 +113,7 @@ not_plain code a p e = ap (λ (x : Bool). x && is_new (table code a p)) e
 module _ (code : Code) (schedule : List ℕ) (sound : Sound code) (p q : ℕ) (h : p ≢ q) where
   pub record OneAction (a b c : Image) : Type 0 where
     pub between : Image
-    pub action : Acts code p a between
+    pub action : ProcessActs code p a between
     pub letter_is : letter code a p ≡ letter code b p
     pub plain_then : plain code between q ≡ true
     pub then_other : table code between q ≡ gives c
@@ -131,7 +131,7 @@ module _ (code : Code) (schedule : List ℕ) (sound : Sound code) (p q : ℕ) (h
       sym (letters_stay_apart code p q o.0 a b h (valid_stands code a q o.0 r.valid live o.1) e t
       (λ x touches mine. h (sound.apart schedule r.tails a r.leads.run p q x o.0 touches (record { live = live; is = o.1 }) mine)))
 
-  one_action : (a b c : Image) → Reached code schedule a → plain code a q ≡ true → table code a q ≡ gives b → Acts code p b c → OneAction a b c
+  one_action : (a b c : Image) → Reached code schedule a → plain code a q ≡ true → table code a q ≡ gives b → ProcessActs code p b c → OneAction a b c
   one_action a b c r e t (acts f u) =
       let k = one_commutes a b r e t in
       let m = k.earlier c u in
@@ -144,11 +144,11 @@ module _ (code : Code) (schedule : List ℕ) (sound : Sound code) (p q : ℕ) (h
 
   pub record ActionFirst (a b c : Image) (m : ℕ) : Type 0 where
     pub between : Image
-    pub action : Acts code p a between
+    pub action : ProcessActs code p a between
     pub letter_is : letter code a p ≡ letter code b p
     pub rest : Plains code q between m c
 
-  action_first : (a b c : Image) (m : ℕ) → Reached code schedule a → Plains code q a m b → Acts code p b c → ActionFirst a b c m
+  action_first : (a b c : Image) (m : ℕ) → Reached code schedule a → Plains code q a m b → ProcessActs code p b c → ActionFirst a b c m
   action_first a b c m r stay act = record { between = c; action = act; letter_is = refl; rest = stay }
   action_first a b c m r (go {b = d} {n = l} e t rest) act =
       let later = action_first d b c l (reached_on code schedule q a d r e t) rest act in
@@ -159,7 +159,7 @@ module _ (code : Code) (schedule : List ℕ) (sound : Sound code) (p : ℕ) wher
   -- the action of p comes before the tails of others
   pub record BeforeAll (s : ℕ) (a : Image) (tails : List ℕ) (b c : Image) : Type 0 where
     pub between : Image
-    pub action : Acts code p a between
+    pub action : ProcessActs code p a between
     pub letter_is : letter code a p ≡ letter code b p
     pub rest : Tails code s between tails c
 
@@ -170,7 +170,7 @@ module _ (code : Code) (schedule : List ℕ) (sound : Sound code) (p : ℕ) wher
       let here : d ≡ a = sym (none_stays code s a d m one nothing) in
       record {
         between = later.between;
-        action = subst (λ (x : Image). Acts code p x later.between) here later.action;
+        action = subst (λ (x : Image). ProcessActs code p x later.between) here later.action;
         letter_is = ap (λ (x : Image). letter code x p) (sym here) ∙ later.letter_is;
         rest = subst (λ (k : ℕ). Tails code s later.between (k ∷ ts) c) (sym nothing) (next stay later.rest);
       }
@@ -178,7 +178,7 @@ module _ (code : Code) (schedule : List ℕ) (sound : Sound code) (p : ℕ) wher
       let k = action_first code schedule sound p s (λ e. g (sym e)) a d later.between m r one later.action in
       record { between = k.between; action = k.action; letter_is = k.letter_is ∙ later.letter_is; rest = next k.rest later.rest }
 
-  before_all : (s : ℕ) (a b c : Image) (tails : List ℕ) → Reached code schedule a → Tails code s a tails b → HasNone p s tails → Acts code p b c → BeforeAll s a tails b c
+  before_all : (s : ℕ) (a b c : Image) (tails : List ℕ) → Reached code schedule a → Tails code s a tails b → HasNone p s tails → ProcessActs code p b c → BeforeAll s a tails b c
   before_all s a b c tails r none none_there act = record { between = c; action = act; letter_is = refl; rest = none }
   before_all s a b c tails r (next {n = m} {b = d} {tails = ts} one rest) none_there act =
       action_by s a b c d m ts r one none_there
@@ -210,8 +210,8 @@ rows_tails code s a b tails (next {b = c} {tails = ts} one rest) = rows_tails co
 may_same : (a b : Image) (p : ℕ) → b.states ≡ a.states → b.fault ≡ a.fault → may_act b p ≡ may_act a p
 unfolding may_act image_end
 may_same a b p s f =
-    ap (λ (ss : List ProcessState). goes_on (if has_ended (numbered ss 1) then Some finished else end_by b.fault ss) (is_able (numbered ss p))) s
-    ∙ ap (λ (o : Option Failure). goes_on (if has_ended (numbered a.states 1) then Some finished else end_by o a.states) (is_able (numbered a.states p))) f
+    ap (λ (ss : List ProcessState). goes_on (if has_ended (numbered ss 1) then Some finished else image_end_by b.fault ss) (is_able (numbered ss p))) s
+    ∙ ap (λ (o : Option Failure). goes_on (if has_ended (numbered a.states 1) then Some finished else image_end_by o a.states) (is_able (numbered a.states p))) f
 
 able_by : (o : Option ImageEnd) (b : Bool) → goes_on o b ≡ true → b ≡ true
 able_by None b e = e
@@ -229,7 +229,7 @@ able_lives (Some states.WaitsAny) e = cc
 able_lives (Some (states.Procures at)) e = cc
 able_lives (Some states.Ended) e = cc
 
-acts_valid : (code : Code) (p : ℕ) (a b : Image) → IsValid code a → is_able (numbered a.states p) ≡ true → Acts code p a b → length b.rows ≤ row_limit → IsValid code b
+acts_valid : (code : Code) (p : ℕ) (a b : Image) → IsValid code a → is_able (numbered a.states p) ≡ true → ProcessActs code p a b → length b.rows ≤ row_limit → IsValid code b
 acts_valid code p a b v able (acts e t) few = operators_keep_valid.able code a b p v able t few
 acts_valid code p a b v able (fails kind t) few = operators_keep_valid.failed code a p kind v
 
@@ -242,7 +242,7 @@ has_none : (tails : List ℕ) (k : ℕ) → HasNone (1 + k) 1 (none_at tails k)
 has_none tails k j e = let same : k ≡ j = omega (arith, e) in subst (λ (i : ℕ). at_place (none_at tails k) i ≡ 0) same (none_there tails k)
 
 entered : (code : Code) (schedule tails : List ℕ) (a quiet b : Image) (k n : ℕ) (leads : Leads code schedule tails a) → Sound code → may_act a (1 + k) ≡ true
-    → Plains code (1 + k) a n quiet → Acts code (1 + k) quiet b → IsValid code b → (to : Leads code (schedule ++ (1 + k) ∷ []) (none_at tails k) b)
+    → Plains code (1 + k) a n quiet → ProcessActs code (1 + k) quiet b → IsValid code b → (to : Leads code (schedule ++ (1 + k) ∷ []) (none_at tails k) b)
     × OneMore (1 + k) (at_place tails k + n + 1) quiet leads to
 entered code schedule tails a quiet b k n leads sound may plains act valid =
     let r = leads.run in
@@ -283,14 +283,14 @@ entered code schedule tails a quiet b k n leads sound may plains act valid =
     )
 
 taken : (code : Code) (schedule tails : List ℕ) (a quiet b : Image) (p n : ℕ) (leads : Leads code schedule tails a) → Sound code → may_act a p ≡ true
-    → Plains code p a n quiet → Acts code p quiet b → IsValid code b → LeadsTo code schedule tails a leads p n quiet b
+    → Plains code p a n quiet → ProcessActs code p quiet b → IsValid code b → LeadsTo code schedule tails a leads p n quiet b
 taken code schedule tails a quiet b zero n leads sound may plains act valid =
     absurd (omega (arith, number_from a 0 (able_lives (numbered a.states 0) (may_able a 0 may))))
 taken code schedule tails a quiet b (suc k) n leads sound may plains act valid =
     let same : suc k ≡ 1 + k = omega arith in
     let e = subst (λ (p : ℕ). (to : Leads code (schedule ++ p ∷ []) (none_at tails k) b) × OneMore p (at_place tails k + n + 1) quiet leads to) (sym same)
     (entered code schedule tails a quiet b k n leads sound (subst (λ (p : ℕ). may_act a p ≡ true) same may) (subst (λ (p : ℕ). Plains code p a n quiet) same plains)
-    (subst (λ (p : ℕ). Acts code p quiet b) same act) valid) in
+    (subst (λ (p : ℕ). ProcessActs code p quiet b) same act) valid) in
     record { to = e.0; more = e.1 }
 
 pub runs_take_entries : RunsTakeEntries

@@ -6,17 +6,17 @@ use Rattle.std.proofs.lemmas.Bool.{leb-true}
 use Rattle.std.proofs.lemmas.List.{reverse-append, length-reverse}
 use Rattle.b67_list.specs.Numbered.{numbered, set_numbered}
 use Rattle.b67_num.specs.declared.FaultKind.{FaultKind}
-use Rattle.b67_schedule.specs.Schedules.{entries, Kept as Schedule}
+use Rattle.b67_schedule.specs.Schedules.{entries, ScheduleModel}
 use Rattle.b67_segment.specs.declared.code.Code.{Code}
 use Rattle.b67_limits.specs.declared.TheConstants.{MOST_BUDGET}
-use Rattle.b67_letters.specs.Releases.{registers_releases, released_by, releases, started_between, started_by, starts}
+use Rattle.b67_letters.specs.Releases.{registers_releases, released_by, releases, started_between, started_by, operator_starts}
 use Rattle.b67_table.specs.declared.ProcessState.{ProcessState}
 use Rattle.b67_table.specs.Ending.{ImageEnd, image_end, may_act, failed}
 use Rattle.b67_table.specs.Ending as ending
 use Rattle.b67_table.specs.Image.{Image, is_able}
 use Rattle.b67_table.specs.Limits.{most_processes}
 use Rattle.b67_table.specs.Outcome.{Outcome, gives, faults, interrupts}
-use Rattle.b67_table.specs.Runs.{Runs, begin, entry, Entry, Plains, TableRun, acts, fails}
+use Rattle.b67_table.specs.Runs.{Runs, begin, entry, RunEntry, Plains, TableRun, acts, fails}
 use Rattle.b67_table.specs.Runs as runs
 use Rattle.b67_table.specs.Sound.{Sound}
 use Rattle.b67_table.specs.Table.{table, plain}
@@ -24,9 +24,9 @@ use Rattle.b67_action.specs.Able.{one_if, able_in, newly}
 use Rattle.b67_action.specs.declared.done.Done.{Done}
 use Rattle.b67_action.specs.declared.done.Done.TheVariants as dones
 use Rattle.b67_machine.specs.declared.entry.Performed.{Performed}
-use Rattle.b67_machine.specs.Kept.{Kept}
+use Rattle.b67_machine.specs.Kept.{MachineModel}
 use Rattle.b67_machine.specs.Replaying.{tails_of}
-use Rattle.b67_machine.specs.Stepping.{Acts, StepsBy, Follows, Goes}
+use Rattle.b67_machine.specs.Stepping.{MachineActs, StepsBy, MachineFollows, MachineGoes}
 use Rattle.b67_machine.proofs.Ends.{same_end}
 use Rattle.b67_machine.proofs.Ends as machine
 use Rattle.b67_machine.proofs.Tailing.{tail_of_next}
@@ -36,7 +36,7 @@ use Rattle.b67_stands.specs.Running.{Running, answer_of}
 use Rattle.b67_stands.specs.Placing.{holder_of}
 use Rattle.b67_stands.specs.Picked.{Pick, if_started, to_rear, waiting_after}
 use Rattle.b67_stands.specs.Stands.{Stands}
-use Rattle.b67_stands.specs.Calls.{IsFirst, TakesOne, is_action, Records, ActsOnce}
+use Rattle.b67_stands.specs.Calls.{IsFirst, TakesOne, done_is_action, Records, ActsOnce}
 use Rattle.b67_stands.specs.Alone.{IsNext, ByOne, KeepsByOne, TurnsKeepByOne}
 use Rattle.b67_stands.proofs.Counts.{entries_few}
 use Rattle.b67_stands.proofs.Firsts.{none_out}
@@ -82,18 +82,18 @@ unfolding may_act
 may_able img p e = ap (λ (o : Option ImageEnd). ending.goes_on o (is_able (numbered img.states p))) e
 
 rear_is : (code : Code) (a quiet b : Image) (p : ℕ) (released : List ℕ) → a.started ≡ quiet.started → released ≡ releases code quiet p
-    → started_between quiet.started b.started ≡ starts code quiet p → image_end b ≡ None → joining a.started b p released ≡ to_rear code quiet p b
+    → started_between quiet.started b.started ≡ operator_starts code quiet p → image_end b ≡ None → joining a.started b p released ≡ to_rear code quiet p b
 rear_is code a quiet b p released n r s e =
     ap (λ (xs : List ℕ). xs ++ newly a.started b.started ++ if_able (able_in b p) p) r
     ∙ ap (λ (k : ℕ). releases code quiet p ++ newly k b.started ++ if_able (able_in b p) p) n
     ∙ ap (λ (xs : List ℕ). releases code quiet p ++ xs ++ if_able (able_in b p) p) (newly_is (nat_lt quiet.started b.started) b.started ∙ ap if_started s)
-    ∙ ap (λ (may : Bool). releases code quiet p ++ if_started (starts code quiet p) ++ (if may then p ∷ [] else [])) (sym (may_able b p e))
+    ∙ ap (λ (may : Bool). releases code quiet p ++ if_started (operator_starts code quiet p) ++ (if may then p ∷ [] else [])) (sym (may_able b p e))
 
 -- what is at fault releases and starts nobody
 faults_release : (code : Code) (img : Image) (p : ℕ) (kind : FaultKind) → table code img p ≡ faults kind → releases code img p ≡ []
 faults_release code img p kind e = ap (λ (o : Outcome Image). released_by o (registers_releases code img p (numbered img.regs p))) e
 
-faults_start : (code : Code) (img : Image) (p : ℕ) (kind : FaultKind) → table code img p ≡ faults kind → starts code img p ≡ None
+faults_start : (code : Code) (img : Image) (p : ℕ) (kind : FaultKind) → table code img p ≡ faults kind → operator_starts code img p ≡ None
 faults_start code img p kind e = ap (started_by img) e
 
 -- ---- a turn
@@ -105,7 +105,7 @@ module _ (code : Code) (budget : ℕ) (pick : Pick) (old new : Running) (me p : 
     (stands : Stands code budget old) (one : ByOne code budget pick old) (going : answer_of budget old ≡ None)
     (got : slice_get old.waiting (pick (length old.waiting) old.takes) ≡ Some p)
     (turn : ActsOnce budget (taken old (pick (length old.waiting) old.takes) p me) p performed new) where
-  abbrev quiet : Kept
+  abbrev quiet : MachineModel
   quiet = turn.machine.between
 
   g : GoesOn budget old
@@ -114,7 +114,7 @@ module _ (code : Code) (budget : ℕ) (pick : Pick) (old new : Running) (me p : 
   next : IsNext pick one.runs old
   next = one.next going
 
-  goes : Goes old.machine p performed.plain quiet
+  goes : MachineGoes old.machine p performed.plain quiet
   goes = turn.machine.plains
 
   able : able_in old.machine.image p ≡ true
@@ -137,10 +137,10 @@ module _ (code : Code) (budget : ℕ) (pick : Pick) (old new : Running) (me p : 
       by (no h) = holder_other (set_numbered old.out p me) p q 0 h ∙ holder_other old.out p q me h ∙ next.nobody q
 
   code_quiet : quiet.code ≡ code
-  code_quiet = ap (λ (k : Kept). k.code) goes.others ∙ stands.same
+  code_quiet = ap (λ (k : MachineModel). k.code) goes.others ∙ stands.same
 
   lacked_quiet : quiet.lacked ≡ false
-  lacked_quiet = ap (λ (k : Kept). k.lacked) goes.others ∙ g.lacked
+  lacked_quiet = ap (λ (k : MachineModel). k.lacked) goes.others ∙ g.lacked
 
   end_quiet : image_end quiet.image ≡ None
   end_quiet = same_end old.machine.image quiet.image goes.states goes.fault ∙ (machine.goes_on old.machine g.end).end
@@ -210,18 +210,18 @@ module _ (code : Code) (budget : ℕ) (pick : Pick) (old new : Running) (me p : 
     counts = one.counts;
     image = one.image;
     runs = one.runs;
-    order = ap (λ (z : Schedule). entries z.runs) s.schedule ∙ one.order;
+    order = ap (λ (z : ScheduleModel). entries z.runs) s.schedule ∙ one.order;
     picked = one.picked;
     next = λ e. absurd (ended e);
     within = within;
   }
 
   -- the action was performed
-  enters : Records true (taken old (pick (length old.waiting) old.takes) p me) p new → runs.Acts code p quiet.image new.machine.image
-      → new.machine.released ≡ releases code quiet.image p → started_between quiet.image.started new.machine.image.started ≡ starts code quiet.image p → new.spent ≤ budget
+  enters : Records true (taken old (pick (length old.waiting) old.takes) p me) p new → runs.ProcessActs code p quiet.image new.machine.image
+      → new.machine.released ≡ releases code quiet.image p → started_between quiet.image.started new.machine.image.started ≡ operator_starts code quiet.image p → new.spent ≤ budget
       → ByOne code budget pick new
   enters e act released started within =
-      let last : Entry code p one.image performed.plain new.machine.image =
+      let last : RunEntry code p one.image performed.plain new.machine.image =
       record { may = may_first; quiet = quiet.image; plains = plains; action = act } in
       record {
         history = p ∷ one.history;
@@ -245,60 +245,60 @@ module _ (code : Code) (budget : ℕ) (pick : Pick) (old new : Running) (me p : 
       }
 
   acts_by : (acted : Image) → plain quiet.code quiet.image p ≡ false → table quiet.code quiet.image p ≡ gives acted → new.machine.image ≡ acted
-      → runs.Acts code p quiet.image new.machine.image
+      → runs.ProcessActs code p quiet.image new.machine.image
   acts_by acted e t same =
-      subst (λ (c : Code). runs.Acts c p quiet.image new.machine.image) code_quiet
-      (subst (λ (i : Image). runs.Acts quiet.code p quiet.image i) (sym same) (acts e t))
+      subst (λ (c : Code). runs.ProcessActs c p quiet.image new.machine.image) code_quiet
+      (subst (λ (i : Image). runs.ProcessActs quiet.code p quiet.image i) (sym same) (acts e t))
 
   fails_by : (kind : FaultKind) (acted : Image) → table quiet.code quiet.image p ≡ faults kind → acted ≡ quiet.image → new.machine.image ≡ failed acted p kind
-      → runs.Acts code p quiet.image new.machine.image
+      → runs.ProcessActs code p quiet.image new.machine.image
   fails_by kind acted t left same =
-      subst (λ (c : Code). runs.Acts c p quiet.image new.machine.image) code_quiet
-      (subst (λ (i : Image). runs.Acts quiet.code p quiet.image i) (sym (same ∙ ap (λ (i : Image). failed i p kind) left)) (fails kind t))
+      subst (λ (c : Code). runs.ProcessActs c p quiet.image new.machine.image) code_quiet
+      (subst (λ (i : Image). runs.ProcessActs quiet.code p quiet.image i) (sym (same ∙ ap (λ (i : Image). failed i p kind) left)) (fails kind t))
 
   released_by_it : new.machine.released ≡ releases quiet.code quiet.image p → new.machine.released ≡ releases code quiet.image p
   released_by_it e = e ∙ ap (λ (c : Code). releases c quiet.image p) code_quiet
 
-  started_by_it : started_between quiet.image.started new.machine.image.started ≡ starts quiet.code quiet.image p
-      → started_between quiet.image.started new.machine.image.started ≡ starts code quiet.image p
-  started_by_it e = e ∙ ap (λ (c : Code). starts c quiet.image p) code_quiet
+  started_by_it : started_between quiet.image.started new.machine.image.started ≡ operator_starts quiet.code quiet.image p
+      → started_between quiet.image.started new.machine.image.started ≡ operator_starts code quiet.image p
+  started_by_it e = e ∙ ap (λ (c : Code). operator_starts c quiet.image p) code_quiet
 
-  turn_by : (o : Option Done) → Follows quiet p performed.plain (budget - old.spent) o new.machine
-      → Records (is_action o) (taken old (pick (length old.waiting) old.takes) p me) p new → new.spent ≡ old.spent + performed.plain + one_if (is_action o)
-      → ByOne code budget pick new × (is_action o ≡ false → answer_of budget new ≢ None)
+  turn_by : (o : Option Done) → MachineFollows quiet p performed.plain (budget - old.spent) o new.machine
+      → Records (done_is_action o) (taken old (pick (length old.waiting) old.takes) p me) p new → new.spent ≡ old.spent + performed.plain + one_if (done_is_action o)
+      → ByOne code budget pick new × (done_is_action o ≡ false → answer_of budget new ≢ None)
   unfolding failed
   turn_by None f rec spent =
       let ended = budget_ends budget new (omega (arith, spent, f.0, g.less)) in
       (stays rec ended (omega (arith, spent, f.0, g.less)), λ e. ended)
   turn_by (Some dones.StackLimit) f rec spent =
-      let a : Acts quiet p dones.StackLimit new.machine = subst (λ (b : Bool). StepsBy b quiet p dones.StackLimit new.machine) lacked_quiet f.2 in
+      let a : MachineActs quiet p dones.StackLimit new.machine = subst (λ (b : Bool). StepsBy b quiet p dones.StackLimit new.machine) lacked_quiet f.2 in
       let ended = limit_ends budget p new a.limit in
       (stays rec ended (omega (arith, spent, f.0)), λ e. ended)
   turn_by (Some dones.NoMemory) f rec spent =
-      let a : Acts quiet p dones.NoMemory new.machine = subst (λ (b : Bool). StepsBy b quiet p dones.NoMemory new.machine) lacked_quiet f.2 in
+      let a : MachineActs quiet p dones.NoMemory new.machine = subst (λ (b : Bool). StepsBy b quiet p dones.NoMemory new.machine) lacked_quiet f.2 in
       let ended = lack_ends budget new a.lacked in
       (stays rec ended (omega (arith, spent, f.0)), λ e. ended)
   turn_by (Some (dones.Interrupt kind)) f rec spent =
-      let a : Acts quiet p (dones.Interrupt kind) new.machine = subst (λ (b : Bool). StepsBy b quiet p (dones.Interrupt kind) new.machine) lacked_quiet f.2 in
+      let a : MachineActs quiet p (dones.Interrupt kind) new.machine = subst (λ (b : Bool). StepsBy b quiet p (dones.Interrupt kind) new.machine) lacked_quiet f.2 in
       absurd (sound.tagged (reverse one.history) (tails_of (p ∷ []) performed.plain) quiet.image run_quiet end_quiet p able_quiet
       (kind, subst (λ (c : Code). table c quiet.image p ≡ interrupts kind) code_quiet a.came.0))
   turn_by (Some dones.Went) f rec spent =
-      let a : Acts quiet p dones.Went new.machine = subst (λ (b : Bool). StepsBy b quiet p dones.Went new.machine) lacked_quiet f.2 in (
+      let a : MachineActs quiet p dones.Went new.machine = subst (λ (b : Bool). StepsBy b quiet p dones.Went new.machine) lacked_quiet f.2 in (
         enters rec (acts_by a.acted f.1 a.came.0 a.image) (released_by_it a.released) (started_by_it a.started) (omega (arith, spent, f.0)),
         λ e. absurd (true≢false e),
       )
   turn_by (Some dones.Waits) f rec spent =
-      let a : Acts quiet p dones.Waits new.machine = subst (λ (b : Bool). StepsBy b quiet p dones.Waits new.machine) lacked_quiet f.2 in (
+      let a : MachineActs quiet p dones.Waits new.machine = subst (λ (b : Bool). StepsBy b quiet p dones.Waits new.machine) lacked_quiet f.2 in (
         enters rec (acts_by a.acted f.1 a.came.0 a.image) (released_by_it a.released) (started_by_it a.started) (omega (arith, spent, f.0)),
         λ e. absurd (true≢false e),
       )
   turn_by (Some dones.Ended) f rec spent =
-      let a : Acts quiet p dones.Ended new.machine = subst (λ (b : Bool). StepsBy b quiet p dones.Ended new.machine) lacked_quiet f.2 in (
+      let a : MachineActs quiet p dones.Ended new.machine = subst (λ (b : Bool). StepsBy b quiet p dones.Ended new.machine) lacked_quiet f.2 in (
         enters rec (acts_by a.acted f.1 a.came.0 a.image) (released_by_it a.released) (started_by_it a.started) (omega (arith, spent, f.0)),
         λ e. absurd (true≢false e),
       )
   turn_by (Some (dones.Fault kind)) f rec spent =
-      let a : Acts quiet p (dones.Fault kind) new.machine = subst (λ (b : Bool). StepsBy b quiet p (dones.Fault kind) new.machine) lacked_quiet f.2 in (
+      let a : MachineActs quiet p (dones.Fault kind) new.machine = subst (λ (b : Bool). StepsBy b quiet p (dones.Fault kind) new.machine) lacked_quiet f.2 in (
         enters rec (fails_by kind a.acted a.came.0 a.came.1 a.image)
             (released_by_it (a.released ∙ sym (faults_release quiet.code quiet.image p kind a.came.0)))
             (started_by_it (a.started ∙ sym (faults_start quiet.code quiet.image p kind a.came.0))) (omega (arith, spent, f.0)),

@@ -7,8 +7,8 @@ use Rattle.std.proofs.lemmas.List.Sums.{sum_by-cons}
 use Rattle.b67_segment.specs.declared.code.Code.{Code}
 use Rattle.b67_table.specs.Image.{Image}
 use Rattle.b67_table.specs.Runs.{Runs, begin, entry, count_of}
-use Rattle.b67_machine.specs.Kept.{Counts, counted}
-use Rattle.b67_stands.specs.Tails.{with_more, without, tail_of}
+use Rattle.b67_machine.specs.Kept.{Counts, operators_counted}
+use Rattle.b67_stands.specs.Tails.{with_more, tails_without, tail_of}
 use Rattle.b67_stands.proofs.Tails.{tail_more_own, tail_more_other, tail_without_own, tail_without_other}
 
 -- ---- one process's number in a sum
@@ -21,26 +21,26 @@ has_some c p k e = ap (λ (b : Bool). if b then c else 0) (eq-eqb p k e)
 
 -- ---- counts after plain operators, and after an entry
 
-pub counts_more : (before after tails : List ℕ) (own : ℕ → ℕ) (p n : ℕ) → 1 ≤ p → Counts before p n after → ((q : ℕ) → counted before q ≡ own q + tail_of tails q)
-    → (q : ℕ) → counted after q ≡ own q + tail_of (with_more tails p n) q
+pub counts_more : (before after tails : List ℕ) (own : ℕ → ℕ) (p n : ℕ) → 1 ≤ p → Counts before p n after → ((q : ℕ) → operators_counted before q ≡ own q + tail_of tails q)
+    → (q : ℕ) → operators_counted after q ≡ own q + tail_of (with_more tails p n) q
 counts_more before after tails own p n one c is q = by (ℕ_discrete q p)
   where
-    by : Dec (q ≡ p) → counted after q ≡ own q + tail_of (with_more tails p n) q
+    by : Dec (q ≡ p) → operators_counted after q ≡ own q + tail_of (with_more tails p n) q
     by (yes e) =
-        let here : counted after p ≡ own p + tail_of (with_more tails p n) p = omega (arith, c.own, is p, tail_more_own tails p n one) in
-        subst (λ (k : ℕ). counted after k ≡ own k + tail_of (with_more tails p n) k) (sym e) here
+        let here : operators_counted after p ≡ own p + tail_of (with_more tails p n) p = omega (arith, c.own, is p, tail_more_own tails p n one) in
+        subst (λ (k : ℕ). operators_counted after k ≡ own k + tail_of (with_more tails p n) k) (sym e) here
     by (no h) = omega (arith, c.others q h, is q, tail_more_other tails p n q h)
 
-pub counts_entry : (before after tails h counts : List ℕ) (p n : ℕ) → Counts before p (n + 1) after → ((q : ℕ) → counted before q ≡ count_of q h counts + tail_of tails q)
-    → (q : ℕ) → counted after q ≡ count_of q (p ∷ h) ((tail_of tails p + n + 1) ∷ counts) + tail_of (without tails p) q
+pub counts_entry : (before after tails h counts : List ℕ) (p n : ℕ) → Counts before p (n + 1) after → ((q : ℕ) → operators_counted before q ≡ count_of q h counts + tail_of tails q)
+    → (q : ℕ) → operators_counted after q ≡ count_of q (p ∷ h) ((tail_of tails p + n + 1) ∷ counts) + tail_of (tails_without tails p) q
 counts_entry before after tails h counts p n c is q = by (ℕ_discrete q p)
   where
-    by : Dec (q ≡ p) → counted after q ≡ count_of q (p ∷ h) ((tail_of tails p + n + 1) ∷ counts) + tail_of (without tails p) q
+    by : Dec (q ≡ p) → operators_counted after q ≡ count_of q (p ∷ h) ((tail_of tails p + n + 1) ∷ counts) + tail_of (tails_without tails p) q
     by (yes e) =
         let own = has_some (tail_of tails p + n + 1) p p refl in
-        let here : counted after p ≡ count_of p (p ∷ h) ((tail_of tails p + n + 1) ∷ counts) + tail_of (without tails p) p =
+        let here : operators_counted after p ≡ count_of p (p ∷ h) ((tail_of tails p + n + 1) ∷ counts) + tail_of (tails_without tails p) p =
         omega (arith, c.own, is p, own, tail_without_own tails p) in
-        subst (λ (k : ℕ). counted after k ≡ count_of k (p ∷ h) ((tail_of tails p + n + 1) ∷ counts) + tail_of (without tails p) k) (sym e) here
+        subst (λ (k : ℕ). operators_counted after k ≡ count_of k (p ∷ h) ((tail_of tails p + n + 1) ∷ counts) + tail_of (tails_without tails p) k) (sym e) here
     by (no g) = omega (arith, c.others q g, is q, has_none (tail_of tails p + n + 1) q p g, tail_without_other tails p q g)
 
 -- two counts after one another

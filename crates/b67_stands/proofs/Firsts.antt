@@ -10,12 +10,12 @@ use Rattle.b67_table.specs.Image.{Image}
 use Rattle.b67_table.specs.Limits.{most_processes}
 use Rattle.b67_table.specs.Runs.{begin, none}
 use Rattle.b67_table.specs.Valid.{IsValid}
-use Rattle.b67_action.specs.Able.{times}
+use Rattle.b67_action.specs.Able.{number_times}
 use Rattle.b67_machine.specs.Kept.{or_none}
 use Rattle.b67_stands.specs.Tails.{tail_of}
 use Rattle.b67_joining.proofs.Joining.{first_queue}
 use Rattle.b67_stands.specs.Running.{Running}
-use Rattle.b67_stands.specs.Placing.{some_holder, holder_of, Placed}
+use Rattle.b67_stands.specs.Placing.{some_holder, holder_of, ProcessesPlaced}
 use Rattle.b67_stands.specs.Stands.{Stands}
 use Rattle.b67_stands.specs.Calls.{IsFirst}
 use Rattle.b67_stands.proofs.Showing.{shows_by}
@@ -34,10 +34,10 @@ pub none_out : (n p : ℕ) → holder_of (replicate n 0) p ≡ 0
 none_out n zero = refl
 none_out n (suc k) = zero_at n k
 
-first_placed : (image : Image) (waiting out : List ℕ) → image ≡ first_image → waiting ≡ 1 ∷ [] → out ≡ replicate most_processes 0 → Placed image waiting out
+first_placed : (image : Image) (waiting out : List ℕ) → image ≡ first_image → waiting ≡ 1 ∷ [] → out ≡ replicate most_processes 0 → ProcessesPlaced image waiting out
 first_placed image waiting out e w o q =
     let nobody : some_holder (holder_of out q) ≡ 0 = ap some_holder (ap (λ (xs : List ℕ). holder_of xs q) o ∙ none_out most_processes q) in
-    let waits : times q waiting ≡ times q (1 ∷ []) = ap (times q) w in
+    let waits : number_times q waiting ≡ number_times q (1 ∷ []) = ap (number_times q) w in
     omega (arith, first_queue image e q, nobody, waits)
 
 pub first_stands : (code : Code) (budget : ℕ) (s : Running) → IsValid code first_image → IsFirst code s → Stands code budget s

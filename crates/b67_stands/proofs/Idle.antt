@@ -6,7 +6,7 @@ use Rattle.b67_table.specs.declared.ProcessState.{ProcessState}
 use Rattle.b67_table.specs.declared.ProcessState.TheVariants as states
 use Rattle.b67_table.specs.Ending.{some_able}
 use Rattle.b67_table.specs.Image.{is_able}
-use Rattle.b67_action.specs.Able.{times, one_if, able_in}
+use Rattle.b67_action.specs.Able.{number_times, one_if, able_in}
 use Rattle.b67_machine.proofs.Ends as machine
 use Rattle.b67_joining.proofs.Able.{one_able}
 use Rattle.b67_stands.specs.Running.{Running, answer_of}
@@ -32,5 +32,5 @@ some_out code budget s stands going nobody =
     let end = (machine.goes_on s.machine goes.end).end in
     let some = able_at s.machine.image.states (one_able s.machine.image end (omega (arith, stands.valid.states, stands.valid.some))) in
     let able : one_if (able_in s.machine.image (suc some.0)) ≡ 1 = ap one_if some.1 in
-    let waits : times (suc some.0) s.waiting ≡ 0 = ap (times (suc some.0)) nobody in
+    let waits : number_times (suc some.0) s.waiting ≡ 0 = ap (number_times (suc some.0)) nobody in
     (suc some.0, out_by (holder_of s.out (suc some.0)) (omega (arith, stands.placed going (suc some.0), able, waits)))

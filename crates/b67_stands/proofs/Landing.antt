@@ -11,8 +11,8 @@ use Rattle.b67_table.specs.Image.{Image, is_able, is_live}
 use Rattle.b67_table.specs.Runs.{Plains, count_of}
 use Rattle.b67_table.specs.Valid.{IsValid}
 use Rattle.b67_action.specs.Able.{one_if, able_in}
-use Rattle.b67_machine.specs.Kept.{Kept}
-use Rattle.b67_machine.specs.Stepping.{Goes}
+use Rattle.b67_machine.specs.Kept.{MachineModel}
+use Rattle.b67_machine.specs.Stepping.{MachineGoes}
 use Rattle.b67_machine.proofs.Ends.{same_end}
 use Rattle.b67_machine.proofs.Ends as machine
 use Rattle.b67_stands.specs.Tails.{with_more, tail_of}
@@ -21,7 +21,7 @@ use Rattle.b67_stands.proofs.Steps.{Same, number_from, number_within}
 use Rattle.b67_stands.proofs.Past.{plains_same}
 use Rattle.b67_stands.proofs.Advancing.{runs_take_operators, able_lives}
 use Rattle.b67_stands.specs.Running.{Running, answer_of}
-use Rattle.b67_stands.specs.Placing.{IsOut, Placed}
+use Rattle.b67_stands.specs.Placing.{IsOut, ProcessesPlaced}
 use Rattle.b67_stands.specs.Stands.{Stands}
 use Rattle.b67_stands.specs.Calls.{LandsOnce}
 use Rattle.b67_stands.proofs.Tails.{sum_more, length_more}
@@ -31,15 +31,15 @@ use Rattle.b67_stands.proofs.Ends.{GoesOn, goes_on}
 use Rattle.b67_stands.proofs.Showing.{shows_is, shows_by}
 
 -- so many operators of the process have landed
-abbrev pub landed : Running → Kept → ℕ → Running
+abbrev pub landed : Running → MachineModel → ℕ → Running
 landed old m n = record old { machine = m; spent = old.spent + n }
 
-placed_same : (a b : Image) (waiting out : List ℕ) → b.states ≡ a.states → Placed a waiting out → Placed b waiting out
+placed_same : (a b : Image) (waiting out : List ℕ) → b.states ≡ a.states → ProcessesPlaced a waiting out → ProcessesPlaced b waiting out
 placed_same a b waiting out e placed q =
     placed q ∙ ap (λ (ss : List ProcessState). one_if (is_able (numbered ss q))) (sym e)
 
-module _ (code : Code) (budget : ℕ) (old : Running) (p n : ℕ) (m : Kept) (stands : Stands code budget old) (going : answer_of budget old ≡ None)
-    (held : IsOut old.out p) (few : old.spent + n < budget + MOST_STRETCH) (goes : Goes old.machine p n m) where
+module _ (code : Code) (budget : ℕ) (old : Running) (p n : ℕ) (m : MachineModel) (stands : Stands code budget old) (going : answer_of budget old ≡ None)
+    (held : IsOut old.out p) (few : old.spent + n < budget + MOST_STRETCH) (goes : MachineGoes old.machine p n m) where
   g : GoesOn budget old
   g = goes_on budget old going
 
@@ -68,17 +68,17 @@ module _ (code : Code) (budget : ℕ) (old : Running) (p n : ℕ) (m : Kept) (st
   on = runs_take_operators code (entries old.schedule.runs) stands.tails stands.image m.image p n stands.leads live plains
 
   lacked_same : m.lacked ≡ false
-  lacked_same = ap (λ (k : Kept). k.lacked) goes.others ∙ g.lacked
+  lacked_same = ap (λ (k : MachineModel). k.lacked) goes.others ∙ g.lacked
 
   limit_same : m.limit ≡ None
-  limit_same = ap (λ (k : Kept). k.limit) goes.others ∙ g.limit
+  limit_same = ap (λ (k : MachineModel). k.limit) goes.others ∙ g.limit
 
   end_none : image_end m.image ≡ None
   end_none = same_end old.machine.image m.image goes.states goes.fault ∙ (machine.goes_on old.machine g.end).end
 
   stands_landed : Stands code budget (landed old m n)
   stands_landed = record {
-    same = ap (λ (k : Kept). k.code) goes.others ∙ stands.same;
+    same = ap (λ (k : MachineModel). k.code) goes.others ∙ stands.same;
     valid = kept.valid;
     tails = with_more stands.tails p n;
     image = m.image;

@@ -5,15 +5,15 @@ use Rattle.std.proofs.Math.Decide.{ℕ_discrete}
 use Rattle.b67_list.specs.Numbered.{set_numbered}
 use Rattle.b67_segment.specs.declared.code.Code.{Code}
 use Rattle.b67_table.specs.Image.{Image}
-use Rattle.b67_action.specs.Able.{times, one_if, able_in}
+use Rattle.b67_action.specs.Able.{number_times, one_if, able_in}
 use Rattle.b67_joining.proofs.Times.{here, elsewhere, times_both}
-use Rattle.b67_machine.specs.Kept.{Kept}
+use Rattle.b67_machine.specs.Kept.{MachineModel}
 use Rattle.b67_machine.specs.Reads.{machine_end}
 use Rattle.b67_machine.specs.declared.reads.End.{End}
 use Rattle.b67_machine.proofs.Ends.{same_end, no_end}
 use Rattle.b67_machine.proofs.Ends as machine
 use Rattle.b67_stands.specs.Running.{Running, spends, answer_by, answer_of}
-use Rattle.b67_stands.specs.Placing.{some_holder, holder_of, IsOut, Placed}
+use Rattle.b67_stands.specs.Placing.{some_holder, holder_of, IsOut, ProcessesPlaced}
 use Rattle.b67_stands.specs.Stands.{Stands}
 use Rattle.b67_stands.specs.Calls.{LandsOnce, GoesBack}
 use Rattle.b67_stands.proofs.Ends.{goes_on}
@@ -22,26 +22,26 @@ use Rattle.b67_stands.proofs.Taking.{number_of}
 
 -- ---- where processes are
 
-module _ (image : Image) (waiting out : List ℕ) (p : ℕ) (placed : Placed image waiting out) (one : 1 ≤ p) (within : p ≤ length out) (held : IsOut out p) where
-  own : times p (waiting ++ p ∷ []) + some_holder (holder_of (set_numbered out p 0) p) ≡ one_if (able_in image p)
+module _ (image : Image) (waiting out : List ℕ) (p : ℕ) (placed : ProcessesPlaced image waiting out) (one : 1 ≤ p) (within : p ≤ length out) (held : IsOut out p) where
+  own : number_times p (waiting ++ p ∷ []) + some_holder (holder_of (set_numbered out p 0) p) ≡ one_if (able_in image p)
   own =
       let was = some_is (holder_of out p) held in
       let none : some_holder (holder_of (set_numbered out p 0) p) ≡ 0 = ap some_holder (holder_own out p 0 one within) in
       let once = here p p refl in
       omega (arith, times_both p waiting (p ∷ []), was, none, once, placed p)
 
-  other : (q : ℕ) → q ≢ p → times q (waiting ++ p ∷ []) + some_holder (holder_of (set_numbered out p 0) q) ≡ one_if (able_in image q)
+  other : (q : ℕ) → q ≢ p → number_times q (waiting ++ p ∷ []) + some_holder (holder_of (set_numbered out p 0) q) ≡ one_if (able_in image q)
   other q h =
       let same : some_holder (holder_of (set_numbered out p 0) q) ≡ some_holder (holder_of out q) = ap some_holder (holder_other out p q 0 h) in
       let none = elsewhere q p h in
       omega (arith, times_both q waiting (p ∷ []), same, none, placed q)
 
-  placed_back : Placed image (waiting ++ p ∷ []) (set_numbered out p 0)
+  placed_back : ProcessesPlaced image (waiting ++ p ∷ []) (set_numbered out p 0)
   placed_back q = by (ℕ_discrete q p)
     where
-      by : Dec (q ≡ p) → times q (waiting ++ p ∷ []) + some_holder (holder_of (set_numbered out p 0) q) ≡ one_if (able_in image q)
+      by : Dec (q ≡ p) → number_times q (waiting ++ p ∷ []) + some_holder (holder_of (set_numbered out p 0) q) ≡ one_if (able_in image q)
       by (yes e) =
-          subst (λ (i : ℕ). times i (waiting ++ p ∷ []) + some_holder (holder_of (set_numbered out p 0) i) ≡ one_if (able_in image i)) (sym e) own
+          subst (λ (i : ℕ). number_times i (waiting ++ p ∷ []) + some_holder (holder_of (set_numbered out p 0) i) ≡ one_if (able_in image i)) (sym e) own
       by (no h) = other q h
 
 -- ---- a way back
@@ -85,5 +85,5 @@ pub lands_to : (budget : ℕ) (old new : Running) (p n : ℕ) → answer_of budg
 lands_to budget old new p n going l =
     let on = goes_on budget old going in
     let was = machine.goes_on old.machine on.end in
-    answered new.machine.lacked (machine_end new.machine) (nat_le budget new.spent) (ap (λ (k : Kept). k.lacked) l.machine.others ∙ on.lacked)
-    (no_end new.machine (same_end old.machine.image new.machine.image l.machine.states l.machine.fault ∙ was.end) (ap (λ (k : Kept). k.limit) l.machine.others ∙ on.limit))
+    answered new.machine.lacked (machine_end new.machine) (nat_le budget new.spent) (ap (λ (k : MachineModel). k.lacked) l.machine.others ∙ on.lacked)
+    (no_end new.machine (same_end old.machine.image new.machine.image l.machine.states l.machine.fault ∙ was.end) (ap (λ (k : MachineModel). k.limit) l.machine.others ∙ on.limit))

@@ -24,24 +24,24 @@ use Rattle.b67_table.specs.Chains.{place}
 use Rattle.b67_table.specs.Effect.{Effect}
 use Rattle.b67_table.specs.Effect as effects
 use Rattle.b67_table.specs.Image.{Image, with_private, private_of, is_live}
-use Rattle.b67_table.specs.Look.{Look, found, stops, at, several, ◌>->◌, valid, seen}
+use Rattle.b67_table.specs.Look.{Look, found, stops, at, several, ◌>->◌, valid, look_seen}
 use Rattle.b67_table.specs.Outcome.{Outcome, gives, faults, interrupts, limit}
 use Rattle.b67_table.specs.Parts.{Beneath}
 use Rattle.b67_table.specs.Private.{floor}
-use Rattle.b67_table.specs.Privacy.{Stands, Keeps, Commute}
+use Rattle.b67_table.specs.Privacy.{ProcessStands, RegistersStay, Commute}
 use Rattle.b67_table.specs.Program.{Test, ◌>>=◌, see, asked, effect_of, Program}
 use Rattle.b67_table.specs.References.{couple_cell, cell_of, reached, popped, popped_two}
-use Rattle.b67_table.specs.Rows.{Row, row, plain_row, marked, enter_by, enter}
+use Rattle.b67_table.specs.Rows.{TableRow, row, plain_row, marked, enter_by, enter}
 use Rattle.b67_table.specs.Sound.{OperatorTouches}
 use Rattle.b67_table.specs.Table.{raw, table, plain, stack_length, by_registers, by_operator, by_row, operator_at, private_next, is_new}
-use Rattle.b67_table.specs.Touches.{IsAmong, IsPrivate, TestReads, RowTouches}
+use Rattle.b67_table.specs.Touches.{IsWithinPlaces, IsPrivate, TestReads, RowTouches}
 use Rattle.b67_table.proofs.Commuting.{beneath}
 use Rattle.b67_table.proofs.Diamond.{plain_operators_commute}
 use Rattle.b67_table.proofs.Limit.{new_of}
 use Rattle.b67_table.proofs.Over.{over, word_same, words_same}
 use Rattle.b67_table.proofs.Privacy.{Next, next_private, raw_is, part_keeps, Put, put_by}
 use Rattle.b67_table.proofs.Stacks.{get_numbered_other}
-use Rattle.b67_letters.specs.Letters.{told_by, value_letter, place_letter, loaded_letter, stored_letter, called_letter, called_by, called, plain_letter, operator_letter, fetched_letter, registers_letter, letter_by, letter}
+use Rattle.b67_letters.specs.Letters.{told_by, value_letter, place_letter, loaded_letter, stored_letter, called_letter, called_by, control_called, plain_letter, operator_letter, fetched_letter, registers_letter, letter_by, letter}
 use Rattle.b67_stands.specs.Commuting.{LettersStayApart}
 use Rattle.b67_letters.proofs.Looks.{then_seen}
 use Rattle.b67_letters.proofs.Seen.{goes}
@@ -49,17 +49,17 @@ use Rattle.b67_letters.proofs.Seen.{goes}
 -- ---- reads
 
 -- what is read after a look is read by both
-reads_after : {A B : Type 0} (img : Image) (l : Look A) (f : A → Test B) (a : A) (x : Place) → seen img.stacks l ≡ Ok a → TestReads img (f a) x → TestReads img (see l >>= f) x
+reads_after : {A B : Type 0} (img : Image) (l : Look A) (f : A → Test B) (a : A) (x : Place) → look_seen img.stacks l ≡ Ok a → TestReads img (f a) x → TestReads img (see l >>= f) x
 reads_after {A} img (found b) f a x e t = subst (λ (y : A). TestReads img (f y) x) (same a b e) t
   where
-    same : (y z : A) → seen [] (found z) ≡ Ok y → y ≡ z
+    same : (y z : A) → look_seen [] (found z) ≡ Ok y → y ≡ z
     same y z i = cc
 reads_after img (stops kind) f a x e t = cc
 reads_after img (at asked_for more) f a x e t = inr (reads_after img (more (word_at img.stacks asked_for)) f a x e t)
 reads_after img (several from n more) f a x e t = inr (reads_after img (more (take n (drop from.at (words_of img.stacks from.stack)))) f a x e t)
 
 -- what is there or not is so in all stacks
-valid_same : {A : Type 0} (a b : Stacks) (o : Option A) → seen a (valid o) ≡ seen b (valid o)
+valid_same : {A : Type 0} (a b : Stacks) (o : Option A) → look_seen a (valid o) ≡ look_seen b (valid o)
 valid_same a b None = refl
 valid_same a b (Some x) = refl
 
@@ -82,7 +82,7 @@ module _ (q : ℕ) (r : Registers) (part : Private) (img : Image) (b : Beneath i
       word_same part.regs.stack (floor r) (reverse part.words) img.stacks b.words x.stack x.at b.opened b.high (ℕ_discrete x.stack part.regs.stack)
       (λ e. lower (floor r) x.at (dec_le (floor r) x.at) (λ h. apart (e ∙ here, h)))
 
-  words_here : (x : Place) (count : ℕ) → ((y : Place) → IsAmong y x count → IsPrivate r y → ⊥)
+  words_here : (x : Place) (count : ℕ) → ((y : Place) → IsWithinPlaces y x count → IsPrivate r y → ⊥)
       → take count (drop x.at (words_of (with_private img q (floor r) part).stacks x.stack)) ≡ take count (drop x.at (words_of img.stacks x.stack))
   unfolding over
   words_here x zero apart = refl
@@ -92,14 +92,14 @@ module _ (q : ℕ) (r : Registers) (part : Private) (img : Image) (b : Beneath i
 
   -- a look that a program begins with finds the same
   look_same : {A B : Type 0} (l : Look A) (f : A → Test B) → ((x : Place) → TestReads img (see l >>= f) x → IsPrivate r x → ⊥)
-      → seen (with_private img q (floor r) part).stacks l ≡ seen img.stacks l
+      → look_seen (with_private img q (floor r) part).stacks l ≡ look_seen img.stacks l
   look_same (found a) f apart = refl
   look_same (stops kind) f apart = refl
   look_same (at place more) f apart =
-      ap (λ (w : Option Word). seen (with_private img q (floor r) part).stacks (more w)) (word_here place (λ t. apart place (inl refl) t))
+      ap (λ (w : Option Word). look_seen (with_private img q (floor r) part).stacks (more w)) (word_here place (λ t. apart place (inl refl) t))
       ∙ look_same (more (word_at img.stacks place)) f (λ x t. apart x (inr t))
   look_same (several place n more) f apart =
-      ap (λ (ws : List Word). seen (with_private img q (floor r) part).stacks (more ws)) (words_here place n (λ y t. apart y (inl t)))
+      ap (λ (ws : List Word). look_seen (with_private img q (floor r) part).stacks (more ws)) (words_here place n (λ y t. apart y (inl t)))
       ∙ look_same (more (take n (drop place.at (words_of img.stacks place.stack)))) f (λ x t. apart x (inr t))
 
   -- ---- an operator of p that gives a new image
@@ -115,7 +115,7 @@ module _ (q : ℕ) (r : Registers) (part : Private) (img : Image) (b : Beneath i
     above_mark = at (place o.stack (o.f + 1)) (λ (w : Option Word). valid w)
 
     called_same : (m : Mscw) (above : Word) (c : Option Cell) → Comes (enter_by code o next m above c) → Apart (enter_by code o next m above c)
-        → seen (with_private img q (floor r) part).stacks (called_by above c) ≡ seen img.stacks (called_by above c)
+        → look_seen (with_private img q (floor r) part).stacks (called_by above c) ≡ look_seen img.stacks (called_by above c)
     called_same m above None e apart = valid_same (with_private img q (floor r) part).stacks img.stacks (as_pcw above)
     called_same m above (Some x) e apart =
         let g = goes p img after (reached (Some x)) _ e in
@@ -124,7 +124,7 @@ module _ (q : ℕ) (r : Registers) (part : Private) (img : Image) (b : Beneath i
         ∙ valid_same (with_private img q (floor r) part).stacks img.stacks (as_pcw g.value.word)
         ∙ sym (then_seen img.stacks (reached (Some x)) g.value (λ (v : Reached). valid (as_pcw v.word)) g.is)
 
-    enter_same : Comes (enter code o next) → Apart (enter code o next) → seen (with_private img q (floor r) part).stacks (called o) ≡ seen img.stacks (called o)
+    enter_same : Comes (enter code o next) → Apart (enter code o next) → look_seen (with_private img q (floor r) part).stacks (control_called o) ≡ look_seen img.stacks (control_called o)
     enter_same e apart =
         let g = goes p img after (marked o) _ e in
         let above = goes p img after above_mark (λ (w : Word). enter_by code o next g.value w (cell_of o w)) g.comes in
@@ -136,7 +136,7 @@ module _ (q : ℕ) (r : Registers) (part : Private) (img : Image) (b : Beneath i
 
     -- ---- the letters of all operators
 
-    ApartBy : Row → Type 0
+    ApartBy : TableRow → Type 0
     ApartBy w = (x : Place) → RowTouches w code img p o next x → IsPrivate r x → ⊥
 
     plain_same : (kind : PlainKind) → by_row (plain_row kind) code img p o next ≡ effects.gives after → ApartBy (plain_row kind)
@@ -202,7 +202,7 @@ live_by : (l : Bool) (e : Effect Image) (new : Image) → cond l e (effects.inte
 live_by true e new i = refl
 live_by false e new i = cc
 
-module _ (code : Code) (p q : ℕ) (r : Registers) (part : Private) (img : Image) (h : p ≢ q) (st : Stands img q r) (k : Keeps r part.regs)
+module _ (code : Code) (p q : ℕ) (r : Registers) (part : Private) (img : Image) (h : p ≢ q) (st : ProcessStands img q r) (k : RegistersStay r part.regs)
     (touch : (x : Place) → OperatorTouches code img p x → IsPrivate r x → ⊥) where
   fetched_same : (o : Registers) → is_live (numbered img.states p) ≡ true → numbered img.regs p ≡ Some o → (f : Result (Operator × ℕ) BadCode) → operator_at code o ≡ f → (after : Image)
       → by_operator code img p o f ≡ effects.gives after → fetched_letter (with_private img q (floor r) part) o f ≡ fetched_letter img o f

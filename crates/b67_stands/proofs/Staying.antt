@@ -4,23 +4,23 @@ use Rattle.std.proofs.Common.{◌≡◌, refl, sym, ap, subst, ◌∙◌, ℕ, �
 use Rattle.std.proofs.lemmas.List.{length-append, replicate_more}
 use Rattle.b67_list.specs.Numbered.{set_numbered}
 use Rattle.b67_deeds.specs.declared.Letter.{Letter}
-use Rattle.b67_schedule.specs.Schedules.{entries, Kept as Schedule}
+use Rattle.b67_schedule.specs.Schedules.{entries, ScheduleModel}
 use Rattle.b67_segment.specs.declared.code.Code.{Code}
 use Rattle.b67_table.specs.Sound.{Sound}
 use Rattle.b67_action.specs.Able.{one_if}
 use Rattle.b67_action.specs.declared.done.Done.TheVariants as dones
 use Rattle.b67_machine.specs.declared.entry.Performed.{Performed}
-use Rattle.b67_machine.specs.Entries.{Passes, Enters}
+use Rattle.b67_machine.specs.Entries.{EntryPasses, EntriesFollow}
 use Rattle.b67_machine.specs.Entries as machine
-use Rattle.b67_machine.specs.Kept.{Kept}
+use Rattle.b67_machine.specs.Kept.{MachineModel}
 use Rattle.b67_machine.specs.Reads.{machine_end}
 use Rattle.b67_machine.specs.Letters.{AreLetters}
-use Rattle.b67_machine.specs.Stepping.{Performs}
+use Rattle.b67_machine.specs.Stepping.{MachinePerforms}
 use Rattle.b67_ready.specs.Ready.{counted_on}
 use Rattle.b67_stands.specs.Running.{Running, answer_of}
 use Rattle.b67_stands.specs.Placing.{holder_of, IsOut}
 use Rattle.b67_stands.specs.Stands.{Stands}
-use Rattle.b67_stands.specs.Calls.{TakesOne, Noted, is_action, ActsOnce, RunsOn}
+use Rattle.b67_stands.specs.Calls.{TakesOne, LetterNoted, done_is_action, ActsOnce, RunsOn}
 use Rattle.b67_stands.proofs.Places.{held_able}
 use Rattle.b67_stands.proofs.Taking.{number_of, takes_keep}
 use Rattle.b67_stands.proofs.Ends.{goes_on}
@@ -30,7 +30,7 @@ use Rattle.b67_stands.proofs.Turns.{set_back, only_joins, goes_by, Grown, some_g
 -- ---- what a plant that stands does not rest on
 
 -- how many takes there have been, and how its schedule is written as runs
-other_books : (code : Code) (budget : ℕ) (x : Running) (s : Schedule) (takes : ℕ) → Stands code budget x → entries s.runs ≡ entries x.schedule.runs → s.letters ≡ x.schedule.letters
+other_books : (code : Code) (budget : ℕ) (x : Running) (s : ScheduleModel) (takes : ℕ) → Stands code budget x → entries s.runs ≡ entries x.schedule.runs → s.letters ≡ x.schedule.letters
     → Stands code budget (record x { schedule = s; takes = takes })
 other_books code budget x s takes st same noted = record {
   same = st.same;
@@ -77,11 +77,11 @@ last_goes (w ∷ ws) p = ap (λ (xs : List ℕ). w ∷ xs) (last_goes ws p)
 -- ---- one entry more
 
 -- the plant after so many entries and operators
-abbrev stayed : Running → ℕ → ℕ → Kept → Schedule → Running
+abbrev stayed : Running → ℕ → ℕ → MachineModel → ScheduleModel → Running
 stayed old n m machine schedule = record old { machine = machine; schedule = schedule; spent = old.spent + m; acts = old.acts + n }
 
 module _ (code : Code) (budget p : ℕ) (old : Running) (sound : Sound code) (held : IsOut old.out p) (one : 1 ≤ p) (within : p ≤ length old.out) where
-  module _ (ls : List Letter) (l : Letter) (m k : ℕ) (b c : Kept) (s z : Schedule) (more : Passes b p (budget - old.spent - m) k l c) (grown : Grown old.schedule p ls s)
+  module _ (ls : List Letter) (l : Letter) (m k : ℕ) (b c : MachineModel) (s z : ScheduleModel) (more : EntryPasses b p (budget - old.spent - m) k l c) (grown : Grown old.schedule p ls s)
       (longer : Grown old.schedule p (ls ++ l ∷ []) z) (less : old.spent + (m + (k + 1)) < budget) where
     abbrev before : Running
     before = stayed old (length ls) m b s
@@ -99,15 +99,15 @@ module _ (code : Code) (budget p : ℕ) (old : Running) (sound : Sound code) (he
     acts : ActsOnce budget before p performed acted
     acts =
         let left : budget - old.spent - m ≡ budget - (old.spent + m) = omega arith in
-        let counted : one_if (is_action performed.done) ≡ 1 = refl in
+        let counted : one_if (done_is_action performed.done) ≡ 1 = refl in
         let next : length (ls ++ l ∷ []) ≡ length ls + 1 = length-append ls (l ∷ []) in
         record {
-          machine = subst (λ (most : ℕ). Performs b p most performed c) left more.performs;
+          machine = subst (λ (most : ℕ). MachinePerforms b p most performed c) left more.performs;
           spent = omega (arith, counted);
           records = record {
             schedule = longer.added ∙ ap (λ (j : ℕ). entries old.schedule.runs ++ replicate j p) next ∙ ap (λ (xs : List ℕ). entries old.schedule.runs ++ xs) (sym (replicate_more (length ls) p))
                 ∙ sym (append_assoc (entries old.schedule.runs) (replicate (length ls) p) (p ∷ [])) ∙ ap (λ (xs : List ℕ). xs ++ p ∷ []) (sym grown.added);
-            letter = subst (λ (o : Option Letter). Noted s.letters o z.letters) (sym more.letter)
+            letter = subst (λ (o : Option Letter). LetterNoted s.letters o z.letters) (sym more.letter)
                 (longer.letters ∙ sym (append_assoc old.schedule.letters ls (l ∷ [])) ∙ ap (λ (xs : List Letter). xs ++ l ∷ []) (sym grown.letters));
             out = refl;
             waiting = ap (λ (xs : List ℕ). old.waiting ++ xs) (sym (only_joins b.image.started c.image p c.released more.released more.started more.still));
@@ -141,13 +141,13 @@ module _ (code : Code) (budget p : ℕ) (old : Running) (sound : Sound code) (he
         let then = takes_keep code budget acted first again rear (holder_of old.out p) p going held takes in
         subst (Stands code budget) again_is (other_books code budget again again.schedule old.takes then refl refl)
 
-  stays_on : (all : List Letter) (m : ℕ) (b : Kept) (s : Schedule) → Enters p (budget - old.spent) old.machine all m b → Grown old.schedule p all s → old.spent + m < budget
+  stays_on : (all : List Letter) (m : ℕ) (b : MachineModel) (s : ScheduleModel) → EntriesFollow p (budget - old.spent) old.machine all m b → Grown old.schedule p all s → old.spent + m < budget
       → Stands code budget old → answer_of budget old ≡ None → Stands code budget (stayed old (length all) m b s) × (answer_of budget (stayed old (length all) m b s) ≡ None)
   stays_on all m b s machine.stay grown less stands going =
       let spent_is : old.spent + 0 ≡ old.spent = omega arith in
       let acts_is : old.acts + 0 ≡ old.acts = omega arith in
       let same : stayed old 0 0 old.machine s ≡ old =
-      ap (λ (x : Schedule). stayed old 0 0 old.machine x) (grown.none refl)
+      ap (λ (x : ScheduleModel). stayed old 0 0 old.machine x) (grown.none refl)
       ∙ ap (λ (n : ℕ). record old { spent = n; acts = old.acts + 0 }) spent_is
       ∙ ap (λ (n : ℕ). record old { acts = n }) acts_is in
       (subst (Stands code budget) (sym same) stands, subst (λ (x : Running). answer_of budget x ≡ None) (sym same) going)
@@ -162,7 +162,7 @@ module _ (code : Code) (budget p : ℕ) (old : Running) (sound : Sound code) (he
 
 module _ (budget : ℕ) (old new : Running) (p : ℕ) (letters : List Letter) (operators : ℕ) (runs : RunsOn budget old p letters operators new) where
   -- the same entries, however they are written
-  abbrev written : (z : Schedule) × Grown old.schedule p letters z
+  abbrev written : (z : ScheduleModel) × Grown old.schedule p letters z
   written = some_grown old.schedule p letters
 
   abbrev stayed_on : Running
@@ -183,7 +183,7 @@ pub runs_keep : (code : Code) (budget : ℕ) (old new : Running) (p : ℕ) (lett
 runs_keep code budget old new p letters operators sound stands going held runs = runs_keep_by budget old new p letters operators runs code sound stands going held
 
 -- a machine that goes on does so after entries that go on
-enters_go_on : (p most : ℕ) (a b : Kept) (ls : List Letter) (m : ℕ) → Enters p most a ls m b → a.lacked ≡ false → machine_end a ≡ None → (b.lacked ≡ false) × (machine_end b ≡ None)
+enters_go_on : (p most : ℕ) (a b : MachineModel) (ls : List Letter) (m : ℕ) → EntriesFollow p most a ls m b → a.lacked ≡ false → machine_end a ≡ None → (b.lacked ≡ false) × (machine_end b ≡ None)
 enters_go_on p most a b ls m machine.stay l e = (l, e)
 enters_go_on p most a b ls m (machine.go enters more) l e = (more.lacked, more.ends)
 

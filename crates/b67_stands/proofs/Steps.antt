@@ -13,8 +13,8 @@ use Rattle.b67_table.specs.Effect.{Effect, gives, interrupts}
 use Rattle.b67_table.specs.Outcome.{Outcome, limited}
 use Rattle.b67_table.specs.Outcome as outcomes
 use Rattle.b67_table.specs.Image.{Image, is_live}
-use Rattle.b67_table.specs.Privacy.{Stands, LeavesAllElse, Commute}
-use Rattle.b67_table.specs.Rows.{Row, private_part, row}
+use Rattle.b67_table.specs.Privacy.{ProcessStands, LeavesAllElse, Commute}
+use Rattle.b67_table.specs.Rows.{TableRow, private_part, row}
 use Rattle.b67_table.specs.Sound.{OperatorTouches}
 use Rattle.b67_table.specs.Table.{raw, table, plain, private_in, private_next, is_new, by_registers}
 use Rattle.b67_table.specs.Touches.{IsPrivate, RowTouches}
@@ -91,7 +91,7 @@ same_then code a b c s t = record {
   started = t.started ∙ s.started;
 }
 
-leaves_by : (code : Code) (p : ℕ) (a b : Image) (r : Registers) → Stands a p r → plain code a p ≡ true → table code a p ≡ outcomes.gives b → LeavesAllElse p r a b
+leaves_by : (code : Code) (p : ℕ) (a b : Image) (r : Registers) → ProcessStands a p r → plain code a p ≡ true → table code a p ≡ outcomes.gives b → LeavesAllElse p r a b
 leaves_by code p a b r st e t = private_is_private.leaves code p r a b st (private_of_plain code a p e) ((limit_comes_last.new code a b p).0 t).0
 
 pub one_same : (code : Code) (p : ℕ) (a b : Image) → IsValid code a → plain code a p ≡ true → table code a p ≡ outcomes.gives b → Same code a b
@@ -133,7 +133,7 @@ own_alone code a p q r h v e has live x t mine =
     let n : Next code t.registers = next_private code a p t.registers t.lives.is e in
     let op : n.op ≡ t.op = ap (λ (x : Operator × ℕ). x.0) (ok_same (n.op, n.next) (t.op, t.next) (sym n.stands ∙ t.stands)) in
     let is : row t.op t.registers.place ≡ private_part n.change = ap (λ (w : Operator). row w t.registers.place) (sym op) ∙ n.is in
-    let own : IsPrivate t.registers x = subst (λ (w : Row). RowTouches w code a p t.registers t.next x) is t.touches in
+    let own : IsPrivate t.registers x = subst (λ (w : TableRow). RowTouches w code a p t.registers t.next x) is t.touches in
     let here : t.registers.stack ≡ p = (v.processes p t.registers t.lives.live t.lives.is).stack in
     let there_is : r.stack ≡ q = (v.processes q r live has).stack in
     h (sym here ∙ sym own.0 ∙ mine.0 ∙ there_is)

@@ -2,7 +2,7 @@
 use Rattle.std.specs.Prelude.{sum}
 use Rattle.std.proofs.Common.{◌≡◌, ◌≢◌, refl, ap, ℕ, zero, suc, ◌+◌, ◌≤◌, ◌<◌, List, [], ◌∷◌, length, arith}
 use Rattle.std.proofs.lemmas.List.Sums.{sum_by-cons}
-use Rattle.b67_stands.specs.Tails.{more_at, none_at, at_place, with_more, without, tail_of}
+use Rattle.b67_stands.specs.Tails.{more_at, none_at, at_place, with_more, tails_without, tail_of}
 
 -- ---- more in a tail
 
@@ -89,20 +89,20 @@ pub length_more : (tails : List ℕ) (p n m : ℕ) → length tails ≤ m → p 
 length_more tails zero n m h l = h
 length_more tails (suc k) n m h l = more_length tails k n m h (omega (arith, l))
 
-pub tail_without_own : (tails : List ℕ) (p : ℕ) → tail_of (without tails p) p ≡ 0
+pub tail_without_own : (tails : List ℕ) (p : ℕ) → tail_of (tails_without tails p) p ≡ 0
 tail_without_own tails zero = refl
 tail_without_own tails (suc k) = none_own tails k
 
-pub tail_without_other : (tails : List ℕ) (p q : ℕ) → q ≢ p → tail_of (without tails p) q ≡ tail_of tails q
+pub tail_without_other : (tails : List ℕ) (p q : ℕ) → q ≢ p → tail_of (tails_without tails p) q ≡ tail_of tails q
 tail_without_other tails zero q h = refl
 tail_without_other tails (suc k) zero h = refl
 tail_without_other tails (suc k) (suc j) h = none_other tails k j (λ e. h (ap suc e))
 
-pub sum_without : (tails : List ℕ) (p : ℕ) → sum (without tails p) + tail_of tails p ≡ sum tails
+pub sum_without : (tails : List ℕ) (p : ℕ) → sum (tails_without tails p) + tail_of tails p ≡ sum tails
 sum_without tails zero = omega arith
 sum_without tails (suc k) = none_sum tails k
 
-pub length_without : (tails : List ℕ) (p : ℕ) → length (without tails p) ≡ length tails
+pub length_without : (tails : List ℕ) (p : ℕ) → length (tails_without tails p) ≡ length tails
 length_without tails zero = refl
 length_without tails (suc k) = none_length tails k
 

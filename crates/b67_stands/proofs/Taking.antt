@@ -12,7 +12,7 @@ use Rattle.b67_action.specs.Able.{able_in}
 use Rattle.b67_ready.specs.Ready.{counted_on}
 use Rattle.b67_joining.proofs.Times.{one_at_most, few_of}
 use Rattle.b67_stands.specs.Running.{Running, answer_of}
-use Rattle.b67_stands.specs.Placing.{Placed}
+use Rattle.b67_stands.specs.Placing.{ProcessesPlaced}
 use Rattle.b67_stands.specs.Stands.{Stands}
 use Rattle.b67_stands.specs.Calls.{TakesOne, Leaves}
 use Rattle.b67_stands.proofs.Places.{got_times, length_set, waiting_able, placed_taken}
@@ -30,7 +30,7 @@ number_of code image p v able =
     (numbered_from image.states p s.0 s.1, omega (arith, numbered_within image.states p s.0 s.1, v.states, v.most))
 
 -- no more wait than there are processes
-pub waiting_few : (code : Code) (image : Image) (waiting out : List ℕ) → IsValid code image → Placed image waiting out → length waiting ≤ most_processes
+pub waiting_few : (code : Code) (image : Image) (waiting out : List ℕ) → IsValid code image → ProcessesPlaced image waiting out → length waiting ≤ most_processes
 waiting_few code image waiting out v placed =
     few_of waiting most_processes (λ q. omega (arith, placed q, one_at_most (able_in image q)))
     (λ q h. number_of code image q v (waiting_able image waiting out q placed h))

@@ -5,7 +5,7 @@ use Rattle.std.proofs.lemmas.Bool.{leb-true}
 use Rattle.std.proofs.lemmas.List.{append-nil, length-append, replicate_more}
 use Rattle.b67_list.specs.Numbered.{set_numbered}
 use Rattle.b67_deeds.specs.declared.Letter.{Letter}
-use Rattle.b67_schedule.specs.Schedules.{entries, Kept as Schedule}
+use Rattle.b67_schedule.specs.Schedules.{entries, ScheduleModel}
 use Rattle.b67_schedule.proofs.Pushes.{entries-push}
 use Rattle.b67_segment.specs.declared.code.Code.{Code}
 use Rattle.b67_limits.specs.declared.TheConstants.{MOST_BUDGET}
@@ -15,18 +15,18 @@ use Rattle.b67_action.specs.Able.{one_if, able_in, newly}
 use Rattle.b67_action.specs.declared.done.Done.TheVariants as dones
 use Rattle.b67_machine.specs.declared.entry.Performed.{Performed}
 use Rattle.b67_machine.specs.declared.reads.End.{End}
-use Rattle.b67_machine.specs.Entries.{Passes, Enters}
+use Rattle.b67_machine.specs.Entries.{EntryPasses, EntriesFollow}
 use Rattle.b67_machine.specs.Entries as machine
-use Rattle.b67_machine.specs.Kept.{Kept, or_none}
+use Rattle.b67_machine.specs.Kept.{MachineModel, or_none}
 use Rattle.b67_machine.specs.Reads.{machine_end}
-use Rattle.b67_machine.specs.Stepping.{Performs}
+use Rattle.b67_machine.specs.Stepping.{MachinePerforms}
 use Rattle.b67_ready.specs.Ready.{counted_times}
 use Rattle.b67_joining.specs.Joining.{if_able, joining}
 use Rattle.b67_stands.specs.Running.{Running, answer_by, answer_of}
 use Rattle.b67_stands.specs.Placing.{holder_of}
 use Rattle.b67_stands.specs.Picked.{Pick}
 use Rattle.b67_stands.specs.Stands.{Stands}
-use Rattle.b67_stands.specs.Calls.{TakesOne, Noted, is_action}
+use Rattle.b67_stands.specs.Calls.{TakesOne, LetterNoted, done_is_action}
 use Rattle.b67_stands.specs.Turns.{ActsAgain, ActsOn, stay, go, StandsOut, TakenByOne, TurnsKeepOn}
 use Rattle.b67_stands.proofs.Places.{holder_own}
 use Rattle.b67_stands.proofs.Taking.{taken_number, takes_keep}
@@ -114,7 +114,7 @@ goes_by budget s l e h =
     ∙ ap (answer_by false None) (less_is budget s.spent (nat_le budget s.spent) refl h)
 
 -- the plant after so many turns
-abbrev pub turned : Running → ℕ → ℕ → Kept → Schedule → Running
+abbrev pub turned : Running → ℕ → ℕ → MachineModel → ScheduleModel → Running
 turned old n m machine schedule = record old {
   machine = machine;
   takes = counted_times n old.takes;
@@ -124,12 +124,12 @@ turned old n m machine schedule = record old {
 }
 
 -- some schedule with an entry more for each of these letters
-pub record Grown (old : Schedule) (p : ℕ) (ls : List Letter) (new : Schedule) : Type 0 where
+pub record Grown (old : ScheduleModel) (p : ℕ) (ls : List Letter) (new : ScheduleModel) : Type 0 where
   pub added : entries new.runs ≡ entries old.runs ++ replicate (length ls) p
   pub letters : new.letters ≡ old.letters ++ ls
   pub none : ls ≡ [] → new ≡ old
 
-pub some_grown : (old : Schedule) (p : ℕ) (ls : List Letter) → (new : Schedule) × Grown old p ls new
+pub some_grown : (old : ScheduleModel) (p : ℕ) (ls : List Letter) → (new : ScheduleModel) × Grown old p ls new
 some_grown old p [] = (old, record { added = sym (append-nil (entries old.runs)); letters = sym (append-nil old.letters); none = λ e. refl })
 some_grown old p (l ∷ ls) = (
   record { runs = old.runs ++ record { process = p; times = suc (length ls) } ∷ []; letters = old.letters ++ l ∷ ls; room = old.room },
@@ -139,7 +139,7 @@ some_grown old p (l ∷ ls) = (
 module _ (budget : ℕ) (pick : Pick) (me p : ℕ) (old : Running) (first : (takes : ℕ) → pick 1 takes ≡ 0) (one : 1 ≤ p) (within : p ≤ length old.out)
     (mine : holder_of old.out p ≡ me) where
   -- one more turn
-  once_more : (ls : List Letter) (l : Letter) (m k : ℕ) (b c : Kept) (s z : Schedule) → Passes b p (budget - old.spent - m) k l c → Grown old.schedule p ls s
+  once_more : (ls : List Letter) (l : Letter) (m k : ℕ) (b c : MachineModel) (s z : ScheduleModel) → EntryPasses b p (budget - old.spent - m) k l c → Grown old.schedule p ls s
       → Grown old.schedule p (ls ++ l ∷ []) z → old.waiting ≡ [] → m + (k + 1) < budget - old.spent
       → ActsAgain pick budget me p (turned old (length ls) m b s) (turned old (suc (length ls)) (m + (k + 1)) c z)
   once_more ls l m k b c s z more grown longer nobody less =
@@ -148,18 +148,18 @@ module _ (budget : ℕ) (pick : Pick) (me p : ℕ) (old : Running) (first : (tak
       let performed : Performed = record { plain = k; done = Some dones.Went } in
       let acted : Running = record after { waiting = p ∷ []; takes = before.takes; out = set_numbered old.out p 0 } in
       let left : budget - old.spent - m ≡ budget - (old.spent + m) = omega arith in
-      let counted : one_if (is_action performed.done) ≡ 1 = refl in
+      let counted : one_if (done_is_action performed.done) ≡ 1 = refl in
       let next : length (ls ++ l ∷ []) ≡ length ls + 1 = length-append ls (l ∷ []) in
       record {
         performed = performed;
         acted = acted;
         acts = record {
-          machine = subst (λ (most : ℕ). Performs b p most performed c) left more.performs;
+          machine = subst (λ (most : ℕ). MachinePerforms b p most performed c) left more.performs;
           spent = omega (arith, counted);
           records = record {
             schedule = longer.added ∙ ap (λ (j : ℕ). entries old.schedule.runs ++ replicate j p) next ∙ ap (λ (xs : List ℕ). entries old.schedule.runs ++ xs) (sym (replicate_more (length ls) p))
                 ∙ sym (append_assoc (entries old.schedule.runs) (replicate (length ls) p) (p ∷ [])) ∙ ap (λ (xs : List ℕ). xs ++ p ∷ []) (sym grown.added);
-            letter = subst (λ (o : Option Letter). Noted s.letters o z.letters) (sym more.letter)
+            letter = subst (λ (o : Option Letter). LetterNoted s.letters o z.letters) (sym more.letter)
                 (longer.letters ∙ sym (append_assoc old.schedule.letters ls (l ∷ [])) ∙ ap (λ (xs : List Letter). xs ++ l ∷ []) (sym grown.letters));
             out = refl;
             waiting = sym (only_joins b.image.started c.image p c.released more.released more.started more.still)
@@ -179,11 +179,11 @@ module _ (budget : ℕ) (pick : Pick) (me p : ℕ) (old : Running) (first : (tak
         };
       }
 
-  pub turns_are : (all : List Letter) (m : ℕ) (b : Kept) (s : Schedule) → Enters p (budget - old.spent) old.machine all m b → Grown old.schedule p all s
+  pub turns_are : (all : List Letter) (m : ℕ) (b : MachineModel) (s : ScheduleModel) → EntriesFollow p (budget - old.spent) old.machine all m b → Grown old.schedule p all s
       → (1 ≤ length all → old.waiting ≡ []) → (1 ≤ length all → m < budget - old.spent) → ActsOn pick budget me p old (length all) (turned old (length all) m b s)
   turns_are all m b s machine.stay grown nobody less =
       subst (ActsOn pick budget me p old 0) (
-      ap (λ (z : Schedule). record old { schedule = z }) (sym (grown.none refl))
+      ap (λ (z : ScheduleModel). record old { schedule = z }) (sym (grown.none refl))
       ∙ ap (λ (k : ℕ). record old { schedule = s; spent = k }) (omega arith)
       ∙ ap (λ (k : ℕ). record old { schedule = s; spent = old.spent + 0; acts = k }) (omega arith)
       ) stay

@@ -11,7 +11,7 @@ use Rattle.b67_stands.specs.Running.{Running, answer_of}
 use Rattle.b67_stands.specs.Picked.{Pick, waiting_after, ArePicked}
 use Rattle.b67_stands.specs.Placing.{holder_of}
 use Rattle.b67_stands.specs.Stands.{Stands}
-use Rattle.b67_stands.specs.Calls.{IsFirst, TakesOne, is_action, ActsOnce}
+use Rattle.b67_stands.specs.Calls.{IsFirst, TakesOne, done_is_action, ActsOnce}
 
 -- nobody is out, and the next turn is that of the run under the rule
 pub record IsNext (pick : Pick) {code : Code} {history counts : List ℕ} {image : Image} (runs : Runs code history counts image) (s : Running) : Type 0 where
@@ -35,7 +35,7 @@ pub record ByOne (code : Code) (budget : ℕ) (pick : Pick) (s : Running) : Type
 -- a turn leaves it so, and a run of which no action was performed has ended
 pub record KeepsByOne (code : Code) (budget : ℕ) (pick : Pick) (performed : Performed) (new : Running) : Type 0 where
   pub by_one : ByOne code budget pick new
-  pub ended : is_action performed.done ≡ false → answer_of budget new ≢ None
+  pub ended : done_is_action performed.done ≡ false → answer_of budget new ≢ None
 
 pub record TurnsKeepByOne : Type 0 where
   -- so it is at first

@@ -10,7 +10,7 @@ use Rattle.b67_action.specs.declared.done.Done.{Done}
 use Rattle.b67_machine.specs.Beginning.{IsFresh}
 use Rattle.b67_machine.specs.Entries as chains
 use Rattle.b67_machine.specs.declared.entry.Performed.{Performed}
-use Rattle.b67_machine.specs.Stepping.{operators_in, Goes, Performs}
+use Rattle.b67_machine.specs.Stepping.{operators_in, MachineGoes, MachinePerforms}
 use Rattle.b67_ready.specs.Ready.{counted_on}
 use Rattle.b67_joining.specs.Joining.{joining}
 use Rattle.b67_stands.specs.Running.{Running}
@@ -45,7 +45,7 @@ pub record TakesOne (pick : ℕ → ℕ → ℕ) (me : ℕ) (old : Running) (p :
 
 -- so many plain operators of the process have landed
 pub record LandsOnce (old : Running) (p n : ℕ) (new : Running) : Type 0 where
-  pub machine : Goes old.machine p n new.machine
+  pub machine : MachineGoes old.machine p n new.machine
   pub new_is : new ≡ record old { machine = new.machine; spent = old.spent + n }
 
 -- the process is out no more, and stands at the rear of the queue
@@ -55,19 +55,19 @@ GoesBack old p new = new ≡ record old { waiting = old.waiting ++ p ∷ []; out
 -- ---- an act
 
 -- a letter is noted after these
-abbrev pub Noted : List Letter → Option Letter → List Letter → Type 0
-Noted before None after = ⊥
-Noted before (Some l) after = after ≡ before ++ l ∷ []
+abbrev pub LetterNoted : List Letter → Option Letter → List Letter → Type 0
+LetterNoted before None after = ⊥
+LetterNoted before (Some l) after = after ≡ before ++ l ∷ []
 
 -- whether an action was performed: a fault is one
-abbrev pub is_action : Option Done → Bool
-is_action None = false
-is_action (Some done) = nat_lt 0 (operators_in done)
+abbrev pub done_is_action : Option Done → Bool
+done_is_action None = false
+done_is_action (Some done) = nat_lt 0 (operators_in done)
 
 -- the entry is on the schedule with the letter of the machine's last action, the process is out no more, and who can go on is in the queue
-pub record Enters (old : Running) (p : ℕ) (new : Running) : Type 0 where
+pub record PlantEnters (old : Running) (p : ℕ) (new : Running) : Type 0 where
   pub schedule : entries new.schedule.runs ≡ entries old.schedule.runs ++ p ∷ []
-  pub letter : Noted old.schedule.letters new.machine.letter new.schedule.letters
+  pub letter : LetterNoted old.schedule.letters new.machine.letter new.schedule.letters
   pub out : new.out ≡ set_numbered old.out p 0
   pub waiting : new.waiting ≡ old.waiting ++ joining old.machine.image.started new.machine.image p new.machine.released
   pub acts : new.acts ≡ old.acts + 1
@@ -79,14 +79,14 @@ pub record Stays (old new : Running) : Type 0 where
   pub acts : new.acts ≡ old.acts
 
 abbrev pub Records : Bool → Running → ℕ → Running → Type 0
-Records true old p new = Enters old p new
+Records true old p new = PlantEnters old p new
 Records false old p new = Stays old new
 
 -- So many plain operators of the process, and then its action, within the budget. Where no action was performed, nothing is recorded.
 pub record ActsOnce (budget : ℕ) (old : Running) (p : ℕ) (performed : Performed) (new : Running) : Type 0 where
-  pub machine : Performs old.machine p (budget - old.spent) performed new.machine
-  pub spent : new.spent ≡ old.spent + performed.plain + one_if (is_action performed.done)
-  pub records : Records (is_action performed.done) old p new
+  pub machine : MachinePerforms old.machine p (budget - old.spent) performed new.machine
+  pub spent : new.spent ≡ old.spent + performed.plain + one_if (done_is_action performed.done)
+  pub records : Records (done_is_action performed.done) old p new
   pub takes : new.takes ≡ old.takes
   pub leaves : new.leaves ≡ old.leaves
 
@@ -95,7 +95,7 @@ pub record ActsOnce (budget : ℕ) (old : Running) (p : ℕ) (performed : Perfor
 -- Entries of a process that is out have landed, one after another, with these letters and so many operators in all, fewer than the budget
 -- has left. Each goes on, and releases and starts nobody: the process stays out, and nobody joins the queue.
 pub record RunsOn (budget : ℕ) (old : Running) (p : ℕ) (letters : List Letter) (operators : ℕ) (new : Running) : Type 0 where
-  pub machine : chains.Enters p (budget - old.spent) old.machine letters operators new.machine
+  pub machine : chains.EntriesFollow p (budget - old.spent) old.machine letters operators new.machine
   pub within : old.spent + operators < budget
   pub order : entries new.schedule.runs ≡ entries old.schedule.runs ++ replicate (length letters) p
   pub noted : new.schedule.letters ≡ old.schedule.letters ++ letters

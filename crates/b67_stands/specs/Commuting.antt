@@ -5,7 +5,7 @@ use Rattle.b67_control.specs.declared.Registers.{Registers}
 use Rattle.b67_segment.specs.declared.code.Code.{Code}
 use Rattle.b67_table.specs.Image.{Image}
 use Rattle.b67_table.specs.Outcome.{gives}
-use Rattle.b67_table.specs.Privacy.{Stands, Commute}
+use Rattle.b67_table.specs.Privacy.{ProcessStands, Commute}
 use Rattle.b67_table.specs.Runs.{TableRun}
 use Rattle.b67_table.specs.Sound.{Sound, OperatorTouches}
 use Rattle.b67_table.specs.Table.{table, plain}
@@ -22,5 +22,5 @@ PlainOperatorsCommuteInRuns =
 -- An operator that touches no word of another process's private part has the same letter before a plain operator of that one and after it.
 abbrev pub LettersStayApart : Type 0
 LettersStayApart =
-    (code : Code) (p q : ℕ) (r : Registers) (img a : Image) → p ≢ q → Stands img q r → plain code img q ≡ true → table code img q ≡ gives a
+    (code : Code) (p q : ℕ) (r : Registers) (img a : Image) → p ≢ q → ProcessStands img q r → plain code img q ≡ true → table code img q ≡ gives a
     → ((x : Place) → OperatorTouches code img p x → IsPrivate r x → ⊥) → letter code a p ≡ letter code img p

@@ -6,10 +6,10 @@ use Rattle.b67_list.specs.Numbered.{numbered}
 use Rattle.b67_segment.specs.declared.code.Code.{Code}
 use Rattle.b67_table.specs.Ending.{may_act}
 use Rattle.b67_table.specs.Image.{Image, is_live}
-use Rattle.b67_table.specs.Runs.{Plains, Acts, TableRun}
+use Rattle.b67_table.specs.Runs.{Plains, ProcessActs, TableRun}
 use Rattle.b67_table.specs.Sound.{Sound}
 use Rattle.b67_table.specs.Valid.{IsValid}
-use Rattle.b67_stands.specs.Tails.{with_more, without, tail_of}
+use Rattle.b67_stands.specs.Tails.{with_more, tails_without, tail_of}
 
 -- A run that leads to this image, from a valid image before its tails.
 pub record Leads (code : Code) (schedule tails : List ℕ) (image : Image) : Type 0 where
@@ -40,10 +40,10 @@ RunsTakeOperators =
 
 -- the run with an entry more
 pub record LeadsTo (code : Code) (schedule tails : List ℕ) (a : Image) (leads : Leads code schedule tails a) (p n : ℕ) (quiet b : Image) : Type 0 where
-  pub to : Leads code (schedule ++ p ∷ []) (without tails p) b
+  pub to : Leads code (schedule ++ p ∷ []) (tails_without tails p) b
   pub more : OneMore p (tail_of tails p + n + 1) quiet leads to
 
 abbrev pub RunsTakeEntries : Type 0
 RunsTakeEntries =
     (code : Code) (schedule tails : List ℕ) (a quiet b : Image) (p n : ℕ) (leads : Leads code schedule tails a) → Sound code → may_act a p ≡ true → Plains code p a n quiet
-    → Acts code p quiet b → IsValid code b → LeadsTo code schedule tails a leads p n quiet b
+    → ProcessActs code p quiet b → IsValid code b → LeadsTo code schedule tails a leads p n quiet b

@@ -1,7 +1,7 @@
 -- Of whom each entry of a run by one processor is, under a rule of dispatch.
 use Rattle.std.specs.Prelude.{◌≡◌, ℕ, if◌then◌else◌, List, [], ◌∷◌, ◌++◌, length, slice_get, remove, Option, Some, None}
 use Rattle.b67_segment.specs.declared.code.Code.{Code}
-use Rattle.b67_letters.specs.Releases.{releases, starts}
+use Rattle.b67_letters.specs.Releases.{releases, operator_starts}
 use Rattle.b67_table.specs.Ending.{may_act}
 use Rattle.b67_table.specs.Image.{Image}
 use Rattle.b67_table.specs.Runs.{Runs, begin, entry}
@@ -17,7 +17,7 @@ if_started (Some p) = p ∷ []
 -- who goes to the rear after an action: those whom its operator releases, in their order, then the one that it starts, then the process
 -- itself where it may go on
 abbrev pub to_rear : Code → Image → ℕ → Image → List ℕ
-to_rear code before p after = releases code before p ++ if_started (starts code before p) ++ (if may_act after p then p ∷ [] else [])
+to_rear code before p after = releases code before p ++ if_started (operator_starts code before p) ++ (if may_act after p then p ∷ [] else [])
 
 -- who waits after a run, the earliest first: at first process 1; each entry takes the process at the place that is picked, and the
 -- others close up

@@ -5,12 +5,12 @@ use Rattle.b67_list.specs.Numbered.{set_numbered}
 use Rattle.b67_deeds.specs.declared.Letter.{Letter}
 use Rattle.b67_segment.specs.declared.code.Code.{Code}
 use Rattle.b67_action.specs.Able.{one_if}
-use Rattle.b67_machine.specs.Kept.{counted}
+use Rattle.b67_machine.specs.Kept.{operators_counted}
 use Rattle.b67_machine.specs.declared.entry.Performed.{Performed}
 use Rattle.b67_stands.specs.Running.{Running, answer_of}
 use Rattle.b67_stands.specs.Picked.{Pick}
 use Rattle.b67_stands.specs.Placing.{holder_of, IsOut}
-use Rattle.b67_stands.specs.Calls.{IsFirst, TakesOne, LandsOnce, is_action, ActsOnce, RunsOn, Leaves}
+use Rattle.b67_stands.specs.Calls.{IsFirst, TakesOne, LandsOnce, done_is_action, ActsOnce, RunsOn, Leaves}
 
 -- ---- the calls
 
@@ -20,7 +20,7 @@ IsFree me s = (p : ℕ) → holder_of s.out p ≢ me
 
 -- so many acts more are the processor's
 abbrev pub with_acts : List ℕ → ℕ → ℕ → List ℕ
-with_acts acts me n = set_numbered acts me (counted acts me + n)
+with_acts acts me n = set_numbered acts me (operators_counted acts me + n)
 
 -- A plant of this code under that budget to which calls of so many processors lead, from one before its first take, and how many acts each
 -- of them made, in their order. Each take is by a processor with which nobody is out, and of the process at the place that the rule picks,
@@ -36,7 +36,7 @@ pub data Shared (code : Code) (budget : ℕ) (pick : Pick) (processors : ℕ) : 
       → LandsOnce old p n new → Shared code budget pick processors acts new
   act : {acts : List ℕ} {old new : Running} (me p : ℕ) (performed : Performed) → Shared code budget pick processors acts old → answer_of budget old ≡ None
       → 1 ≤ me → me ≤ processors → holder_of old.out p ≡ me → ActsOnce budget old p performed new
-      → Shared code budget pick processors (with_acts acts me (one_if (is_action performed.done))) new
+      → Shared code budget pick processors (with_acts acts me (one_if (done_is_action performed.done))) new
   run : {acts : List ℕ} {old new : Running} (me p : ℕ) (letters : List Letter) (operators : ℕ) → Shared code budget pick processors acts old → answer_of budget old ≡ None
       → 1 ≤ me → me ≤ processors → holder_of old.out p ≡ me → RunsOn budget old p letters operators new
       → Shared code budget pick processors (with_acts acts me (length letters)) new

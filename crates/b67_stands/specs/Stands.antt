@@ -11,13 +11,13 @@ use Rattle.b67_table.specs.Runs.{count_of}
 use Rattle.b67_table.specs.Table.{table}
 use Rattle.b67_table.specs.Valid.{IsValid}
 use Rattle.b67_action.specs.Able.{able_in}
-use Rattle.b67_machine.specs.Kept.{counted}
+use Rattle.b67_machine.specs.Kept.{operators_counted}
 use Rattle.b67_machine.specs.Letters.{AreLetters}
-use Rattle.b67_machine.specs.Replaying.{Stands as Shows}
+use Rattle.b67_machine.specs.Replaying.{MachineStands}
 use Rattle.b67_stands.specs.Tails.{tail_of}
 use Rattle.b67_stands.specs.Going.{Leads}
 use Rattle.b67_stands.specs.Running.{Running, answer_of}
-use Rattle.b67_stands.specs.Placing.{Placed}
+use Rattle.b67_stands.specs.Placing.{ProcessesPlaced}
 
 -- the process may act, and its next operator comes to the stack limit
 pub record AtLimit (code : Code) (image : Image) (p : ℕ) : Type 0 where
@@ -34,8 +34,8 @@ pub record Stands (code : Code) (budget : ℕ) (s : Running) : Type 0 where
   pub image : Image
   pub leads : Leads code (entries s.schedule.runs) tails image
   pub letters : AreLetters leads.run.runs s.schedule.letters
-  pub shows : Shows s.machine.lacked image s.machine.image
-  pub counts : (p : ℕ) → counted s.machine.counts p ≡ count_of p leads.run.history leads.run.counts + tail_of tails p
+  pub shows : MachineStands s.machine.lacked image s.machine.image
+  pub counts : (p : ℕ) → operators_counted s.machine.counts p ≡ count_of p leads.run.history leads.run.counts + tail_of tails p
   -- tails are of processes that there are, and only of such as are able
   pub few : length tails ≤ image.started
   pub able : (p : ℕ) → (tail_of tails p ≡ 0) ⊎ (able_in image p ≡ true)
@@ -47,7 +47,7 @@ pub record Stands (code : Code) (budget : ℕ) (s : Running) : Type 0 where
   pub limit : (p : ℕ) → s.machine.limit ≡ Some p → AtLimit code image p × (s.spent < budget)
   pub lacking : s.machine.lacked ≡ true → (image_end image ≡ None) × (s.spent < budget) × (s.machine.limit ≡ None)
   -- while the run goes on, each process that is able is in the queue or out; there is a holder for each process that there may be
-  pub placed : answer_of budget s ≡ None → Placed s.machine.image s.waiting s.out
+  pub placed : answer_of budget s ≡ None → ProcessesPlaced s.machine.image s.waiting s.out
   pub holders : length s.out ≡ most_processes
   -- the book of acts is the schedule's length, and a processor has left only where the run has ended
   pub acts : s.acts ≡ length (entries s.schedule.runs)

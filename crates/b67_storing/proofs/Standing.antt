@@ -5,7 +5,7 @@ use Rattle.algol_meaning.specs.World.{World}
 use Rattle.algol_meaning.specs.Choice.{choice}
 use Rattle.algol_meaning.specs.Run.{may_go, after_entry, run_from}
 use Rattle.algol_seen.specs.Accesses.{next_access}
-use Rattle.algol_seen.specs.Seen.{access, IsSeen}
+use Rattle.algol_seen.specs.Seen.{access, ProcessIsSeen}
 use Rattle.algol_seen.specs.declared.seen.Seen.{Seen}
 use Rattle.algol_lean.specs.Beside.{SeenBeside}
 use Rattle.b67_race.specs.Entries.{Access, Done}
@@ -14,7 +14,7 @@ use Rattle.b67_schedule.specs.Schedules.{entries}
 use Rattle.b67_commands.specs.declared.command.Command.{Command}
 use Rattle.b67_commands.specs.declared.noting.Note.{Note}
 use Rattle.b67_commands.specs.Positions.{Stored}
-use Rattle.b67_commands.specs.Noting.{looked_for_by, noted, notes_of}
+use Rattle.b67_commands.specs.Noting.{looked_for_by, note_added, notes_of}
 use Rattle.b67_storing.specs.Stores.{stored_name, stored_from}
 use Rattle.b67_storing.specs.Walking.{StandsNoted}
 use Rattle.b67_storing.proofs.Noting.{notes_more}
@@ -70,7 +70,7 @@ module _
     (sc : Scopes) (commands : List Command) (w : World) (given : List ℕ) (now after : World) (notes more : List Note) (before p : ℕ) (left : List ℕ)
     (s : StandsNoted sc commands w given now notes before (p ∷ left)) where
   -- an entry that goes is noted
-  pub goes_more : (seen : Seen) → SeenBeside sc s.world p after (Some seen) → more ≡ notes ++ noted (before + 1) (looked_for_by commands (stored_name (access seen.access))) []
+  pub goes_more : (seen : Seen) → SeenBeside sc s.world p after (Some seen) → more ≡ notes ++ note_added (before + 1) (looked_for_by commands (stored_name (access seen.access))) []
       → StandsNoted sc commands w given after more (before + 1) left
   goes_more seen b is_noted =
       record {
@@ -82,14 +82,14 @@ module _
         beside = b.beside;
         noted =
             is_noted
-            ∙ ap (λ (a : Option Access). notes ++ noted (before + 1) (looked_for_by commands (stored_name a)) []) accessed
-            ∙ ap (λ (ns : List Note). ns ++ noted (before + 1) (looked_for_by commands (stored_name (next_access sc s.world p))) []) s.noted
+            ∙ ap (λ (a : Option Access). notes ++ note_added (before + 1) (looked_for_by commands (stored_name a)) []) accessed
+            ∙ ap (λ (ns : List Note). ns ++ note_added (before + 1) (looked_for_by commands (stored_name (next_access sc s.world p))) []) s.noted
             ∙ sym (notes_more commands (stored_from sc w s.done) (stored_name (next_access sc s.world p)) before (s.counts ∙ sym (length_stored sc w s.done)))
             ∙ ap (λ (xs : Stored). notes_of commands xs) (sym (stored_more sc s.done p w s.world s.legal));
         counts = omega (arith, s.counts, length-append s.done (p ∷ []));
       }
     where
-      is : IsSeen sc s.world p b.after seen
+      is : ProcessIsSeen sc s.world p b.after seen
       is = b.step
 
       accessed : access seen.access ≡ next_access sc s.world p

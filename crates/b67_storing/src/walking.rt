@@ -7,7 +7,7 @@ ghost use Rattle.algol_meaning.specs.World as plain;
 ghost use Rattle.algol_meaning.specs.Run.{run_from};
 ghost use Rattle.algol_seen.specs.Seen.{access};
 ghost use Rattle.b67_schedule.specs.Schedules.{entries};
-ghost use Rattle.b67_commands.specs.Noting.{looked_for_by, noted};
+ghost use Rattle.b67_commands.specs.Noting.{looked_for_by, note_added};
 ghost use Rattle.b67_storing.specs.Stores.{stored_name};
 ghost use Rattle.b67_storing.specs.Walking.{StandsNoted};
 
@@ -26,7 +26,7 @@ fn note_store(
     number: u64,
     found: Option<Access<'_>>,
 ) -> Result<(), AllocError>
-    ensures { OnOk result (notes.new.items ≡ notes.old.items ++ noted number (looked_for_by commands.now (stored_name (access found.entry))) []) }
+    ensures { OnOk result (notes.new.items ≡ notes.old.items ++ note_added number (looked_for_by commands.now (stored_name (access found.entry))) []) }
 {
     let Some(a) = found else {
         return Ok(());

@@ -29,14 +29,14 @@ use Rattle.b67_ops.specs.declared.intrinsic.Intrinsic.TheVariants as names
 use Rattle.b67_table.specs.Effect.{Effect, gives, faults, interrupts}
 use Rattle.b67_table.specs.Outcome as outcomes
 use Rattle.b67_table.specs.Private.{display_at, floor}
-use Rattle.b67_table.specs.Look.{found, at, ◌>->◌, seen, valid}
+use Rattle.b67_table.specs.Look.{found, at, ◌>->◌, look_seen, valid}
 use Rattle.b67_table.specs.Chains.{place}
 use Rattle.b67_table.specs.References.{cell_of, reached, invalid}
 use Rattle.b67_table.specs.Image.{Image, is_able, is_live}
 use Rattle.b67_table.specs.Program.{asked, Change, changed, effect_of}
 use Rattle.b67_table.specs.Intrinsics.{row_of_intrinsic, intrinsic_row, intrinsic}
 use Rattle.b67_table.specs.PrivateRows.{branch}
-use Rattle.b67_table.specs.Rows.{Row, private_part, action, row, plain_row, acts, turn, level_below, enter_procedure, enter_by, not_entered, marked, enter}
+use Rattle.b67_table.specs.Rows.{TableRow, private_part, action, row, plain_row, acts, branch_turn, level_below, enter_procedure, enter_by, not_entered, marked, enter}
 use Rattle.b67_deeds.specs.declared.EventAct.TheVariants as act
 use Rattle.b67_deeds.specs.declared.EventTest.TheVariants as test
 use Rattle.b67_deeds.specs.Deeds as deeds
@@ -79,14 +79,14 @@ module _ (code : Code) (img : Image) (p : ℕ) (r : Registers) (v : IsValid code
   with_places (Ok m) l h f = record { fits = f; low = l; high = h }
   with_places (Err kind) l h f = tt
 
-  mark_found : (o : Option Word) → Found Fits_mscw (seen img.stacks (valid o >-> (λ (w : Word). valid (as_mscw w) >-> not_entered)))
+  mark_found : (o : Option Word) → Found Fits_mscw (look_seen img.stacks (valid o >-> (λ (w : Word). valid (as_mscw w) >-> not_entered)))
   mark_found o =
-      look_then img.stacks (λ (w : Word). Unit {0}) Fits_mscw (valid o) _ (anything_found (seen img.stacks (valid o))) (λ w u.
+      look_then img.stacks (λ (w : Word). Unit {0}) Fits_mscw (valid o) _ (anything_found (look_seen img.stacks (valid o))) (λ w u.
       look_then img.stacks Fits_mscw Fits_mscw (valid (as_mscw w)) not_entered
       (there_found img.stacks Fits_mscw InvalidOperand (as_mscw w) (λ m e. Fits-as_mscw w e))
       (λ m f. found_by img.stacks Fits_mscw m.entered invalid (found m) (λ b. tt) (λ b. f)))
 
-  marked_found : Found IsMarked (seen img.stacks (marked r))
+  marked_found : Found IsMarked (look_seen img.stacks (marked r))
   marked_found =
       found_by img.stacks IsMarked (nat_le (floor r) r.f && nat_lt (r.f + 1) r.s) _ invalid
       (λ b. let t = and_parts (nat_le (floor r) r.f) (nat_lt (r.f + 1) r.s) b in
@@ -146,7 +146,7 @@ module _ (code : Code) (img : Image) (p : ℕ) (r : Registers) (v : IsValid code
   enter_kept =
       see_then img IsMarked E (marked r) _ marked_found (λ m k.
       see_then img (λ (w : Word). Unit {0}) E (at (place r.stack (r.f + 1)) (λ (w : Option Word). valid w)) _
-      (anything_found (seen img.stacks (at (place r.stack (r.f + 1)) (λ (w : Option Word). valid w)))) (λ above u.
+      (anything_found (look_seen img.stacks (at (place r.stack (r.f + 1)) (λ (w : Option Word). valid w)))) (λ above u.
       entered_by m above k (cell_of r above) refl))
 
   -- ---- every operator
@@ -191,7 +191,7 @@ module _ (code : Code) (img : Image) (p : ℕ) (r : Registers) (v : IsValid code
   plain_kept kinds.Noop = tt
 
   branch_kept : (b : Bool) (kind : BranchKind) (target : ℕ) → target < 2 ^ 16
-      → Gives E (asked img (program_by (cond b (private_part (branch kind target)) (acts (turn kind target))) code r next))
+      → Gives E (asked img (program_by (cond b (private_part (branch kind target)) (acts (branch_turn kind target))) code r next))
   branch_kept true kind target t = tt
   branch_kept false kind target t = turn_kept code img p r v live has next small kind target t
 
@@ -223,17 +223,17 @@ module _ (code : Code) (img new : Image) (p : ℕ) (v : IsValid code img) (able 
   lives : is_live (numbered img.states p) ≡ true
   lives = able_live (numbered img.states p) able
 
-  by_rows : (r : Registers) → numbered img.regs p ≡ Some r → (op : Operator) (next : ℕ) → operator_at code r ≡ Ok (op, next) → (w : Row) → row op r.place ≡ w
+  by_rows : (r : Registers) → numbered img.regs p ≡ Some r → (op : Operator) (next : ℕ) → operator_at code r ≡ Ok (op, next) → (w : TableRow) → row op r.place ≡ w
       → by_row w code img p r next ≡ gives new → IsValid code new
   unfolding class_at
   by_rows r has op next s (private_part change) i e =
       private_keeps_valid code img new p v lives
-      (ap (private_in code) has ∙ ap (private_at r) s ∙ ap (λ (w : Row). is_private (class_by w)) i) t
+      (ap (private_in code) has ∙ ap (private_at r) s ∙ ap (λ (w : TableRow). is_private (class_by w)) i) t
   by_rows r has op next s (action program) i e =
       let q : IsProcess img p r = v.processes p r lives has in
       let f : Fetched r.ll op next = operator_fits code r (omega (arith, q.display.known)) op next v.segments s in
       ends_new code img new p (asked img (program code r next))
-      (subst (λ (w : Row). Gives (Ends code img p) (asked img (program_by w code r next))) i (op_kept code img p r v able has next f.bound op f.fits)) e small few
+      (subst (λ (w : TableRow). Gives (Ends code img p) (asked img (program_by w code r next))) i (op_kept code img p r v able has next f.bound op f.fits)) e small few
 
   by_fetch : (r : Registers) → numbered img.regs p ≡ Some r → (f : Result (Operator × ℕ) BadCode) → operator_at code r ≡ f → by_operator code img p r f ≡ gives new
       → IsValid code new

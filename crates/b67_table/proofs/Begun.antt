@@ -19,15 +19,15 @@ use Rattle.b67_table.specs.declared.ProcessState.TheVariants.{Able}
 use Rattle.b67_table.specs.declared.InterruptKind.TheVariants.{InvalidOperand}
 use Rattle.b67_table.specs.Limits.{most_cells, most_processes, most_events}
 use Rattle.b67_table.specs.Private.{at_or, floor, frame}
-use Rattle.b67_table.specs.Look.{seen, valid, read_as}
+use Rattle.b67_table.specs.Look.{look_seen, valid, read_as}
 use Rattle.b67_table.specs.Chains.{place, mark_at, below, entered_below, frame_below}
 use Rattle.b67_table.specs.References.{cell_of, reached}
 use Rattle.b67_table.specs.Image.{Image, critical_in, critical_of, is_live}
-use Rattle.b67_table.specs.Writes.{written}
+use Rattle.b67_table.specs.Writes.{write_made}
 use Rattle.b67_table.specs.Writes as writes
 use Rattle.b67_table.specs.Program.{Test, asked}
 use Rattle.b67_table.specs.Linkage.{base_control, entered_mark}
-use Rattle.b67_table.specs.Starting.{task_of, is_among, down, or_none, on_path, Starting, starting, first_display, first_words, begun, start_process, named_frames, frames_with}
+use Rattle.b67_table.specs.Starting.{task_of, is_among, down, or_none, on_path, Starting, starting, first_display, first_words, process_begun, start_process, named_frames, frames_with}
 use Rattle.b67_table.specs.Valid.{IsHeld, IsProcess, IsValid, waits}
 use Rattle.b67_table.proofs.Stacks.{get_numbered_append}
 use Rattle.b67_table.proofs.Lists.{numbered_within}
@@ -73,10 +73,10 @@ module _ (code : Code) (img : Image) (v : IsValid code img) (t : Starting) (fits
   n = img.started + 1
 
   r : Registers
-  r = begun (img.started + 1) t display depends
+  r = process_begun (img.started + 1) t display depends
 
   new : Image
-  new = written p (writes.start (begun (img.started + 1) t display depends) (first_words t)) img
+  new = write_made p (writes.start (process_begun (img.started + 1) t display depends) (first_words t)) img
 
   number : img.started + 1 ≡ suc (length img.states)
   number = omega (arith, v.states)
@@ -113,11 +113,11 @@ module _ (code : Code) (img : Image) (v : IsValid code img) (t : Starting) (fits
   state_old : (q : ℕ) → q ≢ img.started + 1 → numbered (img.states ++ Able ∷ []) q ≡ numbered img.states q
   state_old q h = old_is img.states Able q (λ e. h (e ∙ sym number))
 
-  regs_new : numbered (img.regs ++ begun (img.started + 1) t display depends ∷ []) (img.started + 1) ≡ Some (begun (img.started + 1) t display depends)
-  regs_new = ap (λ (m : ℕ). numbered (img.regs ++ begun (img.started + 1) t display depends ∷ []) m) number_r ∙ new_is img.regs (begun (img.started + 1) t display depends)
+  regs_new : numbered (img.regs ++ process_begun (img.started + 1) t display depends ∷ []) (img.started + 1) ≡ Some (process_begun (img.started + 1) t display depends)
+  regs_new = ap (λ (m : ℕ). numbered (img.regs ++ process_begun (img.started + 1) t display depends ∷ []) m) number_r ∙ new_is img.regs (process_begun (img.started + 1) t display depends)
 
-  regs_old : (q : ℕ) → q ≢ img.started + 1 → numbered (img.regs ++ begun (img.started + 1) t display depends ∷ []) q ≡ numbered img.regs q
-  regs_old q h = old_is img.regs (begun (img.started + 1) t display depends) q (λ e. h (e ∙ sym number_r))
+  regs_old : (q : ℕ) → q ≢ img.started + 1 → numbered (img.regs ++ process_begun (img.started + 1) t display depends ∷ []) q ≡ numbered img.regs q
+  regs_old q h = old_is img.regs (process_begun (img.started + 1) t display depends) q (λ e. h (e ∙ sym number_r))
 
   stacks_by : (q : ℕ) → 1 ≤ q → Dec (q ≡ img.started + 1)
       → is_some (stack_at (opened_at img.stacks (img.started + 1) (first_words t)) q) ≡ is_live (numbered (img.states ++ Able ∷ []) q)
@@ -126,7 +126,7 @@ module _ (code : Code) (img : Image) (v : IsValid code img) (t : Starting) (fits
       (ap is_some here ∙ sym (ap is_live state_new))
   stacks_by q one (no h) = ap is_some (there q h) ∙ v.stacks q one ∙ sym (ap is_live (state_old q h))
 
-  process_new : IsProcess new (img.started + 1) (begun (img.started + 1) t display depends)
+  process_new : IsProcess new (img.started + 1) (process_begun (img.started + 1) t display depends)
   unfolding new
   process_new = record {
     stack = refl;
@@ -156,23 +156,23 @@ module _ (code : Code) (img : Image) (v : IsValid code img) (t : Starting) (fits
   some_is a b e = cc
 
   processes_by : (q : ℕ) (s : Registers) → Dec (q ≡ img.started + 1) → is_live (numbered (img.states ++ Able ∷ []) q) ≡ true
-      → numbered (img.regs ++ begun (img.started + 1) t display depends ∷ []) q ≡ Some s → IsProcess new q s
+      → numbered (img.regs ++ process_begun (img.started + 1) t display depends ∷ []) q ≡ Some s → IsProcess new q s
   unfolding new
   processes_by q s (yes e) l i =
-      let same : s ≡ begun (img.started + 1) t display depends =
-      some_is (begun (img.started + 1) t display depends) s
-      (sym regs_new ∙ subst (λ (m : ℕ). numbered (img.regs ++ begun (img.started + 1) t display depends ∷ []) m ≡ Some s) e i) in
+      let same : s ≡ process_begun (img.started + 1) t display depends =
+      some_is (process_begun (img.started + 1) t display depends) s
+      (sym regs_new ∙ subst (λ (m : ℕ). numbered (img.regs ++ process_begun (img.started + 1) t display depends ∷ []) m ≡ Some s) e i) in
       subst (λ (x : Registers). IsProcess new q x) (sym same)
-      (subst (λ (m : ℕ). IsProcess new m (begun (img.started + 1) t display depends)) (sym e) process_new)
+      (subst (λ (m : ℕ). IsProcess new m (process_begun (img.started + 1) t display depends)) (sym e) process_new)
   processes_by q s (no h) l i =
       process_stays img new q s (ap words_or (there q h)) (v.processes q s (sym (ap is_live (state_old q h)) ∙ l) (sym (regs_old q h) ∙ i))
 
-  earlier_by : (q : ℕ) (s : Registers) → Dec (q ≡ img.started + 1) → numbered (img.regs ++ begun (img.started + 1) t display depends ∷ []) q ≡ Some s
+  earlier_by : (q : ℕ) (s : Registers) → Dec (q ≡ img.started + 1) → numbered (img.regs ++ process_begun (img.started + 1) t display depends ∷ []) q ≡ Some s
       → (c : Place) → s.critical ≡ Some c → c.stack < q
   earlier_by q s (yes e) i c j =
-      let same : s ≡ begun (img.started + 1) t display depends =
-      some_is (begun (img.started + 1) t display depends) s
-      (sym regs_new ∙ subst (λ (m : ℕ). numbered (img.regs ++ begun (img.started + 1) t display depends ∷ []) m ≡ Some s) e i) in
+      let same : s ≡ process_begun (img.started + 1) t display depends =
+      some_is (process_begun (img.started + 1) t display depends) s
+      (sym regs_new ∙ subst (λ (m : ℕ). numbered (img.regs ++ process_begun (img.started + 1) t display depends ∷ []) m ≡ Some s) e i) in
       omega (arith, e, earlier c (ap (λ (x : Registers). x.critical) (sym same) ∙ j))
   earlier_by q s (no h) i c j = v.earlier q s (sym (regs_old q h) ∙ i) c j
 
@@ -182,12 +182,12 @@ module _ (code : Code) (img : Image) (v : IsValid code img) (t : Starting) (fits
       (ap (λ (m : ℕ). waits (numbered img.states m)) (e ∙ number) ∙ ap waits (no_more img.states)))
   waits_by q (no h) i = state_old q h
 
-  pub started_valid : IsValid code (written p (writes.start (begun (img.started + 1) t display depends) (first_words t)) img)
+  pub started_valid : IsValid code (write_made p (writes.start (process_begun (img.started + 1) t display depends) (first_words t)) img)
   unfolding new
   started_valid = record {
     segments = v.segments;
     words = λ q. words_by q (ℕ_discrete q (img.started + 1));
-    registers = omega (arith, length-append img.regs (begun (img.started + 1) t display depends ∷ []), v.registers);
+    registers = omega (arith, length-append img.regs (process_begun (img.started + 1) t display depends ∷ []), v.registers);
     states = omega (arith, length-append img.states (Able ∷ []), v.states);
     numbers = omega (arith, length-append img.numbers (0 ∷ []), v.numbers);
     positions = All-append (λ (k : ℕ). k ≤ most_events) img.numbers (0 ∷ []) v.positions
@@ -208,8 +208,8 @@ module _ (code : Code) (img : Image) (v : IsValid code img) (t : Starting) (fits
   pub started_live : (q : ℕ) → is_live (numbered img.states q) ≡ true → is_live (numbered (img.states ++ Able ∷ []) q) ≡ true
   started_live q l = let w = within_of img.states q l in ap is_live (get_numbered_append img.states (Able ∷ []) q w.1) ∙ l
 
-  pub started_has : (q : ℕ) (s : Registers) → numbered img.regs q ≡ Some s → numbered (img.regs ++ begun (img.started + 1) t display depends ∷ []) q ≡ Some s
-  started_has q s e = get_numbered_append img.regs (begun (img.started + 1) t display depends ∷ []) q (numbered_within img.regs q s e) ∙ e
+  pub started_has : (q : ℕ) (s : Registers) → numbered img.regs q ≡ Some s → numbered (img.regs ++ process_begun (img.started + 1) t display depends ∷ []) q ≡ Some s
+  started_has q s e = get_numbered_append img.regs (process_begun (img.started + 1) t display depends ∷ []) q (numbered_within img.regs q s e) ∙ e
 
 -- ---- what the tests find
 
@@ -245,11 +245,11 @@ module _ (code : Code) (img : Image) (p : ℕ) (r : Registers) (v : IsValid code
   unfolding Known
   no_place c e = cc
 
-  below_found : (f : Place) → Found (λ (x : Place). x.stack ≡ f.stack) (seen img.stacks (frame_below f))
+  below_found : (f : Place) → Found (λ (x : Place). x.stack ≡ f.stack) (look_seen img.stacks (frame_below f))
   below_found f =
-      look_then img.stacks (λ (k : Mscw). Unit {0}) (λ (x : Place). x.stack ≡ f.stack) (mark_at f) _ (anything_found (seen img.stacks (mark_at f))) (λ k u.
+      look_then img.stacks (λ (k : Mscw). Unit {0}) (λ (x : Place). x.stack ≡ f.stack) (mark_at f) _ (anything_found (look_seen img.stacks (mark_at f))) (λ k u.
       look_then img.stacks (λ (lower : ℕ). Unit {0}) (λ (x : Place). x.stack ≡ f.stack) (below f.at k.df (λ (lower : ℕ). entered_below f.stack lower)) _
-      (anything_found (seen img.stacks (below f.at k.df (λ (lower : ℕ). entered_below f.stack lower)))) (λ lower w. refl))
+      (anything_found (look_seen img.stacks (below f.at k.df (λ (lower : ℕ). entered_below f.stack lower)))) (λ lower w. refl))
 
   down_given : (steps : ℕ) (wanted : List Place) (f : Place) (rest : Test (Option Place)) → f.stack ≤ img.started → Gives Known (asked img rest)
       → Gives Known (asked img (down steps wanted f rest))
@@ -274,7 +274,7 @@ module _ (code : Code) (img : Image) (p : ℕ) (r : Registers) (v : IsValid code
       rest_given None k = no_place
       rest_given (Some c) k = k c refl
 
-  display_found : (t : Starting) → IsStarting t → Found (Shows img (place (img.started + 1) 0) t.procedure.level) (seen img.stacks (first_display (img.started + 1) t))
+  display_found : (t : Starting) → IsStarting t → Found (Shows img (place (img.started + 1) 0) t.procedure.level) (look_seen img.stacks (first_display (img.started + 1) t))
   display_found t k =
       found_by img.stacks (Shows img (place (img.started + 1) 0) t.procedure.level) t.procedure.intrinsic _ _ (λ b. tt)
       (λ b. linked_found img (place (img.started + 1) 0) t.home t.procedure.level k.fits.1.1.1.0
@@ -293,7 +293,7 @@ module _ (code : Code) (img : Image) (p : ℕ) (r : Registers) (v : IsValid code
       (path_given r.stack (t.home ∷ frames_with t.task (named_frames t.parameters)) (place r.stack (frame r)) own_stack) (λ c e.
       gives_by img (Ends code img p) (nat_lt img.started most_processes) _ _ (λ b.
       let room : img.started < most_processes = omega (arith, leb-true (suc img.started) most_processes b) in
-      finished_ends code (written p (writes.start (begun (img.started + 1) t display c) (first_words t)) img) p r
+      finished_ends code (write_made p (writes.start (process_begun (img.started + 1) t display c) (first_words t)) img) p r
       (started_valid code img v t k.fits k.home k.are k.few display d c e room p)
       (started_live code img v t k.fits k.home k.are k.few display d c e room p p live)
       (started_has code img v t k.fits k.home k.are k.few display d c e room p p r has) m [] next low (omega (arith, high)) (All-nil IsWord) small) (λ b. tt)))))

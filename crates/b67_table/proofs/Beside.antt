@@ -18,12 +18,12 @@ use Rattle.b67_table.specs.Effect.{Effect, gives, faults, interrupts}
 use Rattle.b67_table.specs.Private.{floor}
 use Rattle.b67_table.specs.Image.{Image, with_private, private_of, with_effect, is_able, is_live}
 use Rattle.b67_table.specs.Program.{Change, Program, asked, does, effect_of, changed}
-use Rattle.b67_table.specs.Rows.{Row, private_part, action, row}
+use Rattle.b67_table.specs.Rows.{TableRow, private_part, action, row}
 use Rattle.b67_table.specs.Table.{raw, operator_at, by_row, by_operator, by_registers}
 use Rattle.b67_table.specs.Touches.{IsPrivate, RowTouches}
 use Rattle.b67_table.specs.Sound.{OperatorTouches}
 use Rattle.b67_table.specs.Parts.{put_into}
-use Rattle.b67_table.specs.Privacy.{Stands, Keeps}
+use Rattle.b67_table.specs.Privacy.{ProcessStands, RegistersStay}
 use Rattle.b67_table.proofs.Stacks.{set_other, get_numbered_other, numbered_other}
 use Rattle.b67_table.proofs.Over.{over, elsewhere}
 use Rattle.b67_table.proofs.Parts.{others_stay_apart}
@@ -34,7 +34,7 @@ use Rattle.b67_table.proofs.Commuting.{gives_is, beneath, program_beside}
 -- ---- q is as it was after p's operator
 
 pub record After (q : ℕ) (r : Registers) (img new : Image) : Type 0 where
-  pub stands : Stands new q r
+  pub stands : ProcessStands new q r
   pub same : private_of new r ≡ private_of img r
   pub able : is_able (numbered img.states q) ≡ true → is_able (numbered new.states q) ≡ true
 
@@ -43,7 +43,7 @@ pub record Apart (q : ℕ) (r : Registers) (part : Private) (img : Image) (besid
   pub same : beside ≡ put_into q (floor r) part alone
   pub after : (b : Image) → alone ≡ gives b → After q r img b
 
-module _ (code : Code) (p q : ℕ) (r : Registers) (part : Private) (img : Image) (h : p ≢ q) (st : Stands img q r) (k : Keeps r part.regs) where
+module _ (code : Code) (p q : ℕ) (r : Registers) (part : Private) (img : Image) (h : p ≢ q) (st : ProcessStands img q r) (k : RegistersStay r part.regs) where
   unfoldable pub X : Image
   X = with_private img q (floor r) part
 
@@ -151,7 +151,7 @@ module _ (code : Code) (p q : ℕ) (r : Registers) (part : Private) (img : Image
   not_same o apart e =
       apart (record { stack = r.stack; at = max (floor o) (floor r) }) (sym e, le-max_left (floor o) (floor r)) (refl, le-max_right (floor o) (floor r))
 
-  by_rows : (o : Registers) → numbered img.regs p ≡ Some o → (op : Operator) (next : ℕ) → operator_at code o ≡ Ok (op, next) → (w : Row) → row op o.place ≡ w
+  by_rows : (o : Registers) → numbered img.regs p ≡ Some o → (op : Operator) (next : ℕ) → operator_at code o ≡ Ok (op, next) → (w : TableRow) → row op o.place ≡ w
       → ((x : Place) → RowTouches w code img p o next x → IsPrivate r x → ⊥) → Apart q r part img (by_row w code X p o next) (by_row w code img p o next)
   by_rows o has op next s (private_part change) i apart =
       private_apart o has (not_same o apart) (record { op = op; next = next; stands = s; change = change; is = i })

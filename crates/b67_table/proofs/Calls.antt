@@ -15,19 +15,19 @@ use Rattle.b67_segment.specs.declared.code.Code.{Code}
 use Rattle.b67_deeds.specs.declared.EventTest.{EventTest}
 use Rattle.b67_deeds.specs.declared.EventTest.TheVariants as test
 use Rattle.b67_deeds.specs.Deeds.{EventDeed, tests, answers}
-use Rattle.b67_events.specs.Events.{state_at, first_happened}
+use Rattle.b67_events.specs.Events.{state_at, first_event_happened}
 use Rattle.b67_table.specs.declared.Cell.{Cell}
 use Rattle.b67_table.specs.declared.InterruptKind.TheVariants.{InvalidOperand}
 use Rattle.b67_table.specs.Limits.{end_of_code, most_events}
 use Rattle.b67_table.specs.Private.{floor}
-use Rattle.b67_table.specs.Look.{◌>->◌, seen, valid}
-use Rattle.b67_table.specs.Chains.{place, broken, mark_at}
+use Rattle.b67_table.specs.Look.{◌>->◌, look_seen, valid}
+use Rattle.b67_table.specs.Chains.{place, chain_broken, mark_at}
 use Rattle.b67_table.specs.References.{cell_place}
 use Rattle.b67_table.specs.Image.{Image, woken_number, is_able, is_live}
-use Rattle.b67_table.specs.Writes.{written}
+use Rattle.b67_table.specs.Writes.{write_made}
 use Rattle.b67_table.specs.Writes as writes
 use Rattle.b67_table.specs.Program.{asked, Change, Program}
-use Rattle.b67_table.specs.Arguments.{Three, three, no_such, wholes, number_in, event_of, events_of, if_chained, finished_at}
+use Rattle.b67_table.specs.Arguments.{Three, three, no_such, wholes, argument_number_in, event_of, events_of, if_chained, finished_at}
 use Rattle.b67_table.specs.Intrinsics.{case_in, case_place, gone_to_case, select, write, make_event, on_event, tell_event, gone_or_waiting, woken_or_not, wait_for_any}
 use Rattle.b67_table.specs.Lines.{line_for}
 use Rattle.b67_table.specs.Valid.{IsValid}
@@ -67,8 +67,8 @@ module _ (code : Code) (img : Image) (p : ℕ) (r : Registers) (v : IsValid code
 
   pub chained_kept : (more : Program) → Gives (Ends code img p) (asked img more) → Gives (Ends code img p) (asked img (if_chained r m more))
   chained_kept more k =
-      see_then img (λ (lower : Mscw). Unit {0}) (Ends code img p) (cond (nat_le m.df r.f) (mark_at (place r.stack (r.f - m.df))) broken) (λ (lower : Mscw). more)
-      (anything_found (seen img.stacks (cond (nat_le m.df r.f) (mark_at (place r.stack (r.f - m.df))) broken))) (λ lower u. k)
+      see_then img (λ (lower : Mscw). Unit {0}) (Ends code img p) (cond (nat_le m.df r.f) (mark_at (place r.stack (r.f - m.df))) chain_broken) (λ (lower : Mscw). more)
+      (anything_found (look_seen img.stacks (cond (nat_le m.df r.f) (mark_at (place r.stack (r.f - m.df))) chain_broken))) (λ lower u. k)
 
   finish : (words : List Word) → All IsWord words → E (finished_at r m words next)
   unfolding E
@@ -86,12 +86,12 @@ module _ (code : Code) (img : Image) (p : ℕ) (r : Registers) (v : IsValid code
   unfolding At
   same_place to h n e = let same : to ≡ n = cc in subst (λ (x : ℕ). x ≤ end_of_code) same h
 
-  case_found : (first : ℤ) (o : Option ℕ) → Found At (seen img.stacks (case_place first o))
+  case_found : (first : ℤ) (o : Option ℕ) → Found At (look_seen img.stacks (case_place first o))
   unfolding At
   case_found first None = no_place
   case_found first (Some k) =
-      look_then img.stacks (λ (n : ℕ). n ≤ end_of_code) At (valid (number_in (first +ℤ pos (3 * k)) end_of_code)) _
-      (there_found img.stacks (λ (n : ℕ). n ≤ end_of_code) InvalidOperand (number_in (first +ℤ pos (3 * k)) end_of_code)
+      look_then img.stacks (λ (n : ℕ). n ≤ end_of_code) At (valid (argument_number_in (first +ℤ pos (3 * k)) end_of_code)) _
+      (there_found img.stacks (λ (n : ℕ). n ≤ end_of_code) InvalidOperand (argument_number_in (first +ℤ pos (3 * k)) end_of_code)
       (number_by code img p r v live has next small (first +ℤ pos (3 * k)) end_of_code)) (λ to h. same_place to h)
 
   case_kept : (o : Option ℕ) → At o → Gives E (asked img (gone_to_case r m o))
@@ -102,7 +102,7 @@ module _ (code : Code) (img : Image) (p : ℕ) (r : Registers) (v : IsValid code
   pub select_kept : (words : List Word) → Gives (Ends code img p) (asked img (select code r next m words))
   unfolding E At
   select_kept words =
-      see_then img (λ (t : Three). Unit {0}) E (three words) _ (anything_found (seen img.stacks (three words))) (λ z u.
+      see_then img (λ (t : Three). Unit {0}) E (three words) _ (anything_found (look_seen img.stacks (three words))) (λ z u.
       see_then img At E (case_place z.third (case_in z.first z.second)) _ (case_found z.third (case_in z.first z.second)) (λ to k.
       chained_kept (gone_to_case r m to) (case_kept to k)))
 
@@ -110,14 +110,14 @@ module _ (code : Code) (img : Image) (p : ℕ) (r : Registers) (v : IsValid code
   unfolding E Ends
   write_kept words =
       see_then img (λ (bytes : List ℕ). Unit {0}) (Ends code img p) (wholes words >-> (λ (zs : List ℤ). valid (line_for code zs))) _
-      (anything_found (seen img.stacks (wholes words >-> (λ (zs : List ℤ). valid (line_for code zs))))) (λ bytes u.
+      (anything_found (look_seen img.stacks (wholes words >-> (λ (zs : List ℤ). valid (line_for code zs))))) (λ bytes u.
       chained_kept _ (finished_ends code (record img { output = img.output ++ bytes ∷ [] }) p r (output_valid code img (img.output ++ bytes ∷ []) v) live has m [] next low
       (omega (arith, high)) (All-nil IsWord) small))
 
   pub make_event_kept : (words : List Word) → Gives (Ends code img p) (asked img (make_event code r next m words))
   unfolding Ends
   make_event_kept [] =
-      chained_kept _ (finished_ends code (written p (writes.open_event (place r.stack r.f)) img) p r (open_event_valid code img v (place r.stack r.f)) live has m
+      chained_kept _ (finished_ends code (write_made p (writes.open_event (place r.stack r.f)) img) p r (open_event_valid code img v (place r.stack r.f)) live has m
       (event_word (record {}) ∷ []) next low (omega (arith, high)) (All-cons IsWord (event_word (record {})) [] (IsWord-event_word (record {}) tt) (All-nil IsWord)) small)
   make_event_kept (w ∷ words) = tt
 
@@ -127,7 +127,7 @@ module _ (code : Code) (img : Image) (p : ℕ) (r : Registers) (v : IsValid code
   tell_kept able x (w ∷ []) =
       test_then img (λ (c : Cell). Unit {0}) (Ends code img p) (event_of r w) _ (anything (asked img (event_of r w))) (λ c u.
       let told = answers x (state_at (cell_place c) img.events) in
-      chained_kept _ (finished_ends code (written p (writes.event_deed (tests x) (cell_place c)) img) p r (event_deed_valid code img v p able (tests x) (cell_place c))
+      chained_kept _ (finished_ends code (write_made p (writes.event_deed (tests x) (cell_place c)) img) p r (event_deed_valid code img v p able (tests x) (cell_place c))
       (event_deed_live code img v p able (tests x) (cell_place c) p ∙ live) has m (truth told ∷ []) next low (omega (arith, high))
       (All-cons IsWord (truth told) [] (truth-word told) (All-nil IsWord)) small))
   tell_kept able x (w ∷ v ∷ words) = tt
@@ -138,7 +138,7 @@ module _ (code : Code) (img : Image) (p : ℕ) (r : Registers) (v : IsValid code
   event_deed_kept able x [] = tt
   event_deed_kept able x (w ∷ []) =
       test_then img (λ (c : Cell). Unit {0}) (Ends code img p) (event_of r w) _ (anything (asked img (event_of r w))) (λ c u.
-      chained_kept _ (finished_ends code (written p (writes.event_deed x (cell_place c)) img) p r (event_deed_valid code img v p able x (cell_place c))
+      chained_kept _ (finished_ends code (write_made p (writes.event_deed x (cell_place c)) img) p r (event_deed_valid code img v p able x (cell_place c))
       (event_deed_live code img v p able x (cell_place c) p ∙ live) has m [] next low (omega (arith, high)) (All-nil IsWord) small))
   event_deed_kept able x (w ∷ y ∷ words) = tt
 
@@ -163,10 +163,10 @@ module _ (code : Code) (img : Image) (p : ℕ) (r : Registers) (v : IsValid code
     by_number : (n : ℕ) → n ≤ most_events → Gives (Ends code img p) (asked img (woken_or_not r next m places n))
     unfolding Ends
     by_number zero h =
-        by_first (first_happened places img.events) (λ n e.
+        by_first (first_event_happened places img.events) (λ n e.
         let within = first_within (λ at. answers test.WaitAny (state_at at img.events)) 1 places n e in omega (arith, within, few))
     by_number (suc n) h =
-        finished_ends code (written p writes.go_on img) p r (go_on_valid code img v p) live has m (operand (pos (suc n)) ∷ []) next low (omega (arith, high))
+        finished_ends code (write_made p writes.go_on img) p r (go_on_valid code img v p) live has m (operand (pos (suc n)) ∷ []) next low (omega (arith, high))
         (position (suc n) h) small
 
   pub wait_any_kept : is_able (numbered img.states p) ≡ true → (words : List Word) → Gives (Ends code img p) (asked img (wait_for_any code r next m words))

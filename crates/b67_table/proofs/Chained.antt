@@ -12,8 +12,8 @@ use Rattle.b67_control.proofs.ControlLaws.{Fits-as_mscw, Fits-as_rcw}
 use Rattle.b67_store.specs.Store.{word_at}
 use Rattle.b67_table.specs.declared.Below.{Below}
 use Rattle.b67_table.specs.declared.InterruptKind.TheVariants.{BrokenChain}
-use Rattle.b67_table.specs.Look.{found, seen, read_as}
-use Rattle.b67_table.specs.Chains.{place, broken, mark_at, control_at, entered_from, entered_below, left_to, link_of, linked_frame, links, linked, rebuilt}
+use Rattle.b67_table.specs.Look.{found, look_seen, read_as}
+use Rattle.b67_table.specs.Chains.{place, chain_broken, mark_at, control_at, entered_from, entered_below, left_to, link_of, linked_frame, links, linked, rebuilt}
 use Rattle.b67_table.specs.Image.{Image}
 use Rattle.b67_table.specs.Valid.{IsHeld, IsDisplay, IsFrame}
 use Rattle.b67_table.proofs.Finding.{Found, look_then, there_found, found_by, read_is}
@@ -25,10 +25,10 @@ module _ (img : Image) where
   abbrev IsControl : Place → Rcw → Type 0
   IsControl x c = read_as as_rcw (word_at img.stacks (place x.stack (x.at + 1))) ≡ Some c
 
-  pub mark_found : (x : Place) → Found (λ (m : Mscw). read_as as_mscw (word_at img.stacks x) ≡ Some m) (seen img.stacks (mark_at x))
+  pub mark_found : (x : Place) → Found (λ (m : Mscw). read_as as_mscw (word_at img.stacks x) ≡ Some m) (look_seen img.stacks (mark_at x))
   mark_found x = there_found img.stacks (IsMark x) BrokenChain (read_as as_mscw (word_at img.stacks x)) (λ m e. e)
 
-  pub control_found : (x : Place) → Found (λ (c : Rcw). read_as as_rcw (word_at img.stacks (place x.stack (x.at + 1))) ≡ Some c) (seen img.stacks (control_at x))
+  pub control_found : (x : Place) → Found (λ (c : Rcw). read_as as_rcw (word_at img.stacks (place x.stack (x.at + 1))) ≡ Some c) (look_seen img.stacks (control_at x))
   control_found x = there_found img.stacks (IsControl x) BrokenChain (read_as as_rcw (word_at img.stacks (place x.stack (x.at + 1)))) (λ c e. e)
 
   mark_fits : (x : Place) (m : Mscw) → read_as as_mscw (word_at img.stacks x) ≡ Some m → Fits_mscw m
@@ -53,13 +53,13 @@ module _ (img : Image) where
   wider_all stack a b h (Ok low) k = wider stack a b low h k
   wider_all stack a b h (Err kind) k = tt
 
-  pub entered_found : (steps stack here : ℕ) → Found (Entered stack here) (seen img.stacks (entered_from steps stack here))
+  pub entered_found : (steps stack here : ℕ) → Found (Entered stack here) (look_seen img.stacks (entered_from steps stack here))
   entered_found zero stack here = tt
   entered_found (suc steps) stack here =
       look_then img.stacks (IsMark (place stack here)) (Entered stack here) (mark_at (place stack here)) _ (mark_found (place stack here))
       (λ m i. found_by img.stacks (Entered stack here) m.entered (found here) _
       (λ b. record { mark = m; is = i; entered = b; under = omega arith })
-      (λ b. found_by img.stacks (Entered stack here) (nat_le 1 m.df && nat_le m.df here) _ broken
+      (λ b. found_by img.stacks (Entered stack here) (nat_le 1 m.df && nat_le m.df here) _ chain_broken
       (λ c. wider_all stack (here - m.df) here (omega arith) _ (entered_found steps stack (here - m.df))) (λ c. tt)))
 
   -- what is left to
@@ -69,15 +69,15 @@ module _ (img : Image) where
     pub fits : Fits_rcw b.control
     pub apart : b.frame + 2 + b.control.caller_cells ≤ f.at
 
-  pub left_found : (f : Place) → Found (IsBelow f) (seen img.stacks (left_to f))
+  pub left_found : (f : Place) → Found (IsBelow f) (look_seen img.stacks (left_to f))
   left_found f =
       look_then img.stacks (IsMark f) (IsBelow f) (mark_at f) _ (mark_found f) (λ m i.
       look_then img.stacks (IsControl f) (IsBelow f) (control_at f) _ (control_found f) (λ c j.
-      look_then img.stacks (Entered f.stack f.at) (IsBelow f) (cond (nat_le m.df f.at) (entered_below f.stack (f.at - m.df)) broken) _
-      (found_by img.stacks (Entered f.stack f.at) (nat_le m.df f.at) _ broken
+      look_then img.stacks (Entered f.stack f.at) (IsBelow f) (cond (nat_le m.df f.at) (entered_below f.stack (f.at - m.df)) chain_broken) _
+      (found_by img.stacks (Entered f.stack f.at) (nat_le m.df f.at) _ chain_broken
       (λ b. wider_all f.stack (f.at - m.df) f.at (omega arith) _ (entered_found (f.at - m.df + 1) f.stack (f.at - m.df))) (λ b. tt)) (λ low k.
       look_then img.stacks (IsControl (place f.stack low)) (IsBelow f) (control_at (place f.stack low)) _ (control_found (place f.stack low)) (λ u l.
-      found_by img.stacks (IsBelow f) (nat_le (low + 2 + c.caller_cells) f.at) _ broken
+      found_by img.stacks (IsBelow f) (nat_le (low + 2 + c.caller_cells) f.at) _ chain_broken
       (λ b. record {
         frame = record { mark = k.mark; marked = k.is; entered = k.entered; control = u; controlled = l };
         mark = omega arith;
@@ -132,29 +132,29 @@ module _ (img : Image) where
   link_held : (x : Place) (m : Mscw) → read_as as_mscw (word_at img.stacks x) ≡ Some m → IsHeld (link_of m)
   link_held x m e = let f = mark_fits x m e in record { stack = f.0; displacement = f.1.0 }
 
-  frame_found : (link : Place) (level : ℕ) → Found (λ (m : Mscw). read_as as_mscw (word_at img.stacks link) ≡ Some m) (seen img.stacks (linked_frame link level))
+  frame_found : (link : Place) (level : ℕ) → Found (λ (m : Mscw). read_as as_mscw (word_at img.stacks link) ≡ Some m) (look_seen img.stacks (linked_frame link level))
   frame_found link level =
       look_then img.stacks (IsMark link) (IsMark link) (mark_at link) _ (mark_found link) (λ m i.
       look_then img.stacks (IsControl link) (IsMark link) (control_at link) _ (control_found link) (λ c j.
-      found_by img.stacks (IsMark link) (m.entered && c.own_level == level) (found m) broken (λ b. i) (λ b. tt)))
+      found_by img.stacks (IsMark link) (m.entered && c.own_level == level) (found m) chain_broken (λ b. i) (λ b. tt)))
 
   links_found : (n : ℕ) (top link : Place) (count level : ℕ) (known : List (Option Place)) → level < levels → level ≡ n + count + 2 → IsHeld link
-      → Known top count (levels - (level + 1)) known → Found (Shows top level) (seen img.stacks (links n link known))
+      → Known top count (levels - (level + 1)) known → Found (Shows top level) (look_seen img.stacks (links n link known))
   links_found zero top link count level known h e i k =
-      found_by img.stacks (Shows top level) (link.stack == 0) (found (Some (place 0 0) ∷ None ∷ known)) broken
+      found_by img.stacks (Shows top level) (link.stack == 0) (found (Some (place 0 0) ∷ None ∷ known)) chain_broken
       (λ b. shown top count level known h (omega (arith, e)) k) (λ b. tt)
   links_found (suc n) top link count level known h e i k =
       look_then img.stacks (IsMark link) (Shows top level) (linked_frame link (n + 2)) _ (frame_found link (n + 2)) (λ m j.
       links_found n top (link_of m) (count + 1) level (Some link ∷ known) h (omega (arith, e)) (link_held link m j) (known_more top link count _ known i k))
 
-  pub linked_found : (top link : Place) (level : ℕ) → level < levels → IsHeld top → IsHeld link → Found (Shows top level) (seen img.stacks (linked top link level))
+  pub linked_found : (top link : Place) (level : ℕ) → level < levels → IsHeld top → IsHeld link → Found (Shows top level) (look_seen img.stacks (linked top link level))
   linked_found top link level h t i =
-      found_by img.stacks (Shows top level) (nat_le 2 level) (links (level - 2) link (Some top ∷ replicate (levels - (level + 1)) None)) broken
+      found_by img.stacks (Shows top level) (nat_le 2 level) (links (level - 2) link (Some top ∷ replicate (levels - (level + 1)) None)) chain_broken
       (λ b. links_found (level - 2) top link 0 level (Some top ∷ replicate (levels - (level + 1)) None) h (omega (arith, leb-true 2 level b)) i
       (record { frames = top ∷ []; many = refl; held = All-cons IsHeld top [] t (All-nil IsHeld); is = refl; last = refl })) (λ b. tt)
 
-  pub rebuilt_found : (top : Place) (level : ℕ) → level < levels → IsHeld top → Found (Shows top level) (seen img.stacks (rebuilt top level))
+  pub rebuilt_found : (top : Place) (level : ℕ) → level < levels → IsHeld top → Found (Shows top level) (look_seen img.stacks (rebuilt top level))
   rebuilt_found top level h t =
-      found_by img.stacks (Shows top level) (nat_le 2 level) _ broken
+      found_by img.stacks (Shows top level) (nat_le 2 level) _ chain_broken
       (λ b. look_then img.stacks (IsMark top) (Shows top level) (mark_at top) _ (mark_found top) (λ m i.
       linked_found top (link_of m) level h t (link_held top m i))) (λ b. tt)

@@ -19,7 +19,7 @@ use Rattle.b67_table.specs.declared.ProcessState.TheVariants.{Ended}
 use Rattle.b67_table.specs.Image.{Image, with_stacks, with_rows, with_events, with_states, is_able, is_live}
 use Rattle.b67_table.specs.Program.{Change, done, row_of, close_row, close_events, end_process}
 use Rattle.b67_table.specs.Linkage.{closed_by, rows_closed, array_closed, arrays_closed, frame_left, caused_by}
-use Rattle.b67_table.specs.Writes.{written}
+use Rattle.b67_table.specs.Writes.{write_made}
 use Rattle.b67_table.specs.Writes as writes
 use Rattle.b67_table.specs.Valid.{IsProcess, IsValid, waits}
 use Rattle.b67_table.proofs.Stacks.{set_other, get_numbered_other}
@@ -152,5 +152,5 @@ pub caused_ends : (code : Code) (img : Image) (p : ℕ) → IsValid code img →
 unfolding Ends
 caused_ends code img p v able None stack e = end_ends code img p v able stack e
 caused_ends code img p v able (Some x) stack e =
-    end_ends code (written p (writes.event_deed (acts act.Cause) x) img) p (event_deed_valid code img v p able (acts act.Cause) x)
+    end_ends code (write_made p (writes.event_deed (acts act.Cause) x) img) p (event_deed_valid code img v p able (acts act.Cause) x)
     (able_all is_able refl (waiters_at x img.events) img.states p able) stack e

@@ -10,7 +10,7 @@ use Rattle.b67_table.specs.Effect.{gives}
 use Rattle.b67_table.specs.Private.{floor}
 use Rattle.b67_table.specs.Image.{Image, with_private, private_of, critical_in}
 use Rattle.b67_table.specs.Program.{Program, does}
-use Rattle.b67_table.specs.Privacy.{Keeps, Stands}
+use Rattle.b67_table.specs.Privacy.{RegistersStay, ProcessStands}
 use Rattle.b67_table.specs.Parts.{Beneath, IsApart, put_into}
 use Rattle.b67_table.proofs.Stacks.{set_here}
 use Rattle.b67_table.proofs.Lists.{set_there, numbered_same, numbered_within, numbered_set, numbered_from, above_put}
@@ -19,7 +19,7 @@ use Rattle.b67_table.proofs.Parts.{others_stay_apart, program_beneath}
 pub gives_is : (a b : Image) → gives a ≡ gives b → a ≡ b
 gives_is a b e = cc
 
-module _ (img : Image) (q : ℕ) (r : Registers) (st : Stands img q r) where
+module _ (img : Image) (q : ℕ) (r : Registers) (st : ProcessStands img q r) where
   W : List Word
   W = words_of img.stacks r.stack
 
@@ -42,7 +42,7 @@ module _ (img : Image) (q : ℕ) (r : Registers) (st : Stands img q r) where
     critical = ap critical_in st.has;
   }
 
-  pub beneath : (part : Private) → Keeps r part.regs → Beneath img q (floor r) part
+  pub beneath : (part : Private) → RegistersStay r part.regs → Beneath img q (floor r) part
   beneath part k = record {
     words = st.words;
     opened = ap (λ (n : ℕ). stack_at img.stacks n) k.0 ∙ st.opened;
@@ -59,7 +59,7 @@ pub record Beside (p q : ℕ) (r : Registers) (part : Private) (program : Progra
   pub high : floor r ≤ length (words_of new.stacks r.stack)
   pub words : private_of new r ≡ private_of img r
 
-pub program_beside : (p q : ℕ) (r : Registers) (part : Private) (program : Program) (img new : Image) → p ≢ q → Stands img q r → Keeps r part.regs
+pub program_beside : (p q : ℕ) (r : Registers) (part : Private) (program : Program) (img new : Image) → p ≢ q → ProcessStands img q r → RegistersStay r part.regs
     → IsApart p img program (floor r) part → does p program img ≡ gives new → Beside p q r part program img new
 program_beside p q r part program img new h st k apart e =
     let base : ℕ = floor r in

@@ -18,7 +18,7 @@ use Rattle.b67_table.specs.Table.{raw, table, plain, is_new, stack_length, lengt
 use Rattle.b67_table.specs.Touches.{IsPrivate}
 use Rattle.b67_table.specs.Sound.{OperatorTouches}
 use Rattle.b67_table.specs.Parts.{put_into}
-use Rattle.b67_table.specs.Privacy.{Stands, Keeps, Commute, PlainOperatorsCommute}
+use Rattle.b67_table.specs.Privacy.{ProcessStands, RegistersStay, Commute, PlainOperatorsCommute}
 use Rattle.b67_table.proofs.Stacks.{get_numbered_other}
 use Rattle.b67_table.proofs.Lists.{numbered_set, numbered_from, numbered_within}
 use Rattle.b67_table.proofs.Limit.{fits, new_of}
@@ -51,13 +51,13 @@ limited_put p q base part h (interrupts kind) = refl
 
 -- ---- all together
 
-module _ (code : Code) (p q : ℕ) (r : Registers) (part : Private) (img : Image) (h : p ≢ q) (st : Stands img q r) (n : Next code r)
+module _ (code : Code) (p q : ℕ) (r : Registers) (part : Private) (img : Image) (h : p ≢ q) (st : ProcessStands img q r) (n : Next code r)
     (given : n.change n.next (private_of img r) ≡ gives part) (small : part.regs.s ≤ stack_limit)
     (touch : (x : Place) → OperatorTouches code img p x → IsPrivate r x → ⊥) where
   Y : Image
   Y = with_private img q (floor r) part
 
-  keeps : Keeps r part.regs
+  keeps : RegistersStay r part.regs
   keeps = part_keeps code r n (private_of img r) part given
 
   apart : Apart q r part img (raw code (with_private img q (floor r) part) p) (raw code img p)

@@ -18,7 +18,7 @@ use Rattle.b67_table.specs.declared.InterruptKind.{InterruptKind}
 use Rattle.b67_table.specs.declared.InterruptKind.TheVariants.{BadCode}
 use Rattle.b67_table.specs.Limits.{end_of_code}
 use Rattle.b67_table.specs.Private.{floor}
-use Rattle.b67_table.specs.Look.{found, stops, ◌>->◌, seen, read_as}
+use Rattle.b67_table.specs.Look.{found, stops, ◌>->◌, look_seen, read_as}
 use Rattle.b67_table.specs.Chains.{place, linked}
 use Rattle.b67_table.specs.Image.{Image, is_live}
 use Rattle.b67_table.specs.Program.{asked, done, cut, push, registers, changed}
@@ -65,13 +65,13 @@ module _ (code : Code) (img : Image) (p : ℕ) (r : Registers) (v : IsValid code
   never mark level (Err kind) m = tt
 
   shows_found : (mark level : ℕ) (home : Place) → level < 32 → IsHeld home → Dec (mark + 1 ≤ 2 ^ 16)
-      → Found (λ (d : List (Option Place)). mark < 2 ^ 16 → Shows img (place r.stack mark) level d) (seen img.stacks (linked (place r.stack mark) home level))
+      → Found (λ (d : List (Option Place)). mark < 2 ^ 16 → Shows img (place r.stack mark) level d) (look_seen img.stacks (linked (place r.stack mark) home level))
   shows_found mark level home l h (yes m) =
       ignored mark level _ (linked_found img (place r.stack mark) home level l (record { stack = stack_small; displacement = omega (arith, m) }) h)
   shows_found mark level home l h (no m) = never mark level _ (λ small. m (omega (arith, small)))
 
   at_home : (next : ℕ) (fits : Bool) (mark level : ℕ) (home : Option Place) → level < 32 → ((h : Place) → home ≡ Some h → IsHeld h) → next < end_of_code
-      → fits ≡ true → Found (IsEntry next fits mark level) (seen img.stacks (if_home home level (λ (h : Place).
+      → fits ≡ true → Found (IsEntry next fits mark level) (look_seen img.stacks (if_home home level (λ (h : Place).
       linked (place r.stack mark) h level >-> (λ (display : List (Option Place)). found (record { home = h; display = display })))))
   at_home next fits mark level None l held b f = tt
   at_home next fits mark level (Some h) l held b f =
@@ -81,7 +81,7 @@ module _ (code : Code) (img : Image) (p : ℕ) (r : Registers) (v : IsValid code
       (λ d k. record { back = b; fit = f; home = held h refl; shows = k })) (λ c. tt)
 
   pub entering_found : (next : ℕ) (fits : Bool) (mark : ℕ) (pcw : Pcw) (home : Option Place) → Fits_pcw pcw → ((h : Place) → home ≡ Some h → IsHeld h)
-      → Found (IsEntry next fits mark pcw.level) (seen img.stacks (entering r next fits mark pcw home))
+      → Found (IsEntry next fits mark pcw.level) (look_seen img.stacks (entering r next fits mark pcw home))
   entering_found next fits mark pcw home f held =
       found_by img.stacks (IsEntry next fits mark pcw.level) (nat_lt next end_of_code) _ (stops BadCode)
       (λ b. found_by img.stacks (IsEntry next fits mark pcw.level) fits _ _

@@ -26,8 +26,8 @@ use Rattle.b67_table.specs.Image.{Image, with_stacks, is_live}
 use Rattle.b67_table.specs.Program.{answer, asked, see, ◌>>=◌, Change, done, push, registers, changed}
 use Rattle.b67_table.specs.Moves.{replaced}
 use Rattle.b67_table.specs.Linkage.{accidental}
-use Rattle.b67_table.specs.Arrays.{as_indexed, word_in, element}
-use Rattle.b67_table.specs.Rows.{turn_by, turn, value_or_entry, value_call, loaded, load_value, is_passed, load_through, cell_or_entry, evaluate}
+use Rattle.b67_table.specs.Arrays.{as_indexed, word_in_row, element}
+use Rattle.b67_table.specs.Rows.{turn_by, branch_turn, value_or_entry, value_call, loaded, load_value, is_passed, load_through, cell_or_entry, evaluate}
 use Rattle.b67_table.specs.Valid.{IsHeld, IsProcess, IsValid}
 use Rattle.b67_table.proofs.Keeping.{Gives}
 use Rattle.b67_table.proofs.Finding.{Found, look_then, see_then, test_then, see_gives, there_found, found_by, gives_by}
@@ -83,7 +83,7 @@ module _ (code : Code) (img : Image) (p : ℕ) (r : Registers) (v : IsValid code
           (sym (ap (λ (ws : List Word). with_stacks img (with_stack img.stacks p ws)) whole
           ∙ ap (λ (st : Stacks). with_stacks img st) (set_there img.stacks p (words_of img.stacks p) (opened code img p r v live has))))
 
-  pub turn_kept : (kind : BranchKind) (target : ℕ) → target < 2 ^ 16 → Gives (Ends code img p) (asked img (turn kind target r next))
+  pub turn_kept : (kind : BranchKind) (target : ℕ) → target < 2 ^ 16 → Gives (Ends code img p) (asked img (branch_turn kind target r next))
   unfolding E
   turn_kept Brun target t = pointed_ends target t
   turn_kept Brfl target t = turn_by_kept Brfl target t
@@ -123,14 +123,14 @@ module _ (code : Code) (img : Image) (p : ℕ) (r : Registers) (v : IsValid code
 
   -- ---- elements
 
-  in_row : (o : Option Row) (at : ℕ) (w : Word) → All IsWord (row_words_or o) → word_in o at ≡ Some w → IsWord w
+  in_row : (o : Option Row) (at : ℕ) (w : Word) → All IsWord (row_words_or o) → word_in_row o at ≡ Some w → IsWord w
   in_row None at w a e = cc
   in_row (Some x) at w a e = get_all IsWord x.words at w a e
 
   pub element_kept : (n at : ℕ) → Gives IsWord (asked img (element n at))
   element_kept n at =
-      see_gives img IsWord (valid (word_in (row_at img.rows n) at))
-      (there_found img.stacks IsWord InvalidOperand (word_in (row_at img.rows n) at) (λ w e. in_row (row_at img.rows n) at w (v.rows.words n) e))
+      see_gives img IsWord (valid (word_in_row (row_at img.rows n) at))
+      (there_found img.stacks IsWord InvalidOperand (word_in_row (row_at img.rows n) at) (λ w e. in_row (row_at img.rows n) at w (v.rows.words n) e))
 
   loaded_kept : (x : Word) (o : Option Descriptor) → Gives IsWord (asked img (loaded r x o))
   loaded_kept x (Some d) = element_kept d.address d.length

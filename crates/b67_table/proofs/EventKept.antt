@@ -9,8 +9,8 @@ use Rattle.b67_list.specs.Numbered.{numbered, set_numbered}
 use Rattle.b67_word.specs.declared.Place.{Place}
 use Rattle.b67_segment.specs.declared.code.Code.{Code}
 use Rattle.b67_deeds.specs.Events.{EventState}
-use Rattle.b67_events.specs.Events.{Event, same_place, is_from, is_open, event_at, state_of, waiters_at, procurers_at, is_waiting, fresh, opened, closed_from, list_of}
-use Rattle.b67_events.specs.Laws.{AreApart}
+use Rattle.b67_events.specs.Events.{Event, same_place, is_from, is_open, event_at, state_of, waiters_at, procurers_at, is_waiting, fresh, event_opened, closed_from, list_of}
+use Rattle.b67_events.specs.Laws.{EventsAreApart}
 use Rattle.b67_events.specs.Once.{EachOnce, waiters_of, procurers_of}
 use Rattle.b67_events.proofs.Listed.{same_place-true, same_place-self}
 use Rattle.b67_events.proofs.EventLaws.{one_event, stay_apart}
@@ -48,7 +48,7 @@ in_either q (x ∷ xs) ys e = elim (or_cases (q == x) (list_any (λ p. q == p) (
 ]
 
 -- who waits stands in a list of the event at some place
-stands_at : (q : ℕ) (es : List Event) → AreApart es → is_waiting q es ≡ true → (at : Place) × (Among q (waiters_at at es) ⊎ Among q (procurers_at at es))
+stands_at : (q : ℕ) (es : List Event) → EventsAreApart es → is_waiting q es ≡ true → (at : Place) × (Among q (waiters_at at es) ⊎ Among q (procurers_at at es))
 stands_at q [] apart e = cc
 stands_at q (x ∷ xs) apart e = elim (or_cases (list_any (λ p. q == p) (x.state.waiters ++ x.state.procurers)) (is_waiting q xs) e) [
   | inl i ↦
@@ -186,7 +186,7 @@ module _ (es : List Event) (lists : List (List Place)) (xs : List ProcessState) 
   }
 
   -- at each place there is the event of before, or one for which nobody waits
-  events_kept : (fs : List Event) → AreApart fs → EachOnce fs
+  events_kept : (fs : List Event) → EventsAreApart fs → EachOnce fs
       → ((at : Place) → (event_at at fs ≡ event_at at es) ⊎ ((waiters_at at fs ≡ []) × (procurers_at at fs ≡ []))) → AreEvents fs lists xs
   events_kept fs apart once k = record {
     apart = apart;
@@ -217,15 +217,15 @@ module _ (es : List Event) (lists : List (List Place)) (xs : List ProcessState) 
       by_test to true e = inr (ap (λ o. (state_of o).waiters) e, ap (λ o. (state_of o).procurers) e)
       by_test to false e = inl e
 
-  opened_kept : (at : Place) → AreEvents (opened at es) lists xs
+  opened_kept : (at : Place) → AreEvents (event_opened at es) lists xs
   opened_kept at =
-      events_kept (opened at es) (stay_apart.by_opening at es v.apart) (waits_once.by_opening at es v.once)
+      events_kept (event_opened at es) (stay_apart.by_opening at es v.apart) (waits_once.by_opening at es v.once)
       (λ to. by_test to (same_place to at) refl)
     where
       by_test : (to : Place) (b : Bool) → same_place to at ≡ b
-          → (event_at to (opened at es) ≡ event_at to es) ⊎ ((waiters_at to (opened at es) ≡ []) × (procurers_at to (opened at es) ≡ []))
+          → (event_at to (event_opened at es) ≡ event_at to es) ⊎ ((waiters_at to (event_opened at es) ≡ []) × (procurers_at to (event_opened at es) ≡ []))
       by_test to true e =
-          let here : event_at to (opened at es) ≡ Some (fresh at) = ap (λ a. event_at a (opened at es)) (same_place-true to at e) ∙ one_event.opened_here at es in
+          let here : event_at to (event_opened at es) ≡ Some (fresh at) = ap (λ a. event_at a (event_opened at es)) (same_place-true to at e) ∙ one_event.opened_here at es in
           inr (ap (λ o. (state_of o).waiters) here, ap (λ o. (state_of o).procurers) here)
       by_test to false e = inl (one_event.opened_elsewhere at to (λ k. not_both (same_place to at) (same_place-self to at k) e) es)
 
@@ -260,5 +260,5 @@ module _ (code : Code) (img : Image) (v : IsValid code img) where
   pub close_events_valid : (stack at : ℕ) → IsValid code (with_events img (closed_from stack at img.events))
   close_events_valid stack at = events_valid (closed_from stack at img.events) (closed_kept img.events img.lists img.states v.events stack at)
 
-  pub open_event_valid : (at : Place) → IsValid code (with_events img (opened at img.events))
-  open_event_valid at = events_valid (opened at img.events) (opened_kept img.events img.lists img.states v.events at)
+  pub open_event_valid : (at : Place) → IsValid code (with_events img (event_opened at img.events))
+  open_event_valid at = events_valid (event_opened at img.events) (opened_kept img.events img.lists img.states v.events at)

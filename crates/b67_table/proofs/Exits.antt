@@ -16,7 +16,7 @@ use Rattle.b67_table.specs.declared.Leaving.{Leaving}
 use Rattle.b67_table.specs.declared.InterruptKind.TheVariants.{InvalidOperand}
 use Rattle.b67_table.specs.Limits.{most_cells, segment_numbers, end_of_code}
 use Rattle.b67_table.specs.Private.{at_or, display_at, frame, floor}
-use Rattle.b67_table.specs.Look.{seen, valid}
+use Rattle.b67_table.specs.Look.{look_seen, valid}
 use Rattle.b67_table.specs.Chains.{place, left_to, rebuilt}
 use Rattle.b67_table.specs.References.{popped}
 use Rattle.b67_table.specs.Image.{Image, with_registers, is_able, is_live}
@@ -24,8 +24,8 @@ use Rattle.b67_table.specs.Program.{asked, fault, Change, done, cut, registers, 
 use Rattle.b67_table.specs.Moves.{pushed}
 use Rattle.b67_num.specs.declared.FaultKind.TheVariants.{CriticalBlockExit}
 use Rattle.b67_table.specs.Questions.{live_criticals}
-use Rattle.b67_table.specs.Linkage.{is_critical, if_not_critical, leaving, left, caused_by, leave_base, leave_other, leave}
-use Rattle.b67_table.specs.Arguments.{Three, three, number_in}
+use Rattle.b67_table.specs.Linkage.{is_critical, if_not_critical, leaving, registers_left, caused_by, leave_base, leave_other, leave}
+use Rattle.b67_table.specs.Arguments.{Three, three, argument_number_in}
 use Rattle.b67_table.specs.GoingTo.{Passed, Passing, passing, passed_by, Target, level_in, target_of, frames_left, passed_frames, go_to}
 use Rattle.b67_table.specs.Rows.{exit, is_result, return_value}
 use Rattle.b67_table.specs.Valid.{IsHeld, IsFrame, IsProcess, IsValid}
@@ -110,7 +110,7 @@ module _ (code : Code) (img : Image) (p : ℕ) (r : Registers) (v : IsValid code
     below : IsBelow img f l.below
     shows : Shows img (place f.stack l.below.frame) l.below.control.caller_level l.display
 
-  leaving_found : (f : Place) → IsHeld f → Found (IsLeaving f) (seen img.stacks (leaving f))
+  leaving_found : (f : Place) → IsHeld f → Found (IsLeaving f) (look_seen img.stacks (leaving f))
   leaving_found f h =
       look_then img.stacks (IsBelow img f) (IsLeaving f) (left_to f) _ (left_found img f) (λ b i.
       look_then img.stacks (Shows img (place f.stack b.frame) b.control.caller_level) (IsLeaving f) (rebuilt (place f.stack b.frame) b.control.caller_level) _
@@ -124,8 +124,8 @@ module _ (code : Code) (img : Image) (p : ℕ) (r : Registers) (v : IsValid code
       (leaving_found (place r.stack (frame r)) (record { stack = stack_small; displacement = frame_small })) (λ l i.
       critical_kept r.stack (frame r ∷ []) _ (
       frame_goes code img p r.stack (frame r) cells
-      (cut r.stack (frame r) (pushed r.stack words (registers (left r (frame r + length words) (frame r) l) done)))
-      (back_goes l.below.frame (frame r) words (left r (frame r + length words) (frame r) l) i.below.frame (omega (arith, i.below.apart)) (omega (arith, own.above)) are
+      (cut r.stack (frame r) (pushed r.stack words (registers (registers_left r (frame r + length words) (frame r) l) done)))
+      (back_goes l.below.frame (frame r) words (registers_left r (frame r + length words) (frame r) l) i.below.frame (omega (arith, i.below.apart)) (omega (arith, own.above)) are
       (record {
         stack = own.stack;
         size = refl;
@@ -174,7 +174,7 @@ module _ (code : Code) (img : Image) (p : ℕ) (r : Registers) (v : IsValid code
   AtTarget : ℕ → Passing → Type 0
   AtTarget target q = IsPassed target q.cells
 
-  passing_found : (steps target : ℕ) (here : Passed) → IsPassed here.frame here.cells → Found (AtTarget target) (seen img.stacks (passing steps r.stack target here))
+  passing_found : (steps target : ℕ) (here : Passed) → IsPassed here.frame here.cells → Found (AtTarget target) (look_seen img.stacks (passing steps r.stack target here))
   unfolding AtTarget
   passing_found zero target here k = tt
   passing_found (suc steps) target here k =
@@ -194,7 +194,7 @@ module _ (code : Code) (img : Image) (p : ℕ) (r : Registers) (v : IsValid code
   in_stack target (Ok q) k = λ s. k
   in_stack target (Err kind) k = tt
 
-  passed_found : (target : Place) → Found (ByStack target) (seen img.stacks (passed_by r target))
+  passed_found : (target : Place) → Found (ByStack target) (look_seen img.stacks (passed_by r target))
   unfolding ByStack
   passed_found target =
       found_by img.stacks (ByStack target) (nat_eq target.stack r.stack) _ _
@@ -214,7 +214,7 @@ module _ (code : Code) (img : Image) (p : ℕ) (r : Registers) (v : IsValid code
     segment : t.segment < segment_numbers
     pointer : t.pointer < 2 ^ 16
 
-  pub number_by : (z : ℤ) (most n : ℕ) → number_in z most ≡ Some n → n ≤ most
+  pub number_by : (z : ℤ) (most n : ℕ) → argument_number_in z most ≡ Some n → n ≤ most
   number_by (pos k) most n e = by_test (nat_le k most) refl e
     where
       by_test : (b : Bool) → nat_le k most ≡ b → cond b (Some k) None ≡ Some n → n ≤ most
@@ -231,25 +231,25 @@ module _ (code : Code) (img : Image) (p : ℕ) (r : Registers) (v : IsValid code
       by_test false i j = cc
   level_by (negsuc k) n e = cc
 
-  target_found : (t : Three) → Found IsTarget (seen img.stacks (target_of r t))
+  target_found : (t : Three) → Found IsTarget (look_seen img.stacks (target_of r t))
   target_found t =
       look_then img.stacks (λ (n : ℕ). n ≤ r.ll) IsTarget (valid (level_in r t.first)) _
       (there_found img.stacks (λ (n : ℕ). n ≤ r.ll) InvalidOperand (level_in r t.first) (level_by t.first)) (λ level i.
       look_then img.stacks IsHeld IsTarget (valid (display_at r level)) _
       (there_found img.stacks IsHeld InvalidOperand (display_at r level) (seen_held code img p r v live has level)) (λ f j.
-      look_then img.stacks (λ (n : ℕ). n ≤ segment_numbers - 1) IsTarget (valid (number_in t.second (segment_numbers - 1))) _
-      (there_found img.stacks (λ (n : ℕ). n ≤ segment_numbers - 1) InvalidOperand (number_in t.second (segment_numbers - 1))
+      look_then img.stacks (λ (n : ℕ). n ≤ segment_numbers - 1) IsTarget (valid (argument_number_in t.second (segment_numbers - 1))) _
+      (there_found img.stacks (λ (n : ℕ). n ≤ segment_numbers - 1) InvalidOperand (argument_number_in t.second (segment_numbers - 1))
       (number_by t.second (segment_numbers - 1))) (λ segment k.
-      look_then img.stacks (λ (n : ℕ). n ≤ end_of_code) IsTarget (valid (number_in t.third end_of_code)) _
-      (there_found img.stacks (λ (n : ℕ). n ≤ end_of_code) InvalidOperand (number_in t.third end_of_code) (number_by t.third end_of_code)) (λ pointer l.
+      look_then img.stacks (λ (n : ℕ). n ≤ end_of_code) IsTarget (valid (argument_number_in t.third end_of_code)) _
+      (there_found img.stacks (λ (n : ℕ). n ≤ end_of_code) InvalidOperand (argument_number_in t.third end_of_code) (number_by t.third end_of_code)) (λ pointer l.
       record { level = omega (arith, i, own.display.known); held = j; segment = omega (arith, k); pointer = omega (arith, l) }))))
 
   frames_go : (words : List Word) (fs : List Passed) (next : Change) → Goes code img p next → Goes code img p (frames_left r.stack words fs next)
   frames_go words [] next k = k
   frames_go words (f ∷ fs) next k = frame_goes code img p r.stack f.frame (take f.cells (drop (f.frame + 2) words)) (frames_left r.stack words fs next) (frames_go words fs next k)
 
-  three_found : (words : List Word) → Found (λ (t : Three). Unit {0}) (seen img.stacks (three words))
-  three_found words = anything_found (seen img.stacks (three words))
+  three_found : (words : List Word) → Found (λ (t : Three). Unit {0}) (look_seen img.stacks (three words))
+  three_found words = anything_found (look_seen img.stacks (three words))
 
   pub go_to_kept : (m : Mscw) (words : List Word) → Gives (Ends code img p) (asked img (go_to code r next m words))
   unfolding E ByStack Goes

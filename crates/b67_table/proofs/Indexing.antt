@@ -16,11 +16,11 @@ use Rattle.b67_table.specs.declared.Reached.{Reached}
 use Rattle.b67_table.specs.declared.InterruptKind.TheVariants.{InvalidOperand}
 use Rattle.b67_table.specs.Effect.{Effect, gives, faults, interrupts}
 use Rattle.b67_table.specs.Private.{floor}
-use Rattle.b67_table.specs.Look.{found, seen, valid}
+use Rattle.b67_table.specs.Look.{found, look_seen, valid}
 use Rattle.b67_table.specs.References.{cell_place, cell_of, named, reached, popped_two, operand_in, invalid}
 use Rattle.b67_table.specs.Image.{Image, with_stacks, with_rows, is_live}
 use Rattle.b67_table.specs.Program.{answer, row, asked, see, ◌>>=◌, Change, done, save, registers}
-use Rattle.b67_table.specs.Arrays.{is_array, array_in, array_by, array_of, as_indexed, index_in, index_or_fault, Subscripted, subscripted, element, if_row, subscripted_element, index, index_and_load, index_mother}
+use Rattle.b67_table.specs.Arrays.{is_array_descriptor, array_in, array_by, array_of, as_indexed, index_in, index_or_fault, Subscripted, subscripted, element, if_row, subscripted_element, index_program, index_and_load, index_mother}
 use Rattle.b67_table.specs.Rows.{after_store, kept_words, stored, store_by, store}
 use Rattle.b67_table.specs.Valid.{IsProcess, IsValid}
 use Rattle.b67_table.proofs.Keeping.{Gives}
@@ -53,22 +53,22 @@ module _ (code : Code) (img : Image) (p : ℕ) (r : Registers) (v : IsValid code
 
   -- ---- arrays
 
-  array_in_found : (mother : Bool) (w : Word) (o : Option Descriptor) → as_descriptor w ≡ o → Found Fits_descriptor (seen img.stacks (array_in mother o))
+  array_in_found : (mother : Bool) (w : Word) (o : Option Descriptor) → as_descriptor w ≡ o → Found Fits_descriptor (look_seen img.stacks (array_in mother o))
   array_in_found mother w None e = tt
   array_in_found mother w (Some d) e =
-      found_by img.stacks Fits_descriptor (is_array mother d) (found d) invalid (λ b. Fits-as_descriptor w e) (λ b. tt)
+      found_by img.stacks Fits_descriptor (is_array_descriptor mother d) (found d) invalid (λ b. Fits-as_descriptor w e) (λ b. tt)
 
-  array_by_found : (mother : Bool) (w : Word) (o : Option Cell) → cell_of r w ≡ o → Found Fits_descriptor (seen img.stacks (array_by r mother w o))
+  array_by_found : (mother : Bool) (w : Word) (o : Option Cell) → cell_of r w ≡ o → Found Fits_descriptor (look_seen img.stacks (array_by r mother w o))
   array_by_found mother w None e = array_in_found mother w (as_descriptor w) refl
   array_by_found mother w (Some c) e =
       look_then img.stacks (IsReached code img p r v live has) Fits_descriptor (reached (Some c)) _
       (reached_found code img p r v live has (Some c) (λ x i. cell_is code img p r v live has w x (e ∙ i)))
       (λ x i. array_in_found mother x.word (as_descriptor x.word) refl)
 
-  whole_found : (w : Word) → Found (λ (z : ℤ). Unit {0}) (seen img.stacks (valid (as_whole w)))
+  whole_found : (w : Word) → Found (λ (z : ℤ). Unit {0}) (look_seen img.stacks (valid (as_whole w)))
   whole_found w = there_found img.stacks (λ (z : ℤ). Unit {0}) InvalidOperand (as_whole w) (λ z e. tt)
 
-  subscripted_found : (mother : Bool) → Found (IsSub r) (seen img.stacks (subscripted r mother))
+  subscripted_found : (mother : Bool) → Found (IsSub r) (look_seen img.stacks (subscripted r mother))
   subscripted_found mother =
       look_then img.stacks (IsTwo code img p r v live has) (IsSub r) (popped_two r) _ (two_found code img p r v live has) (λ t i.
       look_then img.stacks (λ (z : ℤ). Unit {0}) (IsSub r) (valid (as_whole t.y)) _ (whole_found t.y) (λ z u.
@@ -79,7 +79,7 @@ module _ (code : Code) (img : Image) (p : ℕ) (r : Registers) (v : IsValid code
   index_given None most k = tt
   index_given (Some n) most k = k n refl
 
-  pub index_kept : Gives (Ends code img p) (asked img (index r next))
+  pub index_kept : Gives (Ends code img p) (asked img (index_program r next))
   unfolding E
   index_kept =
       see_then img (IsSub r) E (subscripted r false) _ (subscripted_found false) (λ t i.

@@ -16,12 +16,12 @@ use Rattle.b67_ops.specs.declared.PlainKind.TheVariants as kinds
 use Rattle.b67_table.specs.declared.InterruptKind.TheVariants.{StackUnderflow, InvalidOperand}
 use Rattle.b67_table.specs.Effect.{Effect, gives, faults, interrupts, ◌>>=◌}
 use Rattle.b67_table.specs.declared.Private.{Private}
-use Rattle.b67_table.specs.Private.{floor, top, pop, push, whole_of, bits_of, frame}
+use Rattle.b67_table.specs.Private.{floor, top, pop, push, whole_of_word, bits_of, frame}
 use Rattle.b67_table.specs.Limits.{most_cells}
 use Rattle.b67_table.specs.PrivateRows.{onward, wholes, arithmetic, relation, negated, logic, complemented, dropped, exchanged, doubled, stuffed, stuff, mark, make_cells, by_bit, branch, result_or_fault, agreement, reference}
-use Rattle.b67_table.specs.Rows.{Row, private_part, row, plain_row, acts, turn}
+use Rattle.b67_table.specs.Rows.{TableRow, private_part, row, plain_row, acts, branch_turn}
 use Rattle.b67_table.specs.Table.{part_by, private_op}
-use Rattle.b67_table.specs.Privacy.{Keeps}
+use Rattle.b67_table.specs.Privacy.{RegistersStay}
 
 -- what is given has the property
 abbrev pub Gives : {A : Type 0} → (A → Type 0) → Effect A → Type 0
@@ -45,10 +45,10 @@ by_test P false e f p q = q
 
 module _ (r : Registers) where
   Kept : Private → Type 0
-  Kept q = Keeps r q.regs
+  Kept q = RegistersStay r q.regs
 
   Below : Word × Private → Type 0
-  Below t = Keeps r t.1.regs
+  Below t = RegistersStay r t.1.regs
 
   pop_by : (p : Private) (ws : List Word) → Kept p
       → Gives Below (top ws >>= (λ (t : Word × List Word). gives (t.0, record { regs = record p.regs { s = p.regs.s - 1 }; words = t.1 })))
@@ -70,15 +70,15 @@ module _ (r : Registers) where
   unfolding Kept Below
   wholes_keep made p k =
       then_gives Below Kept (pop p) _ (pop_keeps p k) (λ x kx. then_gives Below Kept (pop x.1) _ (pop_keeps x.1 kx) (λ y ky.
-      then_gives (λ (a : ℤ). Unit {0}) Kept (whole_of y.0) _ (anything (whole_of y.0)) (λ a u.
-      then_gives (λ (b : ℤ). Unit {0}) Kept (whole_of x.0) _ (anything (whole_of x.0)) (λ b v.
+      then_gives (λ (a : ℤ). Unit {0}) Kept (whole_of_word y.0) _ (anything (whole_of_word y.0)) (λ a u.
+      then_gives (λ (b : ℤ). Unit {0}) Kept (whole_of_word x.0) _ (anything (whole_of_word x.0)) (λ b v.
       then_gives (λ (w : Word). Unit {0}) Kept (made a b) _ (anything (made a b)) (λ w t. ky)))))
 
   negated_keeps : (p : Private) → Kept p → Gives Kept (negated p)
   unfolding Kept Below
   negated_keeps p k =
       then_gives Below Kept (pop p) _ (pop_keeps p k) (λ x kx.
-      then_gives (λ (a : ℤ). Unit {0}) Kept (whole_of x.0) _ (anything (whole_of x.0)) (λ a u. kx))
+      then_gives (λ (a : ℤ). Unit {0}) Kept (whole_of_word x.0) _ (anything (whole_of_word x.0)) (λ a u. kx))
 
   logic_keeps : (op : ℕ → ℕ → ℕ) (p : Private) → Kept p → Gives Kept (logic op p)
   unfolding Kept Below
@@ -193,7 +193,7 @@ module _ (r : Registers) where
   plain_keeps kinds.Load next p k = tt
   plain_keeps kinds.Noop next p k = onward_keeps gives next p k
 
-  forward_keeps : (b : Bool) (kind : BranchKind) (target next : ℕ) (program : Row) (p : Private) → Gives Kept (part_by program next p) → Kept p
+  forward_keeps : (b : Bool) (kind : BranchKind) (target next : ℕ) (program : TableRow) (p : Private) → Gives Kept (part_by program next p) → Kept p
       → Gives Kept (part_by (cond b (private_part (branch kind target)) program) next p)
   forward_keeps true kind target next program p e k = branch_keeps kind target next p k
   forward_keeps false kind target next program p e k = e
@@ -206,9 +206,9 @@ module _ (r : Registers) where
   op_keeps (ops.Lt16 n) at next p k = push_row (operand (pos n)) next p k
   op_keeps (ops.Lt48 n) at next p k = push_row (word 0 n) next p k
   op_keeps (ops.Mpcw n) at next p k = push_row (word 7 n) next p k
-  op_keeps (ops.Branch kind target) at next p k = forward_keeps (nat_lt at target) kind target next (acts (turn kind target)) p tt k
+  op_keeps (ops.Branch kind target) at next p k = forward_keeps (nat_lt at target) kind target next (acts (branch_turn kind target)) p tt k
   op_keeps (ops.Plain kind) at next p k = plain_keeps kind next p k
 
-pub private_keeps : (op : Operator) (at next : ℕ) (p q : Private) → private_op op at next p ≡ gives q → Keeps p.regs q.regs
+pub private_keeps : (op : Operator) (at next : ℕ) (p q : Private) → private_op op at next p ≡ gives q → RegistersStay p.regs q.regs
 unfolding Kept
 private_keeps op at next p q e = subst (λ (f : Effect Private). Gives (Kept p.regs) f) e (op_keeps p.regs op at next p (refl, refl, refl, refl, refl, refl))

@@ -17,13 +17,13 @@ use Rattle.b67_store.proofs.StoreLaws.{opened_here, opened_others, free_here, co
 use Rattle.b67_table.specs.Private.{floor}
 use Rattle.b67_table.specs.Image.{Image, with_rows, is_live}
 use Rattle.b67_table.specs.Questions.{told}
-use Rattle.b67_table.specs.Writes.{Write, written}
+use Rattle.b67_table.specs.Writes.{Write, write_made}
 use Rattle.b67_table.specs.Writes as writes
 use Rattle.b67_table.specs.Program.{asked, Change, done, look_up, write, changed, open_row, write_row}
-use Rattle.b67_table.specs.Look.{◌>->◌, seen}
+use Rattle.b67_table.specs.Look.{◌>->◌, look_seen}
 use Rattle.b67_table.specs.Arrays.{extent_in, extent, Extents, one, two, elements, if_small, if_held, array_word, rows_made, array_made, arrays_made}
 use Rattle.b67_table.specs.Arguments.{wholes, finished_at}
-use Rattle.b67_table.specs.Intrinsics.{Wanted, wanted, extents, arrays}
+use Rattle.b67_table.specs.Intrinsics.{Wanted, intrinsic_wanted, extents, arrays}
 use Rattle.b67_table.specs.Valid.{IsValid, is_no_mother}
 use Rattle.b67_table.proofs.Keeping.{Gives}
 use Rattle.b67_table.proofs.Finding.{see_then, test_then, gives_by, anything_found}
@@ -41,7 +41,7 @@ opened_more [] (suc n) row = let k = opened_more [] n row in (omega arith, omega
 opened_more (x ∷ xs) zero row = (omega arith, omega arith)
 opened_more (x ∷ xs) (suc n) row = let k = opened_more xs n row in (omega (arith, k.0), omega (arith, k.1))
 
-written_more : (p : ℕ) (w : Write) (img : Image) → length img.rows ≤ length (written p w img).rows
+written_more : (p : ℕ) (w : Write) (img : Image) → length img.rows ≤ length (write_made p w img).rows
 written_more p (writes.save x w) img = omega arith
 written_more p (writes.cut stack n) img = omega arith
 written_more p (writes.push stack w) img = omega arith
@@ -61,7 +61,7 @@ written_more p (writes.end_process stack) img = omega arith
 changed_more : (p : ℕ) (c : Change) (img : Image) → length img.rows ≤ length (changed p c img).rows
 changed_more p done img = omega arith
 changed_more p (look_up q more) img = changed_more p (more (told img q)) img
-changed_more p (write w next) img = omega (arith, written_more p w img, changed_more p next (written p w img))
+changed_more p (write w next) img = omega (arith, written_more p w img, changed_more p next (write_made p w img))
 
 -- ---- a row is opened
 
@@ -261,7 +261,7 @@ module _ (code : Code) (img : Image) (p : ℕ) (r : Registers) (v : IsValid code
   pub arrays_kept : (words : List Word) → Gives (Ends code img p) (asked img (arrays code r next m words))
   unfolding Goes
   arrays_kept words =
-      see_then img (λ (w : Wanted). Unit {0}) (Ends code img p) (wholes words >-> wanted) _ (anything_found (seen img.stacks (wholes words >-> wanted))) (λ w u.
+      see_then img (λ (w : Wanted). Unit {0}) (Ends code img p) (wholes words >-> intrinsic_wanted) _ (anything_found (look_seen img.stacks (wholes words >-> intrinsic_wanted))) (λ w u.
       chained_kept code img p r v live has next small m low high _ (
       test_then img IsSmall (Ends code img p) (extents w.bounds) _ (extents_given img w.bounds) (λ e s.
       test_then img (Held w.count) (Ends code img p) (if_held w.count e) _ (held_given w.count e s) (λ x h.

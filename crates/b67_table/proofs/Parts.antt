@@ -11,12 +11,12 @@ use Rattle.b67_store.specs.Store.{Stacks, stack_at, words_of, with_word, opened_
 use Rattle.b67_table.specs.Effect.{Effect, gives, faults, interrupts}
 use Rattle.b67_table.specs.declared.Private.{Private}
 use Rattle.b67_table.specs.Image.{Image, with_private, critical_in, critical_of}
-use Rattle.b67_table.specs.Questions.{Question, Answer, told}
+use Rattle.b67_table.specs.Questions.{Question, AnswerTo, told}
 use Rattle.b67_table.specs.Questions as questions
-use Rattle.b67_table.specs.Writes.{Write, written}
+use Rattle.b67_table.specs.Writes.{Write, write_made}
 use Rattle.b67_table.specs.Writes as writes
 use Rattle.b67_table.specs.Program.{Test, answer, interrupt, fault, ask, asked, Change, done, look_up, write, Program, changed, effect_of, does}
-use Rattle.b67_table.specs.Touches.{Reads, Changes, TestReads, ChangeTouches, EffectTouches}
+use Rattle.b67_table.specs.Touches.{QuestionReads, Changes, TestReads, ChangeTouches, EffectTouches}
 use Rattle.b67_table.specs.Parts.{Beneath, IsApart, put_into, OthersStayApart}
 use Rattle.b67_table.proofs.Stacks.{set_here, set_other, opened_other, numbered_other, numbered_append, get_numbered_other, get_numbered_append}
 use Rattle.b67_table.proofs.Over.{criticals_same, critical_same, over, high_words, word_same, words_same, elsewhere, opened_elsewhere, saved}
@@ -62,7 +62,7 @@ module _ (q base : ℕ) (part : Private) where
       words_same part.regs.stack base (reverse part.words) img.stacks b.words x.stack x.at (suc k) b.opened b.high (ℕ_discrete x.stack part.regs.stack)
       (λ e. lower_all base x.at (suc k) (dec_le (x.at + suc k) base) (λ at p q h. apart (place_in x.stack at) (refl, p, q) (e, h)) (omega arith))
 
-  told_same : (img : Image) → Beneath img q base part → (c : Question) → ((x : Place) → Reads c x → IsAbove x → ⊥) → told (put img) c ≡ told img c
+  told_same : (img : Image) → Beneath img q base part → (c : Question) → ((x : Place) → QuestionReads c x → IsAbove x → ⊥) → told (put img) c ≡ told img c
   unfolding put
   told_same img b (questions.word x) apart = word_told img b x (apart x refl)
   told_same img b (questions.words x count) apart = words_told img b x count apart
@@ -83,7 +83,7 @@ module _ (q base : ℕ) (part : Private) where
   asked_same img b (interrupt kind) apart = refl
   asked_same img b (fault kind) apart = refl
   asked_same img b (ask c more) apart =
-      ap (λ (a : Answer c). asked (put img) (more a)) (told_same img b c (λ x r. apart x (inl r)))
+      ap (λ (a : AnswerTo c). asked (put img) (more a)) (told_same img b c (λ x r. apart x (inl r)))
       ∙ asked_same img b (more (told img c)) (λ x r. apart x (inr r))
 
   -- ---- writes
@@ -112,7 +112,7 @@ module _ (q base : ℕ) (part : Private) where
   stacks_of img st = record img { stacks = st; regs = set_numbered img.regs q part.regs }
 
   written_same : (p : ℕ) → p ≢ q → (img : Image) → Beneath img q base part → (w : Write) → ((x : Place) → Changes w img x → IsAbove x → ⊥)
-      → written p w (put img) ≡ put (written p w img)
+      → write_made p w (put img) ≡ put (write_made p w img)
   unfolding put IsAbove over stacks_of
   written_same p h img b (writes.save x w) apart =
       ap (λ (st : Stacks). stacks_of img st)
@@ -137,15 +137,15 @@ module _ (q base : ℕ) (part : Private) where
   written_same p h img b writes.go_on apart = refl
   written_same p h img b (writes.line bytes) apart = refl
   written_same p h img b (writes.start r words) apart =
-      ap (λ (st : Stacks). record (written p (writes.start r words) img) { stacks = st; regs = set_numbered img.regs q part.regs ++ r ∷ [] })
+      ap (λ (st : Stacks). record (write_made p (writes.start r words) img) { stacks = st; regs = set_numbered img.regs q part.regs ++ r ∷ [] })
       (opened_elsewhere part.regs.stack base (reverse part.words) img.stacks b.words words r.stack b.opened (not_all r.stack apart))
-      ∙ ap (λ (rs : List Registers). record (written p (writes.start r words) img) {
+      ∙ ap (λ (rs : List Registers). record (write_made p (writes.start r words) img) {
         stacks = over part.regs.stack base (reverse part.words) (opened_at img.stacks r.stack words);
         regs = rs;
       })
       (sym (numbered_append img.regs (r ∷ []) q part.regs b.within))
   written_same p h img b (writes.end_process stack) apart =
-      ap (λ (st : Stacks). stacks_of (written p (writes.end_process stack) img) st)
+      ap (λ (st : Stacks). stacks_of (write_made p (writes.end_process stack) img) st)
       (elsewhere part.regs.stack base (reverse part.words) img.stacks stack (λ (us : List Word). None) (not_all stack apart))
 
   length_numbered : (rs : List Registers) (p : ℕ) (r : Registers) → length (set_numbered rs p r) ≡ length rs
@@ -179,7 +179,7 @@ module _ (q base : ℕ) (part : Private) where
   }
 
   beneath_after : (p : ℕ) → p ≢ q → (img : Image) → Beneath img q base part → (w : Write) → ((x : Place) → Changes w img x → IsAbove x → ⊥)
-      → Beneath (written p w img) q base part
+      → Beneath (write_made p w img) q base part
   beneath_after p h img b (writes.save x w) apart = saved_beneath img b x w (ℕ_discrete x.stack part.regs.stack)
   beneath_after p h img b (writes.cut stack n) apart =
       with_opened img _ b
@@ -219,11 +219,11 @@ module _ (q base : ℕ) (part : Private) where
       → changed p c (put img) ≡ put (changed p c img)
   changed_same p h done img b apart = refl
   changed_same p h (look_up c more) img b apart =
-      ap (λ (a : Answer c). changed p (more a) (put img)) (told_same img b c (λ x r. apart x (inl r)))
+      ap (λ (a : AnswerTo c). changed p (more a) (put img)) (told_same img b c (λ x r. apart x (inl r)))
       ∙ changed_same p h (more (told img c)) img b (λ x r. apart x (inr r))
   changed_same p h (write w next) img b apart =
       ap (λ (i : Image). changed p next i) (written_same p h img b w (λ x r. apart x (inl r)))
-      ∙ changed_same p h next (written p w img) (beneath_after p h img b w (λ x r. apart x (inl r))) (λ x r. apart x (inr r))
+      ∙ changed_same p h next (write_made p w img) (beneath_after p h img b w (λ x r. apart x (inl r))) (λ x r. apart x (inr r))
 
   effect_same : (p : ℕ) → p ≢ q → (e : Effect Change) (img : Image) → Beneath img q base part → ((x : Place) → EffectTouches p img e x → IsAbove x → ⊥)
       → effect_of p (put img) e ≡ put_into q base part (effect_of p img e)
@@ -238,7 +238,7 @@ beneath_changed : (q base : ℕ) (part : Private) (p : ℕ) → p ≢ q → (c :
 beneath_changed q base part p h done img b apart = b
 beneath_changed q base part p h (look_up c more) img b apart = beneath_changed q base part p h (more (told img c)) img b (λ x r. apart x (inr r))
 beneath_changed q base part p h (write w next) img b apart =
-    beneath_changed q base part p h next (written p w img) (beneath_after q base part p h img b w (λ x r. apart x (inl r))) (λ x r. apart x (inr r))
+    beneath_changed q base part p h next (write_made p w img) (beneath_after q base part p h img b w (λ x r. apart x (inl r))) (λ x r. apart x (inr r))
 
 beneath_given : (q base : ℕ) (part : Private) (p : ℕ) → p ≢ q → (e : Effect Change) (img new : Image) → Beneath img q base part
     → ((x : Place) → EffectTouches p img e x → IsAbove q base part x → ⊥) → effect_of p img e ≡ gives new → Beneath new q base part

@@ -12,9 +12,9 @@ use Rattle.b67_table.specs.declared.Private.{Private}
 use Rattle.b67_table.specs.Effect.{Effect, gives, faults, interrupts}
 use Rattle.b67_table.specs.Private.{floor}
 use Rattle.b67_table.specs.Image.{Image, with_private, private_of, with_effect, is_live}
-use Rattle.b67_table.specs.Rows.{Row, private_part, action, row}
+use Rattle.b67_table.specs.Rows.{TableRow, private_part, action, row}
 use Rattle.b67_table.specs.Table.{raw, private_op, part_by, class_at, class_by, is_private, private_at, private_in, private_next, operator_at, by_row, by_operator, by_registers}
-use Rattle.b67_table.specs.Privacy.{Stands, Keeps, LeavesAllElse, PrivateIsPrivate}
+use Rattle.b67_table.specs.Privacy.{ProcessStands, RegistersStay, LeavesAllElse, PrivateIsPrivate}
 use Rattle.b67_table.proofs.Stacks.{set_here, set_other, get_numbered_other}
 use Rattle.b67_table.proofs.Lists.{numbered_set, numbered_from, numbered_within}
 use Rattle.b67_table.proofs.Keeping.{private_keeps}
@@ -29,7 +29,7 @@ pub record Next (code : Code) (r : Registers) : Type 0 where
   pub change : ℕ → Private → Effect Private
   pub is : row op r.place ≡ private_part change
 
-by_private : (code : Code) (r : Registers) (op : Operator) (next : ℕ) → operator_at code r ≡ Ok (op, next) → (w : Row) → row op r.place ≡ w
+by_private : (code : Code) (r : Registers) (op : Operator) (next : ℕ) → operator_at code r ≡ Ok (op, next) → (w : TableRow) → row op r.place ≡ w
     → is_private (class_by w) ≡ true → Next code r
 by_private code r op next s (private_part change) i e = record { op = op; next = next; stands = s; change = change; is = i }
 by_private code r op next s (action program) i e = cc
@@ -54,11 +54,11 @@ raw_is code img p r live has n =
     ap (λ (b : Bool). cond b (by_registers code img p (numbered img.regs p)) (interrupts bad_code)) live
     ∙ ap (λ (o : Option Registers). by_registers code img p o) has
     ∙ ap (λ (o : Result (Operator × ℕ) BadCode). by_operator code img p r o) n.stands
-    ∙ ap (λ (w : Row). by_row w code img p r n.next) n.is
+    ∙ ap (λ (w : TableRow). by_row w code img p r n.next) n.is
 
-pub part_keeps : (code : Code) (r : Registers) (n : Next code r) (part new : Private) → n.change n.next part ≡ gives new → Keeps part.regs new.regs
+pub part_keeps : (code : Code) (r : Registers) (n : Next code r) (part new : Private) → n.change n.next part ≡ gives new → RegistersStay part.regs new.regs
 unfolding private_op
-part_keeps code r n part new e = private_keeps n.op r.place n.next part new (ap (λ (w : Row). part_by w n.next part) n.is ∙ e)
+part_keeps code r n part new e = private_keeps n.op r.place n.next part new (ap (λ (w : TableRow). part_by w n.next part) n.is ∙ e)
 
 -- the part that an effect put into an image
 pub record Put (img new : Image) (p base : ℕ) (e : Effect Private) : Type 0 where
@@ -79,12 +79,12 @@ front zero xs ys h = refl
 front (suc n) [] ys h = absurd (omega (arith, h))
 front (suc n) (x ∷ xs) ys h = ap (λ zs. x ∷ zs) (front n xs ys (omega (arith, h)))
 
-own_is : (rs : List Registers) (p : ℕ) (r a q : Registers) → numbered rs p ≡ Some r → numbered (set_numbered rs p a) p ≡ Some q → Keeps r a → Keeps r q
+own_is : (rs : List Registers) (p : ℕ) (r a q : Registers) → numbered rs p ≡ Some r → numbered (set_numbered rs p a) p ≡ Some q → RegistersStay r a → RegistersStay r q
 own_is rs p r a q has e k =
     let i : Some a ≡ Some q = sym (numbered_set rs p a (numbered_from rs p r has) (numbered_within rs p r has)) ∙ e in
-    let same : a ≡ q = cc in subst (Keeps r) same k
+    let same : a ≡ q = cc in subst (RegistersStay r) same k
 
-leaves_all : (p : ℕ) (r : Registers) (img : Image) (part : Private) → Stands img p r → Keeps r part.regs → LeavesAllElse p r img (with_private img p (floor r) part)
+leaves_all : (p : ℕ) (r : Registers) (img : Image) (part : Private) → ProcessStands img p r → RegistersStay r part.regs → LeavesAllElse p r img (with_private img p (floor r) part)
 leaves_all p r img part st k =
     let words : List Word = take (floor r) (words_of img.stacks part.regs.stack) ++ reverse part.words in
     let high : floor r ≤ length (words_of img.stacks r.stack) = subst (λ (us : List Word). floor r ≤ length us) (sym (ap words_or st.opened)) st.high in

@@ -16,7 +16,7 @@ use Rattle.b67_store.specs.Store.{stack_limit}
 use Rattle.b67_table.specs.declared.Private.{Private}
 use Rattle.b67_table.specs.Effect.{gives}
 use Rattle.b67_table.specs.PrivateRows.{arithmetic, relation, negated, logic, agreement, complemented, dropped, exchanged, doubled, stuff, mark, make_cells, branch, reference}
-use Rattle.b67_table.specs.Rows.{Row, private_part, row, plain_row, acts, turn}
+use Rattle.b67_table.specs.Rows.{TableRow, private_part, row, plain_row, acts, branch_turn}
 use Rattle.b67_table.specs.Table.{part_by, private_op}
 use Rattle.b67_table.proofs.Keeping.{Gives}
 use Rattle.b67_table.proofs.Wordly.{literal_is_word, tagged_is_word, and_fits, or_fits, agreement_fits, reference_is_word}
@@ -62,7 +62,7 @@ module _ (base : ℕ) where
   plain_kept kinds.Load next m h k = tt
   plain_kept kinds.Noop next m h k = onward_kept base gives next m h (given base m k)
 
-  forward_kept : (b : Bool) (kind : BranchKind) (target next : ℕ) (program : Row) (m : Private) → Gives (Left base) (branch kind target next m)
+  forward_kept : (b : Bool) (kind : BranchKind) (target next : ℕ) (program : TableRow) (m : Private) → Gives (Left base) (branch kind target next m)
       → Gives (Left base) (part_by program next m) → Gives (Left base) (part_by (cond b (private_part (branch kind target)) program) next m)
   forward_kept true kind target next program m f e = f
   forward_kept false kind target next program m f e = e
@@ -78,7 +78,7 @@ module _ (base : ℕ) where
   op_kept (ops.Lt48 n) at next level m l f h k = word_kept base (word 0 n) next m (tagged_is_word 0 n (omega arith) f) h k
   op_kept (ops.Mpcw n) at next level m l f h k = word_kept base (word 7 n) next m (tagged_is_word 7 n (omega arith) f) h k
   op_kept (ops.Branch kind target) at next level m l f h k =
-      forward_kept (nat_lt at target) kind target next (acts (turn kind target)) m (branch_kept base kind target next m f h k) tt
+      forward_kept (nat_lt at target) kind target next (acts (branch_turn kind target)) m (branch_kept base kind target next m f h k) tt
   op_kept (ops.Plain kind) at next level m l f h k = plain_kept kind next m h k
 
   pub private_op_kept : (op : Operator) (at next level : ℕ) (m new : Private) → level < 32 → Fits level op → next < 2 ^ 16 → IsPart base m

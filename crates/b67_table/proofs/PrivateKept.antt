@@ -20,7 +20,7 @@ use Rattle.b67_table.specs.declared.InterruptKind.TheVariants.{StackUnderflow, I
 use Rattle.b67_table.specs.declared.Private.{Private}
 use Rattle.b67_table.specs.Effect.{Effect, gives, interrupts, ◌>>=◌}
 use Rattle.b67_table.specs.Limits.{most_cells}
-use Rattle.b67_table.specs.Private.{display_at, floor, frame, top, with_words, pop, push, whole_or, whole_of, bits_of}
+use Rattle.b67_table.specs.Private.{display_at, floor, frame, top, with_words, pop, push, whole_or, whole_of_word, bits_of}
 use Rattle.b67_table.specs.PrivateRows.{pointed, onward, wholes, arithmetic, relation, negated, logic, complement, complemented, dropped, exchanged, doubled, stuffed_at, stuffed_or_invalid, stuffed, stuff, open_mark, mark, make_cells, is_taken, by_bit, branch, result_or_fault}
 use Rattle.b67_table.specs.Valid.{IsHeld}
 use Rattle.b67_table.proofs.Keeping.{Gives, then_gives}
@@ -100,7 +100,7 @@ module _ (base : ℕ) where
   whole_by w None e = tt
   whole_by w (Some z) e = whole_is_small w z e
 
-  pub whole_small : (w : Word) → Gives Small (whole_of w)
+  pub whole_small : (w : Word) → Gives Small (whole_of_word w)
   whole_small w = whole_by w (as_whole w) refl
 
   pub Bits : ℕ → Type 0
@@ -116,7 +116,7 @@ module _ (base : ℕ) where
   unfolding Taken Small
   wholes_kept made is m k =
       then_gives Taken Left (pop m) _ (popped m k) (λ x kx. then_gives Taken Left (pop x.1) _ (popped x.1 kx.1) (λ y ky.
-      then_gives Small Left (whole_of y.0) _ (whole_small y.0) (λ a u. then_gives Small Left (whole_of x.0) _ (whole_small x.0) (λ b v.
+      then_gives Small Left (whole_of_word y.0) _ (whole_small y.0) (λ a u. then_gives Small Left (whole_of_word x.0) _ (whole_small x.0) (λ b v.
       then_gives IsWord Left (made a b) _ (is a b) (λ w i. given (push w y.1) (pushed w y.1 i ky.1))))))
 
   pub made_word : (r : Result ℤ NumFault) → ((z : ℤ) → r ≡ Ok z → unsigned_abs z ≤ num.most)
@@ -135,7 +135,7 @@ module _ (base : ℕ) where
   pub negated_kept : (m : Private) → IsPart base m → Gives Left (negated m)
   unfolding Taken Small
   negated_kept m k =
-      then_gives Taken Left (pop m) _ (popped m k) (λ x kx. then_gives Small Left (whole_of x.0) _ (whole_small x.0) (λ a u.
+      then_gives Taken Left (pop m) _ (popped m k) (λ x kx. then_gives Small Left (whole_of_word x.0) _ (whole_small x.0) (λ a u.
       given (push (operand (negation_of a)) x.1) (pushed _ x.1 (operand_is_word (negation_of a) (negation_is_small a u)) kx.1)))
 
   pub logic_kept : (op : ℕ → ℕ → ℕ) → ((a b : ℕ) → a < 2 ^ 48 → b < 2 ^ 48 → op a b < 2 ^ 48) → (m : Private) → IsPart base m → Gives Left (logic op m)

@@ -24,9 +24,9 @@ use Rattle.b67_table.specs.Look.{read_as}
 use Rattle.b67_table.specs.Chains.{place}
 use Rattle.b67_table.specs.Private.{floor, frame, at_or}
 use Rattle.b67_table.specs.Image.{Image, private_of, with_private, is_live}
-use Rattle.b67_table.specs.Rows.{Row}
+use Rattle.b67_table.specs.Rows.{TableRow}
 use Rattle.b67_table.specs.Table.{raw, table, private_op, part_by, operator_at, stack_length, length_in, private_in, private_next}
-use Rattle.b67_table.specs.Privacy.{Keeps}
+use Rattle.b67_table.specs.Privacy.{RegistersStay}
 use Rattle.b67_table.specs.Valid.{IsHeld, IsDisplay, IsFrame, IsProcess, IsValid}
 use Rattle.b67_table.proofs.Stacks.{below_word}
 use Rattle.b67_table.proofs.Lists.{numbered_set, numbered_from, numbered_within}
@@ -115,7 +115,7 @@ module _ (code : Code) (img : Image) (p : ℕ) (r : Registers) (v : IsValid code
 
   -- ---- the image with another private part
 
-  module _ (part : Private) (k : IsPart (floor r) part) (keeps : Keeps r part.regs) (room : part.regs.s ≤ stack_limit) where
+  module _ (part : Private) (k : IsPart (floor r) part) (keeps : RegistersStay r part.regs) (room : part.regs.s ≤ stack_limit) where
     under : List Word
     under = take (floor r) (words_of img.stacks p)
 
@@ -216,7 +216,7 @@ by_registers code img new p v live (Some r) has own e =
     let f : Fetched r.ll n.op n.next = operator_fits code r (omega (arith, q.display.known)) n.op n.next v.segments n.stands in
     let k : IsPart (floor r) t.part =
     private_op_kept (floor r) n.op r.place n.next r.ll (private_of img r) t.part q.display.known f.fits f.bound (part_is code img p r v live has)
-    (ap (λ (w : Row). part_by w n.next (private_of img r)) n.is ∙ t.given) room in
+    (ap (λ (w : TableRow). part_by w n.next (private_of img r)) n.is ∙ t.given) room in
     subst (IsValid code) (sym t.is) (put_valid code img p r v live has t.part k (part_keeps code r n (private_of img r) t.part t.given) room)
 
 pub private_keeps_valid : (code : Code) (img new : Image) (p : ℕ) → IsValid code img → is_live (numbered img.states p) ≡ true → private_next code img p ≡ true

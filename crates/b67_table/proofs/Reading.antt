@@ -2,10 +2,10 @@
 use Rattle.std.proofs.Common.{◌≡◌, refl, sym, ap, subst, ◌∙◌, ℕ, List, [], ◌∷◌}
 use Rattle.b67_table.specs.Effect.{Effect, gives, faults, interrupts}
 use Rattle.b67_table.specs.Image.{Image}
-use Rattle.b67_table.specs.Questions.{Answer, told}
-use Rattle.b67_table.specs.Writes.{Write, written}
+use Rattle.b67_table.specs.Questions.{AnswerTo, told}
+use Rattle.b67_table.specs.Writes.{Write, write_made}
 use Rattle.b67_table.specs.Program.{Test, answer, interrupt, fault, ask, asked, Change, done, look_up, write, changed, effect_of}
-use Rattle.b67_table.specs.Laws.{writes_of, writes_after, all_written, after, RefusalsWriteNothing, TestAgrees, ChangeAgrees, EffectAgrees, ReadingDecides}
+use Rattle.b67_table.specs.Laws.{writes_of, writes_after, all_written, image_then, RefusalsWriteNothing, TestAgrees, ChangeAgrees, EffectAgrees, ReadingDecides}
 
 -- ---- what is told decides
 
@@ -13,12 +13,12 @@ test_same : {A : Type 0} (t : Test A) (x y : Image) → TestAgrees t x y → ask
 test_same (answer a) x y e = refl
 test_same (interrupt kind) x y e = refl
 test_same (fault kind) x y e = refl
-test_same (ask q more) x y e = test_same (more (told x q)) x y e.1 ∙ ap (λ (a : Answer q). asked y (more a)) e.0
+test_same (ask q more) x y e = test_same (more (told x q)) x y e.1 ∙ ap (λ (a : AnswerTo q). asked y (more a)) e.0
 
 change_same : (p : ℕ) (c : Change) (x y : Image) → ChangeAgrees p c x y → writes_of p c x ≡ writes_of p c y
 change_same p done x y e = refl
-change_same p (look_up q more) x y e = change_same p (more (told x q)) x y e.1 ∙ ap (λ (a : Answer q). writes_of p (more a) y) e.0
-change_same p (write w next) x y e = ap (λ (ws : List Write). w ∷ ws) (change_same p next (written p w x) (written p w y) e)
+change_same p (look_up q more) x y e = change_same p (more (told x q)) x y e.1 ∙ ap (λ (a : AnswerTo q). writes_of p (more a) y) e.0
+change_same p (write w next) x y e = ap (λ (ws : List Write). w ∷ ws) (change_same p next (write_made p w x) (write_made p w y) e)
 
 effect_same : (p : ℕ) (e : Effect Change) (x y : Image) → EffectAgrees p e x y → writes_after p x e ≡ writes_after p y e
 effect_same p (gives c) x y e = change_same p c x y e
@@ -37,9 +37,9 @@ reading_decides = record {
 changed_is : (p : ℕ) (c : Change) (img : Image) → changed p c img ≡ all_written p (writes_of p c img) img
 changed_is p done img = refl
 changed_is p (look_up q more) img = changed_is p (more (told img q)) img
-changed_is p (write w next) img = changed_is p next (written p w img)
+changed_is p (write w next) img = changed_is p next (write_made p w img)
 
-after_is : (p : ℕ) (img : Image) (e : Effect Change) → after img (effect_of p img e) ≡ all_written p (writes_after p img e) img
+after_is : (p : ℕ) (img : Image) (e : Effect Change) → image_then img (effect_of p img e) ≡ all_written p (writes_after p img e) img
 after_is p img (gives c) = changed_is p c img
 after_is p img (faults kind) = refl
 after_is p img (interrupts kind) = refl

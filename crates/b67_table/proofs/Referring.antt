@@ -16,7 +16,7 @@ use Rattle.b67_table.specs.declared.Cell.{Cell}
 use Rattle.b67_table.specs.declared.Reached.{Reached}
 use Rattle.b67_table.specs.declared.InterruptKind.TheVariants.{InvalidOperand, StackUnderflow}
 use Rattle.b67_table.specs.Private.{display_at, floor}
-use Rattle.b67_table.specs.Look.{found, stops, seen, valid}
+use Rattle.b67_table.specs.Look.{found, stops, look_seen, valid}
 use Rattle.b67_table.specs.Chains.{place}
 use Rattle.b67_table.specs.References.{cell_place, cell_in, couple_cell, sirw_cell, irw_or_sirw, cell_of, reached_in, named, no_second, one_sirw, reached, need, from_top, popped, Two, popped_two, operand_in, invalid}
 use Rattle.b67_table.specs.Image.{Image, is_live}
@@ -67,36 +67,36 @@ module _ (code : Code) (img : Image) (p : ℕ) (r : Registers) (v : IsValid code
     pub there : word_at img.stacks (cell_place w.cell) ≡ Some w.word
     pub cell : IsCell w.cell
 
-  reached_by : (c : Cell) (o : Option Word) → IsCell c → word_at img.stacks (cell_place c) ≡ o → Found IsReached (seen img.stacks (reached_in c o))
+  reached_by : (c : Cell) (o : Option Word) → IsCell c → word_at img.stacks (cell_place c) ≡ o → Found IsReached (look_seen img.stacks (reached_in c o))
   reached_by c None i e = tt
   reached_by c (Some w) i e = record { there = e; cell = i }
 
-  pub named_found : (o : Option Cell) → ((c : Cell) → o ≡ Some c → IsCell c) → Found IsReached (seen img.stacks (named o))
+  pub named_found : (o : Option Cell) → ((c : Cell) → o ≡ Some c → IsCell c) → Found IsReached (look_seen img.stacks (named o))
   named_found None k = tt
   named_found (Some c) k = reached_by c (word_at img.stacks (cell_place c)) (k c refl) refl
 
-  second_found : (o : Option Sirw) (w : Reached) → IsReached w → Found IsReached (seen img.stacks (no_second o w))
+  second_found : (o : Option Sirw) (w : Reached) → IsReached w → Found IsReached (look_seen img.stacks (no_second o w))
   second_found None w i = i
   second_found (Some s) w i = tt
 
-  sirw_found : (o : Option Sirw) (w : Reached) → as_sirw w.word ≡ o → IsReached w → Found IsReached (seen img.stacks (one_sirw o w))
+  sirw_found : (o : Option Sirw) (w : Reached) → as_sirw w.word ≡ o → IsReached w → Found IsReached (look_seen img.stacks (one_sirw o w))
   sirw_found None w e i = i
   sirw_found (Some s) w e i =
       look_then img.stacks IsReached IsReached (named (Some (sirw_cell s))) (λ (x : Reached). no_second (as_sirw x.word) x)
       (reached_by (sirw_cell s) (word_at img.stacks (cell_place (sirw_cell s))) (sirw_is w.word s e) refl)
       (λ x k. second_found (as_sirw x.word) x k)
 
-  pub reached_found : (o : Option Cell) → ((c : Cell) → o ≡ Some c → IsCell c) → Found IsReached (seen img.stacks (reached o))
+  pub reached_found : (o : Option Cell) → ((c : Cell) → o ≡ Some c → IsCell c) → Found IsReached (look_seen img.stacks (reached o))
   reached_found o k =
       look_then img.stacks IsReached IsReached (named o) (λ (w : Reached). one_sirw (as_sirw w.word) w) (named_found o k)
       (λ w i. sirw_found (as_sirw w.word) w refl i)
 
   -- ---- words on top
 
-  valid_word : (x : Place) (o : Option Word) → word_at img.stacks x ≡ o → Found IsWord (seen img.stacks (valid o))
+  valid_word : (x : Place) (o : Option Word) → word_at img.stacks x ≡ o → Found IsWord (look_seen img.stacks (valid o))
   valid_word x o e = there_found img.stacks IsWord InvalidOperand o (λ w i. word_is x w (e ∙ i))
 
-  pub top_found : (n : ℕ) → Found IsWord (seen img.stacks (from_top r n))
+  pub top_found : (n : ℕ) → Found IsWord (look_seen img.stacks (from_top r n))
   top_found n = valid_word (place r.stack (r.s - (n + 1))) (word_at img.stacks (place r.stack (r.s - (n + 1)))) refl
 
   -- a word, and so many words lie at the floor or above
@@ -107,12 +107,12 @@ module _ (code : Code) (img : Image) (p : ℕ) (r : Registers) (v : IsValid code
   with_room n (Ok w) h i = (i, h)
   with_room n (Err kind) h i = tt
 
-  need_found : (n k : ℕ) → Found (λ (w : Word). IsWord w × (floor r + n ≤ r.s)) (seen img.stacks (need r n (from_top r k)))
+  need_found : (n k : ℕ) → Found (λ (w : Word). IsWord w × (floor r + n ≤ r.s)) (look_seen img.stacks (need r n (from_top r k)))
   need_found n k =
       found_by img.stacks (λ (w : Word). IsWord w × (floor r + n ≤ r.s)) (nat_le (floor r + n) r.s) (from_top r k) (stops StackUnderflow)
       (λ b. with_room n _ (leb-true (floor r + n) r.s b) (top_found k)) (λ b. tt)
 
-  pub popped_found : Found (λ (w : Word). IsWord w × (floor r + 1 ≤ r.s)) (seen img.stacks (popped r))
+  pub popped_found : Found (λ (w : Word). IsWord w × (floor r + 1 ≤ r.s)) (look_seen img.stacks (popped r))
   popped_found = need_found 1 0
 
   pub record IsTwo (t : Two) : Type 0 where
@@ -120,12 +120,12 @@ module _ (code : Code) (img : Image) (p : ℕ) (r : Registers) (v : IsValid code
     pub y : IsWord t.y
     pub high : floor r + 2 ≤ r.s
 
-  pub two_found : Found IsTwo (seen img.stacks (popped_two r))
+  pub two_found : Found IsTwo (look_seen img.stacks (popped_two r))
   two_found =
       look_then img.stacks (λ (w : Word). IsWord w × (floor r + 2 ≤ r.s)) IsTwo (need r 2 (from_top r 0)) _ (need_found 2 0) (λ x i.
       look_then img.stacks IsWord IsTwo (from_top r 1) _ (top_found 1) (λ y j. record { x = i.0; y = j; high = i.1 }))
 
   -- an operand
-  pub operand_found : (w : Word) → IsWord w → Found (λ (o : Word). IsWord o × (o.tag ≡ 0)) (seen img.stacks (operand_in w))
+  pub operand_found : (w : Word) → IsWord w → Found (λ (o : Word). IsWord o × (o.tag ≡ 0)) (look_seen img.stacks (operand_in w))
   operand_found w i =
       found_by img.stacks (λ (o : Word). IsWord o × (o.tag ≡ 0)) (nat_eq w.tag 0) (found w) invalid (λ b. (i, eqb-true w.tag 0 b)) (λ b. tt)

@@ -9,15 +9,15 @@ use Rattle.b67_list.specs.Numbered.{numbered, set_numbered}
 use Rattle.b67_word.specs.declared.Place.{Place}
 use Rattle.b67_segment.specs.declared.code.Code.{Code}
 use Rattle.b67_deeds.specs.Events.{joined}
-use Rattle.b67_events.specs.Events.{Event, same_place, event_at, state_of, is_waiting, waiters_at, procurers_at, with_state, is_among, joined_all, list_of, is_listed, with_list}
+use Rattle.b67_events.specs.Events.{Event, same_place, event_at, state_of, is_waiting, waiters_at, procurers_at, with_state, event_is_among, joined_all, list_of, is_listed, with_list}
 use Rattle.b67_events.specs.Laws.{StaysInPlace}
-use Rattle.b67_events.specs.Once.{EachOnce, times_in, times, procurers_of}
+use Rattle.b67_events.specs.Once.{EachOnce, times_in, waiting_times, procurers_of}
 use Rattle.b67_events.proofs.Listed.{same_place-true}
 use Rattle.b67_table.specs.declared.ProcessState.{ProcessState}
 use Rattle.b67_table.specs.declared.ProcessState.TheVariants.{WaitsAny}
 use Rattle.b67_table.specs.Image.{Image, woken_number, is_able, is_live}
 use Rattle.b67_table.specs.Limits.{most_events}
-use Rattle.b67_table.specs.Writes.{written}
+use Rattle.b67_table.specs.Writes.{write_made}
 use Rattle.b67_table.specs.Writes as writes
 use Rattle.b67_table.specs.Valid.{IsValid, AwaitsAt, AreEvents, waits}
 use Rattle.b67_table.proofs.Stacks.{get_numbered_other}
@@ -66,35 +66,35 @@ StandsOnce q e = times_in q e.state.waiters ≤ 1
 
 module _ (places : List Place) (p : ℕ) where
   abbrev join : Event → Event
-  join e = cond (is_among places e.place) (with_state (joined p) e) e
+  join e = cond (event_is_among places e.place) (with_state (joined p) e) e
 
-  join_stays : StaysInPlace (λ e. cond (is_among places e.place) (with_state (joined p) e) e)
-  join_stays e = by_test (is_among places e.place)
+  join_stays : StaysInPlace (λ e. cond (event_is_among places e.place) (with_state (joined p) e) e)
+  join_stays e = by_test (event_is_among places e.place)
     where
       by_test : (b : Bool) → (cond b (with_state (joined p) e) e).place ≡ e.place
       by_test true = refl
       by_test false = refl
 
   joined_waiters : (q : ℕ) (to : Place) (es : List Event) → Among q (waiters_at to (joined_all places p es))
-      → Among q (waiters_at to es) ⊎ ((q ≡ p) × (is_among places to ≡ true))
+      → Among q (waiters_at to es) ⊎ ((q ≡ p) × (event_is_among places to ≡ true))
   joined_waiters q to es i =
       by_event (event_at to es) refl (ap (λ o. list_any (λ x. q == x) (state_of o).waiters) (sym (mapped_at join join_stays to es)) ∙ i)
     where
       by_event : (o : Option Event) → event_at to es ≡ o → Among q (state_of (option_map (join) o)).waiters
-          → Among q (state_of o).waiters ⊎ ((q ≡ p) × (is_among places to ≡ true))
+          → Among q (state_of o).waiters ⊎ ((q ≡ p) × (event_is_among places to ≡ true))
       by_event None h j = inl j
-      by_event (Some e) h j = by_test (is_among places e.place) refl j
+      by_event (Some e) h j = by_test (event_is_among places e.place) refl j
         where
-          by_test : (b : Bool) → is_among places e.place ≡ b → Among q (cond b (with_state (joined p) e) e).state.waiters
-              → Among q e.state.waiters ⊎ ((q ≡ p) × (is_among places to ≡ true))
+          by_test : (b : Bool) → event_is_among places e.place ≡ b → Among q (cond b (with_state (joined p) e) e).state.waiters
+              → Among q e.state.waiters ⊎ ((q ≡ p) × (event_is_among places to ≡ true))
           by_test true g k = elim (any_one q p e.state.waiters k) [
             | inl m ↦ inl m
-            | inr m ↦ inr (m, ap (is_among places) (sym (event_place to es e h)) ∙ g)
+            | inr m ↦ inr (m, ap (event_is_among places) (sym (event_place to es e h)) ∙ g)
           ]
           by_test false g k = inl k
 
-  join_procurers : (e : Event) → (cond (is_among places e.place) (with_state (joined p) e) e).state.procurers ≡ e.state.procurers
-  join_procurers e = by_test (is_among places e.place)
+  join_procurers : (e : Event) → (cond (event_is_among places e.place) (with_state (joined p) e) e).state.procurers ≡ e.state.procurers
+  join_procurers e = by_test (event_is_among places e.place)
     where
       by_test : (b : Bool) → (cond b (with_state (joined p) e) e).state.procurers ≡ e.state.procurers
       by_test true = refl
@@ -111,8 +111,8 @@ module _ (places : List Place) (p : ℕ) where
   all_once q [] idle h = h
   all_once q (e ∷ es) idle h =
       let parts = or_parts (list_any (eqb p) (e.state.waiters ++ e.state.procurers)) (is_waiting p es) idle in
-      All-cons (StandsOnce q) (cond (is_among places e.place) (with_state (joined p) e) e) (joined_all places p es)
-      (by_test (is_among places e.place) parts.0) (all_once q es parts.1 (All-tail (StandsOnce q) e es h))
+      All-cons (StandsOnce q) (cond (event_is_among places e.place) (with_state (joined p) e) e) (joined_all places p es)
+      (by_test (event_is_among places e.place) parts.0) (all_once q es parts.1 (All-tail (StandsOnce q) e es h))
     where
       by_test : (b : Bool) → list_any (eqb p) (e.state.waiters ++ e.state.procurers) ≡ false → StandsOnce q (cond b (with_state (joined p) e) e)
       by_test true none = elim (cases_Bool (eqb q p)) [
@@ -129,10 +129,10 @@ module _ (places : List Place) (p : ℕ) where
       ]
       by_test false none = All-head (StandsOnce q) e es h
 
-  times_same : (q : ℕ) (es : List Event) → times procurers_of q (joined_all places p es) ≡ times procurers_of q es
+  times_same : (q : ℕ) (es : List Event) → waiting_times procurers_of q (joined_all places p es) ≡ waiting_times procurers_of q es
   times_same q [] = refl
   times_same q (e ∷ es) =
-      let head : times_in q (cond (is_among places e.place) (with_state (joined p) e) e).state.procurers ≡ times_in q e.state.procurers =
+      let head : times_in q (cond (event_is_among places e.place) (with_state (joined p) e) e).state.procurers ≡ times_in q e.state.procurers =
       ap (times_in q) (join_procurers e) in
       omega (arith, times_same q es)
 
@@ -184,11 +184,11 @@ module _ (es : List Event) (lists : List (List Place)) (xs : List ProcessState) 
   Awaits : ℕ → Place → Type 0
   Awaits q to = AwaitsAt (numbered (set_numbered xs p WaitsAny) q) (list_of q (with_list lists p places)) to
 
-  own_awaits : (to : Place) → is_among places to ≡ true → Awaits p to
+  own_awaits : (to : Place) → event_is_among places to ≡ true → Awaits p to
   unfolding Awaits
   own_awaits to i =
       subst (λ (o : Option ProcessState). AwaitsAt o (list_of p (with_list lists p places)) to) (sym here)
-      (ap (λ (ps : List Place). is_among ps to) own_list ∙ i)
+      (ap (λ (ps : List Place). event_is_among ps to) own_list ∙ i)
 
   waiters_await : (q : ℕ) (to : Place) → Among q (waiters_at to (joined_all places p es)) → Awaits q to
   unfolding Awaits
@@ -224,7 +224,7 @@ module _ (es : List Event) (lists : List (List Place)) (xs : List ProcessState) 
   pub any_kept : AreEvents (joined_all places p es) (with_list lists p places) (set_numbered xs p WaitsAny)
   unfolding Awaits
   any_kept = record {
-    apart = mapped_apart (λ e. cond (is_among places e.place) (with_state (joined p) e) e) (join_stays places p) es v.apart;
+    apart = mapped_apart (λ e. cond (event_is_among places e.place) (with_state (joined p) e) e) (join_stays places p) es v.apart;
     once = once_joined places p es (nowhere es lists xs v p able) v.once;
     waiters = waiters_await;
     procurers = λ q to i.
@@ -244,13 +244,13 @@ small_number (n ∷ numbers) (suc (suc k)) a = small_number numbers (suc k) (All
 
 module _ (code : Code) (img : Image) (v : IsValid code img) (p : ℕ) where
   pub wait_any_valid : is_able (numbered img.states p) ≡ true → (places : List Place) → length places ≤ most_events
-      → IsValid code (written p (writes.wait_any places) img)
+      → IsValid code (write_made p (writes.wait_any places) img)
   wait_any_valid able places few =
       waiting_valid code img v (joined_all places p img.events) (with_list img.lists p places) (set_numbered img.states p WaitsAny) img.numbers
       (length_states img.states p WaitsAny) refl v.positions
       (same_live img.events img.lists img.states v.events p able places few) (any_kept img.events img.lists img.states v.events p able places few)
 
-  pub go_on_valid : IsValid code (written p writes.go_on img)
+  pub go_on_valid : IsValid code (write_made p writes.go_on img)
   go_on_valid =
       waiting_valid code img v img.events img.lists img.states (set_numbered img.numbers p 0) refl (length_set img.numbers p 0)
       (number_set img.numbers p 0 (omega arith) v.positions) (λ q. refl) v.events

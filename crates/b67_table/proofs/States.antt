@@ -9,7 +9,7 @@ use Rattle.b67_table.specs.declared.ProcessState.{ProcessState}
 use Rattle.b67_table.specs.declared.ProcessState.TheVariants.{Able, WaitsFor, WaitsAny, Procures, Ended}
 use Rattle.b67_table.specs.Image.{Image}
 use Rattle.b67_table.specs.Questions.{told}
-use Rattle.b67_table.specs.Writes.{Write, written, able_again, waiting}
+use Rattle.b67_table.specs.Writes.{Write, write_made, able_again, waiting}
 use Rattle.b67_table.specs.Writes as writes
 use Rattle.b67_table.specs.Program.{Change, done, look_up, write, changed}
 use Rattle.b67_table.proofs.Stacks.{get_numbered_other}
@@ -51,7 +51,7 @@ module _ (test : Option ProcessState → Bool) (passes : test (Some Able) ≡ tr
   other_waits waits place xs p q n h = other_set xs p q (WaitsFor place) n h
   other_waits procures place xs p q n h = other_set xs p q (Procures place) n h
 
-  written_passes : (p q : ℕ) (w : Write) (img : Image) → p ≢ q → test (numbered img.states q) ≡ true → test (numbered (written p w img).states q) ≡ true
+  written_passes : (p q : ℕ) (w : Write) (img : Image) → p ≢ q → test (numbered img.states q) ≡ true → test (numbered (write_made p w img).states q) ≡ true
   written_passes p q (writes.save place w) img n h = h
   written_passes p q (writes.cut stack count) img n h = h
   written_passes p q (writes.push stack w) img n h = h
@@ -72,4 +72,4 @@ module _ (test : Option ProcessState → Bool) (passes : test (Some Able) ≡ tr
   pub changed_passes : (p q : ℕ) (c : Change) (img : Image) → p ≢ q → test (numbered img.states q) ≡ true → test (numbered (changed p c img).states q) ≡ true
   changed_passes p q done img n h = h
   changed_passes p q (look_up a more) img n h = changed_passes p q (more (told img a)) img n h
-  changed_passes p q (write w next) img n h = changed_passes p q next (written p w img) n (written_passes p q w img n h)
+  changed_passes p q (write w next) img n h = changed_passes p q next (write_made p w img) n (written_passes p q w img n h)

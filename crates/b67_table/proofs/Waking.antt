@@ -15,8 +15,8 @@ use Rattle.b67_deeds.specs.Listed.{IsListed, AreOnce}
 use Rattle.b67_deeds.specs.Deeds.{EventDeed, acts, tests, Deed, Next, goes, waits as awaits, procures as queues, deed, after_change}
 use Rattle.b67_deeds.proofs.Lists.{Lists, deed_lists}
 use Rattle.b67_events.specs.Events.{Event, same_place, event_at, state_of, state_at, waiters_at, procurers_at, with_state, changed_by, deed_at, after_deed, done_at, list_of, is_listed, unlisted}
-use Rattle.b67_events.specs.Laws.{AreApart}
-use Rattle.b67_events.specs.Once.{MayWait, times_in, times, procurers_of, waiters_of}
+use Rattle.b67_events.specs.Laws.{EventsAreApart}
+use Rattle.b67_events.specs.Once.{MayWait, times_in, waiting_times, procurers_of, waiters_of}
 use Rattle.b67_events.proofs.Listed.{same_place-true, same_place-self}
 use Rattle.b67_events.proofs.EventLaws.{one_event, stay_apart}
 use Rattle.b67_events.proofs.OnceLaws.{waits_once, times_in-some}
@@ -24,7 +24,7 @@ use Rattle.b67_table.specs.declared.ProcessState.{ProcessState}
 use Rattle.b67_table.specs.declared.ProcessState.TheVariants.{Able, WaitsFor, WaitsAny, Procures, Ended}
 use Rattle.b67_table.specs.Image.{Image, is_able, is_live}
 use Rattle.b67_table.specs.Limits.{most_events}
-use Rattle.b67_table.specs.Writes.{Write, written, able_again, waiting, states_after, told_positions}
+use Rattle.b67_table.specs.Writes.{Write, write_made, able_again, waiting, states_after, told_positions}
 use Rattle.b67_table.specs.Writes as writes
 use Rattle.b67_table.specs.Valid.{IsValid, AwaitsAt, AreEvents, waits}
 use Rattle.b67_table.proofs.Stacks.{get_numbered_other}
@@ -62,11 +62,11 @@ once_of (x ∷ xs) k = (
 -- ---- the lists of the event that is changed
 
 -- the list of the event at a place is one of the lists
-times_here : (q : ℕ) (at : Place) (es : List Event) → times_in q (procurers_at at es) ≤ times procurers_of q es
+times_here : (q : ℕ) (at : Place) (es : List Event) → times_in q (procurers_at at es) ≤ waiting_times procurers_of q es
 times_here q at [] = omega arith
 times_here q at (e ∷ es) = by_test (times_here q at es) (same_place e.place at)
   where
-    by_test : times_in q (procurers_at at es) ≤ times procurers_of q es → (b : Bool) → times_in q (state_of (cond b (Some e) (event_at at es))).procurers ≤ times procurers_of q (e ∷ es)
+    by_test : times_in q (procurers_at at es) ≤ waiting_times procurers_of q es → (b : Bool) → times_in q (state_of (cond b (Some e) (event_at at es))).procurers ≤ waiting_times procurers_of q (e ∷ es)
     by_test later true = omega arith
     by_test later false = omega (arith, later)
 
@@ -329,7 +329,7 @@ module _ (es : List Event) (lists : List (List Place)) (xs : List ProcessState) 
     may_wait awaits = (v.apart, nowhere es lists xs v p able)
     may_wait queues = (v.apart, nowhere es lists xs v p able)
 
-    apart_after : (change : Option (EventState → EventState)) → AreApart (changed_by change at es)
+    apart_after : (change : Option (EventState → EventState)) → EventsAreApart (changed_by change at es)
     apart_after None = v.apart
     apart_after (Some change) = stay_apart.by_change at (with_state change) (λ e. refl) es v.apart
 
@@ -355,7 +355,7 @@ module _ (es : List Event) (lists : List (List Place)) (xs : List ProcessState) 
 -- ---- images
 
 module _ (code : Code) (img : Image) (v : IsValid code img) (p : ℕ) (able : is_able (numbered img.states p) ≡ true) (x : EventDeed) (at : Place) where
-  pub event_deed_valid : IsValid code (written p (writes.event_deed x at) img)
+  pub event_deed_valid : IsValid code (write_made p (writes.event_deed x at) img)
   event_deed_valid =
       waiting_valid code img v (done_at x p at img.events) (unlisted (deed_at x p at img.events).withdraws img.lists)
       (states_after (deed_at x p at img.events) at p img.states) (told_positions at img.lists (deed_at x p at img.events).withdraws img.numbers)
@@ -365,5 +365,5 @@ module _ (code : Code) (img : Image) (v : IsValid code img) (p : ℕ) (able : is
       (deed_live img.events img.lists img.states v.events p able at x)
       (deed_kept img.events img.lists img.states v.events p able at x)
 
-  pub event_deed_live : (q : ℕ) → is_live (numbered (written p (writes.event_deed x at) img).states q) ≡ is_live (numbered img.states q)
+  pub event_deed_live : (q : ℕ) → is_live (numbered (write_made p (writes.event_deed x at) img).states q) ≡ is_live (numbered img.states q)
   event_deed_live q = deed_live img.events img.lists img.states v.events p able at x q

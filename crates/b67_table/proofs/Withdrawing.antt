@@ -11,7 +11,7 @@ use Rattle.b67_list.specs.Numbered.{numbered, set_numbered}
 use Rattle.b67_word.specs.declared.Place.{Place}
 use Rattle.b67_deeds.specs.Events.{left_by}
 use Rattle.b67_events.specs.Events.{Event, same_place, event_at, is_open, state_of, waiters_at, procurers_at, with_state, withdrawn, list_of, unlisted, first_that, position_of}
-use Rattle.b67_events.specs.Laws.{StaysInPlace, AreApart}
+use Rattle.b67_events.specs.Laws.{StaysInPlace, EventsAreApart}
 use Rattle.b67_table.specs.Limits.{most_events}
 use Rattle.b67_table.specs.Writes.{with_number, told_positions}
 use Rattle.b67_table.proofs.Stacks.{get_numbered_other}
@@ -35,7 +35,7 @@ module _ (f : Event → Event) (stays : StaysInPlace f) where
   mapped_open to (e ∷ es) =
       ap (λ p. same_place p to || is_open to (map f es)) (stays e) ∙ ap (λ b. same_place e.place to || b) (mapped_open to es)
 
-  pub mapped_apart : (es : List Event) → AreApart es → AreApart (map f es)
+  pub mapped_apart : (es : List Event) → EventsAreApart es → EventsAreApart (map f es)
   mapped_apart [] h = tt
   mapped_apart (e ∷ es) h = (ap (λ p. is_open p (map f es)) (stays e) ∙ mapped_open e.place es ∙ h.0, mapped_apart es h.1)
 
@@ -80,7 +80,7 @@ withdrawn_procurers to (p ∷ ps) es =
     by_event None = refl
     by_event (Some e) = refl
 
-pub withdrawn_apart : (ps : List ℕ) (es : List Event) → AreApart es → AreApart (withdrawn ps es)
+pub withdrawn_apart : (ps : List ℕ) (es : List Event) → EventsAreApart es → EventsAreApart (withdrawn ps es)
 withdrawn_apart [] es h = h
 withdrawn_apart (p ∷ ps) es h = withdrawn_apart ps (map (with_state (left_by p)) es) (mapped_apart (with_state (left_by p)) (λ e. refl) es h)
 

@@ -16,13 +16,13 @@ use Rattle.b67_table.specs.Moves.{replaced}
 
 -- ---- descriptors
 
-abbrev pub is_array : Bool → Descriptor → Bool
-is_array false d = d.presence && not d.indexed && not d.mother
-is_array true d = d.presence && not d.indexed && d.mother
+abbrev pub is_array_descriptor : Bool → Descriptor → Bool
+is_array_descriptor false d = d.presence && not d.indexed && not d.mother
+is_array_descriptor true d = d.presence && not d.indexed && d.mother
 
 abbrev pub array_in : Bool → Option Descriptor → Look Descriptor
 array_in mother None = invalid
-array_in mother (Some d) = if is_array mother d then found d else invalid
+array_in mother (Some d) = if is_array_descriptor mother d then found d else invalid
 
 abbrev pub array_by : Registers → Bool → Word → Option Cell → Look Descriptor
 array_by r mother w None = array_in mother (as_descriptor w)
@@ -67,13 +67,13 @@ subscripted r mother =
 
 -- ---- elements
 
-abbrev pub word_in : Option Row → ℕ → Option Word
-word_in None at = None
-word_in (Some r) at = slice_get r.words at
+abbrev pub word_in_row : Option Row → ℕ → Option Word
+word_in_row None at = None
+word_in_row (Some r) at = slice_get r.words at
 
 -- the word at a place of a row
 abbrev pub element : ℕ → ℕ → Test Word
-element n at = row n (λ (found : Option Row). see (valid (word_in found at)))
+element n at = row n (λ (found : Option Row). see (valid (word_in_row found at)))
 
 abbrev pub if_row : Option Row → Test ℕ → Test ℕ
 if_row None next = interrupt InvalidOperand
@@ -88,8 +88,8 @@ subscripted_element r mother =
 
 -- ---- the rows
 
-abbrev pub index : Registers → ℕ → Program
-index r next =
+abbrev pub index_program : Registers → ℕ → Program
+index_program r next =
     see (subscripted r false) >>= (λ (t : Subscripted). index_or_fault (index_in t.subscript t.array.length) >>= (λ (n : ℕ).
     answer (replaced r next 2 (descriptor_word (record t.array { copy = true; indexed = true; length = n })))))
 

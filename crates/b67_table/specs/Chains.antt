@@ -13,8 +13,8 @@ use Rattle.b67_table.specs.Look.{Look, found, stops, at, ◌>->◌, chained, rea
 abbrev pub place : ℕ → ℕ → Place
 place stack displacement = record { stack = stack; at = displacement }
 
-abbrev pub broken : {A : Type 0} → Look A
-broken = stops BrokenChain
+abbrev pub chain_broken : {A : Type 0} → Look A
+chain_broken = stops BrokenChain
 
 -- the mark that stands at a place
 abbrev pub mark_at : Place → Look Mscw
@@ -28,11 +28,11 @@ control_at here = at (place here.stack (here.at + 1)) (λ (w : Option Word). cha
 
 -- so far below a place; a chain that does not go down is broken
 abbrev pub below : ℕ → ℕ → (ℕ → Look ℕ) → Look ℕ
-below here df next = if nat_le 1 df && nat_le df here then next (here - df) else broken
+below here df next = if nat_le 1 df && nat_le df here then next (here - df) else chain_broken
 
 -- the first entered mark at a displacement or below along DF, in at most so many steps
 abbrev pub entered_from : ℕ → ℕ → ℕ → Look ℕ
-entered_from zero stack here = broken
+entered_from zero stack here = chain_broken
 entered_from (suc steps) stack here =
     mark_at (place stack here) >-> (λ (m : Mscw). if m.entered then found here else below here m.df (λ (lower : ℕ). entered_from steps stack lower))
 
@@ -47,13 +47,13 @@ frame_below f =
 
 -- its cells end at the frame that is left, or below
 abbrev pub if_apart : ℕ → Below → Look Below
-if_apart left b = if nat_le (b.frame + 2 + b.control.caller_cells) left then found b else broken
+if_apart left b = if nat_le (b.frame + 2 + b.control.caller_cells) left then found b else chain_broken
 
 -- the mark below is an entered one or leads to one; a control word stands above that
 abbrev pub left_to : Place → Look Below
 left_to f =
     mark_at f >-> (λ (m : Mscw). control_at f >-> (λ (c : Rcw).
-    (if nat_le m.df f.at then entered_below f.stack (f.at - m.df) else broken) >-> (λ (lower : ℕ). control_at (place f.stack lower) >-> (λ (unused : Rcw).
+    (if nat_le m.df f.at then entered_below f.stack (f.at - m.df) else chain_broken) >-> (λ (lower : ℕ). control_at (place f.stack lower) >-> (λ (unused : Rcw).
     if_apart f.at (record { mark = f.at - m.df; frame = lower; control = c })))))
 
 -- ---- along static links
@@ -62,7 +62,7 @@ abbrev pub link_of : Mscw → Place
 link_of m = place m.stack m.displacement
 
 abbrev pub if_own : ℕ → Mscw → Rcw → Look Mscw
-if_own level m c = if m.entered && c.own_level == level then found m else broken
+if_own level m c = if m.entered && c.own_level == level then found m else chain_broken
 
 -- the mark of the frame of this level that a link names
 abbrev pub linked_frame : Place → ℕ → Look Mscw
@@ -70,13 +70,13 @@ linked_frame link level = mark_at link >-> (λ (m : Mscw). control_at link >-> (
 
 -- the display registers below those that are known, of so many levels above 1, from a link on
 abbrev pub links : ℕ → Place → List (Option Place) → Look (List (Option Place))
-links zero link known = if link.stack == 0 then found (Some (place 0 0) ∷ None ∷ known) else broken
+links zero link known = if link.stack == 0 then found (Some (place 0 0) ∷ None ∷ known) else chain_broken
 links (suc n) link known = linked_frame link (n + 2) >-> (λ (m : Mscw). links n (link_of m) (Some link ∷ known))
 
 -- the display of a frame of this level at a place, whose static link is given
 abbrev pub linked : Place → Place → ℕ → Look (List (Option Place))
-linked top link level = if nat_le 2 level then links (level - 2) link (Some top ∷ replicate (levels - (level + 1)) None) else broken
+linked top link level = if nat_le 2 level then links (level - 2) link (Some top ∷ replicate (levels - (level + 1)) None) else chain_broken
 
 -- the display of the frame of this level that stands at a place
 abbrev pub rebuilt : Place → ℕ → Look (List (Option Place))
-rebuilt top level = if nat_le 2 level then mark_at top >-> (λ (m : Mscw). linked top (link_of m) level) else broken
+rebuilt top level = if nat_le 2 level then mark_at top >-> (λ (m : Mscw). linked top (link_of m) level) else chain_broken

@@ -25,13 +25,13 @@ some_lives [] = false
 some_lives (Ended ∷ states) = some_lives states
 some_lives (_ ∷ states) = true
 
-abbrev pub end_by : Option Failure → List ProcessState → Option ImageEnd
-end_by (Some f) states = Some (faulted f.kind f.process)
-end_by None states = if some_lives states && not (some_able states) then Some all_waiting else None
+abbrev pub image_end_by : Option Failure → List ProcessState → Option ImageEnd
+image_end_by (Some f) states = Some (faulted f.kind f.process)
+image_end_by None states = if some_lives states && not (some_able states) then Some all_waiting else None
 
 -- the first that holds: process 1 has ended; a fault is kept; a process lives and none is able
 unfoldable pub image_end : Image → Option ImageEnd
-image_end img = if has_ended (numbered img.states 1) then Some finished else end_by img.fault img.states
+image_end img = if has_ended (numbered img.states 1) then Some finished else image_end_by img.fault img.states
 
 abbrev pub goes_on : Option ImageEnd → Bool → Bool
 goes_on None able_now = able_now

@@ -8,10 +8,10 @@ use Rattle.b67_table.specs.declared.Below.{Below}
 use Rattle.b67_table.specs.Limits.{segment_numbers, end_of_code}
 use Rattle.b67_table.specs.Private.{display_at, frame}
 use Rattle.b67_table.specs.Look.{Look, found, ◌>->◌, valid}
-use Rattle.b67_table.specs.Chains.{place, broken, rebuilt, left_to}
+use Rattle.b67_table.specs.Chains.{place, chain_broken, rebuilt, left_to}
 use Rattle.b67_table.specs.Program.{answer, fault, loads, ◌>>=◌, see, Change, done, cut, registers, Program}
 use Rattle.b67_table.specs.Linkage.{if_not_critical, frame_left}
-use Rattle.b67_table.specs.Arguments.{IntrinsicRow, Three, three, number_in}
+use Rattle.b67_table.specs.Arguments.{IntrinsicRow, Three, three, argument_number_in}
 
 -- a frame that GOTO leaves, and how many cells it has
 pub record Passed : Type 0 where
@@ -23,17 +23,17 @@ pub record Passing : Type 0 where
   pub frames : List Passed
   pub cells : ℕ
 
-abbrev pub after : Passed → Passing → Passing
-after here p = record { frames = here ∷ p.frames; cells = p.cells }
+abbrev pub passing_after : Passed → Passing → Passing
+passing_after here p = record { frames = here ∷ p.frames; cells = p.cells }
 
 -- in at most so many steps down from a frame that has these cells
 abbrev pub passing : ℕ → ℕ → ℕ → Passed → Look Passing
-passing zero stack target here = broken
+passing zero stack target here = chain_broken
 passing (suc steps) stack target here =
     if nat_eq here.frame target then found (record { frames = []; cells = here.cells })
-    else if nat_lt here.frame target then broken
+    else if nat_lt here.frame target then chain_broken
     else left_to (place stack here.frame) >-> (λ (b : Below).
-    passing steps stack target (record { frame = b.frame; cells = b.control.caller_cells }) >-> (λ (p : Passing). found (after here p)))
+    passing steps stack target (record { frame = b.frame; cells = b.control.caller_cells }) >-> (λ (p : Passing). found (passing_after here p)))
 
 abbrev pub passed_by : Registers → Place → Look Passing
 passed_by r target =
@@ -54,8 +54,8 @@ level_in r (pos n) = if nat_le 2 n && nat_le n r.ll then Some n else None
 
 abbrev pub target_of : Registers → Three → Look Target
 target_of r t =
-    valid (level_in r t.first) >-> (λ (level : ℕ). valid (display_at r level) >-> (λ (f : Place). valid (number_in t.second (segment_numbers - 1)) >-> (λ (segment : ℕ).
-    valid (number_in t.third end_of_code) >-> (λ (pointer : ℕ). found (record { frame = f; level = level; segment = segment; pointer = pointer })))))
+    valid (level_in r t.first) >-> (λ (level : ℕ). valid (display_at r level) >-> (λ (f : Place). valid (argument_number_in t.second (segment_numbers - 1)) >-> (λ (segment : ℕ).
+    valid (argument_number_in t.third end_of_code) >-> (λ (pointer : ℕ). found (record { frame = f; level = level; segment = segment; pointer = pointer })))))
 
 -- each frame is left with its cells
 abbrev pub frames_left : ℕ → List Word → List Passed → Change → Change

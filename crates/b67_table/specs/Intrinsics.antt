@@ -19,9 +19,9 @@ use Rattle.b67_table.specs.Limits.{end_of_code, most_arrays, most_events}
 use Rattle.b67_table.specs.Look.{Look, found, ◌>->◌, valid}
 use Rattle.b67_table.specs.Chains.{place}
 use Rattle.b67_table.specs.References.{cell_place, invalid}
-use Rattle.b67_table.specs.Program.{Test, answer, fault, loads, event_answer, first_happened, woken, ◌>>=◌, see, Change, done, open_event, event_deed, wait_any, go_on, line, Program}
+use Rattle.b67_table.specs.Program.{Test, answer, fault, loads, event_answer, test_first_happened, woken, ◌>>=◌, see, Change, done, open_event, event_deed, wait_any, go_on, line, Program}
 use Rattle.b67_table.specs.Arrays.{Extents, one, two, extent, if_small, if_held, arrays_made}
-use Rattle.b67_table.specs.Arguments.{IntrinsicRow, no_such, Three, three, wholes, number_in, event_of, events_of, if_chained, finished_at}
+use Rattle.b67_table.specs.Arguments.{IntrinsicRow, no_such, Three, three, wholes, argument_number_in, event_of, events_of, if_chained, finished_at}
 use Rattle.b67_table.specs.Lines.{line_for}
 use Rattle.b67_table.specs.GoingTo.{go_to}
 use Rattle.b67_table.specs.Starting.{start_process}
@@ -41,7 +41,7 @@ case_in (pos n) (pos k) = if nat_lt n k then Some n else None
 -- where the place for an index lies, and none where there is no such case
 abbrev pub case_place : ℤ → Option ℕ → Look (Option ℕ)
 case_place first None = found None
-case_place first (Some n) = valid (number_in (first +ℤ pos (3 * n)) end_of_code) >-> (λ (to : ℕ). found (Some to))
+case_place first (Some n) = valid (argument_number_in (first +ℤ pos (3 * n)) end_of_code) >-> (λ (to : ℕ). found (Some to))
 
 abbrev pub gone_to_case : Registers → Mscw → Option ℕ → Program
 gone_to_case r m None = fault CaseIndex
@@ -66,10 +66,10 @@ count_in (negsuc n) = None
 abbrev pub wanted_with : ℤ → List ℤ → Look Wanted
 wanted_with k bounds = valid (count_in k) >-> (λ (n : ℕ). found (record { count = n; bounds = bounds }))
 
-abbrev pub wanted : List ℤ → Look Wanted
-wanted (k ∷ low ∷ high ∷ []) = wanted_with k (low ∷ high ∷ [])
-wanted (k ∷ low ∷ high ∷ low2 ∷ high2 ∷ []) = wanted_with k (low ∷ high ∷ low2 ∷ high2 ∷ [])
-wanted zs = invalid
+abbrev pub intrinsic_wanted : List ℤ → Look Wanted
+intrinsic_wanted (k ∷ low ∷ high ∷ []) = wanted_with k (low ∷ high ∷ [])
+intrinsic_wanted (k ∷ low ∷ high ∷ low2 ∷ high2 ∷ []) = wanted_with k (low ∷ high ∷ low2 ∷ high2 ∷ [])
+intrinsic_wanted zs = invalid
 
 abbrev pub extents : List ℤ → Test Extents
 extents (low ∷ high ∷ []) = extent low high >>= (λ (n : ℕ). if_small (one n))
@@ -78,7 +78,7 @@ extents zs = no_such
 
 abbrev pub arrays : IntrinsicRow
 arrays code r next m words =
-    see (wholes words >-> wanted) >>= (λ (w : Wanted). if_chained r m
+    see (wholes words >-> intrinsic_wanted) >>= (λ (w : Wanted). if_chained r m
     (extents w.bounds >>= (λ (e : Extents). if_held w.count e >>= (λ (held : Extents).
     answer (arrays_made w.count held [] (λ (made : List Word). finished_at r m made next))))))
 
@@ -123,7 +123,7 @@ gone_or_waiting r next m places (Some n) = answer (gone_on r next m n)
 
 -- a process that was released goes on with its woken number, whatever the events are now
 abbrev pub woken_or_not : Registers → ℕ → Mscw → List Place → ℕ → Program
-woken_or_not r next m places zero = first_happened places (gone_or_waiting r next m places)
+woken_or_not r next m places zero = test_first_happened places (gone_or_waiting r next m places)
 woken_or_not r next m places (suc n) = answer (go_on (gone_on r next m (suc n)))
 
 abbrev pub if_several : {A : Type 0} → List Word → Test A → Test A

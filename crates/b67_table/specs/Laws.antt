@@ -9,7 +9,7 @@ use Rattle.b67_table.specs.Outcome as outcomes
 use Rattle.b67_table.specs.Image.{Image}
 use Rattle.b67_table.specs.Table.{raw, table, stack_length}
 use Rattle.b67_table.specs.Questions.{told}
-use Rattle.b67_table.specs.Writes.{Write, written}
+use Rattle.b67_table.specs.Writes.{Write, write_made}
 use Rattle.b67_table.specs.Program.{Test, answer, interrupt, fault, ask, asked, Change, done, look_up, write, Program, does}
 
 -- ---- an operator's writes
@@ -18,7 +18,7 @@ use Rattle.b67_table.specs.Program.{Test, answer, interrupt, fault, ask, asked, 
 abbrev pub writes_of : ℕ → Change → Image → List Write
 writes_of p done img = []
 writes_of p (look_up q more) img = writes_of p (more (told img q)) img
-writes_of p (write w next) img = w ∷ writes_of p next (written p w img)
+writes_of p (write w next) img = w ∷ writes_of p next (write_made p w img)
 
 -- the writes of a program: none where a test stops it
 abbrev pub writes_after : ℕ → Image → Effect Change → List Write
@@ -31,19 +31,19 @@ program_writes p program img = writes_after p img (asked img program)
 
 abbrev pub all_written : ℕ → List Write → Image → Image
 all_written p [] img = img
-all_written p (w ∷ ws) img = all_written p ws (written p w img)
+all_written p (w ∷ ws) img = all_written p ws (write_made p w img)
 
 -- ---- refusals
 
 -- the image after an operator: the new one, or the same one where the operator is refused
-abbrev pub after : Image → Effect Image → Image
-after img (gives new) = new
-after img (faults kind) = img
-after img (interrupts kind) = img
+abbrev pub image_then : Image → Effect Image → Image
+image_then img (gives new) = new
+image_then img (faults kind) = img
+image_then img (interrupts kind) = img
 
 -- the image after an operator is the one before it with all that the program writes, and what is refused writes nothing
 pub record RefusalsWriteNothing : Type 0 where
-  pub after_is : (p : ℕ) (program : Program) (img : Image) → after img (does p program img) ≡ all_written p (program_writes p program img) img
+  pub after_is : (p : ℕ) (program : Program) (img : Image) → image_then img (does p program img) ≡ all_written p (program_writes p program img) img
   pub fault_writes : (p : ℕ) (program : Program) (img : Image) (kind : FaultKind) → does p program img ≡ faults kind → program_writes p program img ≡ []
   pub interrupt_writes : (p : ℕ) (program : Program) (img : Image) (kind : InterruptKind) → does p program img ≡ interrupts kind
       → program_writes p program img ≡ []
@@ -61,20 +61,20 @@ TestAgrees (ask q more) x y = (told x q ≡ told y q) × TestAgrees (more (told 
 abbrev pub ChangeAgrees : ℕ → Change → Image → Image → Type 0
 ChangeAgrees p done x y = Unit {0}
 ChangeAgrees p (look_up q more) x y = (told x q ≡ told y q) × ChangeAgrees p (more (told x q)) x y
-ChangeAgrees p (write w next) x y = ChangeAgrees p next (written p w x) (written p w y)
+ChangeAgrees p (write w next) x y = ChangeAgrees p next (write_made p w x) (write_made p w y)
 
 abbrev pub EffectAgrees : ℕ → Effect Change → Image → Image → Type 0
 EffectAgrees p (gives change) x y = ChangeAgrees p change x y
 EffectAgrees p (faults kind) x y = Unit {0}
 EffectAgrees p (interrupts kind) x y = Unit {0}
 
-abbrev pub Agrees : ℕ → Program → Image → Image → Type 0
-Agrees p program x y = TestAgrees program x y × EffectAgrees p (asked x program) x y
+abbrev pub ProgramAgrees : ℕ → Program → Image → Image → Type 0
+ProgramAgrees p program x y = TestAgrees program x y × EffectAgrees p (asked x program) x y
 
 -- images that tell a program the same get the same answer from it, and the same writes
 pub record ReadingDecides : Type 0 where
-  pub asked_same : (p : ℕ) (program : Program) (x y : Image) → Agrees p program x y → asked x program ≡ asked y program
-  pub writes_same : (p : ℕ) (program : Program) (x y : Image) → Agrees p program x y → program_writes p program x ≡ program_writes p program y
+  pub asked_same : (p : ℕ) (program : Program) (x y : Image) → ProgramAgrees p program x y → asked x program ≡ asked y program
+  pub writes_same : (p : ℕ) (program : Program) (x y : Image) → ProgramAgrees p program x y → program_writes p program x ≡ program_writes p program y
 
 -- ---- the limit
 

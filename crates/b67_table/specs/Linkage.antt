@@ -133,8 +133,8 @@ leaving f =
     found (record { below = b; display = display })))
 
 -- the registers after a frame was left
-abbrev pub left : Registers → ℕ → ℕ → Leaving → Registers
-left r s f l =
+abbrev pub registers_left : Registers → ℕ → ℕ → Leaving → Registers
+registers_left r s f l =
     record r {
       s = s;
       f = l.below.mark;
@@ -158,7 +158,7 @@ leave_base r cells next =
 abbrev pub leave_other : Registers → List Word → ℕ → List Word → Program
 leave_other r cells f words =
     see (leaving (place r.stack f)) >>= (λ (l : Leaving). if_not_critical r.stack (f ∷ [])
-    (answer (frame_left r.stack f cells (cut r.stack f (pushed r.stack words (registers (left r (f + length words) f l) done))))))
+    (answer (frame_left r.stack f cells (cut r.stack f (pushed r.stack words (registers (registers_left r (f + length words) f l) done))))))
 
 abbrev pub frame_cells : Registers → (List Word → Program) → Program
 frame_cells r next = loads (place r.stack (frame r + 2)) r.cells next

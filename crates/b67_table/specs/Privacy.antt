@@ -20,7 +20,7 @@ use Rattle.b67_table.specs.Sound.{OperatorTouches}
 -- ---- a process with a private part
 
 -- the process lives, its registers are these, and its stack is open and reaches its floor; so it is with each live process of a valid image
-pub record Stands (img : Image) (p : ℕ) (r : Registers) : Type 0 where
+pub record ProcessStands (img : Image) (p : ℕ) (r : Registers) : Type 0 where
   pub live : is_live (numbered img.states p) ≡ true
   pub has : numbered img.regs p ≡ Some r
   pub words : List Word
@@ -30,8 +30,8 @@ pub record Stands (img : Image) (p : ℕ) (r : Registers) : Type 0 where
 -- ---- what stays
 
 -- the registers that no private operator sets: it sets S, F, the cells and the place of the pointer
-abbrev pub Keeps : Registers → Registers → Type 0
-Keeps r q =
+abbrev pub RegistersStay : Registers → Registers → Type 0
+RegistersStay r q =
     (q.stack ≡ r.stack) × (q.ll ≡ r.ll) × (q.display ≡ r.display) × (q.segment ≡ r.segment) × (q.task ≡ r.task) × (q.critical ≡ r.critical)
 
 -- all but the words of the process's stack from its floor on, and its own registers
@@ -48,7 +48,7 @@ pub record LeavesAllElse (p : ℕ) (r : Registers) (img new : Image) : Type 0 wh
   pub started : new.started ≡ img.started
   pub fault : new.fault ≡ img.fault
   -- and of its own registers all but four
-  pub own : (q : Registers) → numbered new.regs p ≡ Some q → Keeps r q
+  pub own : (q : Registers) → numbered new.regs p ≡ Some q → RegistersStay r q
 
 -- ---- what it depends on
 
@@ -59,10 +59,10 @@ pub record DoesTheSame (code : Code) (p : ℕ) (r : Registers) (x y : Image) : T
   pub there : raw code y p ≡ with_effect y p (floor r) effect
 
 pub record PrivateIsPrivate : Type 0 where
-  pub leaves : (code : Code) (p : ℕ) (r : Registers) (img new : Image) → Stands img p r → private_next code img p ≡ true
+  pub leaves : (code : Code) (p : ℕ) (r : Registers) (img new : Image) → ProcessStands img p r → private_next code img p ≡ true
       → raw code img p ≡ gives new → LeavesAllElse p r img new
   -- images in which a process has the same registers, and the same words from its floor on
-  pub same : (code : Code) (p : ℕ) (r : Registers) (x y : Image) → Stands x p r → Stands y p r → private_next code x p ≡ true
+  pub same : (code : Code) (p : ℕ) (r : Registers) (x y : Image) → ProcessStands x p r → ProcessStands y p r → private_next code x p ≡ true
       → private_of x r ≡ private_of y r → DoesTheSame code p r x y
 
 -- ---- either may come first
@@ -83,5 +83,5 @@ pub record Commute (code : Code) (p q : ℕ) (img a : Image) : Type 0 where
 -- A plain operator of one process commutes with every operator of another, plain or not, that touches no word of its private part.
 abbrev pub PlainOperatorsCommute : Type 0
 PlainOperatorsCommute =
-    (code : Code) (p q : ℕ) (r : Registers) (img a : Image) → p ≢ q → Stands img q r → plain code img q ≡ true → table code img q ≡ outcomes.gives a
+    (code : Code) (p q : ℕ) (r : Registers) (img a : Image) → p ≢ q → ProcessStands img q r → plain code img q ≡ true → table code img q ≡ outcomes.gives a
     → ((x : Place) → OperatorTouches code img p x → IsPrivate r x → ⊥) → Commute code p q img a

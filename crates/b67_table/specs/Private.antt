@@ -49,8 +49,8 @@ abbrev pub whole_or : Option ℤ → Effect ℤ
 whole_or None = interrupts InvalidOperand
 whole_or (Some z) = gives z
 
-abbrev pub whole_of : Word → Effect ℤ
-whole_of w = whole_or (as_whole w)
+abbrev pub whole_of_word : Word → Effect ℤ
+whole_of_word w = whole_or (as_whole w)
 
 -- the bits of an operand
 abbrev pub bits_of : Word → Effect ℕ

@@ -14,7 +14,7 @@ use Rattle.b67_table.specs.declared.InterruptKind.TheVariants.{InvalidOperand}
 use Rattle.b67_table.specs.Effect.{Effect, gives, faults, interrupts, ◌>>=◌}
 use Rattle.b67_table.specs.declared.Private.{Private}
 use Rattle.b67_table.specs.Limits.{most_cells}
-use Rattle.b67_table.specs.Private.{pop, push, whole_of, bits_of, display_at, frame}
+use Rattle.b67_table.specs.Private.{pop, push, whole_of_word, bits_of, display_at, frame}
 
 -- ---- the pointer
 
@@ -36,7 +36,7 @@ result_or_fault (Err fault) = faults (fault_of fault)
 abbrev pub wholes : (ℤ → ℤ → Effect Word) → Private → Effect Private
 wholes made p =
     pop p >>= (λ (x : Word × Private). pop x.1 >>= (λ (y : Word × Private).
-    whole_of y.0 >>= (λ (a : ℤ). whole_of x.0 >>= (λ (b : ℤ). made a b >>= (λ (w : Word). gives (push w y.1))))))
+    whole_of_word y.0 >>= (λ (a : ℤ). whole_of_word x.0 >>= (λ (b : ℤ). made a b >>= (λ (w : Word). gives (push w y.1))))))
 
 -- whole y and x are replaced by y op x
 abbrev pub arithmetic : (ℤ → ℤ → Result ℤ NumFault) → Private → Effect Private
@@ -48,7 +48,7 @@ relation holds = wholes (λ (a b : ℤ). gives (truth (holds a b)))
 
 -- the whole number on top is replaced by its negation
 abbrev pub negated : Private → Effect Private
-negated p = pop p >>= (λ (x : Word × Private). whole_of x.0 >>= (λ (a : ℤ). gives (push (operand (negation_of a)) x.1)))
+negated p = pop p >>= (λ (x : Word × Private). whole_of_word x.0 >>= (λ (a : ℤ). gives (push (operand (negation_of a)) x.1)))
 
 -- ---- logic
 

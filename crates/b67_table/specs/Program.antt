@@ -13,9 +13,9 @@ use Rattle.b67_table.specs.Effect.{Effect, gives, faults, interrupts}
 use Rattle.b67_table.specs.Image.{Image}
 use Rattle.b67_table.specs.Look.{Look}
 use Rattle.b67_table.specs.Look as look
-use Rattle.b67_table.specs.Questions.{Question, Answer, told}
+use Rattle.b67_table.specs.Questions.{Question, AnswerTo, told}
 use Rattle.b67_table.specs.Questions as questions
-use Rattle.b67_table.specs.Writes.{Write, written}
+use Rattle.b67_table.specs.Writes.{Write, write_made}
 use Rattle.b67_table.specs.Writes as writes
 
 -- ---- tests
@@ -24,7 +24,7 @@ pub data Test (A : Type 0) : Type 0 where
   answer : A → Test A
   interrupt : InterruptKind → Test A
   fault : FaultKind → Test A
-  ask : (q : Question) → (Answer q → Test A) → Test A
+  ask : (q : Question) → (AnswerTo q → Test A) → Test A
 
 infixl 20 ◌>>=◌
 -- one after the other; what stops the first stops both
@@ -57,14 +57,14 @@ row n more = ask (questions.row n) more
 abbrev pub counted : {A : Type 0} → (ℕ → Test A) → Test A
 counted more = ask questions.counted more
 
-abbrev pub is_event : {A : Type 0} → Place → (Bool → Test A) → Test A
-is_event place more = ask (questions.is_event place) more
+abbrev pub test_is_event : {A : Type 0} → Place → (Bool → Test A) → Test A
+test_is_event place more = ask (questions.is_event place) more
 
 abbrev pub event_answer : {A : Type 0} → EventTest → Place → (Bool → Test A) → Test A
 event_answer x place more = ask (questions.event_answer x place) more
 
-abbrev pub first_happened : {A : Type 0} → List Place → (Option ℕ → Test A) → Test A
-first_happened places more = ask (questions.first_happened places) more
+abbrev pub test_first_happened : {A : Type 0} → List Place → (Option ℕ → Test A) → Test A
+test_first_happened places more = ask (questions.first_happened places) more
 
 abbrev pub woken : {A : Type 0} → ℕ → (ℕ → Test A) → Test A
 woken p more = ask (questions.woken p) more
@@ -82,14 +82,14 @@ started more = ask questions.started more
 
 pub data Change : Type 0 where
   done : Change
-  look_up : (q : Question) → (Answer q → Change) → Change
+  look_up : (q : Question) → (AnswerTo q → Change) → Change
   write : Write → Change → Change
 
 -- what a change of a process makes of an image
 abbrev pub changed : ℕ → Change → Image → Image
 changed p done img = img
 changed p (look_up q more) img = changed p (more (told img q)) img
-changed p (write w next) img = changed p next (written p w img)
+changed p (write w next) img = changed p next (write_made p w img)
 
 abbrev pub save : Place → Word → Change → Change
 save place w next = write (writes.save place w) next
@@ -134,8 +134,8 @@ go_on next = write writes.go_on next
 abbrev pub line : List ℕ → Change → Change
 line bytes next = write (writes.line bytes) next
 
-abbrev pub start : Registers → List Word → Change → Change
-start r words next = write (writes.start r words) next
+abbrev pub change_start : Registers → List Word → Change → Change
+change_start r words next = write (writes.start r words) next
 
 abbrev pub end_process : ℕ → Change → Change
 end_process stack next = write (writes.end_process stack) next

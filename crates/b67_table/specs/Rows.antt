@@ -32,14 +32,14 @@ use Rattle.b67_table.specs.Program.{Test, answer, fault, ◌>>=◌, see, Change,
 use Rattle.b67_table.specs.Moves.{replaced}
 use Rattle.b67_table.specs.Moves as moves
 use Rattle.b67_table.specs.Linkage.{entry, accidental, leave}
-use Rattle.b67_table.specs.Arrays.{as_indexed, element, index, index_and_load, index_mother}
+use Rattle.b67_table.specs.Arrays.{as_indexed, element, index_program, index_and_load, index_mother}
 use Rattle.b67_table.specs.Intrinsics.{intrinsic}
 
-pub data Row : Type 0 where
+pub data TableRow : Type 0 where
   -- given the place after the operator; it sets the pointer itself
-  private_part : (ℕ → Private → Effect Private) → Row
+  private_part : (ℕ → Private → Effect Private) → TableRow
   -- given the code, the registers, and the place after the operator
-  action : (Code → Registers → ℕ → Program) → Row
+  action : (Code → Registers → ℕ → Program) → TableRow
 
 -- ---- branches that do not go forward
 
@@ -47,10 +47,10 @@ abbrev pub turn_by : BranchKind → ℕ → Registers → ℕ → Program
 turn_by kind target r next =
     see (popped r >-> operand_in) >>= (λ (w : Word). answer (moves.dropped r (if is_taken kind w.bits then target else next) 1))
 
-abbrev pub turn : BranchKind → ℕ → Registers → ℕ → Program
-turn Brun target r next = answer (registers (record r { place = target }) done)
-turn Brfl target r next = turn_by Brfl target r next
-turn Brtr target r next = turn_by Brtr target r next
+abbrev pub branch_turn : BranchKind → ℕ → Registers → ℕ → Program
+branch_turn Brun target r next = answer (registers (record r { place = target }) done)
+branch_turn Brfl target r next = turn_by Brfl target r next
+branch_turn Brtr target r next = turn_by Brtr target r next
 
 -- ---- reading
 
@@ -158,62 +158,62 @@ return_value r next =
 
 -- ---- the table
 
-abbrev pub own : (Private → Effect Private) → Row
-own change = private_part (onward change)
+abbrev pub row_of_own : (Private → Effect Private) → TableRow
+row_of_own change = private_part (onward change)
 
 -- this word is pushed
-abbrev pub pushes : Word → Row
-pushes w = own (λ (p : Private). gives (push w p))
+abbrev pub pushes : Word → TableRow
+pushes w = row_of_own (λ (p : Private). gives (push w p))
 
-abbrev pub acts : (Registers → ℕ → Program) → Row
+abbrev pub acts : (Registers → ℕ → Program) → TableRow
 acts program = action (λ (code : Code). program)
 
-abbrev pub plain_row : PlainKind → Row
-plain_row kinds.Add = own (arithmetic (calculated Sum))
-plain_row kinds.Subt = own (arithmetic (calculated Difference))
-plain_row kinds.Mult = own (arithmetic (calculated Product))
-plain_row kinds.Divd = own (arithmetic (calculated WholeQuotient))
-plain_row kinds.Idiv = own (arithmetic (calculated TruncatedQuotient))
-plain_row kinds.Rdiv = own (arithmetic (calculated Remainder))
-plain_row kinds.Less = own (relation (related Less))
-plain_row kinds.Greq = own (relation (related GreaterOrEqual))
-plain_row kinds.Grtr = own (relation (related Greater))
-plain_row kinds.Lseq = own (relation (related LessOrEqual))
-plain_row kinds.Equl = own (relation (related Equal))
-plain_row kinds.Neql = own (relation (related NotEqual))
-plain_row kinds.Chsn = own negated
-plain_row kinds.Land = own (logic bit_and)
-plain_row kinds.Lor = own (logic bit_or)
-plain_row kinds.Lnot = own complemented
-plain_row kinds.Leqv = own (logic agreement)
+abbrev pub plain_row : PlainKind → TableRow
+plain_row kinds.Add = row_of_own (arithmetic (calculated Sum))
+plain_row kinds.Subt = row_of_own (arithmetic (calculated Difference))
+plain_row kinds.Mult = row_of_own (arithmetic (calculated Product))
+plain_row kinds.Divd = row_of_own (arithmetic (calculated WholeQuotient))
+plain_row kinds.Idiv = row_of_own (arithmetic (calculated TruncatedQuotient))
+plain_row kinds.Rdiv = row_of_own (arithmetic (calculated Remainder))
+plain_row kinds.Less = row_of_own (relation (related Less))
+plain_row kinds.Greq = row_of_own (relation (related GreaterOrEqual))
+plain_row kinds.Grtr = row_of_own (relation (related Greater))
+plain_row kinds.Lseq = row_of_own (relation (related LessOrEqual))
+plain_row kinds.Equl = row_of_own (relation (related Equal))
+plain_row kinds.Neql = row_of_own (relation (related NotEqual))
+plain_row kinds.Chsn = row_of_own negated
+plain_row kinds.Land = row_of_own (logic bit_and)
+plain_row kinds.Lor = row_of_own (logic bit_or)
+plain_row kinds.Lnot = row_of_own complemented
+plain_row kinds.Leqv = row_of_own (logic agreement)
 plain_row kinds.Exit = acts exit
 plain_row kinds.Nxln = acts index_mother
-plain_row kinds.Indx = acts index
+plain_row kinds.Indx = acts index_program
 plain_row kinds.Retn = acts return_value
 plain_row kinds.Entr = action enter
 plain_row kinds.Eval = acts evaluate
 plain_row kinds.Nxlv = acts index_and_load
-plain_row kinds.Mkst = own mark
-plain_row kinds.Stff = own stuff
+plain_row kinds.Mkst = row_of_own mark
+plain_row kinds.Stff = row_of_own stuff
 plain_row kinds.Zero = pushes (operand (pos 0))
 plain_row kinds.One = pushes (operand (pos 1))
-plain_row kinds.Push = own make_cells
-plain_row kinds.Dlet = own dropped
-plain_row kinds.Exch = own exchanged
-plain_row kinds.Dupl = own doubled
+plain_row kinds.Push = row_of_own make_cells
+plain_row kinds.Dlet = row_of_own dropped
+plain_row kinds.Exch = row_of_own exchanged
+plain_row kinds.Dupl = row_of_own doubled
 plain_row kinds.Stod = acts (store false)
 plain_row kinds.Ston = acts (store true)
 plain_row kinds.Lodt = acts load_through
 plain_row kinds.Load = acts load_value
-plain_row kinds.Noop = own gives
+plain_row kinds.Noop = row_of_own gives
 
 -- the row of an operator at its place: a branch is private where it goes forward
-unfoldable pub row : Operator → ℕ → Row
+unfoldable pub row : Operator → ℕ → TableRow
 row (ops.Valc couple) here = acts (value_call couple)
 row (ops.Namc couple) here = pushes (reference couple)
 row (ops.Lt8 n) here = pushes (operand (pos n))
 row (ops.Lt16 n) here = pushes (operand (pos n))
 row (ops.Lt48 n) here = pushes (word 0 n)
 row (ops.Mpcw n) here = pushes (word 7 n)
-row (ops.Branch kind target) here = if nat_lt here target then private_part (branch kind target) else acts (turn kind target)
+row (ops.Branch kind target) here = if nat_lt here target then private_part (branch kind target) else acts (branch_turn kind target)
 row (ops.Plain kind) here = plain_row kind

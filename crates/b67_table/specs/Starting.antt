@@ -15,9 +15,9 @@ use Rattle.b67_table.specs.declared.Reached.{Reached}
 use Rattle.b67_table.specs.Limits.{most_cells, most_processes}
 use Rattle.b67_table.specs.Private.{frame}
 use Rattle.b67_table.specs.Look.{Look, valid}
-use Rattle.b67_table.specs.Chains.{place, broken, frame_below, linked}
+use Rattle.b67_table.specs.Chains.{place, chain_broken, frame_below, linked}
 use Rattle.b67_table.specs.References.{cell_place, cell_of, reached}
-use Rattle.b67_table.specs.Program.{Test, answer, interrupt, fault, critical, started, ◌>>=◌, see, start}
+use Rattle.b67_table.specs.Program.{Test, answer, interrupt, fault, critical, started, ◌>>=◌, see, change_start}
 use Rattle.b67_table.specs.Linkage.{code_place, entered_mark, base_control}
 use Rattle.b67_table.specs.Arguments.{IntrinsicRow, no_such, event_of, if_chained, finished_at}
 
@@ -86,14 +86,14 @@ starting r (procedure ∷ task ∷ parameters) =
 
 -- the display of a process of this number; an intrinsic can not be started
 abbrev pub first_display : ℕ → Starting → Look (List (Option Place))
-first_display number t = if t.procedure.intrinsic then broken else linked (place number 0) t.home t.procedure.level
+first_display number t = if t.procedure.intrinsic then chain_broken else linked (place number 0) t.home t.procedure.level
 
 abbrev pub first_words : Starting → List Word
 first_words t =
     entered_mark t.home 0 ∷ base_control t.procedure.level ∷ t.parameters
 
-abbrev pub begun : ℕ → Starting → List (Option Place) → Option Place → Registers
-begun number t display depends =
+abbrev pub process_begun : ℕ → Starting → List (Option Place) → Option Place → Registers
+process_begun number t display depends =
     record {
       stack = number;
       s = length t.parameters + 2;
@@ -111,4 +111,4 @@ abbrev pub start_process : IntrinsicRow
 start_process code r next m words =
     starting r words >>= (λ (t : Starting). if_chained r m (started (λ (n : ℕ). see (first_display (n + 1) t) >>= (λ (display : List (Option Place)).
     on_path r.stack (t.home ∷ frames_with t.task (named_frames t.parameters)) (place r.stack (frame r)) >>= (λ (c : Option Place).
-    if nat_lt n most_processes then answer (start (begun (n + 1) t display c) (first_words t) (finished_at r m [] next)) else fault ProcessLimit)))))
+    if nat_lt n most_processes then answer (change_start (process_begun (n + 1) t display c) (first_words t) (finished_at r m [] next)) else fault ProcessLimit)))))

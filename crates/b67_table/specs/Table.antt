@@ -17,11 +17,11 @@ use Rattle.b67_table.specs.Outcome as outcomes
 use Rattle.b67_table.specs.Private.{floor}
 use Rattle.b67_table.specs.Image.{Image, private_of, with_effect, is_live}
 use Rattle.b67_table.specs.Program.{Program, interrupt, does}
-use Rattle.b67_table.specs.Rows.{Row, private_part, action, row}
+use Rattle.b67_table.specs.Rows.{TableRow, private_part, action, row}
 
 -- ---- classes
 
-abbrev pub class_by : Row → Class
+abbrev pub class_by : TableRow → Class
 class_by (private_part change) = classes.Private
 class_by (action program) = classes.Action
 
@@ -32,7 +32,7 @@ class_at op place = class_by (row op place)
 -- ---- the two kinds of row
 
 -- what a row does to a private part: an action is no operator of a part
-abbrev pub part_by : Row → ℕ → Private → Effect Private
+abbrev pub part_by : TableRow → ℕ → Private → Effect Private
 part_by (private_part change) next part = change next part
 part_by (action program) next part = interrupts bad_code
 
@@ -41,14 +41,14 @@ unfoldable pub private_op : Operator → ℕ → ℕ → Private → Effect Priv
 private_op op place next part = part_by (row op place) next part
 
 -- the program of a row: a private operator is no program
-abbrev pub program_by : Row → Code → Registers → ℕ → Program
+abbrev pub program_by : TableRow → Code → Registers → ℕ → Program
 program_by (private_part change) code r next = interrupt bad_code
 program_by (action program) code r next = program code r next
 
 -- ---- the table
 
 -- what a row does to an image
-abbrev pub by_row : Row → Code → Image → ℕ → Registers → ℕ → Effect Image
+abbrev pub by_row : TableRow → Code → Image → ℕ → Registers → ℕ → Effect Image
 by_row (private_part change) code img p r next = with_effect img p (floor r) (change next (private_of img r))
 by_row (action program) code img p r next = does p (program code r next) img
 

@@ -10,29 +10,29 @@ use Rattle.b67_table.specs.Private.{floor}
 use Rattle.b67_table.specs.Image.{Image}
 use Rattle.b67_table.specs.Questions.{Question, told}
 use Rattle.b67_table.specs.Questions as questions
-use Rattle.b67_table.specs.Writes.{Write, written}
+use Rattle.b67_table.specs.Writes.{Write, write_made}
 use Rattle.b67_table.specs.Writes as writes
 use Rattle.b67_table.specs.Program.{Test, answer, interrupt, fault, ask, asked, Change, done, look_up, write, Program}
-use Rattle.b67_table.specs.Rows.{Row, private_part, action}
+use Rattle.b67_table.specs.Rows.{TableRow, private_part, action}
 
 -- one of so many places from this one on
-abbrev pub IsAmong : Place → Place → ℕ → Type 0
-IsAmong x place n = (x.stack ≡ place.stack) × (place.at ≤ x.at) × (x.at < place.at + n)
+abbrev pub IsWithinPlaces : Place → Place → ℕ → Type 0
+IsWithinPlaces x place n = (x.stack ≡ place.stack) × (place.at ≤ x.at) × (x.at < place.at + n)
 
 -- the question is about the word at x
-abbrev pub Reads : Question → Place → Type 0
-Reads (questions.word place) x = x ≡ place
-Reads (questions.words place n) x = IsAmong x place n
-Reads (questions.row n) x = ⊥
-Reads questions.free_row x = ⊥
-Reads questions.counted x = ⊥
-Reads (questions.is_event place) x = ⊥
-Reads (questions.event_answer t place) x = ⊥
-Reads (questions.first_happened places) x = ⊥
-Reads (questions.woken p) x = ⊥
-Reads questions.criticals x = ⊥
-Reads (questions.critical p) x = ⊥
-Reads questions.started x = ⊥
+abbrev pub QuestionReads : Question → Place → Type 0
+QuestionReads (questions.word place) x = x ≡ place
+QuestionReads (questions.words place n) x = IsWithinPlaces x place n
+QuestionReads (questions.row n) x = ⊥
+QuestionReads questions.free_row x = ⊥
+QuestionReads questions.counted x = ⊥
+QuestionReads (questions.is_event place) x = ⊥
+QuestionReads (questions.event_answer t place) x = ⊥
+QuestionReads (questions.first_happened places) x = ⊥
+QuestionReads (questions.woken p) x = ⊥
+QuestionReads questions.criticals x = ⊥
+QuestionReads (questions.critical p) x = ⊥
+QuestionReads questions.started x = ⊥
 
 -- the write puts a word at x, or takes one away
 abbrev pub Changes : Write → Image → Place → Type 0
@@ -57,13 +57,13 @@ abbrev pub TestReads : {A : Type 0} → Image → Test A → Place → Type 0
 TestReads img (answer a) x = ⊥
 TestReads img (interrupt kind) x = ⊥
 TestReads img (fault kind) x = ⊥
-TestReads img (ask q more) x = Reads q x ⊎ TestReads img (more (told img q)) x
+TestReads img (ask q more) x = QuestionReads q x ⊎ TestReads img (more (told img q)) x
 
 -- the change of a process reads or writes the word at x
 abbrev pub ChangeTouches : ℕ → Change → Image → Place → Type 0
 ChangeTouches p done img x = ⊥
-ChangeTouches p (look_up q more) img x = Reads q x ⊎ ChangeTouches p (more (told img q)) img x
-ChangeTouches p (write w next) img x = Changes w img x ⊎ ChangeTouches p next (written p w img) x
+ChangeTouches p (look_up q more) img x = QuestionReads q x ⊎ ChangeTouches p (more (told img q)) img x
+ChangeTouches p (write w next) img x = Changes w img x ⊎ ChangeTouches p next (write_made p w img) x
 
 abbrev pub EffectTouches : ℕ → Image → Effect Change → Place → Type 0
 EffectTouches p img (gives change) x = ChangeTouches p change img x
@@ -78,6 +78,6 @@ abbrev pub IsPrivate : Registers → Place → Type 0
 IsPrivate r x = (x.stack ≡ r.stack) × (floor r ≤ x.at)
 
 -- a private operator reads and writes its private part, an action what its program does
-abbrev pub RowTouches : Row → Code → Image → ℕ → Registers → ℕ → Place → Type 0
+abbrev pub RowTouches : TableRow → Code → Image → ℕ → Registers → ℕ → Place → Type 0
 RowTouches (private_part f) code img p r next x = IsPrivate r x
 RowTouches (action program) code img p r next x = Touches p img (program code r next) x

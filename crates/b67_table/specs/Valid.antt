@@ -15,8 +15,8 @@ use Rattle.b67_control.specs.Display.{levels}
 use Rattle.b67_segment.specs.declared.code.Segment.{Segment}
 use Rattle.b67_segment.specs.declared.code.Code.{Code}
 use Rattle.b67_store.specs.Store.{stack_at, words_of, word_at, row_words, counted_words, count_limit, row_limit, stack_limit}
-use Rattle.b67_events.specs.Events.{Event, waiters_at, procurers_at, is_among, list_of, is_listed}
-use Rattle.b67_events.specs.Laws.{AreApart}
+use Rattle.b67_events.specs.Events.{Event, waiters_at, procurers_at, event_is_among, list_of, is_listed}
+use Rattle.b67_events.specs.Laws.{EventsAreApart}
 use Rattle.b67_events.specs.Once.{EachOnce}
 use Rattle.b67_table.specs.declared.ProcessState.{ProcessState}
 use Rattle.b67_table.specs.declared.ProcessState.TheVariants.{Able, WaitsFor, WaitsAny, Procures, Ended}
@@ -28,7 +28,7 @@ use Rattle.b67_table.specs.Image.{Image, is_able, is_live}
 use Rattle.b67_table.specs.Ending.{failed}
 use Rattle.b67_table.specs.Outcome.{gives}
 use Rattle.b67_table.specs.Table.{table, private_next}
-use Rattle.b67_table.specs.Privacy.{Stands}
+use Rattle.b67_table.specs.Privacy.{ProcessStands}
 use Rattle.b67_table.specs.Beginning.{system_stack, first_image}
 
 -- ---- frames
@@ -101,12 +101,12 @@ waits None = false
 -- a process in this state, with these places where it waits for several events, waits for the event at a place to happen
 abbrev pub AwaitsAt : Option ProcessState → List Place → Place → Type 0
 AwaitsAt (Some (WaitsFor place)) places at = place ≡ at
-AwaitsAt (Some WaitsAny) places at = is_among places at ≡ true
+AwaitsAt (Some WaitsAny) places at = event_is_among places at ≡ true
 AwaitsAt _ places at = ⊥
 
 -- the events that are open, the places of those for which processes wait, and the processes' states
 pub record AreEvents (es : List Event) (lists : List (List Place)) (states : List ProcessState) : Type 0 where
-  pub apart : AreApart es
+  pub apart : EventsAreApart es
   pub once : EachOnce es
   -- who stands in a list of an event waits for it; who waits need not stand in one, since an event may be closed or opened anew
   pub waiters : (p : ℕ) (at : Place) → list_any (λ q. p == q) (waiters_at at es) ≡ true → AwaitsAt (numbered states p) (list_of p lists) at
@@ -143,7 +143,7 @@ FirstIsValid = (code : Code) → All (λ (s : Segment). length s.words ≤ segme
 -- each live process of a valid image stands
 abbrev pub ValidStands : Type 0
 ValidStands =
-    (code : Code) (img : Image) (p : ℕ) (r : Registers) → IsValid code img → is_live (numbered img.states p) ≡ true → numbered img.regs p ≡ Some r → Stands img p r
+    (code : Code) (img : Image) (p : ℕ) (r : Registers) → IsValid code img → is_live (numbered img.states p) ≡ true → numbered img.regs p ≡ Some r → ProcessStands img p r
 
 -- What operators make of a valid image is valid. Rows have numbers that a descriptor can hold: where none of those is free the store
 -- lacks memory, so of an image with more rows nothing is said.

@@ -6,7 +6,7 @@ use Rattle.b67_word.specs.Word.{Word}
 use Rattle.b67_control.specs.declared.Registers.{Registers}
 use Rattle.b67_store.specs.Store.{with_word, with_push, with_cut, opened_at, closed_at, with_row_word, zero_row}
 use Rattle.b67_deeds.specs.Deeds.{EventDeed, Deed, Next, goes, waits, procures}
-use Rattle.b67_events.specs.Events.{opened, closed_from, deed_at, after_deed, unlisted, position_of, joined_all, with_list}
+use Rattle.b67_events.specs.Events.{event_opened, closed_from, deed_at, after_deed, unlisted, position_of, joined_all, with_list}
 use Rattle.b67_table.specs.declared.ProcessState.{ProcessState}
 use Rattle.b67_table.specs.declared.ProcessState.TheVariants.{Able, WaitsFor, WaitsAny, Procures, Ended}
 use Rattle.b67_table.specs.Image.{Image, with_stacks, with_rows, with_events, with_states, with_registers}
@@ -73,29 +73,29 @@ with_deed d place p img = record img {
 }
 
 -- what a write of a process makes of an image
-abbrev pub written : ℕ → Write → Image → Image
-written p (save place w) img = with_stacks img (with_word img.stacks place w)
-written p (cut stack n) img = with_stacks img (with_cut img.stacks stack n)
-written p (push stack w) img = with_stacks img (with_push img.stacks stack w)
-written p (registers r) img = with_registers img p r
-written p (open_row n count counted) img = with_rows img (opened_at img.rows n (zero_row count counted))
-written p (write_row n at w) img = with_rows img (with_row_word img.rows n at w)
-written p (close_row n) img = with_rows img (closed_at img.rows n)
-written p (open_event place) img = with_events img (opened place img.events)
-written p (close_events stack at) img = with_events img (closed_from stack at img.events)
-written p (event_deed x place) img = with_deed (deed_at x p place img.events) place p img
-written p (wait_any places) img = record img {
+abbrev pub write_made : ℕ → Write → Image → Image
+write_made p (save place w) img = with_stacks img (with_word img.stacks place w)
+write_made p (cut stack n) img = with_stacks img (with_cut img.stacks stack n)
+write_made p (push stack w) img = with_stacks img (with_push img.stacks stack w)
+write_made p (registers r) img = with_registers img p r
+write_made p (open_row n count counted) img = with_rows img (opened_at img.rows n (zero_row count counted))
+write_made p (write_row n at w) img = with_rows img (with_row_word img.rows n at w)
+write_made p (close_row n) img = with_rows img (closed_at img.rows n)
+write_made p (open_event place) img = with_events img (event_opened place img.events)
+write_made p (close_events stack at) img = with_events img (closed_from stack at img.events)
+write_made p (event_deed x place) img = with_deed (deed_at x p place img.events) place p img
+write_made p (wait_any places) img = record img {
   events = joined_all places p img.events;
   lists = with_list img.lists p places;
   states = set_numbered img.states p WaitsAny;
 }
-written p go_on img = record img { numbers = set_numbered img.numbers p 0 }
-written p (line bytes) img = record img { output = img.output ++ bytes ∷ [] }
-written p (start r words) img = record img {
+write_made p go_on img = record img { numbers = set_numbered img.numbers p 0 }
+write_made p (line bytes) img = record img { output = img.output ++ bytes ∷ [] }
+write_made p (start r words) img = record img {
   stacks = opened_at img.stacks r.stack words;
   regs = img.regs ++ r ∷ [];
   states = img.states ++ Able ∷ [];
   numbers = img.numbers ++ 0 ∷ [];
   started = img.started + 1;
 }
-written p (end_process stack) img = with_states (with_stacks img (closed_at img.stacks stack)) (set_numbered img.states p Ended)
+write_made p (end_process stack) img = with_states (with_stacks img (closed_at img.stacks stack)) (set_numbered img.states p Ended)

@@ -12,21 +12,21 @@ use Rattle.b67_schedule.specs.declared.reading.Given.{Given}
 use Rattle.b67_told.specs.declared.TheConstants.{MOST_TEXT_BYTES}
 use Rattle.b67_told.specs.declared.Outcome.{Outcome}
 use Rattle.b67_told.specs.declared.Told.{Told}
-use Rattle.b67_told.specs.Telling.{outcomes_in, IsTold, AreDifferent}
+use Rattle.b67_told.specs.Telling.{outcomes_in, OutcomeIsTold, AreDifferent}
 use Rattle.b67_told.specs.Texts.{told_text, told_texts}
 use Rattle.b67_outcomes.specs.declared.found.State.{State}
 use Rattle.b67_outcomes.specs.declared.found.Limit.{Limit}
 use Rattle.b67_outcomes.specs.declared.found.Found.{Found}
 use Rattle.b67_teller.specs.declared.book.Book.{Book}
 use Rattle.b67_teller.specs.Following.{IsLong}
-use Rattle.b67_teller.specs.Books.{IsConfirmed, IsTooLong, IsFull, IsBook, HasOther, Grows, IsAdded, IsStateTold, IsLimitTold, AreLimitsTold}
+use Rattle.b67_teller.specs.Books.{IsConfirmed, IsTooLong, IsFull, IsBook, HasOther, BookGrows, IsAdded, IsStateTold, IsLimitTold, AreLimitsTold}
 
 -- ---- what was told
 
-pub grows_none : (b : Book) → Grows b b
+pub grows_none : (b : Book) → BookGrows b b
 grows_none b = record { more = []; told = sym (append-nil b.told.items); cut = λ e. e }
 
-pub grows_more : (a b c : Book) → Grows a b → Grows b c → Grows a c
+pub grows_more : (a b c : Book) → BookGrows a b → BookGrows b c → BookGrows a c
 grows_more a b c g h =
     record {
       more = g.more ++ h.more;
@@ -34,16 +34,16 @@ grows_more a b c g h =
       cut = λ e. g.cut (h.cut e);
     }
 
-pub told_stays : (a b : Book) (o : Outcome) → Grows a b → IsTold a.told.items o → IsTold b.told.items o
+pub told_stays : (a b : Book) (o : Outcome) → BookGrows a b → OutcomeIsTold a.told.items o → OutcomeIsTold b.told.items o
 told_stays a b o g t =
-    subst (λ (z : List Told). IsTold z o) (sym g.told)
+    subst (λ (z : List Told). OutcomeIsTold z o) (sym g.told)
     (subst (λ (z : List Outcome). Contains z o) (sym (map-append (λ (x : Told). x.outcome) a.told.items g.more))
     (Contains-append_left (outcomes_in a.told.items) (outcomes_in g.more) o t))
 
-pub state_stays : (code : Code) (found : Found) (a b : Book) (number : ℕ) → Grows a b → IsStateTold code found a.told.items number → IsStateTold code found b.told.items number
+pub state_stays : (code : Code) (found : Found) (a b : Book) (number : ℕ) → BookGrows a b → IsStateTold code found a.told.items number → IsStateTold code found b.told.items number
 state_stays code found a b number g t = λ h img e is leads there. told_stays a b _ g (t h img e is leads there)
 
-pub limits_stay : (code : Code) (found : Found) (a b : Book) (to : ℕ) → Grows a b → AreLimitsTold code found a.told.items to → AreLimitsTold code found b.told.items to
+pub limits_stay : (code : Code) (found : Found) (a b : Book) (to : ℕ) → BookGrows a b → AreLimitsTold code found a.told.items to → AreLimitsTold code found b.told.items to
 limits_stay code found a b to g t = λ k l below there h img quiet is leads stops. told_stays a b _ g (t k l below there h img quiet is leads stops)
 
 pub limits_next : (code : Code) (found : Found) (told : List Told) (at : ℕ) (l : Limit) → slice_get found.limits.items at ≡ Some l → AreLimitsTold code found told at
@@ -60,7 +60,7 @@ limits_next code found told at l there before here k m below is = by (cases_lt k
 abbrev pub AreStatesTold : Code → Found → List Told → ℕ → Type 0
 AreStatesTold code found told to = (k : ℕ) (s : State) → k < to → slice_get found.states.items k ≡ Some s → IsStateTold code found told s.number
 
-pub states_stay : (code : Code) (found : Found) (a b : Book) (to : ℕ) → Grows a b → AreStatesTold code found a.told.items to → AreStatesTold code found b.told.items to
+pub states_stay : (code : Code) (found : Found) (a b : Book) (to : ℕ) → BookGrows a b → AreStatesTold code found a.told.items to → AreStatesTold code found b.told.items to
 states_stay code found a b to g before k s below there = state_stays code found a b s.number g (before k s below there)
 
 pub states_next : (code : Code) (found : Found) (told : List Told) (at : ℕ) (s : State) → slice_get found.states.items at ≡ Some s → AreStatesTold code found told at
@@ -88,7 +88,7 @@ push_cases (w ∷ xs) x y (suc k) e = by (push_cases xs x y k e)
     by (inl f) = inl f
     by (inr f) = let same = f.0 in inr (omega (arith, same), f.1)
 
-contained : (told : List Told) (k : ℕ) (y : Told) → slice_get told k ≡ Some y → IsTold told y.outcome
+contained : (told : List Told) (k : ℕ) (y : Told) → slice_get told k ≡ Some y → OutcomeIsTold told y.outcome
 contained [] k y e = absurd (none-some y e)
 contained (z ∷ told) zero y e = (0, omega arith, ap (λ (x : Told). x.outcome) (same_Some z y e))
 contained (z ∷ told) (suc k) y e = let c = contained told k y e in (suc c.0, let within = c.1 in omega (arith, within), c.2)
@@ -118,7 +118,7 @@ module _ (E : Code → Given → Outcome → Type 0) (code : Code) where
         cause = λ e. subst (λ (z : List Told). IsTooLong code z ⊎ IsFull E code z) (sym told) cause;
       }
 
-  pub left_out : (old new : Book) (x : Told) → IsBook E code old → IsConfirmed E code x → (IsTold old.told.items x.outcome → ⊥)
+  pub left_out : (old new : Book) (x : Told) → IsBook E code old → IsConfirmed E code x → (OutcomeIsTold old.told.items x.outcome → ⊥)
       → IsAdded old.told.items old.text.items x new.told.items new.text.items false → IsBook E code new
   left_out old new x b confirmed other a =
       let long = a.2 in
@@ -131,7 +131,7 @@ module _ (E : Code → Given → Outcome → Type 0) (code : Code) where
       book_cut old new b told text (inl (record { schedule = schedule; outcome = h.outcome; has = h.has; other = h.other; long = long }))
 
   pub book_added : (old new : Book) (x : Told) → IsBook E code old → new.told.items ≡ old.told.items ++ x ∷ [] → new.text.items ≡ old.text.items ++ told_text x
-      → length new.text.items ≤ MOST_TEXT_BYTES → new.cut ≡ false → IsConfirmed E code x → (IsTold old.told.items x.outcome → ⊥) → IsBook E code new
+      → length new.text.items ≤ MOST_TEXT_BYTES → new.cut ≡ false → IsConfirmed E code x → (OutcomeIsTold old.told.items x.outcome → ⊥) → IsBook E code new
   book_added old new x b told text short cut confirmed other =
       record {
         confirmed = subst (λ (z : List Told). All (IsConfirmed E code) z) (sym told) (All-push (IsConfirmed E code) old.told.items x b.confirmed confirmed);
@@ -151,16 +151,16 @@ module _ (E : Code → Given → Outcome → Type 0) (code : Code) where
       differ j k y z less (inr f) (inl g) = let within = slice_get_within old.told.items k z g in let at = f.0 in absurd (omega (arith, less, within, at))
       differ j k y z less (inr f) (inr g) = let at = f.0 in let also = g.0 in absurd (omega (arith, less, at, also))
       differ j k y z less (inl f) (inr g) = λ same.
-          other (subst (λ (o : Outcome). IsTold old.told.items o) (same ∙ sym (ap (λ (w : Told). w.outcome) g.1)) (contained old.told.items j y f))
+          other (subst (λ (o : Outcome). OutcomeIsTold old.told.items o) (same ∙ sym (ap (λ (w : Told). w.outcome) g.1)) (contained old.told.items j y f))
 
 -- the one that was added is told
-pub now_told : (told new : List Told) (x : Told) → new ≡ told ++ x ∷ [] → IsTold new x.outcome
+pub now_told : (told new : List Told) (x : Told) → new ≡ told ++ x ∷ [] → OutcomeIsTold new x.outcome
 now_told told new x same =
-    subst (λ (z : List Told). IsTold z x.outcome) (sym same)
+    subst (λ (z : List Told). OutcomeIsTold z x.outcome) (sym same)
     (subst (λ (z : List Outcome). Contains z x.outcome) (sym (map-append (λ (y : Told). y.outcome) told (x ∷ []))) (Contains-push (outcomes_in told) x.outcome))
 
-pub added_grows : (old new : Book) (x : Told) → new.told.items ≡ old.told.items ++ x ∷ [] → new.cut ≡ old.cut → Grows old new
+pub added_grows : (old new : Book) (x : Told) → new.told.items ≡ old.told.items ++ x ∷ [] → new.cut ≡ old.cut → BookGrows old new
 added_grows old new x told cut = record { more = x ∷ []; told = told; cut = λ e. sym cut ∙ e }
 
-pub same_grows : (old new : Book) → new.told.items ≡ old.told.items → (new.cut ≡ false → old.cut ≡ false) → Grows old new
+pub same_grows : (old new : Book) → new.told.items ≡ old.told.items → (new.cut ≡ false → old.cut ≡ false) → BookGrows old new
 same_grows old new told cut = record { more = []; told = told ∙ sym (append-nil old.told.items); cut = cut }

@@ -9,11 +9,11 @@ use Rattle.b67_table.specs.Image.{Image}
 use Rattle.b67_table.specs.Ending.{ImageEnd, image_end, may_act}
 use Rattle.b67_table.specs.Ending as machine
 use Rattle.b67_table.specs.Table.{length_in}
-use Rattle.b67_table.specs.Runs.{Entry, Runs, entry}
+use Rattle.b67_table.specs.Runs.{RunEntry, Runs, entry}
 use Rattle.b67_report.specs.declared.EndWords.{EndWords}
 use Rattle.b67_report.specs.declared.EndWords.TheVariants as ends
 use Rattle.b67_told.specs.declared.Outcome.{Outcome}
-use Rattle.b67_outcomes.specs.Entering.{Stops, LeadsTo}
+use Rattle.b67_outcomes.specs.Entering.{Stops, HistoryLeadsTo}
 use Rattle.b67_outcomes.proofs.Determined.{led_one, no_entry, stops_one}
 use Rattle.b67_teller.specs.Following.{IsOutcomeEnd, image_words, ended_outcome, stopped_outcome, IsLong, NextStops, NextIsIllegal, EndsBy, Followed, FollowsOnly}
 
@@ -24,8 +24,8 @@ pub record EntryIn (code : Code) (p : ℕ) (h : List ℕ) : Type 0 where
   pub from : Image
   pub to : Image
   pub count : ℕ
-  pub before : LeadsTo code h from
-  pub is : Entry code p from count to
+  pub before : HistoryLeadsTo code h from
+  pub is : RunEntry code p from count to
 
 entry_in : (code : Code) (xs : List ℕ) (p : ℕ) (h counts : List ℕ) (img : Image) → Runs code (xs ++ p ∷ h) counts img → EntryIn code p h
 entry_in code [] p h counts img (entry {counts = c} {a = a} {n = n} r e) = record { from = a; to = img; count = n; before = (c, r); is = e }
@@ -67,26 +67,26 @@ outcome_is o output end e f = ap₂ (λ (x : List (List ℕ)) (y : EndWords). re
 
 -- ---- to an end
 
-module _ (code : Code) (history : List ℕ) (img : Image) (leads : LeadsTo code history img) where
+module _ (code : Code) (history : List ℕ) (img : Image) (leads : HistoryLeadsTo code history img) where
   -- all entries were performed
   all_done : (o : Outcome) (f : Followed code (reverse history) o) → f.left ≡ [] → f.image ≡ img
   all_done o f none =
       led_one code history f.image img
-      (subst (λ (h : List ℕ). LeadsTo code h f.image) (back_all history f.done (f.split ∙ ap (λ (z : List ℕ). f.done ++ z) none)) f.leads) leads
+      (subst (λ (h : List ℕ). HistoryLeadsTo code h f.image) (back_all history f.done (f.split ∙ ap (λ (z : List ℕ). f.done ++ z) none)) f.leads) leads
 
   -- the next entry can be performed
-  next_goes : (o : Outcome) (f : Followed code (reverse history) o) (q : ℕ) (left : List ℕ) → f.left ≡ q ∷ left → (n : ℕ) × (b : Image) × Entry code q f.image n b
+  next_goes : (o : Outcome) (f : Followed code (reverse history) o) (q : ℕ) (left : List ℕ) → f.left ≡ q ∷ left → (n : ℕ) × (b : Image) × RunEntry code q f.image n b
   next_goes o f q left e =
       let x =
       entry_in code (reverse left) q (reverse f.done) leads.0 img
       (subst (λ (h : List ℕ). Runs code h leads.0 img) (back_next history f.done q left (f.split ∙ ap (λ (z : List ℕ). f.done ++ z) e)) leads.1) in
-      (x.count, x.to, subst (λ (z : Image). Entry code q z x.count x.to) (led_one code (reverse f.done) x.from f.image x.before f.leads) x.is)
+      (x.count, x.to, subst (λ (z : Image). RunEntry code q z x.count x.to) (led_one code (reverse f.done) x.from f.image x.before f.leads) x.is)
 
   not_stopped : (o : Outcome) (f : Followed code (reverse history) o) (p words : ℕ) (A : Type 0) (left : List ℕ) → f.left ≡ left → NextStops code left f.image p words → A
   not_stopped o f p words A [] e s = absurd s
   not_stopped o f p words A (q ∷ left) e s =
       let x = next_goes o f q left e in
-      no_entry code p f.image s.1 x.1 x.0 A s.2 (subst (λ (z : ℕ). Entry code z f.image x.0 x.1) s.0 x.2)
+      no_entry code p f.image s.1 x.1 x.0 A s.2 (subst (λ (z : ℕ). RunEntry code z f.image x.0 x.1) s.0 x.2)
 
   not_illegal : (o : Outcome) (f : Followed code (reverse history) o) (A : Type 0) (left : List ℕ) → f.left ≡ left → NextIsIllegal left f.image → A
   not_illegal o f A [] e s = absurd s
@@ -111,7 +111,7 @@ module _ (code : Code) (history : List ℕ) (img : Image) (leads : LeadsTo code 
     by_end (ends.Illegal number) is x = not_illegal o f _ f.left refl x
     by_end (ends.Differs number) is x = absurd x
 
-pub ended_only : (code : Code) (history : List ℕ) (img : Image) (e : ImageEnd) → LeadsTo code history img → image_end img ≡ Some e
+pub ended_only : (code : Code) (history : List ℕ) (img : Image) (e : ImageEnd) → HistoryLeadsTo code history img → image_end img ≡ Some e
     → FollowsOnly code (reverse history) (ended_outcome img e)
 ended_only code history img e leads there o f = by_end code history img leads e there o f o.end refl f.ends_by
 
@@ -122,25 +122,25 @@ own_end machine.all_waiting = tt
 
 -- ---- to the stack limit
 
-module _ (code : Code) (history : List ℕ) (p : ℕ) (img quiet : Image) (leads : LeadsTo code history img) (may : may_act img p ≡ true) (stops : Stops code p img quiet) where
+module _ (code : Code) (history : List ℕ) (p : ℕ) (img quiet : Image) (leads : HistoryLeadsTo code history img) (may : may_act img p ≡ true) (stops : Stops code p img quiet) where
   -- not all entries were performed
   not_all : (o : Outcome) (f : Followed code (reverse (p ∷ history)) o) (A : Type 0) → f.left ≡ [] → A
   not_all o f A none =
-      let all = subst (λ (h : List ℕ). LeadsTo code h f.image) (back_all (p ∷ history) f.done (f.split ∙ ap (λ (z : List ℕ). f.done ++ z) none)) f.leads in
+      let all = subst (λ (h : List ℕ). HistoryLeadsTo code h f.image) (back_all (p ∷ history) f.done (f.split ∙ ap (λ (z : List ℕ). f.done ++ z) none)) f.leads in
       let x = entry_in code [] p history all.0 f.image all.1 in
-      no_entry code p img quiet x.to x.count A stops (subst (λ (z : Image). Entry code p z x.count x.to) (led_one code history x.from img x.before leads) x.is)
+      no_entry code p img quiet x.to x.count A stops (subst (λ (z : Image). RunEntry code p z x.count x.to) (led_one code history x.from img x.before leads) x.is)
 
   -- the next entry is the one that comes to the limit, or it can be performed
   next_is : (o : Outcome) (f : Followed code (reverse (p ∷ history)) o) (q : ℕ) (left : List ℕ) → f.left ≡ q ∷ left
-      → ((p ≡ q) × (f.image ≡ img)) ⊎ ((n : ℕ) × (b : Image) × Entry code q f.image n b)
+      → ((p ≡ q) × (f.image ≡ img)) ⊎ ((n : ℕ) × (b : Image) × RunEntry code q f.image n b)
   next_is o f q left e = by (last_or p history (reverse left) q (reverse f.done) (back_next (p ∷ history) f.done q left (f.split ∙ ap (λ (z : List ℕ). f.done ++ z) e)))
     where
       by : ((p ≡ q) × (history ≡ reverse f.done)) ⊎ ((ys : List ℕ) × (history ≡ ys ++ q ∷ reverse f.done))
-          → ((p ≡ q) × (f.image ≡ img)) ⊎ ((n : ℕ) × (b : Image) × Entry code q f.image n b)
-      by (inl x) = inl (x.0, led_one code history f.image img (subst (λ (h : List ℕ). LeadsTo code h f.image) (sym x.1) f.leads) leads)
+          → ((p ≡ q) × (f.image ≡ img)) ⊎ ((n : ℕ) × (b : Image) × RunEntry code q f.image n b)
+      by (inl x) = inl (x.0, led_one code history f.image img (subst (λ (h : List ℕ). HistoryLeadsTo code h f.image) (sym x.1) f.leads) leads)
       by (inr x) =
           let y = entry_in code x.0 q (reverse f.done) leads.0 img (subst (λ (h : List ℕ). Runs code h leads.0 img) x.1 leads.1) in
-          inr (y.count, y.to, subst (λ (z : Image). Entry code q z y.count y.to) (led_one code (reverse f.done) y.from f.image y.before f.leads) y.is)
+          inr (y.count, y.to, subst (λ (z : Image). RunEntry code q z y.count y.to) (led_one code (reverse f.done) y.from f.image y.before f.leads) y.is)
 
   module _ (o : Outcome) (f : Followed code (reverse (p ∷ history)) o) where
     -- it came to the limit there, in the same image
@@ -156,15 +156,15 @@ module _ (code : Code) (history : List ℕ) (p : ℕ) (img quiet : Image) (leads
     by_next r words is [] e s = absurd s
     by_next r words is (q ∷ left) e s = by (next_is o f q left e)
       where
-        by : ((p ≡ q) × (f.image ≡ img)) ⊎ ((n : ℕ) × (b : Image) × Entry code q f.image n b) → o ≡ stopped_outcome img p quiet
+        by : ((p ≡ q) × (f.image ≡ img)) ⊎ ((n : ℕ) × (b : Image) × RunEntry code q f.image n b) → o ≡ stopped_outcome img p quiet
         by (inl x) = as_stopped r words s.1 is (x.0 ∙ s.0) x.1 s.2 s.3
-        by (inr x) = no_entry code r f.image s.1 x.1 x.0 _ s.2 (subst (λ (z : ℕ). Entry code z f.image x.0 x.1) s.0 x.2)
+        by (inr x) = no_entry code r f.image s.1 x.1 x.0 _ s.2 (subst (λ (z : ℕ). RunEntry code z f.image x.0 x.1) s.0 x.2)
 
     not_forbidden : (A : Type 0) (left : List ℕ) → f.left ≡ left → NextIsIllegal left f.image → A
     not_forbidden A [] e s = absurd s
     not_forbidden A (q ∷ left) e s = by (next_is o f q left e)
       where
-        by : ((p ≡ q) × (f.image ≡ img)) ⊎ ((n : ℕ) × (b : Image) × Entry code q f.image n b) → A
+        by : ((p ≡ q) × (f.image ≡ img)) ⊎ ((n : ℕ) × (b : Image) × RunEntry code q f.image n b) → A
         by (inl x) = absurd (true≢false (sym may ∙ ap₂ (λ (z : Image) (y : ℕ). may_act z y) (sym x.1) x.0 ∙ s))
         by (inr x) = absurd (true≢false (sym x.2.may ∙ s))
 
@@ -179,6 +179,6 @@ module _ (code : Code) (history : List ℕ) (p : ℕ) (img quiet : Image) (leads
     by_stop (ends.Illegal number) is x = not_forbidden _ f.left refl x
     by_stop (ends.Differs number) is x = absurd x
 
-pub stopped_only : (code : Code) (history : List ℕ) (p : ℕ) (img quiet : Image) → LeadsTo code history img → may_act img p ≡ true → Stops code p img quiet
+pub stopped_only : (code : Code) (history : List ℕ) (p : ℕ) (img quiet : Image) → HistoryLeadsTo code history img → may_act img p ≡ true → Stops code p img quiet
     → FollowsOnly code (reverse (p ∷ history)) (stopped_outcome img p quiet)
 stopped_only code history p img quiet leads may stops o f = by_stop code history p img quiet leads may stops o f o.end refl f.ends_by

@@ -8,16 +8,16 @@ use Rattle.b67_table.specs.Image.{Image}
 use Rattle.b67_table.specs.Ending.{ImageEnd, image_end, may_act}
 use Rattle.b67_table.specs.Table.{length_in}
 use Rattle.b67_table.specs.Runs.{Runs, entry}
-use Rattle.b67_schedule.specs.Schedules.{most}
+use Rattle.b67_schedule.specs.Schedules.{most_in_schedule}
 use Rattle.b67_report.specs.declared.EndWords.{EndWords}
 use Rattle.b67_report.specs.declared.EndWords.TheVariants as ends
 use Rattle.b67_told.specs.declared.Outcome.{Outcome}
 use Rattle.b67_told.specs.declared.Told.{Told}
-use Rattle.b67_told.specs.Telling.{IsTold}
+use Rattle.b67_told.specs.Telling.{OutcomeIsTold}
 use Rattle.b67_outcomes.specs.declared.found.Step.{Step}
 use Rattle.b67_outcomes.specs.declared.found.Limit.{Limit}
 use Rattle.b67_outcomes.specs.declared.found.Found.{Found}
-use Rattle.b67_outcomes.specs.Entering.{Stops, LeadsTo}
+use Rattle.b67_outcomes.specs.Entering.{Stops, HistoryLeadsTo}
 use Rattle.b67_outcomes.specs.Finding.{History, AreLed, IsStop}
 use Rattle.b67_outcomes.proofs.Determined.{led_one, stops_one}
 use Rattle.b67_outcomes.proofs.Histories.{history_one, history_short, history_within, last_step}
@@ -31,13 +31,13 @@ ok_map (Err e) P Q f x = x
 
 -- what is told of a slice is told
 pub told_here : {slice told : List Told} {shown output : List (List ℕ)} {end : EndWords} → slice ≡ told → shown ≡ output
-    → IsTold slice (record { output = shown; end = end }) → IsTold told (record { output = output; end = end })
+    → OutcomeIsTold slice (record { output = shown; end = end }) → OutcomeIsTold told (record { output = output; end = end })
 told_here {slice} {told} {shown} {output} {end} same lines t =
-    subst (λ (y : List (List ℕ)). IsTold told (record { output = y; end = end })) lines
-    (subst (λ (z : List Told). IsTold z (record { output = shown; end = end })) same t)
+    subst (λ (y : List (List ℕ)). OutcomeIsTold told (record { output = y; end = end })) lines
+    (subst (λ (z : List Told). OutcomeIsTold z (record { output = shown; end = end })) same t)
 
 pub told_back : {slice told : List Told} {shown output : List (List ℕ)} {end : EndWords} → slice ≡ told → shown ≡ output
-    → IsTold told (record { output = output; end = end }) → IsTold slice (record { output = shown; end = end })
+    → OutcomeIsTold told (record { output = output; end = end }) → OutcomeIsTold slice (record { output = shown; end = end })
 told_back {slice} {told} {shown} {output} {end} same lines t = told_here (sym same) (sym lines) t
 
 -- ---- states
@@ -51,10 +51,10 @@ end_is : (o : Option ImageEnd) (end : EndWords) → words_of_image o ≡ Some en
 end_is None end x = absurd (none-some end x)
 end_is (Some e) end x = (e, refl, same_Some (image_words e) end x)
 
-module _ (code : Code) (found : Found) (told : List Told) (number : ℕ) (h : List ℕ) (here : Image) (is : History found.steps.items number h) (leads : LeadsTo code h here) where
-  one_image : (g : List ℕ) (img : Image) → History found.steps.items number g → LeadsTo code g img → img ≡ here
+module _ (code : Code) (found : Found) (told : List Told) (number : ℕ) (h : List ℕ) (here : Image) (is : History found.steps.items number h) (leads : HistoryLeadsTo code h here) where
+  one_image : (g : List ℕ) (img : Image) → History found.steps.items number g → HistoryLeadsTo code g img → img ≡ here
   one_image g img also l =
-      led_one code h img here (subst (λ (z : List ℕ). LeadsTo code z img) (history_one found.steps.items number g h also is) l) leads
+      led_one code h img here (subst (λ (z : List ℕ). HistoryLeadsTo code z img) (history_one found.steps.items number g h also is) l) leads
 
   -- it has no end
   pub no_outcome : words_of_image (image_end here) ≡ None → IsStateTold code found told number
@@ -62,12 +62,12 @@ module _ (code : Code) (found : Found) (told : List Told) (number : ℕ) (h : Li
       absurd (none-some (image_words e) (sym goes ∙ ap (λ (i : Image). words_of_image (image_end i)) (sym (one_image g img also l)) ∙ ap words_of_image there))
 
   -- its outcome is told
-  pub state_told : (end : EndWords) → words_of_image (image_end here) ≡ Some end → IsTold told (record { output = here.output; end = end }) → IsStateTold code found told number
+  pub state_told : (end : EndWords) → words_of_image (image_end here) ≡ Some end → OutcomeIsTold told (record { output = here.output; end = end }) → IsStateTold code found told number
   state_told end ended t g img e also l there =
       let same = one_image g img also l in
       let one : image_words e ≡ end =
       same_Some (image_words e) end (ap words_of_image (sym there) ∙ ap (λ (i : Image). words_of_image (image_end i)) same ∙ ended) in
-      subst (λ (o : Outcome). IsTold told o)
+      subst (λ (o : Outcome). OutcomeIsTold told o)
       (ap₂ (λ (x : List (List ℕ)) (y : EndWords). record { output = x; end = y }) (ap (λ (i : Image). i.output) (sym same)) (sym one)) t
 
   pub state_settled : (o : Option EndWords) → words_of_image (image_end here) ≡ o → IsSettled told here.output o → IsStateTold code found told number
@@ -75,7 +75,7 @@ module _ (code : Code) (found : Found) (told : List Told) (number : ℕ) (h : Li
   state_settled (Some end) ended t = state_told end ended t
 
 -- its schedule has that outcome
-pub state_has : (code : Code) (h schedule : List ℕ) (here : Image) (end : EndWords) → schedule ≡ reverse h → LeadsTo code h here → words_of_image (image_end here) ≡ Some end
+pub state_has : (code : Code) (h schedule : List ℕ) (here : Image) (end : EndWords) → schedule ≡ reverse h → HistoryLeadsTo code h here → words_of_image (image_end here) ≡ Some end
     → HasOutcome code schedule (record { output = here.output; end = end })
 state_has code h schedule here end same leads ended =
     let e = end_is (image_end here) end ended in
@@ -90,7 +90,7 @@ state_has code h schedule here end same leads ended =
     })
 
 -- and another one than those that are told
-pub state_other : (code : Code) (told : List Told) (h schedule : List ℕ) (here : Image) (o : Option EndWords) → schedule ≡ reverse h → LeadsTo code h here
+pub state_other : (code : Code) (told : List Told) (h schedule : List ℕ) (here : Image) (o : Option EndWords) → schedule ≡ reverse h → HistoryLeadsTo code h here
     → words_of_image (image_end here) ≡ o → IsOpen told here.output o → HasOther code schedule told
 state_other code told h schedule here None same leads ended other = absurd other
 state_other code told h schedule here (Some end) same leads ended other =
@@ -116,37 +116,37 @@ limit_has code steps l history schedule is same s =
     })
 
 -- it is that of the image before it and of so many words
-pub limit_shown : (code : Code) (steps : List Step) (l : Limit) (h : List ℕ) (here : Image) (words : ℕ) (s : IsStop code steps l) → History steps l.state h → LeadsTo code h here
+pub limit_shown : (code : Code) (steps : List Step) (l : Limit) (h : List ℕ) (here : Image) (words : ℕ) (s : IsStop code steps l) → History steps l.state h → HistoryLeadsTo code h here
     → words ≡ length_in (numbered s.quiet.regs l.process)
     → record { output = here.output; end = ends.StackLimit l.process words } ≡ stopped_outcome s.image l.process s.quiet
 limit_shown code steps l h here words s is leads has =
-    let same = led_one code h s.image here (subst (λ (z : List ℕ). LeadsTo code z s.image) (history_one steps l.state s.history h s.is is) s.leads) leads in
+    let same = led_one code h s.image here (subst (λ (z : List ℕ). HistoryLeadsTo code z s.image) (history_one steps l.state s.history h s.is is) s.leads) leads in
     ap₂ (λ (x : List (List ℕ)) (y : ℕ). record { output = x; end = ends.StackLimit l.process y }) (ap (λ (i : Image). i.output) (sym same)) has
 
 -- its outcome is told
-pub limit_told : (code : Code) (found : Found) (told : List Told) (l : Limit) (s : IsStop code found.steps.items l) → IsTold told (stopped_outcome s.image l.process s.quiet)
+pub limit_told : (code : Code) (found : Found) (told : List Told) (l : Limit) (s : IsStop code found.steps.items l) → OutcomeIsTold told (stopped_outcome s.image l.process s.quiet)
     → IsLimitTold code found told l
 limit_told code found told l s t g img quiet is leads stops =
     let same : img ≡ s.image =
-    led_one code s.history img s.image (subst (λ (z : List ℕ). LeadsTo code z img) (history_one found.steps.items l.state g s.history is s.is) leads) s.leads in
+    led_one code s.history img s.image (subst (λ (z : List ℕ). HistoryLeadsTo code z img) (history_one found.steps.items l.state g s.history is s.is) leads) s.leads in
     let one : quiet ≡ s.quiet = stops_one code l.process s.image quiet s.quiet (subst (λ (x : Image). Stops code l.process x quiet) same stops) s.stops in
-    subst (λ (o : Outcome). IsTold told o) (ap₂ (λ (x y : Image). stopped_outcome x l.process y) (sym same) (sym one)) t
+    subst (λ (o : Outcome). OutcomeIsTold told o) (ap₂ (λ (x y : Image). stopped_outcome x l.process y) (sym same) (sym one)) t
 
 -- the process may act where it was noted
-pub limit_may : (code : Code) (steps : List Step) (l : Limit) (h : List ℕ) (here : Image) → IsStop code steps l → History steps l.state h → LeadsTo code h here
+pub limit_may : (code : Code) (steps : List Step) (l : Limit) (h : List ℕ) (here : Image) → IsStop code steps l → History steps l.state h → HistoryLeadsTo code h here
     → may_act here l.process ≡ true
 limit_may code steps l h here s is leads =
     subst (λ (x : Image). may_act x l.process ≡ true)
-    (led_one code h s.image here (subst (λ (z : List ℕ). LeadsTo code z s.image) (history_one steps l.state s.history h s.is is) s.leads) leads) s.may
+    (led_one code h s.image here (subst (λ (z : List ℕ). HistoryLeadsTo code z s.image) (history_one steps l.state s.history h s.is is) s.leads) leads) s.may
 
-pub short_with : (steps : List Step) (l : Limit) (history : List ℕ) → IsHistoryWith steps l history → length steps < most → length history ≤ most
+pub short_with : (steps : List Step) (l : Limit) (history : List ℕ) → IsHistoryWith steps l history → length steps < most_in_schedule → length history ≤ most_in_schedule
 short_with steps l history is few =
     let short = history_short steps l.state is.0 is.1 in
     let within = history_within steps l.state is.0 is.1 in
     let size = ap (λ (z : List ℕ). length z) is.2 in
     omega (arith, short, within, size, few)
 
-pub short_of : (steps : List Step) (number : ℕ) (history : List ℕ) → History steps number history → length steps < most → length history ≤ most
+pub short_of : (steps : List Step) (number : ℕ) (history : List ℕ) → History steps number history → length steps < most_in_schedule → length history ≤ most_in_schedule
 short_of steps number history is few =
     let short = history_short steps number history is in
     let within = history_within steps number history is in
@@ -167,7 +167,7 @@ followed_told code found told number k step led there before = λ history img e 
     by history img e leads ends last.step.process more.leads.0
     (subst (λ (h : List ℕ). Runs code h more.leads.0 more.image) (last.is ∙ ap (λ (h : List ℕ). last.step.process ∷ h) history_is) more.leads.1)
   where
-    by : (history : List ℕ) (img : Image) (e : ImageEnd) → LeadsTo code history img → image_end img ≡ Some e → (p : ℕ) (counts : List ℕ)
-        → {to : Image} → Runs code (p ∷ history) counts to → IsTold told (ended_outcome img e)
+    by : (history : List ℕ) (img : Image) (e : ImageEnd) → HistoryLeadsTo code history img → image_end img ≡ Some e → (p : ℕ) (counts : List ℕ)
+        → {to : Image} → Runs code (p ∷ history) counts to → OutcomeIsTold told (ended_outcome img e)
     by history img e leads ends p counts (entry {counts = c} {a = a} r x) =
         not_ended img p e _ (subst (λ (i : Image). may_act i p ≡ true) (led_one code history a img (c, r) leads) x.may) ends

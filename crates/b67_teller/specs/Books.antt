@@ -8,13 +8,13 @@ use Rattle.b67_report.specs.declared.EndWords.{EndWords}
 use Rattle.b67_told.specs.declared.TheConstants.{MOST_TEXT_BYTES}
 use Rattle.b67_told.specs.declared.Outcome.{Outcome}
 use Rattle.b67_told.specs.declared.Told.{Told}
-use Rattle.b67_told.specs.Telling.{AreDifferent, IsTold}
+use Rattle.b67_told.specs.Telling.{AreDifferent, OutcomeIsTold}
 use Rattle.b67_told.specs.Texts.{told_text, told_texts}
 use Rattle.b67_outcomes.specs.declared.found.Step.{Step}
 use Rattle.b67_outcomes.specs.declared.found.State.{State}
 use Rattle.b67_outcomes.specs.declared.found.Limit.{Limit}
 use Rattle.b67_outcomes.specs.declared.found.Found.{Found}
-use Rattle.b67_outcomes.specs.Entering.{Stops, LeadsTo}
+use Rattle.b67_outcomes.specs.Entering.{Stops, HistoryLeadsTo}
 use Rattle.b67_outcomes.specs.Finding.{History}
 use Rattle.b67_teller.specs.declared.book.Book.{Book}
 use Rattle.b67_teller.specs.Following.{IsLong, HasOutcome, IsOutcomeEnd, ended_outcome, stopped_outcome}
@@ -26,7 +26,7 @@ pub record IsTooLong (code : Code) (told : List Told) : Type 0 where
   pub schedule : List ℕ
   pub outcome : Outcome
   pub has : HasOutcome code schedule outcome
-  pub other : IsTold told outcome → ⊥
+  pub other : OutcomeIsTold told outcome → ⊥
   pub long : IsLong code schedule
 
 module _ (Explained : Code → Given → Outcome → Type 0) (code : Code) where
@@ -39,7 +39,7 @@ module _ (Explained : Code → Given → Outcome → Type 0) (code : Code) where
   pub record IsFull (told : List Told) : Type 0 where
     pub item : Told
     pub confirmed : IsConfirmed item
-    pub other : IsTold told item.outcome → ⊥
+    pub other : OutcomeIsTold told item.outcome → ⊥
     pub long : MOST_TEXT_BYTES < length (told_texts told) + length (told_text item)
 
   -- Each outcome is confirmed, and told once; the text is theirs, and not too long. Where one was left out, its schedule is too long for a
@@ -52,7 +52,7 @@ module _ (Explained : Code → Given → Outcome → Type 0) (code : Code) where
     pub cause : book.cut ≡ true → IsTooLong code book.told.items ⊎ IsFull book.told.items
 
 -- what was told is so still, and what was cut is
-pub record Grows (old new : Book) : Type 0 where
+pub record BookGrows (old new : Book) : Type 0 where
   pub more : List Told
   pub told : new.told.items ≡ old.told.items ++ more
   pub cut : new.cut ≡ false → old.cut ≡ false
@@ -61,7 +61,7 @@ pub record Grows (old new : Book) : Type 0 where
 pub record HasOther (code : Code) (schedule : List ℕ) (told : List Told) : Type 0 where
   pub outcome : Outcome
   pub has : HasOutcome code schedule outcome
-  pub other : IsTold told outcome → ⊥
+  pub other : OutcomeIsTold told outcome → ⊥
 
 -- the outcome is added with its text, or the text would be too long
 abbrev pub IsAdded : List Told → List ℕ → Told → List Told → List ℕ → Bool → Type 0
@@ -71,26 +71,26 @@ IsAdded told text item more longer false = (more ≡ told) × (longer ≡ text) 
 -- there is no end, or this output with it is told
 abbrev pub IsSettled : List Told → List (List ℕ) → Option EndWords → Type 0
 IsSettled told output None = Unit {0}
-IsSettled told output (Some end) = IsTold told (record { output = output; end = end })
+IsSettled told output (Some end) = OutcomeIsTold told (record { output = output; end = end })
 
 -- there is one, and this output with it is not told
 abbrev pub IsOpen : List Told → List (List ℕ) → Option EndWords → Type 0
 IsOpen told output None = ⊥
-IsOpen told output (Some end) = IsTold told (record { output = output; end = end }) → ⊥
+IsOpen told output (Some end) = OutcomeIsTold told (record { output = output; end = end }) → ⊥
 
 -- ---- of what a search has found
 
 -- where the image of the state has an end, its outcome is told
 abbrev pub IsStateTold : Code → Found → List Told → ℕ → Type 0
 IsStateTold code found told number =
-    (history : List ℕ) (img : Image) (e : ImageEnd) → History found.steps.items number history → LeadsTo code history img → image_end img ≡ Some e
-    → IsTold told (ended_outcome img e)
+    (history : List ℕ) (img : Image) (e : ImageEnd) → History found.steps.items number history → HistoryLeadsTo code history img → image_end img ≡ Some e
+    → OutcomeIsTold told (ended_outcome img e)
 
 -- the outcome of the stack limit is told
 abbrev pub IsLimitTold : Code → Found → List Told → Limit → Type 0
 IsLimitTold code found told l =
-    (history : List ℕ) (img quiet : Image) → History found.steps.items l.state history → LeadsTo code history img → Stops code l.process img quiet
-    → IsTold told (stopped_outcome img l.process quiet)
+    (history : List ℕ) (img quiet : Image) → History found.steps.items l.state history → HistoryLeadsTo code history img → Stops code l.process img quiet
+    → OutcomeIsTold told (stopped_outcome img l.process quiet)
 
 -- so it is with those before a place
 abbrev pub AreLimitsTold : Code → Found → List Told → ℕ → Type 0

@@ -11,7 +11,7 @@ use Rattle.b67_table.specs.Runs.{Plains, Runs}
 use Rattle.b67_report.specs.declared.EndWords.{EndWords}
 use Rattle.b67_report.specs.declared.EndWords.TheVariants as ends
 use Rattle.b67_told.specs.declared.Outcome.{Outcome}
-use Rattle.b67_outcomes.specs.Entering.{Stops, LeadsTo}
+use Rattle.b67_outcomes.specs.Entering.{Stops, HistoryLeadsTo}
 
 -- an outcome is the run's own end, or the stack limit
 abbrev pub IsOutcomeEnd : EndWords → Type 0
@@ -93,7 +93,7 @@ pub record Followed (code : Code) (schedule : List ℕ) (o : Outcome) : Type 0 w
   pub left : List ℕ
   pub split : schedule ≡ done ++ left
   pub image : Image
-  pub leads : LeadsTo code (reverse done) image
+  pub leads : HistoryLeadsTo code (reverse done) image
   pub output : o.output ≡ image.output
   pub ends_by : EndsBy code schedule left image o.end
 
@@ -109,7 +109,7 @@ pub record EndsAs (code : Code) (schedule : List ℕ) (o : Outcome) : Type 0 whe
   pub history : List ℕ
   pub order : schedule ≡ reverse history
   pub image : Image
-  pub leads : LeadsTo code history image
+  pub leads : HistoryLeadsTo code history image
   pub end : ImageEnd
   pub ended : image_end image ≡ Some end
   pub is : o ≡ ended_outcome image end
@@ -120,7 +120,7 @@ pub record StopsAs (code : Code) (schedule : List ℕ) (o : Outcome) : Type 0 wh
   pub history : List ℕ
   pub order : schedule ≡ reverse (process ∷ history)
   pub image : Image
-  pub leads : LeadsTo code history image
+  pub leads : HistoryLeadsTo code history image
   pub may : may_act image process ≡ true
   pub quiet : Image
   pub stops : Stops code process image quiet

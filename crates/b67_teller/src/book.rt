@@ -2,9 +2,9 @@
 ghost use Rattle.std.specs.Prelude.{◌≡◌, true, false, IfOk};
 ghost use Rattle.b67_schedule.specs.Giving.{HasRuns, given_entries};
 ghost use Rattle.b67_told.specs.declared.Outcome.{Outcome as TheOutcome};
-ghost use Rattle.b67_told.specs.Telling.{IsOfOne, IsTold};
+ghost use Rattle.b67_told.specs.Telling.{IsOfOne, OutcomeIsTold};
 ghost use Rattle.b67_teller.specs.Following.{HasOutcome};
-ghost use Rattle.b67_teller.specs.Books.{IsBook, Grows, HasOther, IsAdded};
+ghost use Rattle.b67_teller.specs.Books.{IsBook, BookGrows, HasOther, IsAdded};
 
 use crate::Teller;
 use b67_report::EndWords;
@@ -53,9 +53,9 @@ pub fn note<T: Teller>(
     requires book { IsBook T.Explained (T.code teller.old) book.old }
     requires open { book.old.cut ≡ false }
     ensures code { T.code teller.new ≡ T.code teller.old }
-    ensures grows { IfOk result (λ u. Grows book.old book.new) }
+    ensures grows { IfOk result (λ u. BookGrows book.old book.new) }
     ensures book { IfOk result (λ u. IsBook T.Explained (T.code teller.old) book.new) }
-    ensures told { IfOk result (λ u. book.new.cut ≡ false → (o : TheOutcome) → HasOutcome (T.code teller.old) (given_entries given) o → IsTold book.new.told.items o) }
+    ensures told { IfOk result (λ u. book.new.cut ≡ false → (o : TheOutcome) → HasOutcome (T.code teller.old) (given_entries given) o → OutcomeIsTold book.new.told.items o) }
 {
     let outcome = teller.replay(alloc, &given)?;
     if let EndWords::BudgetSpent = outcome.end {

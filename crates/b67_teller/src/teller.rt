@@ -18,7 +18,7 @@ pub trait Teller: Walker {
     ghost use Rattle.b67_schedule.specs.Giving.{HasRuns, given_entries};
     ghost use Rattle.b67_told.specs.declared.Outcome.{Outcome as TheOutcome};
     ghost use Rattle.b67_told.specs.Telling.{IsOfOne};
-    ghost use Rattle.b67_outcomes.specs.Entering.{IsNumber, IsReached, Stops};
+    ghost use Rattle.b67_outcomes.specs.Entering.{IsProcessNumber, IsReached, Stops};
     ghost use Rattle.b67_teller.specs.Following.{Followed, end_words_in};
 
     /// What is known of the code.
@@ -41,7 +41,7 @@ pub trait Teller: Walker {
         requires may { may_act (Self.image self.old) process ≡ true }
         requires reached { IsReached (Self.code self.old) (Self.image self.old) }
         ensures code { Self.code self.new ≡ Self.code self.old }
-        ensures number { IsNumber process }
+        ensures number { IsProcessNumber process }
         ensures words { IfOk result (λ words. (quiet : Image) → Stops (Self.code self.old) process (Self.image self.old) quiet → words ≡ length_in (numbered quiet.regs process)) };
 
     /// Follows a schedule from the beginning under the greatest budget, and says what was printed and how it ended.

@@ -1,13 +1,13 @@
 //! The outcomes of states and of stack limits.
 ghost use Rattle.std.specs.Prelude.{◌≡◌, ◌<◌, ◌≤◌, ◌∷◌, ℕ, true, false, length, slice_get, All, IfOk, Some};
 ghost use Rattle.b67_list.specs.Numbered.{numbered};
-ghost use Rattle.b67_schedule.specs.Schedules.{most};
+ghost use Rattle.b67_schedule.specs.Schedules.{most_in_schedule};
 ghost use Rattle.b67_table.specs.Image.{Image};
 ghost use Rattle.b67_table.specs.Ending.{may_act};
 ghost use Rattle.b67_table.specs.Table.{length_in};
-ghost use Rattle.b67_outcomes.specs.Entering.{IsNumber, Leads, LeadsTo, Stops};
+ghost use Rattle.b67_outcomes.specs.Entering.{IsProcessNumber, HistoryLeads, HistoryLeadsTo, Stops};
 ghost use Rattle.b67_outcomes.specs.Finding.{AreLed, AreStates, AreStops, IsStop};
-ghost use Rattle.b67_teller.specs.Books.{IsBook, Grows, IsStateTold, IsLimitTold, AreLimitsTold, IsSettled, IsOpen, AreTold};
+ghost use Rattle.b67_teller.specs.Books.{IsBook, BookGrows, IsStateTold, IsLimitTold, AreLimitsTold, IsSettled, IsOpen, AreTold};
 
 use crate::Teller;
 use crate::book::{Book, note};
@@ -59,11 +59,11 @@ fn tell_state<T: Teller>(
 ) -> Result<(), AllocError>
     requires known { T.Known (T.code teller.old) }
     requires led { AreLed (T.code teller.old) found.now.steps.items }
-    requires few { length found.now.steps.items < most }
+    requires few { length found.now.steps.items < most_in_schedule }
     requires there { number ≤ length found.now.steps.items }
     requires book { IsBook T.Explained (T.code teller.old) book.old }
     ensures code { T.code teller.new ≡ T.code teller.old }
-    ensures grows { IfOk result (λ u. Grows book.old book.new) }
+    ensures grows { IfOk result (λ u. BookGrows book.old book.new) }
     ensures book { IfOk result (λ u. IsBook T.Explained (T.code teller.old) book.new) }
     ensures told { IfOk result (λ u. book.new.cut ≡ false → IsStateTold (T.code teller.old) found.now book.new.told.items number) }
 {
@@ -89,13 +89,13 @@ fn tell_state<T: Teller>(
 
 // How many words the stack of the process has where it comes to the stack limit after these entries. The machine stands after them again.
 fn words_at<T: Teller>(teller: &mut T, history: &[u32], process: u32) -> Result<u32, AllocError>
-    requires leads { Leads (T.code teller.old) history.now }
-    requires may { (img : Image) → LeadsTo (T.code teller.old) history.now img → may_act img process ≡ true }
+    requires leads { HistoryLeads (T.code teller.old) history.now }
+    requires may { (img : Image) → HistoryLeadsTo (T.code teller.old) history.now img → may_act img process ≡ true }
     ensures code { T.code teller.new ≡ T.code teller.old }
-    ensures led { IfOk result (λ words. LeadsTo (T.code teller.old) history.now (T.image teller.new)) }
-    ensures numbers { IfOk result (λ words. All IsNumber history.now) }
-    ensures number { IfOk result (λ words. IsNumber process) }
-    ensures words { IfOk result (λ words. (img quiet : Image) → LeadsTo (T.code teller.old) history.now img → Stops (T.code teller.old) process img quiet → words ≡ length_in (numbered quiet.regs process)) }
+    ensures led { IfOk result (λ words. HistoryLeadsTo (T.code teller.old) history.now (T.image teller.new)) }
+    ensures numbers { IfOk result (λ words. All IsProcessNumber history.now) }
+    ensures number { IfOk result (λ words. IsProcessNumber process) }
+    ensures words { IfOk result (λ words. (img quiet : Image) → HistoryLeadsTo (T.code teller.old) history.now img → Stops (T.code teller.old) process img quiet → words ≡ length_in (numbered quiet.regs process)) }
 {
     perform(teller, history)?;
     let words = teller.stop(process)?;
@@ -105,10 +105,10 @@ fn words_at<T: Teller>(teller: &mut T, history: &[u32], process: u32) -> Result<
 
 // The history with one more entry, of the process.
 fn longer(alloc: Global, history: &[u32], process: u32) -> Result<Vec<u32>, AllocError>
-    requires numbers { All IsNumber history.now }
-    requires number { IsNumber process }
+    requires numbers { All IsProcessNumber history.now }
+    requires number { IsProcessNumber process }
     ensures is { IfOk result (λ longer. longer.items ≡ process ∷ history.now) }
-    ensures numbers { IfOk result (λ longer. All IsNumber longer.items) }
+    ensures numbers { IfOk result (λ longer. All IsProcessNumber longer.items) }
 {
     let mut longer = Vec::new(alloc);
     longer.push(process)?;
@@ -126,10 +126,10 @@ fn tell_limit<T: Teller>(
 ) -> Result<(), AllocError>
     requires known { T.Known (T.code teller.old) }
     requires stop { IsStop (T.code teller.old) found.now.steps.items limit }
-    requires few { length found.now.steps.items < most }
+    requires few { length found.now.steps.items < most_in_schedule }
     requires book { IsBook T.Explained (T.code teller.old) book.old }
     ensures code { T.code teller.new ≡ T.code teller.old }
-    ensures grows { IfOk result (λ u. Grows book.old book.new) }
+    ensures grows { IfOk result (λ u. BookGrows book.old book.new) }
     ensures book { IfOk result (λ u. IsBook T.Explained (T.code teller.old) book.new) }
     ensures told { IfOk result (λ u. book.new.cut ≡ false → IsLimitTold (T.code teller.old) found.now book.new.told.items limit) }
 {
@@ -165,13 +165,13 @@ fn tell_limits<T: Teller>(
 ) -> Result<(), AllocError>
     requires known { T.Known (T.code teller.old) }
     requires stops { AreStops (T.code teller.old) found.now.steps.items found.now.limits.items }
-    requires few { length found.now.steps.items < most }
+    requires few { length found.now.steps.items < most_in_schedule }
     requires order { from ≤ to }
     requires within { to ≤ length found.now.limits.items }
     requires book { IsBook T.Explained (T.code teller.old) book.old }
     requires before { book.old.cut ≡ false → AreLimitsTold (T.code teller.old) found.now book.old.told.items from }
     ensures code { T.code teller.new ≡ T.code teller.old }
-    ensures grows { IfOk result (λ u. Grows book.old book.new) }
+    ensures grows { IfOk result (λ u. BookGrows book.old book.new) }
     ensures book { IfOk result (λ u. IsBook T.Explained (T.code teller.old) book.new) }
     ensures told { IfOk result (λ u. book.new.cut ≡ false → AreLimitsTold (T.code teller.old) found.now book.new.told.items to) }
 {
@@ -221,7 +221,7 @@ pub fn tell<T: Teller>(alloc: Global, teller: &mut T, found: &Found) -> Result<B
     requires led { AreLed (T.code teller.old) found.now.steps.items }
     requires states { AreStates found.now.steps.items found.now.states.items }
     requires stops { AreStops (T.code teller.old) found.now.steps.items found.now.limits.items }
-    requires few { length found.now.steps.items < most }
+    requires few { length found.now.steps.items < most_in_schedule }
     ensures book { IfOk result (IsBook T.Explained (T.code teller.old)) }
     ensures told { IfOk result (λ book. book.cut ≡ false → AreTold (T.code teller.old) found.now book.told.items) }
 {

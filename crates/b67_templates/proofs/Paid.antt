@@ -6,7 +6,7 @@ use Rattle.algol_tree.specs.Plain.{PExpr, PExprs}
 use Rattle.algol_tree.specs.Counts.{events_tokens, expr_tokens, exprs_tokens}
 use Rattle.b67_templates.specs.Cells.{has_place}
 use Rattle.b67_templates.specs.Fitting.{Told}
-use Rattle.b67_templates.specs.Paying.{modes_of, routine_syllables, has_cell, own_routine, given_syllables, inline, inline_all, inline_given, routines, routines_all, routines_given, TokensPay}
+use Rattle.b67_templates.specs.Paying.{modes_of, routine_syllables, actual_has_cell, own_routine, given_syllables, inline, inline_all, inline_given, routines, routines_all, routines_given, TokensPay}
 
 -- what one actual costs in two copies, and its routine
 one_named : (cell place : Bool) (i r t : ℕ) → 2 * i + r ≤ 24 * t → 6 + (if cell then routine_syllables place i else 0) + r ≤ 24 * t + 24
@@ -16,7 +16,7 @@ one_named true false i r t paid = omega (arith, paid)
 
 one_given : (told : Told) (mode : Bool) (e : PExpr) (i r t : ℕ) → 2 * i + r ≤ 24 * t → 2 * given_syllables mode i + own_routine told mode e i + r ≤ 24 * t + 24
 one_given told false e i r t paid = omega (arith, paid)
-one_given told true e i r t paid = one_named (has_cell told e) (has_place e) i r t paid
+one_given told true e i r t paid = one_named (actual_has_cell told e) (has_place e) i r t paid
 
 -- each event of a list has a token, and between two there is one
 events_few : (es : List EventName) → 2 * length es ≤ events_tokens es + 1

@@ -12,7 +12,7 @@ use Rattle.algol_tree.specs.Sorts as sort
 use Rattle.algol_tree.specs.Sorts.{same_name, is_variable, is_named_in, procedure, procedure_in, class_in}
 use Rattle.algol_tree.specs.Blocks.{Block, block_numbered, number_at, same_spot}
 use Rattle.algol_tree.specs.Scopes.{Scopes, use_of}
-use Rattle.algol_meaning.specs.Settle.{block_of}
+use Rattle.algol_meaning.specs.Settle.{block_of_sort}
 use Rattle.algol_paths.specs.Segments.{segment_of}
 use Rattle.algol_paths.specs.Arrays.{DeclaredArray, Shape, shape_of, shape_in, Made, an_array, an_event, made_in}
 use Rattle.b67_ops.specs.declared.Couple.{Couple}
@@ -39,9 +39,9 @@ variables tree.no_decls = []
 variables (tree.decls (tree.simple kind ns) ds) = of_kind kind ns ++ variables ds
 variables (tree.decls d ds) = variables ds
 
-abbrev pub result_of : Option Kind → List ℕ → List Simple
-result_of None name = []
-result_of (Some kind) name = record { name = name; wanted = value kind } ∷ []
+abbrev pub result_cells_of : Option Kind → List ℕ → List Simple
+result_cells_of None name = []
+result_cells_of (Some kind) name = record { name = name; wanted = value kind } ∷ []
 
 -- ---- parameters
 
@@ -78,14 +78,14 @@ abbrev pub parameter_wants : Scopes → ℕ → List Wanted
 parameter_wants sc callee = map (λ (c : Simple). c.wanted) (parameter_cells sc (block_numbered sc.blocks callee))
 
 -- an array for a parameter of that shape has its kind of elements, and as many dimensions
-abbrev pub Agrees : Shape → Shape → Type 0
-Agrees shape a = (a.kind ≡ shape.kind) × (length a.lows ≡ length shape.lows)
+abbrev pub ShapeAgrees : Shape → Shape → Type 0
+ShapeAgrees shape a = (a.kind ≡ shape.kind) × (length a.lows ≡ length shape.lows)
 
 -- ---- the cells of a block
 
 -- those that it has from its entry on, in their order: parameters, the result, simple variables
 abbrev pub simple_cells : Scopes → Block → List Simple
-simple_cells sc b = parameter_cells sc b ++ result_of b.result b.name ++ variables b.decls
+simple_cells sc b = parameter_cells sc b ++ result_cells_of b.result b.name ++ variables b.decls
 
 pub record Found : Type 0 where
   pub number : ℕ
@@ -147,7 +147,7 @@ module _ (sc : Scopes) where
   own_actual _ e = []
 
   abbrev pub wants_of : Named → List Wanted
-  wants_of n = parameter_wants sc (block_of ((use_of sc n).sort))
+  wants_of n = parameter_wants sc (block_of_sort ((use_of sc n).sort))
 
   abbrev mutual
     pub actuals_in : PExpr → List Actual
@@ -225,7 +225,7 @@ has_place _ = false
 
 -- the cells of 0 that a block begins with: its result and its simple variables
 abbrev pub zero_cells : Block → List Simple
-zero_cells b = result_of b.result b.name ++ variables b.decls
+zero_cells b = result_cells_of b.result b.name ++ variables b.decls
 
 -- At this level the name is that of the procedure whose block has this number, and this is the couple of its control word, which lies
 -- after the simple cells of the block that declares it.

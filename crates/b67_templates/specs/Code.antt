@@ -30,10 +30,10 @@ use Rattle.b67_segment.specs.Operators.{Placed}
 use Rattle.b67_segment.specs.declared.code.Phrase.{Phrase}
 use Rattle.b67_segment.specs.declared.code.Phrase.TheVariants as parts
 use Rattle.b67_templates.specs.Contexts.{Yields, nothing, value, element, Context}
-use Rattle.b67_templates.specs.Fragments.{Has, AllAt, ControlsAt, NumberAt, MovedAt, ReadyAt, BranchAt, TurnAt, Goes, IntrinsicAt, EntryAt, operator_for, is_implication, truth_literal, procedure_controls, routine_at}
+use Rattle.b67_templates.specs.Fragments.{Has, AllAt, ControlsAt, NumberAt, MovedAt, ReadyAt, BranchAt, TurnAt, FragmentGoes, IntrinsicAt, EntryAt, operator_for, is_implication, truth_literal, procedure_controls, routine_at}
 use Rattle.algol_paths.specs.Arrays.{DeclaredArray, Shape, shape_of}
 use Rattle.b67_templates.specs.Cells as wants
-use Rattle.b67_templates.specs.Cells.{parameter_cells, Wanted, Agrees, parameter_wants, variables, control_segments, Actual, actuals_in_block, has_place, IsVariable, IsFormalName, IsRead, IsProcedure, IsDeclaredArray, IsFormalArray, IsArray, IsOwnActual}
+use Rattle.b67_templates.specs.Cells.{parameter_cells, Wanted, ShapeAgrees, parameter_wants, variables, control_segments, Actual, actuals_in_block, has_place, IsVariable, IsFormalName, IsRead, IsProcedure, IsDeclaredArray, IsFormalArray, IsArray, IsOwnActual}
 use Rattle.b67_templates.specs.Labels.{GoToAt}
 use Rattle.b67_templates.specs.Events.{names_of, AreSoMany, OnEventsAt, EventActualAt, EventMadeAt, EventsMadeAt, TaskAt}
 
@@ -44,13 +44,13 @@ abbrev pub word_part : List ℕ → Phrase
 word_part [] = parts.Blanks 0
 word_part (first ∷ digits) = if first == 73 then parts.Number (value_of digits) else parts.Blanks (value_of digits)
 
-pub data IsPart : PhraseText → Phrase → Type 0 where
-  text : (bytes : List ℕ) → IsPart (phrase.Text bytes) (parts.Text bytes)
-  word : (letters : List ℕ) → IsPart (phrase.Word letters) (word_part letters)
+pub data IsCodePart : PhraseText → Phrase → Type 0 where
+  text : (bytes : List ℕ) → IsCodePart (phrase.Text bytes) (parts.Text bytes)
+  word : (letters : List ℕ) → IsCodePart (phrase.Word letters) (word_part letters)
 
 abbrev pub AreParts : List PhraseText → List Phrase → Type 0
 AreParts [] parts = parts ≡ []
-AreParts (t ∷ ts) parts = (p : Phrase) × (more : List Phrase) × (parts ≡ p ∷ more) × IsPart t p × AreParts ts more
+AreParts (t ∷ ts) parts = (p : Phrase) × (more : List Phrase) × (parts ≡ p ∷ more) × IsCodePart t p × AreParts ts more
 
 -- how many numbers a format has
 abbrev pub numbers_in : List Phrase → ℕ
@@ -126,15 +126,15 @@ module _ (sc : Scopes) (context : Context) (ps : List Placed) (level : ℕ) wher
   CallAt n callee actuals f t = (begun : ℕ) × (filled : ℕ) × BegunAt n callee f begun × actuals begun filled × Has ps level filled (ops.Plain kinds.Entr) t
 
   -- no actuals
-  abbrev pub without : ℕ → ℕ → Type 0
-  without f t = f ≡ t
+  abbrev pub without_actuals : ℕ → ℕ → Type 0
+  without_actuals f t = f ≡ t
 
   -- The actual of an array parameter: of a declared array the reference to its cell, wherever it is read; of an array parameter the
   -- reference that its cell has.
   pub data ArrayActualAt (shape : Shape) (n : Named) (f t : ℕ) : Type 0 where
-    refers : (d : DeclaredArray) (c : Couple) (m : ℕ) → IsDeclaredArray sc context.level n d c → Agrees shape (shape_of d) → Has ps level f (ops.Namc c) m → Has ps level m (ops.Plain kinds.Stff) t →
+    refers : (d : DeclaredArray) (c : Couple) (m : ℕ) → IsDeclaredArray sc context.level n d c → ShapeAgrees shape (shape_of d) → Has ps level f (ops.Namc c) m → Has ps level m (ops.Plain kinds.Stff) t →
         ArrayActualAt shape n f t
-    passes : (a : Shape) (c : Couple) (m : ℕ) → IsFormalArray sc context.level n a c → Agrees shape a → Has ps level f (ops.Namc c) m → Has ps level m (ops.Plain kinds.Lodt) t →
+    passes : (a : Shape) (c : Couple) (m : ℕ) → IsFormalArray sc context.level n a c → ShapeAgrees shape a → Has ps level f (ops.Namc c) m → Has ps level m (ops.Plain kinds.Lodt) t →
         ArrayActualAt shape n f t
 
   -- The actual of a parameter by name: a variable's reference, which is read alike everywhere; what the cell of another such parameter has;
@@ -150,7 +150,7 @@ module _ (sc : Scopes) (context : Context) (ps : List Placed) (level : ℕ) wher
   -- a name by itself in an expression: a variable or a parameter is read, a typed procedure is called
   pub data NameAt (k : Kind) (n : Named) (f t : ℕ) : Type 0 where
     reads : ReadAt n k f t → NameAt k n f t
-    calls : (callee : ℕ) → CallAt n callee without f t → parameter_wants sc callee ≡ [] → (block_numbered sc.blocks callee).result ≡ Some k → NameAt k n f t
+    calls : (callee : ℕ) → CallAt n callee without_actuals f t → parameter_wants sc callee ≡ [] → (block_numbered sc.blocks callee).result ≡ Some k → NameAt k n f t
 
   -- the result of a call that a statement makes is dropped
   abbrev pub DroppedAt : Option Kind → ℕ → ℕ → Type 0
@@ -402,7 +402,7 @@ module _ (sc : Scopes) where
     StmtAt context ps level (tree.block (tree.body spot tree.no_decls ss)) f t u = StmtsAt context ps level ss f t u
     -- the code of an inner block, `InnerAt`, stands before its entry
     StmtAt context ps level (tree.block (tree.body spot (tree.decls d ds) ss)) f t u =
-        (o : ℕ) × (at : ℕ) × Goes ps level f o
+        (o : ℕ) × (at : ℕ) × FragmentGoes ps level f o
         × ((ats : List ℕ) × (b : ℕ) × (d' : ℕ) × (e : ℕ) × (v : ℕ)
         × RoutinesAt sc (in_block (number_at sc.blocks spot) context) ps (level + 1 + 1) (actuals_in_block sc (tree.decls d ds) ss) ats
         × CellsAt sc (in_block (number_at sc.blocks spot) context) ps (level + 1) (length (variables (tree.decls d ds)))
@@ -442,7 +442,7 @@ module _ (sc : Scopes) where
     pub CasesAt : Context → List Placed → ℕ → PStmts → ℕ → ℕ → Type 0
     CasesAt context ps level tree.no_stmts entry u = Unit {0}
     CasesAt context ps level (tree.stmts s ss) entry u =
-        (p : ℕ) × (x : ℕ) × BranchAt ps level Brun entry p (entry + 3) × StmtAt context ps level s p x u × Goes ps level x u × CasesAt context ps level ss (entry + 3) u
+        (p : ℕ) × (x : ℕ) × BranchAt ps level Brun entry p (entry + 3) × StmtAt context ps level s p x u × FragmentGoes ps level x u × CasesAt context ps level ss (entry + 3) u
 
   -- the cells of an inner block, its arrays and events, its statements, EXIT, and somewhere the code of its actuals; the context is that of
   -- the block
@@ -467,17 +467,17 @@ module _ (sc : Scopes) (context : Context) (ps : List Placed) (level : ℕ) wher
   -- ---- what is still to be done; a text that gives nothing ends with EXIT
 
   abbrev pub KAt : List Item → ℕ → Type 0
-  KAt [] pc = (q : ℕ) × (to : ℕ) × (context.yields ≡ nothing) × Goes ps level pc q × Has ps level q (ops.Plain kinds.Exit) to
-  KAt (run s ∷ k) pc = (q : ℕ) × (t : ℕ) × (u : ℕ) × Goes ps level pc q × StmtAt sc context ps level s q t u × Goes ps level t u × KAt k u
-  KAt (turn ∷ k) pc = (q : ℕ) × (l : ℕ) × (to : ℕ) × Goes ps level pc q × TurnAt ps level q l to × KAt k l
-  KAt (count n b ∷ k) pc = (q : ℕ) × (t : ℕ) × (u : ℕ) × Goes ps level pc q × ThruAt b q t × Goes ps level t u × KAt k u
+  KAt [] pc = (q : ℕ) × (to : ℕ) × (context.yields ≡ nothing) × FragmentGoes ps level pc q × Has ps level q (ops.Plain kinds.Exit) to
+  KAt (run s ∷ k) pc = (q : ℕ) × (t : ℕ) × (u : ℕ) × FragmentGoes ps level pc q × StmtAt sc context ps level s q t u × FragmentGoes ps level t u × KAt k u
+  KAt (turn ∷ k) pc = (q : ℕ) × (l : ℕ) × (to : ℕ) × FragmentGoes ps level pc q × TurnAt ps level q l to × KAt k l
+  KAt (count n b ∷ k) pc = (q : ℕ) × (t : ℕ) × (u : ℕ) × FragmentGoes ps level pc q × ThruAt b q t × FragmentGoes ps level t u × KAt k u
   KAt (check b c ∷ k) pc =
-      (q : ℕ) × (f : ℕ) × (t : ℕ) × (u : ℕ) × Goes ps level pc q × StmtAt sc context ps level b f q q × UntilAt sc context ps level c f q t u × Goes ps level t u × KAt k u
-  KAt (test loop ∷ k) pc = (q : ℕ) × (t : ℕ) × (u : ℕ) × Goes ps level pc q × LoopAt loop q t u × KAt k u
+      (q : ℕ) × (f : ℕ) × (t : ℕ) × (u : ℕ) × FragmentGoes ps level pc q × StmtAt sc context ps level b f q q × UntilAt sc context ps level c f q t u × FragmentGoes ps level t u × KAt k u
+  KAt (test loop ∷ k) pc = (q : ℕ) × (t : ℕ) × (u : ℕ) × FragmentGoes ps level pc q × LoopAt loop q t u × KAt k u
   -- the result comes last
-  KAt (result name ∷ []) pc = (q : ℕ) × Goes ps level pc q × ResultAt sc context ps level name q
+  KAt (result name ∷ []) pc = (q : ℕ) × FragmentGoes ps level pc q × ResultAt sc context ps level name q
   KAt (result name ∷ item ∷ k) pc = ⊥
   -- what is pushed before becomes cells as well, so nothing may lie there
   KAt (make_arrays kind ns pairs ∷ k) pc =
-      (q : ℕ) × (t : ℕ) × Goes ps level pc q × ArraysAt sc context ps level (length ns) pairs q t × HasNoCounts k × KAt k t
-  KAt (make_event n ∷ k) pc = (q : ℕ) × (t : ℕ) × Goes ps level pc q × EventMadeAt sc context ps level q t × HasNoCounts k × KAt k t
+      (q : ℕ) × (t : ℕ) × FragmentGoes ps level pc q × ArraysAt sc context ps level (length ns) pairs q t × HasNoCounts k × KAt k t
+  KAt (make_event n ∷ k) pc = (q : ℕ) × (t : ℕ) × FragmentGoes ps level pc q × EventMadeAt sc context ps level q t × HasNoCounts k × KAt k t

@@ -24,10 +24,10 @@ use Rattle.algol_meaning.specs.Statements.{alone}
 use Rattle.b67_ops.specs.declared.Couple.{Couple}
 use Rattle.b67_ops.specs.declared.TheConstants.{MOST_LEVEL, OUTER_LEVEL}
 use Rattle.b67_segment.specs.declared.code.Phrase.{Phrase}
-use Rattle.b67_templates.specs.Fragments.{IsWhole}
+use Rattle.b67_templates.specs.Fragments.{IsWholeNumber}
 use Rattle.algol_paths.specs.Arrays.{Shape, Lows}
 use Rattle.b67_templates.specs.Cells as wants
-use Rattle.b67_templates.specs.Cells.{Wanted, parameter_wants, Agrees, variables, procedures, actuals_in_block, made_of, IsVariable, IsFormalName, IsRead, IsProcedure, IsArray, IsDeclaredEvent, IsFormalEvent, IsOwnActual}
+use Rattle.b67_templates.specs.Cells.{Wanted, parameter_wants, ShapeAgrees, variables, procedures, actuals_in_block, made_of, IsVariable, IsFormalName, IsRead, IsProcedure, IsArray, IsDeclaredEvent, IsFormalEvent, IsOwnActual}
 use Rattle.b67_templates.specs.Labels.{IsLabel}
 use Rattle.b67_deeds.specs.Deeds as deeds
 use Rattle.b67_templates.specs.Events.{names_of, AreSoMany}
@@ -64,18 +64,18 @@ pub data Meant : Type 0 where
   an_event : Bool → Meant
   another : Meant
 
-abbrev pub is_event : Meant → Bool
-is_event (an_event formal) = true
-is_event _ = false
+abbrev pub meant_is_event : Meant → Bool
+meant_is_event (an_event formal) = true
+meant_is_event _ = false
 
-abbrev pub is_name : Meant → Bool
-is_name a_name = true
-is_name _ = false
+abbrev pub meant_is_name : Meant → Bool
+meant_is_name a_name = true
+meant_is_name _ = false
 
 -- this is wanted by name
-abbrev pub is_by_name : Wanted → Bool
-is_by_name (wants.by_name kind) = true
-is_by_name _ = false
+abbrev pub wanted_by_name : Wanted → Bool
+wanted_by_name (wants.by_name kind) = true
+wanted_by_name _ = false
 
 -- where GO TO leads: the level of a label's block, the segment of its text, and the place of the label's branch in the table there
 pub record Target : Type 0 where
@@ -109,8 +109,8 @@ module _ (sc : Scopes) (told : Told) (level : ℕ) where
 
   -- .. or a parameter by name
   pub data PlaceFits (k : Kind) (n : Named) : Type 0 where
-    own : LeftFits k n → is_name (told.meant n.spot) ≡ false → PlaceFits k n
-    resolved : (c : Couple) → on_left told n.spot ≡ Some c → is_name (told.meant n.spot) ≡ true → IsFormalName sc level n k c → PlaceFits k n
+    own : LeftFits k n → meant_is_name (told.meant n.spot) ≡ false → PlaceFits k n
+    resolved : (c : Couple) → on_left told n.spot ≡ Some c → meant_is_name (told.meant n.spot) ≡ true → IsFormalName sc level n k c → PlaceFits k n
 
   -- The name of a procedure, and the couple of its control word; it is known whether the procedure is typed, and which of its parameters are
   -- by name.
@@ -119,7 +119,7 @@ module _ (sc : Scopes) (told : Told) (level : ℕ) where
     pub known_is : told.couples n.spot ≡ Some couple
     pub procedure : IsProcedure sc level n callee couple
     pub typed : is_some (told.results n.spot) ≡ is_some ((block_numbered sc.blocks callee).result)
-    pub modes : told.meant n.spot ≡ a_procedure (map is_by_name (parameter_wants sc callee))
+    pub modes : told.meant n.spot ≡ a_procedure (map wanted_by_name (parameter_wants sc callee))
 
   -- .. of a typed one
   abbrev pub CallFits : Kind → Named → Type 0
@@ -159,9 +159,9 @@ module _ (sc : Scopes) (told : Told) (level : ℕ) where
 
     abbrev mutual
       pub ExprFits : Kind → PExpr → Type 0
-      ExprFits k (tree.number z spot) = (k ≡ types.Number) × IsWhole z
+      ExprFits k (tree.number z spot) = (k ≡ types.Number) × IsWholeNumber z
       ExprFits k (tree.truth b spot) = k ≡ types.Truth
-      ExprFits k (tree.variable (tree.subscripted n tree.none)) = (ReadFits k n ⊎ CallFits k n) × (told.lows n.spot ≡ None) × (is_event (told.meant n.spot) ≡ false)
+      ExprFits k (tree.variable (tree.subscripted n tree.none)) = (ReadFits k n ⊎ CallFits k n) × (told.lows n.spot ≡ None) × (meant_is_event (told.meant n.spot) ≡ false)
       ExprFits k (tree.variable (tree.subscripted n (tree.more e es))) =
           (a : Shape) × ArrayFits n a × (a.kind ≡ k) × SubscriptsFit a.lows (tree.more e es)
       ExprFits k (tree.paren e spot) = ExprFits k e
@@ -176,9 +176,9 @@ module _ (sc : Scopes) (told : Told) (level : ℕ) where
 
       -- a subscript for each of these lower bounds
       pub SubscriptsFit : List ℤ → PExprs → Type 0
-      SubscriptsFit (low ∷ []) (tree.more e tree.none) = IsWhole low × ExprFits types.Number e
+      SubscriptsFit (low ∷ []) (tree.more e tree.none) = IsWholeNumber low × ExprFits types.Number e
       SubscriptsFit (low ∷ low' ∷ []) (tree.more e (tree.more e' tree.none)) =
-          IsWhole low × ExprFits types.Number e × IsWhole low' × ExprFits types.Number e'
+          IsWholeNumber low × ExprFits types.Number e × IsWholeNumber low' × ExprFits types.Number e'
       SubscriptsFit _ _ = ⊥
 
       -- actuals for parameters of these sorts, of which this is wanted: values, names of arrays and of events, and what is given by name, which
@@ -187,7 +187,7 @@ module _ (sc : Scopes) (told : Told) (level : ℕ) where
       ActualsFit [] [] tree.none = Unit {0}
       ActualsFit (sort ∷ sorts) (wants.value kind ∷ wanted) (tree.more e es) = (is_variable sort ≡ true) × ExprFits kind e × ActualsFit sorts wanted es
       ActualsFit (sort ∷ sorts) (wants.array shape ∷ wanted) (tree.more (tree.variable (tree.subscripted n tree.none)) es) =
-          (is_variable sort ≡ false) × ((a : Shape) × ArrayFits n a × Agrees shape a) × ActualsFit sorts wanted es
+          (is_variable sort ≡ false) × ((a : Shape) × ArrayFits n a × ShapeAgrees shape a) × ActualsFit sorts wanted es
       ActualsFit (sort ∷ sorts) (wants.by_name kind ∷ wanted) (tree.more e es) =
           (is_variable sort ≡ false) × NameActualFits kind e × ExprFits kind e × ActualsFit sorts wanted es
       ActualsFit (sort ∷ sorts) (wants.event ∷ wanted) (tree.more (tree.variable (tree.subscripted n tree.none)) es) =
@@ -212,7 +212,7 @@ module _ (sc : Scopes) (told : Told) (level : ℕ) where
 
     abbrev pub BoundsFit : List PPair → Type 0
     BoundsFit [] = Unit {0}
-    BoundsFit (p ∷ pairs) = IsWhole p.low × ExprFits types.Number p.high × BoundsFit pairs
+    BoundsFit (p ∷ pairs) = IsWholeNumber p.low × ExprFits types.Number p.high × BoundsFit pairs
 
     -- the arrays of declarations, each of which has a name; events and tasks need nothing
     abbrev pub DeclsFit : PDecls → Type 0

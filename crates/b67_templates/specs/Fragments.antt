@@ -24,12 +24,12 @@ use Rattle.b67_segment.specs.Operators.{Placed, StandsAmong}
 
 -- ---- values
 
-abbrev pub IsWhole : ℤ → Type 0
-IsWhole z = unsigned_abs z ≤ most
+abbrev pub IsWholeNumber : ℤ → Type 0
+IsWholeNumber z = unsigned_abs z ≤ most
 
 -- the value is of this kind, and a number is a whole one
 abbrev pub HasKind : Kind → Value → Type 0
-HasKind types.Number (number z) = IsWhole z
+HasKind types.Number (number z) = IsWholeNumber z
 HasKind types.Truth (truth b) = Unit {0}
 HasKind _ _ = ⊥
 
@@ -91,8 +91,8 @@ moved_by above low i = if int_le (pos 0) i then i -ℤ low else i
 moved_by near low i = if int_le i (pos 4294836225) then i -ℤ low else i
 moved_by far low i = if int_lt i (pos 0) then i -ℤ low else neg_ℤ low
 
-abbrev pub moved : ℤ → ℤ → ℤ
-moved low i = moved_by (low_of low) low i
+abbrev pub moved_number : ℤ → ℤ → ℤ
+moved_number low i = moved_by (low_of low) low i
 
 -- ---- code that is entered
 
@@ -125,7 +125,7 @@ module _ (ps : List Placed) (level : ℕ) where
     pub op : Operator
     pub stands : Has from op to
     pub literal : IsLiteral op (operand value)
-    pub whole : IsWhole value
+    pub whole : IsWholeNumber value
 
   -- the first operand of an implication is inverted
   abbrev pub ReadyAt : Bool → ℕ → ℕ → Type 0
@@ -143,9 +143,9 @@ module _ (ps : List Placed) (level : ℕ) where
     pub back : target ≤ from
 
   -- from one place branches forward only lead to another
-  pub data Goes : ℕ → ℕ → Type 0 where
-    stop : {a : ℕ} → Goes a a
-    over : {a b c : ℕ} (next : ℕ) → BranchAt Brun a b next → Goes b c → Goes a c
+  pub data FragmentGoes : ℕ → ℕ → Type 0 where
+    stop : {a : ℕ} → FragmentGoes a a
+    over : {a b c : ℕ} (next : ℕ) → BranchAt Brun a b next → FragmentGoes b c → FragmentGoes a c
 
   -- a mark, and the reference of an intrinsic
   abbrev pub IntrinsicAt : Intrinsic → ℕ → ℕ → Type 0

@@ -26,15 +26,15 @@ pub record IsDeclared (sc : Scopes) (j : ℕ) (declared : Named) : Type 0 where
   pub procedure : is_procedure (block_numbered sc.blocks (number_at sc.blocks declared.spot)) ≡ true
 
 -- The cell of a parameter by value or by name has its kind, that of an array its shape; that of an event stands for it.
-pub data IsTold (p : Parameter) (cell : Simple) : Type 0 where
-  by_value : (kind : Kind) → cell.wanted ≡ wants.value kind → is_variable p.sort ≡ true → IsTold p cell
-  by_name : (kind : Kind) → cell.wanted ≡ wants.by_name kind → p.sort ≡ sort.by_name → IsTold p cell
-  an_array : (shape : Shape) → cell.wanted ≡ wants.array shape → p.sort ≡ sort.formal_array shape.lows → IsTold p cell
-  an_event : cell.wanted ≡ wants.event → p.sort ≡ sort.formal_event → IsTold p cell
+pub data CellIsTold (p : Parameter) (cell : Simple) : Type 0 where
+  by_value : (kind : Kind) → cell.wanted ≡ wants.value kind → is_variable p.sort ≡ true → CellIsTold p cell
+  by_name : (kind : Kind) → cell.wanted ≡ wants.by_name kind → p.sort ≡ sort.by_name → CellIsTold p cell
+  an_array : (shape : Shape) → cell.wanted ≡ wants.array shape → p.sort ≡ sort.formal_array shape.lows → CellIsTold p cell
+  an_event : cell.wanted ≡ wants.event → p.sort ≡ sort.formal_event → CellIsTold p cell
 
 abbrev pub AreTold : List Parameter → List Simple → Type 0
 AreTold [] [] = Unit {0}
-AreTold (p ∷ ps) (c ∷ cells) = (p.name ≡ c.name) × IsTold p c × AreTold ps cells
+AreTold (p ∷ ps) (c ∷ cells) = (p.name ≡ c.name) × CellIsTold p c × AreTold ps cells
 AreTold _ _ = ⊥
 
 -- Each parameter of a block is simple, an array or an event, and has a cell. Where the block gives a result, no parameter has the block's name

@@ -42,12 +42,12 @@ given_syllables false inline = inline
 
 module _ (told : Told) where
   -- what is given for a parameter by name has a cell, unless it is a variable or a parameter by itself
-  abbrev pub has_cell : PExpr → Bool
-  has_cell (tree.variable (tree.subscripted n tree.none)) = not (stands (told.meant n.spot))
-  has_cell e = true
+  abbrev pub actual_has_cell : PExpr → Bool
+  actual_has_cell (tree.variable (tree.subscripted n tree.none)) = not (stands (told.meant n.spot))
+  actual_has_cell e = true
 
   abbrev pub own_routine : Bool → PExpr → ℕ → ℕ
-  own_routine mode e inline = if mode && has_cell e then routine_syllables (has_place e) inline else 0
+  own_routine mode e inline = if mode && actual_has_cell e then routine_syllables (has_place e) inline else 0
 
   abbrev mutual
     pub inline : PExpr → ℕ

@@ -12,7 +12,7 @@ use Rattle.b67_segment.specs.Syllables.{Spells}
 use Rattle.b67_segment.specs.declared.code.Code.{Code}
 use Rattle.b67_segment.specs.declared.code.Segment.{Segment}
 use Rattle.b67_templates.specs.Contexts.{yields_of, Context}
-use Rattle.b67_templates.specs.Fragments.{Goes}
+use Rattle.b67_templates.specs.Fragments.{FragmentGoes}
 use Rattle.b67_templates.specs.Cells.{zero_cells, actuals_of}
 use Rattle.b67_templates.specs.Labels.{label_number, LabelAt}
 use Rattle.b67_templates.specs.Code.{RoutinesAt, CellsAt, control_pcws, KAt}
@@ -24,7 +24,7 @@ module _ (sc : Scopes) (context : Context) (ps : List Placed) (level : ℕ) wher
     pub begin : ℕ
     pub start : ℕ
     pub ats : List ℕ
-    pub over : Goes ps level from begin
+    pub over : FragmentGoes ps level from begin
     pub routines : RoutinesAt sc context ps (level + 1) (actuals_of sc b) ats
     pub cells : CellsAt sc context ps level (length (zero_cells b)) (control_pcws sc context.segment level b.decls (actuals_of sc b) ats) begin start
     pub items : KAt sc context ps level (items_of b) start

@@ -6,7 +6,7 @@ use Rattle.std.proofs.lemmas.Fmt.{decimal_digit}
 use Rattle.std.proofs.lemmas.List.{append-nil}
 use Rattle.std.proofs.lemmas.Bool.{cases_eq, cases_lt, ltb-true, ltb-false}
 use Rattle.b67_text.specs.declared.number.Numbers.{Numbers}
-use Rattle.b67_text.specs.Numerals.{IsDigit, IsIn, IsSmall, spelled, BeginsOne, HasLonger, CanBegin, lengthened}
+use Rattle.b67_text.specs.Numerals.{IsDigit, NumberIsIn, IsSmallNumber, spelled, BeginsOne, HasLonger, CanBegin, lengthened}
 use Rattle.b67_text.proofs.Decimals.{decimal_more, decimal_same, grown, digits}
 
 pub wide : (n : ℕ) → n < 2 ^ 64 → n < 10 ^ 64
@@ -17,20 +17,20 @@ cases_option None m = inr (λ e. let h : None ≡ Some m = e in cc)
 cases_option (Some k) m = ⊎_elim (λ (e : k ≡ m). inl (ap Some e)) (λ (e : k ≢ m). inr (λ h. e (let g : Some k ≡ Some m = h in cc))) (cases_eq k m)
 
 -- what may go on, goes on
-longer_begins : (numbers : Numbers) (v d : ℕ) → 1 ≤ v → d < 10 → IsIn numbers (10 * v + d) → BeginsOne numbers (decimal v)
+longer_begins : (numbers : Numbers) (v d : ℕ) → 1 ≤ v → d < 10 → NumberIsIn numbers (10 * v + d) → BeginsOne numbers (decimal v)
 longer_begins numbers v d some small is = (10 * v + d, (48 + d) ∷ [], is, decimal_more v d some small (wide (10 * v + d) is.fits))
 
 pub begins_by : (numbers : Numbers) (v : ℕ) → CanBegin numbers v → BeginsOne numbers (decimal v)
 begins_by numbers v can =
-    ⊎_elim (λ (is : IsIn numbers v). (v, [], is, sym (append-nil (decimal v))))
+    ⊎_elim (λ (is : NumberIsIn numbers v). (v, [], is, sym (append-nil (decimal v))))
     (λ (h : (1 ≤ v) × HasLonger numbers v).
-    ⊎_elim (λ (is : IsIn numbers (10 * v)). let same : 10 * v ≡ 10 * v + 0 = omega arith in longer_begins numbers v 0 h.0 (omega arith) (subst (IsIn numbers) same is))
-    (λ (is : IsIn numbers (10 * v + 1)). longer_begins numbers v 1 h.0 (omega arith) is) h.1) can
+    ⊎_elim (λ (is : NumberIsIn numbers (10 * v)). let same : 10 * v ≡ 10 * v + 0 = omega arith in longer_begins numbers v 0 h.0 (omega arith) (subst (NumberIsIn numbers) same is))
+    (λ (is : NumberIsIn numbers (10 * v + 1)). longer_begins numbers v 1 h.0 (omega arith) is) h.1) can
 
 -- where a longer one is one of these, one with a 0 or 1 after the digits is
-longer_there : (numbers : Numbers) (v n : ℕ) → numbers.least ≤ 1 → 1 ≤ v → 10 * v ≤ n → IsIn numbers n → HasLonger numbers v
+longer_there : (numbers : Numbers) (v n : ℕ) → numbers.least ≤ 1 → 1 ≤ v → 10 * v ≤ n → NumberIsIn numbers n → HasLonger numbers v
 longer_there numbers v n least some great is =
-    ⊎_elim (λ (e : n ≡ 10 * v). inl (subst (IsIn numbers) e is))
+    ⊎_elim (λ (e : n ≡ 10 * v). inl (subst (NumberIsIn numbers) e is))
     (λ (other : n ≢ 10 * v).
     ⊎_elim (λ (taken : numbers.except ≡ Some (10 * v)).
     inr record {
@@ -42,8 +42,8 @@ longer_there numbers v n least some great is =
     (λ (free : numbers.except ≢ Some (10 * v)). inl record { fits = omega (arith, is.fits); least = omega arith; most = omega (arith, is.most); other = free }) (cases_option numbers.except (10 * v)))
     (cases_eq n (10 * v))
 
-can_by : (numbers : Numbers) (v n : ℕ) (more : List ℕ) → numbers.least ≤ 1 → v < 2 ^ 64 → IsIn numbers n → decimal n ≡ decimal v ++ more → CanBegin numbers v
-can_by numbers v n [] least small is e = inl (subst (IsIn numbers) (decimal_same n v (wide n is.fits) (wide v small) (e ∙ append-nil (decimal v))) is)
+can_by : (numbers : Numbers) (v n : ℕ) (more : List ℕ) → numbers.least ≤ 1 → v < 2 ^ 64 → NumberIsIn numbers n → decimal n ≡ decimal v ++ more → CanBegin numbers v
+can_by numbers v n [] least small is e = inl (subst (NumberIsIn numbers) (decimal_same n v (wide n is.fits) (wide v small) (e ∙ append-nil (decimal v))) is)
 can_by numbers v n (d ∷ c) least small is e =
     let up : (1 ≤ v) × (10 * v ≤ n) = grown n n v (d ∷ c) (omega arith) (wide n is.fits) (wide v small) e (omega arith) in
     inr (up.0, longer_there numbers v n least up.0 up.1 is)
@@ -67,7 +67,7 @@ dropped false b x e = inl refl
 
 -- what a number with one more digit is
 pub record Lengthens (before : Option ℕ) (digit number : ℕ) : Type 0 where
-  pub small : IsSmall (Some number)
+  pub small : IsSmallNumber (Some number)
   pub spelled_is : decimal number ≡ spelled before ++ (48 + digit) ∷ []
 
 pub lengthens : (before : Option ℕ) (digit number : ℕ) → digit < 10 → lengthened before digit ≡ Some number → Lengthens before digit number
@@ -89,7 +89,7 @@ begins_with_zero n digit front more p is_zero e =
     let small : front < 10 ^ 64 = omega arith in
     omega (arith, (grown n n front ((48 + digit) ∷ more) (omega arith) (wide n p) small (e ∙ append_assoc (decimal front) ((48 + digit) ∷ []) more) (omega arith)).0)
 
-pub not_lengthened : (numbers : Numbers) (before : Option ℕ) (digit : ℕ) → digit < 10 → IsSmall before → lengthened before digit ≡ None → BeginsOne numbers (spelled before ++ (48 + digit) ∷ []) → ⊥
+pub not_lengthened : (numbers : Numbers) (before : Option ℕ) (digit : ℕ) → digit < 10 → IsSmallNumber before → lengthened before digit ≡ None → BeginsOne numbers (spelled before ++ (48 + digit) ∷ []) → ⊥
 not_lengthened numbers None digit small known e h = cc
 not_lengthened numbers (Some front) digit small known e h =
     ⊎_elim (λ (is_zero : front < 1). begins_with_zero h.0 digit front h.1 h.2.fits is_zero h.3)

@@ -6,8 +6,8 @@ use Rattle.std.proofs.lemmas.Option.{slice_get_within}
 use Rattle.std.proofs.lemmas.List.{append-nil, length-append, length-take-le, take_at, take-append-drop, drop_more, append_cancel_left}
 use Rattle.std.proofs.lemmas.Bool.{cases_lt}
 use Rattle.b67_text.specs.declared.number.Numbers.{Numbers}
-use Rattle.b67_text.specs.Texts.{Begins, HasNone, StopsAt, Stands, AreApart}
-use Rattle.b67_text.specs.Numerals.{IsDigit, IsIn, IsField, IsSmall, spelled, AreDigits}
+use Rattle.b67_text.specs.Texts.{Begins, HasNone, StopsAt, PartStands, AreApart}
+use Rattle.b67_text.specs.Numerals.{IsDigit, NumberIsIn, IsField, IsSmallNumber, spelled, AreDigits}
 use Rattle.b67_text.proofs.Decimals.{Longer, Shorter, compare_fronts, digits, AtEnd, GoesOn, ahead}
 use Rattle.b67_text.proofs.Beginnings.{wide}
 
@@ -24,7 +24,7 @@ byte_at (x ∷ bytes) zero byte rest e = let same : x ≡ byte = cc in ap Some s
 byte_at (x ∷ bytes) (suc at) byte rest e = byte_at bytes at byte rest e
 
 -- one more byte of what stands there
-pub stands_more : (part bytes : List ℕ) (at next byte : ℕ) → Stands part bytes at next → slice_get bytes next ≡ Some byte → Stands (part ++ byte ∷ []) bytes at (next + 1)
+pub stands_more : (part bytes : List ℕ) (at next byte : ℕ) → PartStands part bytes at next → slice_get bytes next ≡ Some byte → PartStands (part ++ byte ∷ []) bytes at (next + 1)
 stands_more part bytes at next byte st here =
     let inside = slice_get_within bytes next byte here in
     let same : suc next ≡ next + 1 = omega arith in
@@ -35,7 +35,7 @@ stands_more part bytes at next byte st here =
     }
 
 -- nothing stands at its own beginning
-pub stands_none : (bytes : List ℕ) (at : ℕ) → at ≤ length bytes → Stands [] bytes at at
+pub stands_none : (bytes : List ℕ) (at : ℕ) → at ≤ length bytes → PartStands [] bytes at at
 stands_none bytes at inside = record { within = inside; next_is = omega arith; part_is = refl }
 
 -- what begins one of these, is none itself, and begins none with what is after it
@@ -84,7 +84,7 @@ ends_none Is front rest apart ends = record {
   };
 }
 
-pub stops_at : (Is : List ℕ → Type 0) (front bytes : List ℕ) (at next : ℕ) → AreApart Is → Stands front bytes at next → Ends Is front (drop next bytes) → StopsAt Is bytes at next
+pub stops_at : (Is : List ℕ → Type 0) (front bytes : List ℕ) (at next : ℕ) → AreApart Is → PartStands front bytes at next → Ends Is front (drop next bytes) → StopsAt Is bytes at next
 stops_at Is front bytes at next apart st ends =
     let count : length front ≡ next - at = omega (arith, st.next_is) in
     record {
@@ -102,7 +102,7 @@ word_apart word part other a b p q e = p ∙ sym q
 word_split : (word : List ℕ) (i : ℕ) → i < length word → word ≡ take i word ++ get_or word i 0 ∷ drop (i + 1) word
 word_split word i inside = sym (take-append-drop i word) ∙ ap (λ r. take i word ++ r) (drop_more word i 0 inside)
 
-pub word_stops : (word bytes : List ℕ) (at next i : ℕ) → i < length word → Stands (take i word) bytes at next → (slice_get bytes next ≡ Some (get_or word i 0) → ⊥) → StopsAt (IsWord word) bytes at next
+pub word_stops : (word bytes : List ℕ) (at next i : ℕ) → i < length word → PartStands (take i word) bytes at next → (slice_get bytes next ≡ Some (get_or word i 0) → ⊥) → StopsAt (IsWord word) bytes at next
 word_stops word bytes at next i inside st other =
     let long : length (take i word) ≡ i = length-take-le i word (omega arith) in
     stops_at (IsWord word) (take i word) bytes at next (word_apart word) st
@@ -143,16 +143,16 @@ field_apart numbers end past part other a b p q e =
     let same : p.number ≡ q.number = field_ahead p.number q.number end a b p.is_in.fits q.is_in.fits past joined in
     p.text_is ∙ ap (λ n. decimal n ++ end ∷ []) same ∙ sym q.text_is
 
-known : (o : Option ℕ) → IsSmall o → (v : ℕ) → o ≡ Some v → v < 10 ^ 64
+known : (o : Option ℕ) → IsSmallNumber o → (v : ℕ) → o ≡ Some v → v < 10 ^ 64
 known None small v e = cc
 known (Some w) small v e = let same : w ≡ v = cc in wide v (subst (λ m. m < 2 ^ 64) same small)
 
-not_field : (o : Option ℕ) (n end : ℕ) → IsSmall o → (IsDigit end → ⊥) → spelled o ≡ decimal n ++ end ∷ [] → ⊥
+not_field : (o : Option ℕ) (n end : ℕ) → IsSmallNumber o → (IsDigit end → ⊥) → spelled o ≡ decimal n ++ end ∷ [] → ⊥
 not_field None n end small past e = omega (arith, ap length e, length-append (decimal n) (end ∷ []))
 not_field (Some v) n end small past e = past (digits v (decimal n) [] end (wide v small) e)
 
 pub field_stops : (numbers : Numbers) (bytes : List ℕ) (at next end : ℕ) (o : Option ℕ) → (IsDigit end → ⊥) → AreDigits numbers bytes at o next →
-    ((n : ℕ) → o ≡ Some n → IsIn numbers n → slice_get bytes next ≡ Some end → ⊥) → StopsAt (IsField numbers end) bytes at next
+    ((n : ℕ) → o ≡ Some n → NumberIsIn numbers n → slice_get bytes next ≡ Some end → ⊥) → StopsAt (IsField numbers end) bytes at next
 field_stops numbers bytes at next end o past are refused =
     stops_at (IsField numbers end) (spelled o) bytes at next (field_apart numbers end past) are.stand
     record {

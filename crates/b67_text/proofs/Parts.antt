@@ -3,7 +3,7 @@ use Rattle.std.proofs.Common.{◌≡◌, ℕ, ◌+◌, ◌-◌, ◌<◌, ◌≤�
 use Rattle.std.specs.Prelude.{◌⊎◌}
 use Rattle.std.proofs.lemmas.List.{append-nil, length-append, length-take-le, take_at, take-append-drop, append_cancel_left}
 use Rattle.std.proofs.lemmas.Bool.{cases_lt}
-use Rattle.b67_text.specs.Texts.{Begins, IsLongest, HasNone, IsRefused, StopsAt, Stands, AreApart}
+use Rattle.b67_text.specs.Texts.{Begins, IsLongest, HasNone, IsRefused, StopsAt, PartStands, AreApart}
 use Rattle.b67_text.proofs.Decimals.{Longer, Shorter, compare_fronts}
 use Rattle.b67_text.proofs.Fronts.{take_past}
 
@@ -90,7 +90,7 @@ second_none Is Rest front items count leads stop = record {
 }
 
 -- where what stands after the front stops, the text stops
-pub second_stops : (Is Rest : List ℕ → Type 0) (front bytes : List ℕ) (at mid end : ℕ) → Leads Is Rest front → Stands front bytes at mid → StopsAt Rest bytes mid end → StopsAt Is bytes at end
+pub second_stops : (Is Rest : List ℕ → Type 0) (front bytes : List ℕ) (at mid end : ℕ) → Leads Is Rest front → PartStands front bytes at mid → StopsAt Rest bytes mid end → StopsAt Is bytes at end
 second_stops Is Rest front bytes at mid end leads st stop =
     let count : length front + (end - mid) ≡ end - at = omega (arith, st.next_is, stop.behind) in
     record {
@@ -100,7 +100,7 @@ second_stops Is Rest front bytes at mid end leads st stop =
     }
 
 -- one part after another
-pub stands_on : (part more bytes : List ℕ) (at mid next : ℕ) → Stands part bytes at mid → Stands more bytes mid next → Stands (part ++ more) bytes at next
+pub stands_on : (part more bytes : List ℕ) (at mid next : ℕ) → PartStands part bytes at mid → PartStands more bytes mid next → PartStands (part ++ more) bytes at next
 stands_on part more bytes at mid next first second = record {
   within = second.within;
   next_is = omega (arith, first.next_is, second.next_is, length-append part more);
@@ -115,7 +115,7 @@ refused_where_it_stops Is bytes end stop =
     record { none = λ is. none.none bytes [] is (append-nil bytes); reach = none.reach }
 
 -- bytes that go on after a text are refused where they do
-pub refused_behind : (Is : List ℕ → Type 0) (text bytes : List ℕ) (next : ℕ) → AreApart Is → Is text → Stands text bytes 0 next → next < length bytes → IsRefused Is bytes next
+pub refused_behind : (Is : List ℕ → Type 0) (text bytes : List ℕ) (next : ℕ) → AreApart Is → Is text → PartStands text bytes 0 next → next < length bytes → IsRefused Is bytes next
 refused_behind Is text bytes next apart is st more =
     let whole : bytes ≡ text ++ drop next bytes = st.part_is in
     let count : next ≡ length text = omega (arith, st.next_is) in

@@ -27,7 +27,7 @@ pub record StopsAt {A : Type 0} (Is : List A → Type 0) (items : List A) (at en
   pub none : HasNone Is (drop at items) (end - at)
 
 -- this stands at a place, and ends at the next
-pub record Stands {A : Type 0} (part items : List A) (at next : ℕ) : Type 0 where
+pub record PartStands {A : Type 0} (part items : List A) (at next : ℕ) : Type 0 where
   pub within : next ≤ length items
   pub next_is : next ≡ at + length part
   pub part_is : drop at items ≡ part ++ drop next items

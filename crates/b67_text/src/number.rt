@@ -1,7 +1,7 @@
 ghost use Rattle.std.specs.Prelude.{◌≡◌, ℕ, ◌+◌, ◌≤◌, ◌<◌, [], ◌∷◌, ◌++◌, ◌↔◌, length, Some, None, IsTrue, MatchOption, IfOk, IfErr};
 ghost use Rattle.std.specs.Fmt.{decimal};
-ghost use Rattle.b67_text.specs.Texts.{StopsAt, Stands};
-ghost use Rattle.b67_text.specs.Numerals.{IsDigit, IsIn, IsField, IsSmall, spelled, BeginsOne, CanBegin, HasLonger, lengthened, AreDigits};
+ghost use Rattle.b67_text.specs.Texts.{StopsAt, PartStands};
+ghost use Rattle.b67_text.specs.Numerals.{IsDigit, NumberIsIn, IsField, IsSmallNumber, spelled, BeginsOne, CanBegin, HasLonger, lengthened, AreDigits};
 
 use crate::BadText;
 use crate::word::stands_at;
@@ -17,7 +17,7 @@ pub struct Numbers {
 impl Numbers {
     /// Tests that the number is one of these.
     pub fn contains(&self, number: u64) -> bool
-        ensures { IsTrue result ↔ IsIn self.now number }
+        ensures { IsTrue result ↔ NumberIsIn self.now number }
     {
         self.least <= number && number <= self.most && self.except != Some(number)
     }
@@ -39,9 +39,9 @@ impl Numbers {
     /// The number whose digits are those of `before` and then this byte, where one of these begins with them.
     fn with_digit(&self, before: Option<u64>, byte: u8) -> Option<u64>
         requires least { self.now.least ≤ 1 }
-        requires before { IsSmall before }
+        requires before { IsSmallNumber before }
         ensures { MatchOption result (BeginsOne self.now (spelled before ++ byte ∷ []) → ⊥)
-            (λ number. IsSmall (Some number) × (decimal number ≡ spelled before ++ byte ∷ []) × BeginsOne self.now (decimal number)) }
+            (λ number. IsSmallNumber (Some number) × (decimal number ≡ spelled before ++ byte ∷ []) × BeginsOne self.now (decimal number)) }
     {
         if !byte.is_ascii_digit() {
             return None;
@@ -75,9 +75,9 @@ pub fn read_number(
 ) -> Result<(u64, usize), BadText>
     requires place { at ≤ length bytes.now }
     requires least { numbers.now.least ≤ 1 }
-    requires some { (n : ℕ) × IsIn numbers.now n }
+    requires some { (n : ℕ) × NumberIsIn numbers.now n }
     requires end { IsDigit end → ⊥ }
-    ensures read { IfOk result (λ found. IsIn numbers.now found.0 × Stands (decimal found.0 ++ end ∷ []) bytes.now at found.1) }
+    ensures read { IfOk result (λ found. NumberIsIn numbers.now found.0 × PartStands (decimal found.0 ++ end ∷ []) bytes.now at found.1) }
     ensures refused { IfErr result (λ bad. StopsAt (IsField numbers.now end) bytes.now at bad.byte) }
 {
     let (digits, next) = read_digits(bytes, at, numbers);
@@ -93,7 +93,7 @@ pub fn read_number(
 fn read_digits(bytes: &[u8], at: usize, numbers: &Numbers) -> (Option<u64>, usize)
     requires place { at ≤ length bytes.now }
     requires least { numbers.now.least ≤ 1 }
-    requires some { (n : ℕ) × IsIn numbers.now n }
+    requires some { (n : ℕ) × NumberIsIn numbers.now n }
     ensures { AreDigits numbers.now bytes.now at result.0 result.1 }
 {
     let mut number = None;

@@ -1,12 +1,12 @@
 ghost use Rattle.std.specs.Prelude.{◌≡◌, ◌≤◌, ◌↔◌, IsTrue, length, IfOk, IfErr};
-ghost use Rattle.b67_text.specs.Texts.{StopsAt, Stands, HasByte};
+ghost use Rattle.b67_text.specs.Texts.{StopsAt, PartStands, HasByte};
 
 use crate::BadText;
 
 /// Reads these bytes at a place, and answers the place after them.
 pub fn read_word(bytes: &[u8], at: usize, word: &[u8]) -> Result<usize, BadText>
     requires { at ≤ length bytes.now }
-    ensures read { IfOk result (λ next. Stands word.now bytes.now at next) }
+    ensures read { IfOk result (λ next. PartStands word.now bytes.now at next) }
     ensures refused { IfErr result (λ bad. StopsAt (λ text. text ≡ word.now) bytes.now at bad.byte) }
 {
     let mut next = at;

@@ -9,8 +9,8 @@ abbrev pub outcomes_in : List Told → List Outcome
 outcomes_in told = map (λ (x : Told). x.outcome) told
 
 -- the outcome is told
-abbrev pub IsTold : List Told → Outcome → Type 0
-IsTold told o = Contains (outcomes_in told) o
+abbrev pub OutcomeIsTold : List Told → Outcome → Type 0
+OutcomeIsTold told o = Contains (outcomes_in told) o
 
 -- none is told twice
 abbrev pub AreDifferent : List Told → Type 0
@@ -23,5 +23,5 @@ IsOfOne (One old) = Unit {0}
 IsOfOne (Two schedule) = ⊥
 
 -- the number of a process is from 1 on, and has 16 bits
-abbrev pub IsNumber : ℕ → Type 0
-IsNumber p = (1 ≤ p) × (p < 2 ^ 16)
+abbrev pub IsToldNumber : ℕ → Type 0
+IsToldNumber p = (1 ≤ p) × (p < 2 ^ 16)

@@ -2,7 +2,7 @@
 
 ghost use Rattle.std.specs.Prelude.{◌≡◌, ◌↔◌, IsTrue, true, false};
 ghost use Rattle.b67_told.specs.declared.Outcome.{Outcome};
-ghost use Rattle.b67_told.specs.Telling.{IsTold};
+ghost use Rattle.b67_told.specs.Telling.{OutcomeIsTold};
 
 use crate::Told;
 use b67_list::Line;
@@ -65,8 +65,8 @@ fn same_end(end: EndWords, other: EndWords) -> bool
 
 /// Tests that this output with this end is told.
 pub fn is_told(told: &[Told], output: &[Line], end: EndWords) -> bool
-    ensures yes { result ≡ true → IsTold told.now (record { output = output.now; end = end }) }
-    ensures no { result ≡ false → IsTold told.now (record { output = output.now; end = end }) → ⊥ }
+    ensures yes { result ≡ true → OutcomeIsTold told.now (record { output = output.now; end = end }) }
+    ensures no { result ≡ false → OutcomeIsTold told.now (record { output = output.now; end = end }) → ⊥ }
 {
     'told: for item in told {
         if same_end(item.outcome.end, end)

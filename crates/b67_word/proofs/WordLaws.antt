@@ -5,7 +5,7 @@ use Rattle.std.proofs.lemmas.Bool.Decides.{nat_tests}
 use Rattle.std.proofs.lemmas.Int.{ints}
 use Rattle.std.proofs.lemmas.Nat.{mod_below, pow_pos, shr_high, mod_low, shr-shr}
 use Rattle.std.specs.Prelude.{ℤ, pos, negsuc, unsigned_abs, Bool, true, false, cond, Some, None, IsSome, is_some}
-use Rattle.b67_word.specs.Word.{Word, word, IsWord, field, set_field, most, signed, operand, is_whole, as_whole, truth, as_truth}
+use Rattle.b67_word.specs.Word.{Word, word, IsWord, field, set_field, most_mantissa, signed, operand, is_whole, as_whole, truth, as_truth}
 use Rattle.b67_word.specs.Laws.{IsOperand, OperandsAreReadBack, OneFieldIsSet}
 
 -- what `set_field` leaves, by the places of the field
@@ -66,7 +66,7 @@ read_as : (w : Word) (z : ℤ) → IsOperand w → signed (field 46 1 w.bits) (f
 unfolding as_whole
 read_as w z o e = rw (is_whole-from w o, e) refl
 
-pub as_whole-operand : (z : ℤ) → unsigned_abs z ≤ most → as_whole (operand z) ≡ Some z
+pub as_whole-operand : (z : ℤ) → unsigned_abs z ≤ most_mantissa → as_whole (operand z) ≡ Some z
 unfolding operand
 as_whole-operand (pos n) h =
     let p = parts 0 n (omega arith) (omega arith) in
@@ -87,7 +87,7 @@ some_whole : (b : Bool) (x z : ℤ) → cond b (Some x) None ≡ Some z → (b �
 some_whole true x z e = (refl, cc)
 some_whole false x z e = cc
 
-pub as_whole-fits : (w : Word) (z : ℤ) → as_whole w ≡ Some z → unsigned_abs z ≤ most
+pub as_whole-fits : (w : Word) (z : ℤ) → as_whole w ≡ Some z → unsigned_abs z ≤ most_mantissa
 unfolding as_whole
 as_whole-fits w z e =
     let p = some_whole (is_whole w) (signed (field 46 1 w.bits) (field 38 39 w.bits)) z e in
@@ -110,7 +110,7 @@ as_whole-read w =
     let p = is_some_cond (is_whole w) (signed (field 46 1 w.bits) (field 38 39 w.bits)) in
     (λ h. is_whole-to w (p.0 h), λ o. p.1 (is_whole-from w o))
 
-pub operand-word : (z : ℤ) → unsigned_abs z ≤ most → IsWord (operand z)
+pub operand-word : (z : ℤ) → unsigned_abs z ≤ most_mantissa → IsWord (operand z)
 unfolding operand
 operand-word (pos n) h = record { tag = omega arith; bits = omega arith }
 operand-word (negsuc n) h = record { tag = omega arith; bits = omega arith }

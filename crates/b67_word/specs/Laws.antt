@@ -1,6 +1,6 @@
 -- What holds of words whatever the program does with them.
 use Rattle.std.specs.Prelude.{◌≡◌, ℕ, ◌+◌, ◌-◌, ◌/◌, ◌%◌, ◌^◌, ◌<◌, ◌≤◌, ◌↔◌, Bool, ℤ, pos, unsigned_abs, Some, IsSome}
-use Rattle.b67_word.specs.Word.{Word, word, IsWord, field, set_field, most, operand, as_whole, truth, as_truth}
+use Rattle.b67_word.specs.Word.{Word, word, IsWord, field, set_field, most_mantissa, operand, as_whole, truth, as_truth}
 
 -- a word that is read as a whole number: tag 0, and no bit 47, no exponent's sign and no exponent
 pub record IsOperand (w : Word) : Type 0 where
@@ -11,11 +11,11 @@ pub record IsOperand (w : Word) : Type 0 where
 
 pub record OperandsAreReadBack : Type 0 where
   -- a whole number is read back from its operand, which is a word of tag 0
-  pub whole_back : (z : ℤ) → unsigned_abs z ≤ most → as_whole (operand z) ≡ Some z
-  pub operand_word : (z : ℤ) → unsigned_abs z ≤ most → IsWord (operand z)
+  pub whole_back : (z : ℤ) → unsigned_abs z ≤ most_mantissa → as_whole (operand z) ≡ Some z
+  pub operand_word : (z : ℤ) → unsigned_abs z ≤ most_mantissa → IsWord (operand z)
   pub operand_tag : (z : ℤ) → (operand z).tag ≡ 0
   -- what is read is a whole number, and just the words without exponent are read
-  pub small : (w : Word) (z : ℤ) → as_whole w ≡ Some z → unsigned_abs z ≤ most
+  pub small : (w : Word) (z : ℤ) → as_whole w ≡ Some z → unsigned_abs z ≤ most_mantissa
   pub read : (w : Word) → IsSome (as_whole w) ↔ IsOperand w
   -- minus zero is 0
   pub minus_zero : as_whole (word 0 (2 ^ 46)) ≡ Some (pos 0)

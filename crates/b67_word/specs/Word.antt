@@ -25,13 +25,13 @@ unfoldable pub set_field : ℕ → ℕ → ℕ → ℕ → ℕ
 set_field s n value bits = (bits / 2 ^ (s + 1) * 2 ^ n + value) * 2 ^ (s + 1 - n) + bits % 2 ^ (s + 1 - n)
 
 -- the greatest magnitude that a mantissa of 39 bits has
-abbrev pub most : ℕ
-most = 2 ^ 39 - 1
+abbrev pub most_mantissa : ℕ
+most_mantissa = 2 ^ 39 - 1
 
 -- 1 where the number is negative
-abbrev pub sign_of : ℤ → ℕ
-sign_of (pos n) = 0
-sign_of (negsuc n) = 1
+abbrev pub sign_bit_of : ℤ → ℕ
+sign_bit_of (pos n) = 0
+sign_bit_of (negsuc n) = 1
 
 -- the number with this sign bit and magnitude; minus zero is 0
 abbrev pub signed : ℕ → ℕ → ℤ
@@ -39,7 +39,7 @@ signed sign magnitude = if sign == 0 then pos magnitude else neg_ℤ (pos magnit
 
 -- the operand that holds a number: its sign is bit 46, its magnitude stands in bits 38 to 0
 unfoldable pub operand : ℤ → Word
-operand z = word 0 (sign_of z * 2 ^ 46 + unsigned_abs z)
+operand z = word 0 (sign_bit_of z * 2 ^ 46 + unsigned_abs z)
 
 -- whether a word is read as a whole number: tag 0, and no bit 47, no exponent's sign and no exponent
 unfoldable pub is_whole : Word → Bool

@@ -6,7 +6,7 @@
 #![tactic(auto)]
 
 ghost use Rattle.std.specs.Prelude.{◌≡◌, ℕ, ◌+◌, ◌-◌, ◌*◌, ◌/◌, ◌%◌, ◌^◌, ◌<◌, ◌≤◌, ℤ, unsigned_abs, SomeIff, IfSome};
-ghost use Rattle.b67_word.specs.Word.{word, field, set_field, most, operand, as_whole, truth, as_truth, IsWord};
+ghost use Rattle.b67_word.specs.Word.{word, field, set_field, most_mantissa, operand, as_whole, truth, as_truth, IsWord};
 ghost use Rattle.b67_word.specs.Laws.{OperandsAreReadBack, OneFieldIsSet};
 
 use std::marker::Model;
@@ -89,7 +89,7 @@ pub fn make_word(tag: u8, bits: u64) -> Option<Word>
 /// The operand that holds a whole number: tag 0, the sign in bit 46 and the magnitude in bits 38 to 0.
 #[tactic(auto, unfolding(crate::specs::Word::operand))]
 pub fn operand(value: i64) -> Word
-    requires { unsigned_abs value ≤ most }
+    requires { unsigned_abs value ≤ most_mantissa }
     ensures { result ≡ operand value }
 {
     let sign = if value < 0 { 1 } else { 0 };
@@ -130,7 +130,7 @@ impl Word {
     #[tactic(auto, unfolding(crate::specs::Word::as_whole, crate::specs::Word::is_whole))]
     pub fn as_whole(&self) -> Option<i64>
         ensures value { result ≡ as_whole self.now }
-        ensures fits { IfSome result (λ z. unsigned_abs z ≤ most) }
+        ensures fits { IfSome result (λ z. unsigned_abs z ≤ most_mantissa) }
     {
         if self.tag() != 0 {
             return None;

@@ -10,7 +10,7 @@ use Rattle.b67_words.specs.declared.Words.{Words}
 use Rattle.b67_words.specs.declared.Task.TheVariants as tasks
 use Rattle.b67_words.specs.declared.Task.TheVariants.{Run, Check, Replay, Judge, Race, Dump, Console, Outcomes}
 use Rattle.b67_words.specs.declared.Words.TheVariants.{OnSource, Exec, Trial}
-use Rattle.b67_words.specs.Grammar.{IsNumber, IsFromZero, IsRule, fifo, lifo, seed, NameRule, IsCommand, run, check, list, replay, judge, race, dump, console, outcomes, exec, trial, BeginCommand, IsWhole}
+use Rattle.b67_words.specs.Grammar.{IsWordNumber, IsFromZero, IsRule, fifo, lifo, seed, NameRule, IsCommand, run, check, list, replay, judge, race, dump, console, outcomes, exec, trial, BeginCommand, IsWholeCommand}
 
 -- the word is a command by itself, which means this
 pub data IsAlone (name : List ℕ) (meaning : Words) : Type 0 where
@@ -34,8 +34,8 @@ pub data IsNumbered (name : List ℕ) (most n : ℕ) (meaning : Words) : Type 0 
 -- the words of a command, and what they mean
 pub data Form (words : List (List ℕ)) (meaning : Words) : Type 0 where
   a_run : (processors budget : List ℕ) (last : List (List ℕ)) (p b : ℕ) (rule : Rule) → words ≡ codes "run" ∷ processors ∷ budget ∷ last →
-      IsNumber MOST_PROCESSORS processors p → IsNumber MOST_BUDGET budget b → NameRule last rule → meaning ≡ OnSource (Run p b rule) → Form words meaning
-  a_budget : (name budget : List ℕ) (most b : ℕ) → words ≡ name ∷ budget ∷ [] → IsNumber most budget b → IsBudgeted name most b meaning → Form words meaning
+      IsWordNumber MOST_PROCESSORS processors p → IsWordNumber MOST_BUDGET budget b → NameRule last rule → meaning ≡ OnSource (Run p b rule) → Form words meaning
+  a_budget : (name budget : List ℕ) (most b : ℕ) → words ≡ name ∷ budget ∷ [] → IsWordNumber most budget b → IsBudgeted name most b meaning → Form words meaning
   a_from_zero : (name number : List ℕ) (most n : ℕ) → words ≡ name ∷ number ∷ [] → IsFromZero most number n → IsNumbered name most n meaning → Form words meaning
   a_word : (name : List ℕ) → words ≡ name ∷ [] → IsAlone name meaning → Form words meaning
 
@@ -261,8 +261,8 @@ pub record AfterRun (rest : List (List ℕ)) : Type 0 where
   pub b : ℕ
   pub rule : Rule
   pub are : rest ≡ processors ∷ budget ∷ last
-  pub first : IsNumber MOST_PROCESSORS processors p
-  pub second : IsNumber MOST_BUDGET budget b
+  pub first : IsWordNumber MOST_PROCESSORS processors p
+  pub second : IsWordNumber MOST_BUDGET budget b
   pub named : NameRule last rule
 
 run_form : (rest : List (List ℕ)) (meaning : Words) → Form (codes "run" ∷ rest) meaning → AfterRun rest
@@ -280,14 +280,14 @@ pub record AfterName (most : ℕ) (rest : List (List ℕ)) : Type 0 where
   pub budget : List ℕ
   pub b : ℕ
   pub are : rest ≡ budget ∷ []
-  pub first : IsNumber most budget b
+  pub first : IsWordNumber most budget b
 
 budget_form : (name : List ℕ) (most k : ℕ) (one : Words) → IsBudgeted name most k one → (rest : List (List ℕ)) (meaning : Words) → Form (name ∷ rest) meaning → AfterName most rest
 budget_form name most k one is rest meaning (a_run processors budget last p b rule e f s n m) = budget_not_run name most k one is (let same : name ≡ codes "run" = cc in same)
 budget_form name most k one is rest meaning (a_budget other budget greatest b e s also) =
     let named : other ≡ name = cc in
     let same : greatest ≡ most = sym (same_budget name most greatest k b one meaning is (subst (λ w. IsBudgeted w greatest b meaning) named also)) in
-    record { budget = budget; b = b; are = cc; first = subst (λ m. IsNumber m budget b) same s }
+    record { budget = budget; b = b; are = cc; first = subst (λ m. IsWordNumber m budget b) same s }
 budget_form name most k one is rest meaning (a_from_zero other number greatest n e f also) =
     let same : other ≡ name = cc in number_not_budgeted name most k greatest n one meaning is (subst (λ w. IsNumbered w greatest n meaning) same also)
 budget_form name most k one is rest meaning (a_word other e also) =
@@ -331,7 +331,7 @@ alone_form name word rest one meaning is (a_word other e also) = cc
 -- ---- how the words of a command can begin
 
 -- 1 is a number up to any other
-pub one : (most : ℕ) → 1 ≤ most → IsNumber most (codes "1") 1
+pub one : (most : ℕ) → 1 ≤ most → IsWordNumber most (codes "1") 1
 one most p = record { written = sym (decimal_digit 1 (omega arith)); least = omega arith; greatest = p }
 
 pub begin_nothing : BeginCommand []
@@ -340,7 +340,7 @@ begin_nothing = (codes "check" ∷ [], OnSource Check, check)
 pub begin_check : BeginCommand (codes "check" ∷ [])
 begin_check = ([], OnSource Check, check)
 
-pub begin_run : (processors : List ℕ) (p : ℕ) → IsNumber MOST_PROCESSORS processors p → BeginCommand (codes "run" ∷ processors ∷ [])
+pub begin_run : (processors : List ℕ) (p : ℕ) → IsWordNumber MOST_PROCESSORS processors p → BeginCommand (codes "run" ∷ processors ∷ [])
 begin_run processors p is = (codes "1" ∷ [], OnSource (Run p 1 Fifo), run processors (codes "1") [] p 1 Fifo is (one MOST_BUDGET (omega arith)) refl)
 
 -- so is 1 from 0 on
@@ -349,27 +349,27 @@ one_from_zero most p = record { written = sym (decimal_digit 1 (omega arith)); g
 
 -- ---- whole commands
 
-pub whole_alone : (name : List ℕ) (meaning : Words) → IsCommand (name ∷ []) meaning → IsAlone name meaning → IsWhole (name ∷ []) meaning
+pub whole_alone : (name : List ℕ) (meaning : Words) → IsCommand (name ∷ []) meaning → IsAlone name meaning → IsWholeCommand (name ∷ []) meaning
 whole_alone name meaning is alone =
     record { is = is; last = λ word (more, m, also). alone_form name word more meaning m alone (form_of (name ∷ word ∷ more) m also) }
 
-pub whole_check : IsWhole (codes "check" ∷ []) (OnSource Check)
+pub whole_check : IsWholeCommand (codes "check" ∷ []) (OnSource Check)
 whole_check = whole_alone (codes "check") (OnSource Check) check (is_check refl refl)
 
-pub whole_list : IsWhole (codes "list" ∷ []) (OnSource tasks.List)
+pub whole_list : IsWholeCommand (codes "list" ∷ []) (OnSource tasks.List)
 whole_list = whole_alone (codes "list") (OnSource tasks.List) list (is_list refl refl)
 
-pub whole_judge : IsWhole (codes "judge" ∷ []) (OnSource Judge)
+pub whole_judge : IsWholeCommand (codes "judge" ∷ []) (OnSource Judge)
 whole_judge = whole_alone (codes "judge") (OnSource Judge) judge (is_judge refl refl)
 
-pub whole_race : IsWhole (codes "race" ∷ []) (OnSource Race)
+pub whole_race : IsWholeCommand (codes "race" ∷ []) (OnSource Race)
 whole_race = whole_alone (codes "race") (OnSource Race) race (is_race refl refl)
 
-pub whole_console : IsWhole (codes "console" ∷ []) (OnSource Console)
+pub whole_console : IsWholeCommand (codes "console" ∷ []) (OnSource Console)
 whole_console = whole_alone (codes "console") (OnSource Console) console (is_console refl refl)
 
-pub whole_run : (processors budget word : List ℕ) (p b : ℕ) (rule : Rule) → IsNumber MOST_PROCESSORS processors p → IsNumber MOST_BUDGET budget b → IsRule word rule →
-    IsWhole (codes "run" ∷ processors ∷ budget ∷ word ∷ []) (OnSource (Run p b rule))
+pub whole_run : (processors budget word : List ℕ) (p b : ℕ) (rule : Rule) → IsWordNumber MOST_PROCESSORS processors p → IsWordNumber MOST_BUDGET budget b → IsRule word rule →
+    IsWholeCommand (codes "run" ∷ processors ∷ budget ∷ word ∷ []) (OnSource (Run p b rule))
 whole_run processors budget word p b rule f s n = record {
   is = run processors budget (word ∷ []) p b rule f s n;
   last = λ next (more, m, also).
@@ -379,11 +379,11 @@ whole_run processors budget word p b rule f s n = record {
       subst (λ (ws : List (List ℕ)). NameRule ws after.rule) same after.named;
 }
 
-pub whole_budget : (name budget : List ℕ) (most b : ℕ) (meaning : Words) → IsBudgeted name most b meaning → IsCommand (name ∷ budget ∷ []) meaning → IsWhole (name ∷ budget ∷ []) meaning
+pub whole_budget : (name budget : List ℕ) (most b : ℕ) (meaning : Words) → IsBudgeted name most b meaning → IsCommand (name ∷ budget ∷ []) meaning → IsWholeCommand (name ∷ budget ∷ []) meaning
 whole_budget name budget most b meaning budgeted is =
     record { is = is; last = λ word (more, m, also). let e = (after_name name most b meaning budgeted (budget ∷ word ∷ more) m also).are in cc }
 
-pub whole_number : (name number : List ℕ) (most n : ℕ) (meaning : Words) → IsNumbered name most n meaning → IsCommand (name ∷ number ∷ []) meaning → IsWhole (name ∷ number ∷ []) meaning
+pub whole_number : (name number : List ℕ) (most n : ℕ) (meaning : Words) → IsNumbered name most n meaning → IsCommand (name ∷ number ∷ []) meaning → IsWholeCommand (name ∷ number ∷ []) meaning
 whole_number name number most n meaning numbered is =
     record { is = is; last = λ word (more, m, also). let e = (after_numbered name most n meaning numbered (number ∷ word ∷ more) m also).are in cc }
 

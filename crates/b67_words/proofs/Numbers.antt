@@ -7,13 +7,13 @@ use Rattle.std.proofs.lemmas.Fmt.{first_decimal, decimal_digit, decimal_is_IsNum
 use Rattle.std.proofs.lemmas.Str.Parse.{IsNumeralModel, numerals_by_value, tells_digits, parse_plain, digit_at}
 use Rattle.std.specs.Bool.{then_some}
 use Rattle.std.proofs.lemmas.Bool.{leb-true, leb-false}
-use Rattle.b67_words.specs.Grammar.{IsNumber, IsNumberOrNone, IsFromZero}
+use Rattle.b67_words.specs.Grammar.{IsWordNumber, IsNumberOrNone, IsFromZero}
 
 own : IsNumeralModel (AllDigits 10) (digits_value 10)
 own = numerals_by_value (AllDigits 10) tells_digits
 
 -- a number begins with a digit other than 0
-pub first_digit : (most : ℕ) (text : List ℕ) (n : ℕ) → most < 2 ^ 64 → IsNumber most text n → (49 ≤ get_or text 0 0) × (get_or text 0 0 ≤ 57)
+pub first_digit : (most : ℕ) (text : List ℕ) (n : ℕ) → most < 2 ^ 64 → IsWordNumber most text n → (49 ≤ get_or text 0 0) × (get_or text 0 0 ≤ 57)
 first_digit most text n small is =
     let least = is.least in
     let fits : n < 2 ^ 64 = omega (arith, is.greatest) in
@@ -26,7 +26,7 @@ not_zero zero low = let e : get_or (decimal 0) 0 0 ≡ 48 = rw (decimal_digit 0 
 not_zero (suc n) low = omega arith
 
 -- a text that begins so is what the number that is parsed from it is written as
-pub parsed : {E : Type 0} (most : ℕ) (text : List ℕ) (n : ℕ) (r : Result ℕ E) → ParsesUnsigned 64 10 text r → r ≡ Ok n → 49 ≤ get_or text 0 0 → n ≤ most → IsNumber most text n
+pub parsed : {E : Type 0} (most : ℕ) (text : List ℕ) (n : ℕ) (r : Result ℕ E) → ParsesUnsigned 64 10 text r → r ≡ Ok n → 49 ≤ get_or text 0 0 → n ≤ most → IsWordNumber most text n
 parsed most text n r h e low fits =
     let bare : get_or text 0 0 ≢ 43 = λ p. omega arith in
     let zero_less : get_or text 0 0 ≡ 48 → length text ≡ 1 = λ p. absurd (omega arith) in
@@ -36,7 +36,7 @@ parsed most text n r h e low fits =
     record { written = said; least = not_zero n (rw said at low); greatest = fits }
 
 -- what is parsed from the text of a number is that number
-pub reads : {E : Type 0} (most : ℕ) (text : List ℕ) (n : ℕ) (r : Result ℕ E) → most < 2 ^ 64 → ParsesUnsigned 64 10 text r → IsNumber most text n → r ≡ Ok n
+pub reads : {E : Type 0} (most : ℕ) (text : List ℕ) (n : ℕ) (r : Result ℕ E) → most < 2 ^ 64 → ParsesUnsigned 64 10 text r → IsWordNumber most text n → r ≡ Ok n
 reads most text n r small h is =
     let fits : n < 2 ^ 64 = omega (arith, is.greatest) in
     parse-decimal 64 n text r fits fits is.written h
@@ -61,6 +61,6 @@ digit_first most text n small is =
 pub zero_from : (most : ℕ) (text : List ℕ) → text ≡ codes "0" → IsFromZero most text 0
 zero_from most text e = record { written = e ∙ sym (decimal_digit 0 (omega arith)); greatest = omega arith }
 
-pub none_from : (most : ℕ) (text : List ℕ) → text ≢ codes "0" → ((n : ℕ) → IsNumber most text n → ⊥) → (n : ℕ) → IsFromZero most text n → ⊥
+pub none_from : (most : ℕ) (text : List ℕ) → text ≢ codes "0" → ((n : ℕ) → IsWordNumber most text n → ⊥) → (n : ℕ) → IsFromZero most text n → ⊥
 none_from most text other none zero is = other (is.written ∙ decimal_digit 0 (omega arith))
 none_from most text other none (suc n) is = none (suc n) (record { written = is.written; least = omega arith; greatest = is.greatest })

@@ -12,14 +12,14 @@ use Rattle.b67_words.specs.declared.UsageKind.{UsageKind}
 use Rattle.b67_words.specs.declared.UsageKind.TheVariants.{Missing, Unknown, BadNumber, BadRule, Extra}
 use Rattle.b67_words.specs.declared.BadWords.{BadWords}
 use Rattle.b67_words.specs.declared.BadWords.TheVariants.{Usage}
-use Rattle.b67_words.specs.Grammar.{IsNumber, IsFromZero, IsRule, NameRule, IsCommand, BeginCommand, Wants, command, numeral, named as rule_named, nothing, Breaks, missing, wrong, WordsMean, meant, broken}
+use Rattle.b67_words.specs.Grammar.{IsWordNumber, IsFromZero, IsRule, NameRule, IsCommand, BeginCommand, Wants, command, numeral, named as rule_named, nothing, Breaks, missing, wrong, WordsMean, meant, broken}
 use Rattle.b67_words.proofs.Commands.{IsAlone, IsBudgeted, IsNumbered, Form, a_run, a_budget, a_from_zero, a_word, form_of, alone_letter, budget_letter, number_letter, run_not_alone, budget_not_alone, budget_not_run, number_not_run, number_not_budgeted, number_not_alone, number_small, budget_small, same_budgeted, same_numbered, same_alone, begin_check, rule_first, same_name}
 use Rattle.b67_words.proofs.Reading.{begins}
 use Rattle.b67_words.proofs.Numbers.{first_digit, digit_first}
 
 -- ---- a command has one meaning
 
-same_number : (most greatest : ℕ) (word : List ℕ) (n k : ℕ) → most < 2 ^ 64 → greatest < 2 ^ 64 → IsNumber most word n → IsNumber greatest word k → n ≡ k
+same_number : (most greatest : ℕ) (word : List ℕ) (n k : ℕ) → most < 2 ^ 64 → greatest < 2 ^ 64 → IsWordNumber most word n → IsWordNumber greatest word k → n ≡ k
 same_number most greatest word n k small little a b = decimal_injective n k (omega (arith, a.greatest)) (omega (arith, b.greatest)) (sym a.written ∙ b.written)
 
 same_from_zero : (most greatest : ℕ) (word : List ℕ) (n k : ℕ) → most < 2 ^ 64 → greatest < 2 ^ 64 → IsFromZero most word n → IsFromZero greatest word k → n ≡ k
@@ -31,8 +31,8 @@ same_form words a b (a_run processors budget last p n rule e f s u m) (a_run oth
     let first : others ≡ processors = cc in
     let second : other ≡ budget = cc in
     let third : more ≡ last = cc in
-    let one : p ≡ q = same_number MOST_PROCESSORS MOST_PROCESSORS processors p q (omega arith) (omega arith) f (subst (λ w. IsNumber MOST_PROCESSORS w q) first g) in
-    let two : n ≡ k = same_number MOST_BUDGET MOST_BUDGET budget n k (omega arith) (omega arith) s (subst (λ w. IsNumber MOST_BUDGET w k) second t) in
+    let one : p ≡ q = same_number MOST_PROCESSORS MOST_PROCESSORS processors p q (omega arith) (omega arith) f (subst (λ w. IsWordNumber MOST_PROCESSORS w q) first g) in
+    let two : n ≡ k = same_number MOST_BUDGET MOST_BUDGET budget n k (omega arith) (omega arith) s (subst (λ w. IsWordNumber MOST_BUDGET w k) second t) in
     let named : rule ≡ by = same_name last rule by u (subst (λ (ws : List (List ℕ)). NameRule ws by) third v) in
     m ∙ ap (λ x. OnSource (Run x n rule)) one ∙ ap (λ x. OnSource (Run q x rule)) two ∙ ap (λ (x : Rule). OnSource (Run q k x)) named ∙ sym l
 same_form words a b (a_run processors budget last p n rule e f s u m) (a_budget name other most k also t is) =
@@ -48,7 +48,7 @@ same_form words a b (a_budget name budget most n e s is) (a_budget word other gr
     let first : other ≡ budget = cc in
     let named : word ≡ name = cc in
     let of_name = subst (λ w. IsBudgeted w greatest k b) named too in
-    let one : n ≡ k = same_number most greatest budget n k (budget_small name most n a is) (budget_small name greatest k b of_name) s (subst (λ w. IsNumber greatest w k) first t) in
+    let one : n ≡ k = same_number most greatest budget n k (budget_small name most n a is) (budget_small name greatest k b of_name) s (subst (λ w. IsWordNumber greatest w k) first t) in
     same_budgeted name most greatest n k a b one is of_name
 same_form words a b (a_budget name budget most n e s is) (a_from_zero other number greatest k also t too) =
     let same = sym e ∙ also in
@@ -113,13 +113,13 @@ number_form word rest meaning low (a_word name e is) =
     let high = alone_letter name meaning is in
     absurd (omega arith)
 
-no_number_first : {B : Type 0} (word : List ℕ) (n : ℕ) → IsNumber MOST_BUDGET word n → BeginCommand (word ∷ []) → B
+no_number_first : {B : Type 0} (word : List ℕ) (n : ℕ) → IsWordNumber MOST_BUDGET word n → BeginCommand (word ∷ []) → B
 no_number_first word n is (rest, m, begins) = number_form word rest m (first_digit MOST_BUDGET word n (omega arith) is).1 (form_of (word ∷ rest) m begins)
 
 -- ---- a rule stands after three words, and a number never does
 
 -- a number is no rule
-no_rule : {B : Type 0} (most : ℕ) (word : List ℕ) (n : ℕ) (rule : Rule) → most < 2 ^ 64 → IsNumber most word n → IsRule word rule → B
+no_rule : {B : Type 0} (most : ℕ) (word : List ℕ) (n : ℕ) (rule : Rule) → most < 2 ^ 64 → IsWordNumber most word n → IsRule word rule → B
 no_rule most word n rule small is also = absurd (omega (arith, rule_first word rule also, (first_digit most word n small is).0))
 
 no_rule_from_zero : {B : Type 0} (most : ℕ) (word : List ℕ) (n : ℕ) (rule : Rule) → most < 2 ^ 64 → IsFromZero most word n → IsRule word rule → B
@@ -133,14 +133,14 @@ rule_place : (words : List (List ℕ)) (word : List ℕ) (rest : List (List ℕ)
     → length words ≡ 3
 rule_place [] word rest meaning rule is form = number_form word rest meaning (omega (arith, rule_first word rule is)) form
 rule_place (a ∷ []) word rest meaning rule is (a_run processors budget last p b by e f s n m) =
-    let same : processors ≡ word = cc in no_rule MOST_PROCESSORS word p rule (omega arith) (subst (λ w. IsNumber MOST_PROCESSORS w p) same f) is
+    let same : processors ≡ word = cc in no_rule MOST_PROCESSORS word p rule (omega arith) (subst (λ w. IsWordNumber MOST_PROCESSORS w p) same f) is
 rule_place (a ∷ []) word rest meaning rule is (a_budget name budget most b e s also) =
-    let same : budget ≡ word = cc in no_rule most word b rule (budget_small name most b meaning also) (subst (λ w. IsNumber most w b) same s) is
+    let same : budget ≡ word = cc in no_rule most word b rule (budget_small name most b meaning also) (subst (λ w. IsWordNumber most w b) same s) is
 rule_place (a ∷ []) word rest meaning rule is (a_from_zero name number most n e f also) =
     let same : number ≡ word = cc in no_rule_from_zero most word n rule (number_small name most n meaning also) (subst (λ w. IsFromZero most w n) same f) is
 rule_place (a ∷ []) word rest meaning rule is (a_word name e also) = cc
 rule_place (a ∷ c ∷ []) word rest meaning rule is (a_run processors budget last p b by e f s n m) =
-    let same : budget ≡ word = cc in no_rule MOST_BUDGET word b rule (omega arith) (subst (λ w. IsNumber MOST_BUDGET w b) same s) is
+    let same : budget ≡ word = cc in no_rule MOST_BUDGET word b rule (omega arith) (subst (λ w. IsWordNumber MOST_BUDGET w b) same s) is
 rule_place (a ∷ c ∷ []) word rest meaning rule is (a_budget name budget most b e s also) = cc
 rule_place (a ∷ c ∷ []) word rest meaning rule is (a_from_zero name number most n e f also) = cc
 rule_place (a ∷ c ∷ []) word rest meaning rule is (a_word name e also) = cc
@@ -151,11 +151,11 @@ rule_place (a ∷ c ∷ d ∷ x ∷ more) word rest meaning rule is (a_budget na
 rule_place (a ∷ c ∷ d ∷ x ∷ more) word rest meaning rule is (a_from_zero name number most n e f also) = cc
 rule_place (a ∷ c ∷ d ∷ x ∷ more) word rest meaning rule is (a_word name e also) = cc
 
-named_fourth : {B : Type 0} (word : List ℕ) (rest : List (List ℕ)) (n : ℕ) (by : Rule) → IsNumber MOST_BUDGET word n → NameRule (word ∷ rest) by → B
+named_fourth : {B : Type 0} (word : List ℕ) (rest : List (List ℕ)) (n : ℕ) (by : Rule) → IsWordNumber MOST_BUDGET word n → NameRule (word ∷ rest) by → B
 named_fourth word [] n by is also = no_rule MOST_BUDGET word n by (omega arith) is also
 named_fourth word (other ∷ rest) n by is also = absurd also
 
-number_not_fourth : {B : Type 0} (words : List (List ℕ)) (word : List ℕ) (rest : List (List ℕ)) (meaning : Words) (n : ℕ) → IsNumber MOST_BUDGET word n → length words ≡ 3
+number_not_fourth : {B : Type 0} (words : List (List ℕ)) (word : List ℕ) (rest : List (List ℕ)) (meaning : Words) (n : ℕ) → IsWordNumber MOST_BUDGET word n → length words ≡ 3
     → Form (words ++ word ∷ rest) meaning → B
 number_not_fourth [] word rest meaning n is three form = absurd (omega (arith, three))
 number_not_fourth (a ∷ []) word rest meaning n is three form = absurd (omega (arith, three))
@@ -174,7 +174,7 @@ form_from words word rest meaning is = form_of (words ++ word ∷ rest) meaning 
 rule_fourth : (words : List (List ℕ)) (word : List ℕ) (rule : Rule) → IsRule word rule → BeginCommand (words ++ word ∷ []) → length words ≡ 3
 rule_fourth words word rule is (rest, m, begins) = rule_place words word rest m rule is (form_from words word rest m begins)
 
-number_or_rule : {B : Type 0} (words : List (List ℕ)) (word : List ℕ) (n : ℕ) (other : List ℕ) (rule : Rule) → IsNumber MOST_BUDGET word n → BeginCommand (words ++ word ∷ [])
+number_or_rule : {B : Type 0} (words : List (List ℕ)) (word : List ℕ) (n : ℕ) (other : List ℕ) (rule : Rule) → IsWordNumber MOST_BUDGET word n → BeginCommand (words ++ word ∷ [])
     → IsRule other rule → BeginCommand (words ++ other ∷ []) → B
 number_or_rule words word n other rule is (rest, m, begins) also then =
     number_not_fourth words word rest m n is (rule_fourth words other rule also then) (form_from words word rest m begins)
@@ -205,7 +205,7 @@ cuts (x ∷ before) word after (y ∷ others) other rest e =
 
 data Wanted (words : List (List ℕ)) : UsageKind → Type 0 where
   a_command : words ≡ [] → Wanted words Unknown
-  a_number : (word : List ℕ) (n : ℕ) → IsNumber MOST_BUDGET word n → BeginCommand (words ++ word ∷ []) → Wanted words BadNumber
+  a_number : (word : List ℕ) (n : ℕ) → IsWordNumber MOST_BUDGET word n → BeginCommand (words ++ word ∷ []) → Wanted words BadNumber
   a_rule : (word : List ℕ) (rule : Rule) → IsRule word rule → BeginCommand (words ++ word ∷ []) → Wanted words BadRule
   no_word : ((word : List ℕ) → BeginCommand (words ++ word ∷ []) → ⊥) → Wanted words Extra
 
@@ -218,7 +218,7 @@ wanted _ _ (nothing words starts none) = no_word none
 rule_or_command : {B : Type 0} (words : List (List ℕ)) (word : List ℕ) (rule : Rule) → words ≡ [] → IsRule word rule → BeginCommand (words ++ word ∷ []) → B
 rule_or_command words word rule e is starts = absurd (omega (arith, rule_fourth words word rule is starts, ap length e))
 
-number_or_command : {B : Type 0} (words : List (List ℕ)) (word : List ℕ) (n : ℕ) → words ≡ [] → IsNumber MOST_BUDGET word n → BeginCommand (words ++ word ∷ []) → B
+number_or_command : {B : Type 0} (words : List (List ℕ)) (word : List ℕ) (n : ℕ) → words ≡ [] → IsWordNumber MOST_BUDGET word n → BeginCommand (words ++ word ∷ []) → B
 number_or_command words word n e is starts = no_number_first word n is (subst (λ ws. BeginCommand (ws ++ word ∷ [])) e starts)
 
 command_or_none : {B : Type 0} (words : List (List ℕ)) → words ≡ [] → ((word : List ℕ) → BeginCommand (words ++ word ∷ []) → ⊥) → B

@@ -15,7 +15,7 @@ use Rattle.b67_words.specs.declared.Words.TheVariants.{OnSource, Exec, Trial}
 use Rattle.b67_words.specs.declared.BadWords.{BadWords}
 use Rattle.b67_words.specs.declared.BadWords.TheVariants.{Usage}
 use Rattle.b67_words.specs.declared.UsageKind.TheVariants.{Missing, Unknown, BadNumber, BadRule, Extra}
-use Rattle.b67_words.specs.Grammar.{IsNumber, IsFromZero, IsRule, fifo, NameRule, IsCommand, run, replay, dump, outcomes, exec, trial, BeginCommand, IsWhole, BeginWhole, command, numeral, named as rule_named, nothing, missing, wrong, WordsMean, meant, broken, NumberStandsAt, IsRuleOrNone, RuleStandsAt}
+use Rattle.b67_words.specs.Grammar.{IsWordNumber, IsFromZero, IsRule, fifo, NameRule, IsCommand, run, replay, dump, outcomes, exec, trial, BeginCommand, IsWholeCommand, BeginWhole, command, numeral, named as rule_named, nothing, missing, wrong, WordsMean, meant, broken, NumberStandsAt, IsRuleOrNone, RuleStandsAt}
 use Rattle.b67_words.proofs.Commands.{Form, a_run, a_budget, a_from_zero, a_word, IsAlone, is_check, is_list, is_judge, is_race, is_console, IsBudgeted, is_replay, is_exec, is_outcomes, IsNumbered, is_trial, is_dump, form_of, begin_nothing, begin_run, one, one_from_zero, after_run, after_name, after_numbered, whole_run, whole_budget, whole_number, whole_check, whole_list, whole_judge, whole_race, whole_console}
 
 -- the words begin with these
@@ -84,20 +84,20 @@ number_read front words Is n (rest, e) is =
 
 -- ---- the commands
 
-awaits_processors : Awaits (codes "run" ∷ []) (IsNumber MOST_PROCESSORS)
+awaits_processors : Awaits (codes "run" ∷ []) (IsWordNumber MOST_PROCESSORS)
 awaits_processors = record {
   unfinished = λ m is. let e = (after_run [] m is).are in cc;
   begun = begin_run (codes "1") 1 (one MOST_PROCESSORS (omega arith));
   only = λ word (more, m, is). let words = after_run (word ∷ more) m is in let e = words.are in let same : words.processors ≡ word = cc in
-      (words.p, subst (λ w. IsNumber MOST_PROCESSORS w words.p) same words.first);
+      (words.p, subst (λ w. IsWordNumber MOST_PROCESSORS w words.p) same words.first);
 }
 
-awaits_budget : (processors : List ℕ) (p : ℕ) → IsNumber MOST_PROCESSORS processors p → Awaits (codes "run" ∷ processors ∷ []) (IsNumber MOST_BUDGET)
+awaits_budget : (processors : List ℕ) (p : ℕ) → IsWordNumber MOST_PROCESSORS processors p → Awaits (codes "run" ∷ processors ∷ []) (IsWordNumber MOST_BUDGET)
 awaits_budget processors p f = record {
   unfinished = λ m is. let e = (after_run (processors ∷ []) m is).are in cc;
   begun = ([], OnSource (Run p 1 Fifo), run processors (codes "1") [] p 1 Fifo f (one MOST_BUDGET (omega arith)) refl);
   only = λ word (more, m, is). let words = after_run (processors ∷ word ∷ more) m is in let e = words.are in let same : words.budget ≡ word = cc in
-      (words.b, subst (λ w. IsNumber MOST_BUDGET w words.b) same words.second);
+      (words.b, subst (λ w. IsWordNumber MOST_BUDGET w words.b) same words.second);
 }
 
 -- the words go on from their first
@@ -105,63 +105,63 @@ starts : (word : List ℕ) (words : List (List ℕ)) → slice_get words 0 ≡ S
 starts word [] h = let e : None ≡ Some word = h in cc
 starts word (first ∷ rest) h = let e : first ≡ word = cc in (rest, ap (λ w. w ∷ rest) e)
 
-pub run_first_broken : (words : List (List ℕ)) (bad : BadWords) → slice_get words 0 ≡ Some (codes "run") → NumberStandsAt (IsNumber MOST_PROCESSORS) words 1 (Err bad) →
+pub run_first_broken : (words : List (List ℕ)) (bad : BadWords) → slice_get words 0 ≡ Some (codes "run") → NumberStandsAt (IsWordNumber MOST_PROCESSORS) words 1 (Err bad) →
     WordsMean words (Err bad)
-run_first_broken words bad h n = number_broken (codes "run" ∷ []) words (IsNumber MOST_PROCESSORS) bad awaits_processors (starts (codes "run") words h) n
+run_first_broken words bad h n = number_broken (codes "run" ∷ []) words (IsWordNumber MOST_PROCESSORS) bad awaits_processors (starts (codes "run") words h) n
 
-pub run_second_broken : (words : List (List ℕ)) (p : ℕ) (bad : BadWords) → slice_get words 0 ≡ Some (codes "run") → NumberStandsAt (IsNumber MOST_PROCESSORS) words 1 (Ok p) →
-    NumberStandsAt (IsNumber MOST_BUDGET) words 2 (Err bad) → WordsMean words (Err bad)
+pub run_second_broken : (words : List (List ℕ)) (p : ℕ) (bad : BadWords) → slice_get words 0 ≡ Some (codes "run") → NumberStandsAt (IsWordNumber MOST_PROCESSORS) words 1 (Ok p) →
+    NumberStandsAt (IsWordNumber MOST_BUDGET) words 2 (Err bad) → WordsMean words (Err bad)
 run_second_broken words p bad h f n =
-    let first = number_read (codes "run" ∷ []) words (IsNumber MOST_PROCESSORS) p (starts (codes "run") words h) f in
-    number_broken (codes "run" ∷ first.word ∷ []) words (IsNumber MOST_BUDGET) bad (awaits_budget first.word p first.is) first.on n
+    let first = number_read (codes "run" ∷ []) words (IsWordNumber MOST_PROCESSORS) p (starts (codes "run") words h) f in
+    number_broken (codes "run" ∷ first.word ∷ []) words (IsWordNumber MOST_BUDGET) bad (awaits_budget first.word p first.is) first.on n
 
-begin_whole : (front words : List (List ℕ)) (meaning : Words) → GoOn front words → IsWhole front meaning → BeginWhole words (length front) meaning
+begin_whole : (front words : List (List ℕ)) (meaning : Words) → GoOn front words → IsWholeCommand front meaning → BeginWhole words (length front) meaning
 begin_whole front words meaning (rest, e) is =
     let sum = length-append front rest in
     subst (λ ws. BeginWhole ws (length front) meaning) (sym e)
-    record { given = omega arith; whole = subst (λ ws. IsWhole ws meaning) (sym (take-append_seam front rest)) is }
+    record { given = omega arith; whole = subst (λ ws. IsWholeCommand ws meaning) (sym (take-append_seam front rest)) is }
 
 -- a command of a name and a number from 1 on
 module _ (name : List ℕ) (most : ℕ) (some : 1 ≤ most) (meaning : ℕ → Words) (named : (b : ℕ) → IsBudgeted name most b (meaning b))
-    (command_of : (budget : List ℕ) (b : ℕ) → IsNumber most budget b → IsCommand (name ∷ budget ∷ []) (meaning b)) where
-  awaits_name : Awaits (name ∷ []) (IsNumber most)
+    (command_of : (budget : List ℕ) (b : ℕ) → IsWordNumber most budget b → IsCommand (name ∷ budget ∷ []) (meaning b)) where
+  awaits_name : Awaits (name ∷ []) (IsWordNumber most)
   awaits_name = record {
     unfinished = λ m is. let e = (after_name name most 1 (meaning 1) (named 1) [] m is).are in cc;
     begun = ([], meaning 1, command_of (codes "1") 1 (one most some));
     only = λ word (more, m, is). let words = after_name name most 1 (meaning 1) (named 1) (word ∷ more) m is in let e = words.are in let same : words.budget ≡ word = cc in
-        (words.b, subst (λ w. IsNumber most w words.b) same words.first);
+        (words.b, subst (λ w. IsWordNumber most w words.b) same words.first);
   }
 
-  budget_broken : (words : List (List ℕ)) (bad : BadWords) → slice_get words 0 ≡ Some name → NumberStandsAt (IsNumber most) words 1 (Err bad) → WordsMean words (Err bad)
-  budget_broken words bad h n = number_broken (name ∷ []) words (IsNumber most) bad awaits_name (starts name words h) n
+  budget_broken : (words : List (List ℕ)) (bad : BadWords) → slice_get words 0 ≡ Some name → NumberStandsAt (IsWordNumber most) words 1 (Err bad) → WordsMean words (Err bad)
+  budget_broken words bad h n = number_broken (name ∷ []) words (IsWordNumber most) bad awaits_name (starts name words h) n
 
-  begin_budget_whole : (words : List (List ℕ)) (b : ℕ) → slice_get words 0 ≡ Some name → NumberStandsAt (IsNumber most) words 1 (Ok b) → BeginWhole words 2 (meaning b)
+  begin_budget_whole : (words : List (List ℕ)) (b : ℕ) → slice_get words 0 ≡ Some name → NumberStandsAt (IsWordNumber most) words 1 (Ok b) → BeginWhole words 2 (meaning b)
   begin_budget_whole words b h f =
-      let first = number_read (name ∷ []) words (IsNumber most) b (starts name words h) f in
+      let first = number_read (name ∷ []) words (IsWordNumber most) b (starts name words h) f in
       begin_whole (name ∷ first.word ∷ []) words (meaning b) first.on
       (whole_budget name first.word most b (meaning b) (named b) (command_of first.word b first.is))
 
-pub replay_broken : (words : List (List ℕ)) (bad : BadWords) → slice_get words 0 ≡ Some (codes "replay") → NumberStandsAt (IsNumber MOST_BUDGET) words 1 (Err bad) →
+pub replay_broken : (words : List (List ℕ)) (bad : BadWords) → slice_get words 0 ≡ Some (codes "replay") → NumberStandsAt (IsWordNumber MOST_BUDGET) words 1 (Err bad) →
     WordsMean words (Err bad)
 replay_broken = budget_broken (codes "replay") MOST_BUDGET (omega arith) (λ b. OnSource (Replay b)) (λ b. is_replay refl refl refl) replay
 
-pub exec_broken : (words : List (List ℕ)) (bad : BadWords) → slice_get words 0 ≡ Some (codes "exec") → NumberStandsAt (IsNumber MOST_BUDGET) words 1 (Err bad) →
+pub exec_broken : (words : List (List ℕ)) (bad : BadWords) → slice_get words 0 ≡ Some (codes "exec") → NumberStandsAt (IsWordNumber MOST_BUDGET) words 1 (Err bad) →
     WordsMean words (Err bad)
 exec_broken = budget_broken (codes "exec") MOST_BUDGET (omega arith) (λ b. Exec b) (λ b. is_exec refl refl refl) exec
 
-pub outcomes_broken : (words : List (List ℕ)) (bad : BadWords) → slice_get words 0 ≡ Some (codes "outcomes") → NumberStandsAt (IsNumber MOST_STATES) words 1 (Err bad) →
+pub outcomes_broken : (words : List (List ℕ)) (bad : BadWords) → slice_get words 0 ≡ Some (codes "outcomes") → NumberStandsAt (IsWordNumber MOST_STATES) words 1 (Err bad) →
     WordsMean words (Err bad)
 outcomes_broken = budget_broken (codes "outcomes") MOST_STATES (omega arith) (λ n. OnSource (Outcomes n)) (λ n. is_outcomes refl refl refl) outcomes
 
-pub begin_replay_whole : (words : List (List ℕ)) (b : ℕ) → slice_get words 0 ≡ Some (codes "replay") → NumberStandsAt (IsNumber MOST_BUDGET) words 1 (Ok b) →
+pub begin_replay_whole : (words : List (List ℕ)) (b : ℕ) → slice_get words 0 ≡ Some (codes "replay") → NumberStandsAt (IsWordNumber MOST_BUDGET) words 1 (Ok b) →
     BeginWhole words 2 (OnSource (Replay b))
 begin_replay_whole = begin_budget_whole (codes "replay") MOST_BUDGET (omega arith) (λ b. OnSource (Replay b)) (λ b. is_replay refl refl refl) replay
 
-pub begin_exec_whole : (words : List (List ℕ)) (b : ℕ) → slice_get words 0 ≡ Some (codes "exec") → NumberStandsAt (IsNumber MOST_BUDGET) words 1 (Ok b) →
+pub begin_exec_whole : (words : List (List ℕ)) (b : ℕ) → slice_get words 0 ≡ Some (codes "exec") → NumberStandsAt (IsWordNumber MOST_BUDGET) words 1 (Ok b) →
     BeginWhole words 2 (Exec b)
 begin_exec_whole = begin_budget_whole (codes "exec") MOST_BUDGET (omega arith) (λ b. Exec b) (λ b. is_exec refl refl refl) exec
 
-pub begin_outcomes_whole : (words : List (List ℕ)) (n : ℕ) → slice_get words 0 ≡ Some (codes "outcomes") → NumberStandsAt (IsNumber MOST_STATES) words 1 (Ok n) →
+pub begin_outcomes_whole : (words : List (List ℕ)) (n : ℕ) → slice_get words 0 ≡ Some (codes "outcomes") → NumberStandsAt (IsWordNumber MOST_STATES) words 1 (Ok n) →
     BeginWhole words 2 (OnSource (Outcomes n))
 begin_outcomes_whole = begin_budget_whole (codes "outcomes") MOST_STATES (omega arith) (λ n. OnSource (Outcomes n)) (λ n. is_outcomes refl refl refl) outcomes
 
@@ -218,7 +218,7 @@ begin_console_whole words h = begin_whole (codes "console" ∷ []) words (OnSour
 
 -- ---- after a whole command
 
-extra_after : (front after : List (List ℕ)) (count : ℕ) (meaning : Words) → IsWhole front meaning → length front ≡ count → count < length (front ++ after) →
+extra_after : (front after : List (List ℕ)) (count : ℕ) (meaning : Words) → IsWholeCommand front meaning → length front ≡ count → count < length (front ++ after) →
     WordsMean (front ++ after) (Err (Usage (count + 1) Extra))
 extra_after front [] count meaning is e more = let sum = length-append front [] in absurd (omega arith)
 extra_after front (word ∷ rest) count meaning is e more =
@@ -226,7 +226,7 @@ extra_after front (word ∷ rest) count meaning is e more =
     subst (λ k. WordsMean (front ++ word ∷ rest) (Err (Usage (k + 1) Extra))) e
     (broken (front ++ word ∷ rest) (length front + 1) Extra (wrong front word rest Extra begun (is.last word) (nothing front begun is.last)))
 
-pub extra : (words : List (List ℕ)) (count : ℕ) (meaning : Words) → IsWhole (take count words) meaning → count < length words →
+pub extra : (words : List (List ℕ)) (count : ℕ) (meaning : Words) → IsWholeCommand (take count words) meaning → count < length words →
     WordsMean words (Err (Usage (count + 1) Extra))
 extra words count meaning is more =
     let all = take-append-drop count words in
@@ -234,13 +234,13 @@ extra words count meaning is more =
     subst (λ ws. WordsMean ws (Err (Usage (count + 1) Extra))) all
     (extra_after (take count words) (drop count words) count meaning is (length-take-le count words (omega arith)) longer)
 
-pub exact : (words : List (List ℕ)) (count : ℕ) (meaning : Words) → IsWhole (take count words) meaning → count ≡ length words → WordsMean words (Ok meaning)
+pub exact : (words : List (List ℕ)) (count : ℕ) (meaning : Words) → IsWholeCommand (take count words) meaning → count ≡ length words → WordsMean words (Ok meaning)
 exact words count meaning is e =
     let whole : take count words ≡ words = rw e (take-length words) in meant words meaning (subst (λ ws. IsCommand ws meaning) whole is.is)
 
 -- ---- the rule that may follow the budget of a run
 
-module _ (processors budget : List ℕ) (p b : ℕ) (f : IsNumber MOST_PROCESSORS processors p) (s : IsNumber MOST_BUDGET budget b) where
+module _ (processors budget : List ℕ) (p b : ℕ) (f : IsWordNumber MOST_PROCESSORS processors p) (s : IsWordNumber MOST_BUDGET budget b) where
   -- the words of a run that go on so
   abbrev run_with : List (List ℕ) → List (List ℕ)
   run_with rest = codes "run" ∷ processors ∷ budget ∷ rest
@@ -298,13 +298,13 @@ module _ (processors budget : List ℕ) (p b : ℕ) (f : IsNumber MOST_PROCESSOR
   broken_by rest (Usage k Extra) n = absurd n
 
 -- what is read of a run, word by word
-module _ (words : List (List ℕ)) (p b : ℕ) (h : slice_get words 0 ≡ Some (codes "run")) (f : NumberStandsAt (IsNumber MOST_PROCESSORS) words 1 (Ok p))
-    (s : NumberStandsAt (IsNumber MOST_BUDGET) words 2 (Ok b)) where
-  first : ReadNumber (codes "run" ∷ []) words (IsNumber MOST_PROCESSORS) p
-  first = number_read (codes "run" ∷ []) words (IsNumber MOST_PROCESSORS) p (starts (codes "run") words h) f
+module _ (words : List (List ℕ)) (p b : ℕ) (h : slice_get words 0 ≡ Some (codes "run")) (f : NumberStandsAt (IsWordNumber MOST_PROCESSORS) words 1 (Ok p))
+    (s : NumberStandsAt (IsWordNumber MOST_BUDGET) words 2 (Ok b)) where
+  first : ReadNumber (codes "run" ∷ []) words (IsWordNumber MOST_PROCESSORS) p
+  first = number_read (codes "run" ∷ []) words (IsWordNumber MOST_PROCESSORS) p (starts (codes "run") words h) f
 
-  second : ReadNumber (codes "run" ∷ first.word ∷ []) words (IsNumber MOST_BUDGET) b
-  second = number_read (codes "run" ∷ first.word ∷ []) words (IsNumber MOST_BUDGET) b first.on s
+  second : ReadNumber (codes "run" ∷ first.word ∷ []) words (IsWordNumber MOST_BUDGET) b
+  second = number_read (codes "run" ∷ first.word ∷ []) words (IsWordNumber MOST_BUDGET) b first.on s
 
   are : words ≡ codes "run" ∷ first.word ∷ second.word ∷ second.on.0
   are = second.on.1

@@ -15,7 +15,7 @@ use Rattle.b67_words.specs.declared.BadWords.{BadWords}
 use Rattle.b67_words.specs.declared.BadWords.TheVariants.{Usage}
 
 -- the word is that number, from 1 to the given one: decimal, without sign and leading zeros
-pub record IsNumber (most : ℕ) (word : List ℕ) (number : ℕ) : Type 0 where
+pub record IsWordNumber (most : ℕ) (word : List ℕ) (number : ℕ) : Type 0 where
   pub written : word ≡ decimal number
   pub least : 1 ≤ number
   pub greatest : number ≤ most
@@ -39,17 +39,17 @@ NameRule (word ∷ other ∷ rest) rule = ⊥
 
 -- The commands: the words of each, and what they mean.
 pub data IsCommand : List (List ℕ) → Words → Type 0 where
-  run : (processors budget : List ℕ) (last : List (List ℕ)) (p b : ℕ) (rule : Rule) → IsNumber MOST_PROCESSORS processors p → IsNumber MOST_BUDGET budget b →
+  run : (processors budget : List ℕ) (last : List (List ℕ)) (p b : ℕ) (rule : Rule) → IsWordNumber MOST_PROCESSORS processors p → IsWordNumber MOST_BUDGET budget b →
       NameRule last rule → IsCommand (codes "run" ∷ processors ∷ budget ∷ last) (OnSource (Run p b rule))
   check : IsCommand (codes "check" ∷ []) (OnSource Check)
   list : IsCommand (codes "list" ∷ []) (OnSource tasks.List)
-  replay : (budget : List ℕ) (b : ℕ) → IsNumber MOST_BUDGET budget b → IsCommand (codes "replay" ∷ budget ∷ []) (OnSource (Replay b))
+  replay : (budget : List ℕ) (b : ℕ) → IsWordNumber MOST_BUDGET budget b → IsCommand (codes "replay" ∷ budget ∷ []) (OnSource (Replay b))
   judge : IsCommand (codes "judge" ∷ []) (OnSource Judge)
   race : IsCommand (codes "race" ∷ []) (OnSource Race)
   dump : (number : List ℕ) (k : ℕ) → IsFromZero MOST_ENTRIES number k → IsCommand (codes "dump" ∷ number ∷ []) (OnSource (Dump k))
   console : IsCommand (codes "console" ∷ []) (OnSource Console)
-  outcomes : (number : List ℕ) (n : ℕ) → IsNumber MOST_STATES number n → IsCommand (codes "outcomes" ∷ number ∷ []) (OnSource (Outcomes n))
-  exec : (budget : List ℕ) (b : ℕ) → IsNumber MOST_BUDGET budget b → IsCommand (codes "exec" ∷ budget ∷ []) (Exec b)
+  outcomes : (number : List ℕ) (n : ℕ) → IsWordNumber MOST_STATES number n → IsCommand (codes "outcomes" ∷ number ∷ []) (OnSource (Outcomes n))
+  exec : (budget : List ℕ) (b : ℕ) → IsWordNumber MOST_BUDGET budget b → IsCommand (codes "exec" ∷ budget ∷ []) (Exec b)
   trial : (number : List ℕ) (n : ℕ) → IsFromZero MOST_TRIAL number n → IsCommand (codes "trial" ∷ number ∷ []) (Trial n)
 
 -- some command begins with these words
@@ -57,19 +57,19 @@ abbrev pub BeginCommand : List (List ℕ) → Type 0
 BeginCommand words = (rest : List (List ℕ)) × (meaning : Words) × IsCommand (words ++ rest) meaning
 
 -- the words are that command, and no word may follow them
-pub record IsWhole (words : List (List ℕ)) (meaning : Words) : Type 0 where
+pub record IsWholeCommand (words : List (List ℕ)) (meaning : Words) : Type 0 where
   pub is : IsCommand words meaning
   pub last : (word : List ℕ) → BeginCommand (words ++ word ∷ []) → ⊥
 
 -- so many of the words are that command, and no word may follow them
 pub record BeginWhole (words : List (List ℕ)) (count : ℕ) (meaning : Words) : Type 0 where
   pub given : count ≤ length words
-  pub whole : IsWhole (take count words) meaning
+  pub whole : IsWholeCommand (take count words) meaning
 
 -- what is wrong with a word after these, if it is wrong: what should stand there
 pub data Wants : List (List ℕ) → UsageKind → Type 0 where
   command : Wants [] Unknown
-  numeral : (words : List (List ℕ)) (word : List ℕ) (n : ℕ) → IsNumber MOST_BUDGET word n → BeginCommand (words ++ word ∷ []) →
+  numeral : (words : List (List ℕ)) (word : List ℕ) (n : ℕ) → IsWordNumber MOST_BUDGET word n → BeginCommand (words ++ word ∷ []) →
       Wants words BadNumber
   named : (words : List (List ℕ)) (word : List ℕ) (rule : Rule) → IsRule word rule → BeginCommand (words ++ word ∷ []) → Wants words BadRule
   nothing : (words : List (List ℕ)) → BeginCommand words → ((word : List ℕ) → BeginCommand (words ++ word ∷ []) → ⊥) → Wants words Extra
@@ -90,8 +90,8 @@ pub data WordsMean : List (List ℕ) → Result Words BadWords → Type 0 where
 
 -- the text is that number, or none
 abbrev pub IsNumberOrNone : ℕ → List ℕ → Option ℕ → Type 0
-IsNumberOrNone most text (Some n) = IsNumber most text n
-IsNumberOrNone most text None = (n : ℕ) → IsNumber most text n → ⊥
+IsNumberOrNone most text (Some n) = IsWordNumber most text n
+IsNumberOrNone most text None = (n : ℕ) → IsWordNumber most text n → ⊥
 
 -- the text is that number from 0 on, or none
 abbrev pub IsFromZeroOrNone : ℕ → List ℕ → Option ℕ → Type 0

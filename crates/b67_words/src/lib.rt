@@ -5,7 +5,7 @@ ghost use Rattle.std.specs.Prelude.{◌≡◌, ◌≢◌, ◌+◌, ◌^◌, ◌<
 ghost use Rattle.std.specs.String.{string_bytes};
 ghost use Rattle.b67_limits.specs.declared.TheConstants.{MOST_BUDGET, MOST_PROCESSORS};
 ghost use Rattle.b67_words.specs.declared.TheConstants.{MOST_SEED, MOST_TRIAL, MOST_ENTRIES, MOST_STATES};
-ghost use Rattle.b67_words.specs.Grammar.{WordsMean, BeginWhole, IsNumber, IsNumberOrNone, IsFromZero, IsFromZeroOrNone, NumberStandsAt, IsRuleOrNone, RuleStandsAt};
+ghost use Rattle.b67_words.specs.Grammar.{WordsMean, BeginWhole, IsWordNumber, IsNumberOrNone, IsFromZero, IsFromZeroOrNone, NumberStandsAt, IsRuleOrNone, RuleStandsAt};
 
 use b67_limits::{MOST_BUDGET, MOST_PROCESSORS};
 use thiserror::Error;
@@ -219,7 +219,7 @@ fn whole(words: &[String], count: u32, command: Words) -> Result<Words, BadWords
 /// The number from 1 to `most` that is the word after `before` others.
 fn number_at(words: &[String], before: u32, most: u64) -> Result<u64, BadWords>
     requires { before < 9 }
-    ensures { NumberStandsAt (IsNumber most) (map string_bytes words.now) before result }
+    ensures { NumberStandsAt (IsWordNumber most) (map string_bytes words.now) before result }
 {
     let Some(word) = words.get(before as usize) else {
         return Err(BadWords::Usage {

@@ -5,7 +5,7 @@ ghost use Rattle.algol_tree.specs.declared.token.Spot as token;
 ghost use Rattle.algol_tree.specs.Blocks.{blocks_of_program};
 ghost use Rattle.algol_tree.specs.Image.{program as plain};
 ghost use Rattle.algol_paths.specs.Arrays.{lows_at};
-ghost use Rattle.algol_lows.specs.Lows.{under};
+ghost use Rattle.algol_lows.specs.Lows.{lows_found_under};
 
 use algol_front::Checked;
 use algol_lows::{LowsByPlace, lows_of_program};
@@ -20,7 +20,7 @@ use std::alloc::{AllocError, Global};
 
 /// The lower bounds of the arrays of an accepted source.
 fn lows_of(alloc: Global, checked: &Checked) -> Result<LowsByPlace, AllocError>
-    ensures { IfOk result (λ lows. (spot : token.Spot) → under lows spot ≡ lows_at (blocks_of_program (plain checked.now.program)) spot) }
+    ensures { IfOk result (λ lows. (spot : token.Spot) → lows_found_under lows spot ≡ lows_at (blocks_of_program (plain checked.now.program)) spot) }
 {
     lows_of_program(alloc, &checked.program, &checked.scopes)
 }
@@ -31,7 +31,7 @@ fn first<'p>(
     checked: &'p Checked,
     lows: &'p LowsByPlace,
 ) -> Result<World<'p>, AllocError>
-    requires { (spot : token.Spot) → under lows.now spot ≡ lows_at (blocks_of_program (plain checked.now.program)) spot }
+    requires { (spot : token.Spot) → lows_found_under lows.now spot ≡ lows_at (blocks_of_program (plain checked.now.program)) spot }
 {
     let scopes = scopes_of(alloc, &checked.program, &checked.scopes, lows)?;
     start(alloc, scopes)
@@ -104,7 +104,7 @@ fn push_run(
     lows: &LowsByPlace,
     entries: &[usize],
 ) -> Result<(), AllocError>
-    requires { (spot : token.Spot) → under lows.now spot ≡ lows_at (blocks_of_program (plain checked.now.program)) spot }
+    requires { (spot : token.Spot) → lows_found_under lows.now spot ≡ lows_at (blocks_of_program (plain checked.now.program)) spot }
 {
     let mut world = first(alloc, checked, lows)?;
     let pushed = push_letters(text, &mut world, alloc, entries);
@@ -123,7 +123,7 @@ fn push_followed(
     lows: &LowsByPlace,
     entries: &[usize],
 ) -> Result<(), AllocError>
-    requires { (spot : token.Spot) → under lows.now spot ≡ lows_at (blocks_of_program (plain checked.now.program)) spot }
+    requires { (spot : token.Spot) → lows_found_under lows.now spot ≡ lows_at (blocks_of_program (plain checked.now.program)) spot }
 {
     let mut world = first(alloc, checked, lows)?;
     let went = follow(&mut world, alloc, entries);

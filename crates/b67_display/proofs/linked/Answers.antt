@@ -1,8 +1,8 @@
 use Rattle.std.proofs.Common.{◌≡◌, sym, ap, ◌∙◌, ℕ, suc, ◌+◌, ◌-◌, ◌≤◌, List, ◌∷◌, ◌++◌, drop, replicate, set, Option, Some, None, Ok, Err, arith}
 use Rattle.b67_word.specs.declared.Place.{Place}
-use Rattle.b67_table.specs.Look.{seen}
+use Rattle.b67_table.specs.Look.{look_seen}
 use Rattle.b67_table.specs.Chains.{links, link_of, linked_frame}
-use Rattle.b67_display.specs.Found.{shown}
+use Rattle.b67_display.specs.Found.{chain_shown}
 use Rattle.b67_display.proofs.Linking.{step, stop, begun, unknown_set, first_known, split_known, drop_front}
 use Rattle.b67_table.specs.declared.InterruptKind.TheVariants.{BrokenChain}
 use Rattle.b67_display.proofs.linked.Goals as goal
@@ -25,8 +25,8 @@ linking-init g c =
 pub returns-in-Err : goal.returns-in-Err
 returns-in-Err g c =
     let two : 2 ≤ c.linking.below = omega (arith, c.linking-test.true) in
-    let broken : seen (g.C.Core.stacks c.args.core.now) (linked_frame c.linking.link c.linking.below) ≡ Err BrokenChain =
-    sym c.linked_frame.ensures ∙ ap shown c.in-Err.is in
+    let broken : look_seen (g.C.Core.stacks c.args.core.now) (linked_frame c.linking.link c.linking.below) ≡ Err BrokenChain =
+    sym c.linked_frame.ensures ∙ ap chain_shown c.in-Err.is in
     sym (c.linking.invariant.rest
     ∙ stop (g.C.Core.stacks c.args.core.now) c.linking.link (drop (c.linking.below + 1) c.linking.display) c.linking.below BrokenChain two broken)
 
@@ -34,8 +34,8 @@ pub linking-preserved : goal.linking-preserved
 linking-preserved g c =
     let two : 2 ≤ c.linking.below = omega (arith, c.linking-test.true) in
     let n_is : c.linking.below - 1 + 1 ≡ c.linking.below = omega (arith, two) in
-    let framed : seen (g.C.Core.stacks c.args.core.now) (linked_frame c.linking.link c.linking.below) ≡ Ok c.in-Ok.mark =
-    sym c.linked_frame.ensures ∙ ap shown c.in-Ok.is in
+    let framed : look_seen (g.C.Core.stacks c.args.core.now) (linked_frame c.linking.link c.linking.below) ≡ Ok c.in-Ok.mark =
+    sym c.linked_frame.ensures ∙ ap chain_shown c.in-Ok.is in
     let suc_is : c.linking.below + 1 ≡ suc c.linking.below = omega arith in
     let unknown : c.linking.display ≡ replicate (suc c.linking.below) None ++ drop (c.linking.below + 1) c.linking.display =
     c.linking.invariant.unknown
@@ -56,5 +56,5 @@ linking-preserved g c =
       rest = c.linking.invariant.rest
           ∙ step (g.C.Core.stacks c.args.core.now) c.linking.link (drop (c.linking.below + 1) c.linking.display) c.linking.below
           c.in-Ok.mark two framed
-          ∙ ap (λ (d : List (Option Place)). seen (g.C.Core.stacks c.args.core.now) (links (c.linking.below - 1 - 1) (link_of c.in-Ok.mark) d)) left;
+          ∙ ap (λ (d : List (Option Place)). look_seen (g.C.Core.stacks c.args.core.now) (links (c.linking.below - 1 - 1) (link_of c.in-Ok.mark) d)) left;
     }

@@ -14,8 +14,8 @@ use Rattle.algol_expr.proofs.Operands.{operands_begin, operands_go_on, operands_
 use Rattle.algol_tree.specs.Operators.{expr, level, operand, primary}
 use Rattle.algol_tree.specs.declared.level.Level.TheVariants as levels
 use Rattle.algol_tree.specs.declared.token.Reserved.TheVariants as reserved
-use Rattle.algol_tree.specs.DueExpr.{chosen}
-use Rattle.algol_tree.specs.Found.{Finds, Extends, Fails}
+use Rattle.algol_tree.specs.DueExpr.{expr_chosen}
+use Rattle.algol_tree.specs.Found.{ReaderFinds, Extends, Fails}
 use Rattle.algol_expr.proofs.reader.+expressions.Goals as goal
 
 pub read_choice-returns-in_err-inner-clause-refused : goal.read_choice-returns-in_err-inner-clause-refused
@@ -34,19 +34,19 @@ pub read_choice-returns-clause-found : goal.read_choice-returns-clause-found
 read_choice-returns-clause-found t c = done (through (past (via (if_starts _ _ _ _ c.requires.word c.in_ok-inner.ensures.opens.0 c.in_ok-inner.ensures.opens.1) c.in_ok-condition.ensures.found) c.in_ok-rest.ensures.passes) c.in_ok-whole.ensures.found) refl (rest_cons (rest_of c.in_ok-condition.ensures.found.behind (rest_of c.in_ok-rest.ensures.passes.behind c.in_ok-whole.ensures.found.behind)))
 
 pub read_arms-returns-in_err-yes-clause-refused : goal.read_arms-returns-in_err-yes-clause-refused
-read_arms-returns-in_err-yes-clause-refused t c = left_as _ _ _ c.from_residual.ensures.1 (failing (started (part (level levels.Eqv) c.args.depth ∷ word reserved.Else ∷ part expr c.args.depth ∷ make (chosen c.args.spot) ∷ []) (one (plain c.args.condition.value) ∷ []) _) c.in_err-yes.ensures.refused)
+read_arms-returns-in_err-yes-clause-refused t c = left_as _ _ _ c.from_residual.ensures.1 (failing (started (part (level levels.Eqv) c.args.depth ∷ word reserved.Else ∷ part expr c.args.depth ∷ make (expr_chosen c.args.spot) ∷ []) (one (plain c.args.condition.value) ∷ []) _) c.in_err-yes.ensures.refused)
 
 pub read_arms-returns-in_err-rest-clause-refused : goal.read_arms-returns-in_err-rest-clause-refused
-read_arms-returns-in_err-rest-clause-refused t c = left_as _ _ _ c.from_residual-in_err-rest.ensures.1 (failing (via (started (part (level levels.Eqv) c.args.depth ∷ word reserved.Else ∷ part expr c.args.depth ∷ make (chosen c.args.spot) ∷ []) (one (plain c.args.condition.value) ∷ []) _) c.in_ok-yes.ensures.found) c.in_err-rest.ensures.fails)
+read_arms-returns-in_err-rest-clause-refused t c = left_as _ _ _ c.from_residual-in_err-rest.ensures.1 (failing (via (started (part (level levels.Eqv) c.args.depth ∷ word reserved.Else ∷ part expr c.args.depth ∷ make (expr_chosen c.args.spot) ∷ []) (one (plain c.args.condition.value) ∷ []) _) c.in_ok-yes.ensures.found) c.in_err-rest.ensures.fails)
 
 pub read_arms-returns-in_err-otherwise-clause-refused : goal.read_arms-returns-in_err-otherwise-clause-refused
-read_arms-returns-in_err-otherwise-clause-refused t c = left_as _ _ _ c.from_residual-in_err-otherwise.ensures.1 (failing (past (via (started (part (level levels.Eqv) c.args.depth ∷ word reserved.Else ∷ part expr c.args.depth ∷ make (chosen c.args.spot) ∷ []) (one (plain c.args.condition.value) ∷ []) _) c.in_ok-yes.ensures.found) c.in_ok-rest.ensures.passes) c.in_err-otherwise.ensures.refused)
+read_arms-returns-in_err-otherwise-clause-refused t c = left_as _ _ _ c.from_residual-in_err-otherwise.ensures.1 (failing (past (via (started (part (level levels.Eqv) c.args.depth ∷ word reserved.Else ∷ part expr c.args.depth ∷ make (expr_chosen c.args.spot) ∷ []) (one (plain c.args.condition.value) ∷ []) _) c.in_ok-yes.ensures.found) c.in_ok-rest.ensures.passes) c.in_err-otherwise.ensures.refused)
 
 pub read_arms-returns-in_err-choice-clause-refused : goal.read_arms-returns-in_err-choice-clause-refused
 read_arms-returns-in_err-choice-clause-refused t c = no_memory _ _ _ _ _ c.from_residual-in_err-choice.ensures.1 c.in_err-choice.ensures.memory
 
 pub read_arms-returns-clause-found : goal.read_arms-returns-clause-found
-read_arms-returns-clause-found t c = lists_as (making (via (past (via (started (part (level levels.Eqv) c.args.depth ∷ word reserved.Else ∷ part expr c.args.depth ∷ make (chosen c.args.spot) ∷ []) (one (plain c.args.condition.value) ∷ []) _) c.in_ok-yes.ensures.found) c.in_ok-rest.ensures.passes) c.in_ok-otherwise.ensures.found) (λ vs. refl)) (ap one c.in_ok-choice.ensures.built) (rest_of c.in_ok-yes.ensures.found.behind (rest_of c.in_ok-rest.ensures.passes.behind c.in_ok-otherwise.ensures.found.behind))
+read_arms-returns-clause-found t c = lists_as (making (via (past (via (started (part (level levels.Eqv) c.args.depth ∷ word reserved.Else ∷ part expr c.args.depth ∷ make (expr_chosen c.args.spot) ∷ []) (one (plain c.args.condition.value) ∷ []) _) c.in_ok-yes.ensures.found) c.in_ok-rest.ensures.passes) c.in_ok-otherwise.ensures.found) (λ vs. refl)) (ap one c.in_ok-choice.ensures.built) (rest_of c.in_ok-yes.ensures.found.behind (rest_of c.in_ok-rest.ensures.passes.behind c.in_ok-otherwise.ensures.found.behind))
 
 pub read_expression-returns-else-is_word-clause-found : goal.read_expression-returns-else-is_word-clause-found
 read_expression-returns-else-is_word-clause-found t c = finds_as c.read_up_to.result (λ x. one (plain x.0.value)) (λ x. x.1.now) (expr_is _ _ _ _ c.first_of.ensures (sym c.is_word.ensures ∙ c.if-is_word.false)) c.read_up_to.ensures.found
@@ -147,61 +147,61 @@ read_primary-returns-in-Some-name_in-clause-refused t c = fails_as c.read_behind
 -- a call whose answer is this one
 
 pub read_operand-returns-in-Eqv-clause-found : goal.read_operand-returns-in-Eqv-clause-found
-read_operand-returns-in-Eqv-clause-found t c = subst (λ l. IfOk c.read_up_to.result (λ r. Finds (part (operand l) c.args.depth) c.args.tokens.now (one (plain r.0.value)) r.1.now)) (sym c.in-Eqv.is) c.read_up_to.ensures.found
+read_operand-returns-in-Eqv-clause-found t c = subst (λ l. IfOk c.read_up_to.result (λ r. ReaderFinds (part (operand l) c.args.depth) c.args.tokens.now (one (plain r.0.value)) r.1.now)) (sym c.in-Eqv.is) c.read_up_to.ensures.found
 
 pub read_operand-returns-in-Eqv-clause-refused : goal.read_operand-returns-in-Eqv-clause-refused
 read_operand-returns-in-Eqv-clause-refused t c = subst (λ l. IfErr c.read_up_to.result (λ e. Fails (part (operand l) c.args.depth ∷ []) [] c.args.tokens.now e.left e.refusal)) (sym c.in-Eqv.is) c.read_up_to.ensures.refused
 
 pub read_operand-returns-in-Imp-clause-found : goal.read_operand-returns-in-Imp-clause-found
-read_operand-returns-in-Imp-clause-found t c = subst (λ l. IfOk c.read_up_to-in-Imp.result (λ r. Finds (part (operand l) c.args.depth) c.args.tokens.now (one (plain r.0.value)) r.1.now)) (sym c.in-Imp.is) c.read_up_to-in-Imp.ensures.found
+read_operand-returns-in-Imp-clause-found t c = subst (λ l. IfOk c.read_up_to-in-Imp.result (λ r. ReaderFinds (part (operand l) c.args.depth) c.args.tokens.now (one (plain r.0.value)) r.1.now)) (sym c.in-Imp.is) c.read_up_to-in-Imp.ensures.found
 
 pub read_operand-returns-in-Imp-clause-refused : goal.read_operand-returns-in-Imp-clause-refused
 read_operand-returns-in-Imp-clause-refused t c = subst (λ l. IfErr c.read_up_to-in-Imp.result (λ e. Fails (part (operand l) c.args.depth ∷ []) [] c.args.tokens.now e.left e.refusal)) (sym c.in-Imp.is) c.read_up_to-in-Imp.ensures.refused
 
 pub read_operand-returns-in-Or-clause-found : goal.read_operand-returns-in-Or-clause-found
-read_operand-returns-in-Or-clause-found t c = subst (λ l. IfOk c.read_up_to-in-Or.result (λ r. Finds (part (operand l) c.args.depth) c.args.tokens.now (one (plain r.0.value)) r.1.now)) (sym c.in-Or.is) c.read_up_to-in-Or.ensures.found
+read_operand-returns-in-Or-clause-found t c = subst (λ l. IfOk c.read_up_to-in-Or.result (λ r. ReaderFinds (part (operand l) c.args.depth) c.args.tokens.now (one (plain r.0.value)) r.1.now)) (sym c.in-Or.is) c.read_up_to-in-Or.ensures.found
 
 pub read_operand-returns-in-Or-clause-refused : goal.read_operand-returns-in-Or-clause-refused
 read_operand-returns-in-Or-clause-refused t c = subst (λ l. IfErr c.read_up_to-in-Or.result (λ e. Fails (part (operand l) c.args.depth ∷ []) [] c.args.tokens.now e.left e.refusal)) (sym c.in-Or.is) c.read_up_to-in-Or.ensures.refused
 
 pub read_operand-returns-in-And-clause-found : goal.read_operand-returns-in-And-clause-found
-read_operand-returns-in-And-clause-found t c = subst (λ l. IfOk c.read_up_to-in-And.result (λ r. Finds (part (operand l) c.args.depth) c.args.tokens.now (one (plain r.0.value)) r.1.now)) (sym c.in-And.is) c.read_up_to-in-And.ensures.found
+read_operand-returns-in-And-clause-found t c = subst (λ l. IfOk c.read_up_to-in-And.result (λ r. ReaderFinds (part (operand l) c.args.depth) c.args.tokens.now (one (plain r.0.value)) r.1.now)) (sym c.in-And.is) c.read_up_to-in-And.ensures.found
 
 pub read_operand-returns-in-And-clause-refused : goal.read_operand-returns-in-And-clause-refused
 read_operand-returns-in-And-clause-refused t c = subst (λ l. IfErr c.read_up_to-in-And.result (λ e. Fails (part (operand l) c.args.depth ∷ []) [] c.args.tokens.now e.left e.refusal)) (sym c.in-And.is) c.read_up_to-in-And.ensures.refused
 
 pub read_operand-returns-in-Sum-clause-found : goal.read_operand-returns-in-Sum-clause-found
-read_operand-returns-in-Sum-clause-found t c = subst (λ l. IfOk c.read_up_to-in-Sum.result (λ r. Finds (part (operand l) c.args.depth) c.args.tokens.now (one (plain r.0.value)) r.1.now)) (sym c.in-Sum.is) c.read_up_to-in-Sum.ensures.found
+read_operand-returns-in-Sum-clause-found t c = subst (λ l. IfOk c.read_up_to-in-Sum.result (λ r. ReaderFinds (part (operand l) c.args.depth) c.args.tokens.now (one (plain r.0.value)) r.1.now)) (sym c.in-Sum.is) c.read_up_to-in-Sum.ensures.found
 
 pub read_operand-returns-in-Sum-clause-refused : goal.read_operand-returns-in-Sum-clause-refused
 read_operand-returns-in-Sum-clause-refused t c = subst (λ l. IfErr c.read_up_to-in-Sum.result (λ e. Fails (part (operand l) c.args.depth ∷ []) [] c.args.tokens.now e.left e.refusal)) (sym c.in-Sum.is) c.read_up_to-in-Sum.ensures.refused
 
 pub read_operand-returns-in-Term-clause-found : goal.read_operand-returns-in-Term-clause-found
-read_operand-returns-in-Term-clause-found t c = subst (λ l. IfOk c.read_primary.result (λ r. Finds (part (operand l) c.args.depth) c.args.tokens.now (one (plain r.0.value)) r.1.now)) (sym c.in-Term.is) c.read_primary.ensures.found
+read_operand-returns-in-Term-clause-found t c = subst (λ l. IfOk c.read_primary.result (λ r. ReaderFinds (part (operand l) c.args.depth) c.args.tokens.now (one (plain r.0.value)) r.1.now)) (sym c.in-Term.is) c.read_primary.ensures.found
 
 pub read_operand-returns-in-Term-clause-refused : goal.read_operand-returns-in-Term-clause-refused
 read_operand-returns-in-Term-clause-refused t c = subst (λ l. IfErr c.read_primary.result (λ e. Fails (part (operand l) c.args.depth ∷ []) [] c.args.tokens.now e.left e.refusal)) (sym c.in-Term.is) c.read_primary.ensures.refused
 
 pub read_expression-returns-then-is_word-clause-found : goal.read_expression-returns-then-is_word-clause-found
-read_expression-returns-then-is_word-clause-found t c = subst (λ ts. IfOk c.read_choice.result (λ r. Finds (part expr c.args.depth) ts (one (plain r.0.value)) r.1.now)) (sym c.first_of.ensures) c.read_choice.ensures.found
+read_expression-returns-then-is_word-clause-found t c = subst (λ ts. IfOk c.read_choice.result (λ r. ReaderFinds (part expr c.args.depth) ts (one (plain r.0.value)) r.1.now)) (sym c.first_of.ensures) c.read_choice.ensures.found
 
 pub read_expression-returns-then-is_word-clause-refused : goal.read_expression-returns-then-is_word-clause-refused
 read_expression-returns-then-is_word-clause-refused t c = subst (λ ts. IfErr c.read_choice.result (λ e. Fails (part expr c.args.depth ∷ []) [] ts e.left e.refusal)) (sym c.first_of.ensures) c.read_choice.ensures.refused
 
 pub read_primary-returns-in-Some-test_in-clause-found : goal.read_primary-returns-in-Some-test_in-clause-found
-read_primary-returns-in-Some-test_in-clause-found t c = subst (λ ts. IfOk c.read_asked.result (λ r. Finds (part primary c.args.depth) ts (one (plain r.0.value)) r.1.now)) (sym c.first_of.ensures) c.read_asked.ensures.found
+read_primary-returns-in-Some-test_in-clause-found t c = subst (λ ts. IfOk c.read_asked.result (λ r. ReaderFinds (part primary c.args.depth) ts (one (plain r.0.value)) r.1.now)) (sym c.first_of.ensures) c.read_asked.ensures.found
 
 pub read_primary-returns-in-Some-test_in-clause-refused : goal.read_primary-returns-in-Some-test_in-clause-refused
 read_primary-returns-in-Some-test_in-clause-refused t c = subst (λ ts. IfErr c.read_asked.result (λ e. Fails (part primary c.args.depth ∷ []) [] ts e.left e.refusal)) (sym c.first_of.ensures) c.read_asked.ensures.refused
 
 pub read_primary-returns-then-is_word-clause-found : goal.read_primary-returns-then-is_word-clause-found
-read_primary-returns-then-is_word-clause-found t c = subst (λ ts. IfOk c.read_waited.result (λ r. Finds (part primary c.args.depth) ts (one (plain r.0.value)) r.1.now)) (sym c.first_of.ensures) c.read_waited.ensures.found
+read_primary-returns-then-is_word-clause-found t c = subst (λ ts. IfOk c.read_waited.result (λ r. ReaderFinds (part primary c.args.depth) ts (one (plain r.0.value)) r.1.now)) (sym c.first_of.ensures) c.read_waited.ensures.found
 
 pub read_primary-returns-then-is_word-clause-refused : goal.read_primary-returns-then-is_word-clause-refused
 read_primary-returns-then-is_word-clause-refused t c = subst (λ ts. IfErr c.read_waited.result (λ e. Fails (part primary c.args.depth ∷ []) [] ts e.left e.refusal)) (sym c.first_of.ensures) c.read_waited.ensures.refused
 
 pub read_primary-returns-then-is_symbol-clause-found : goal.read_primary-returns-then-is_symbol-clause-found
-read_primary-returns-then-is_symbol-clause-found t c = subst (λ ts. IfOk c.read_group.result (λ r. Finds (part primary c.args.depth) ts (one (plain r.0.value)) r.1.now)) (sym c.first_of.ensures) c.read_group.ensures.found
+read_primary-returns-then-is_symbol-clause-found t c = subst (λ ts. IfOk c.read_group.result (λ r. ReaderFinds (part primary c.args.depth) ts (one (plain r.0.value)) r.1.now)) (sym c.first_of.ensures) c.read_group.ensures.found
 
 pub read_primary-returns-then-is_symbol-clause-refused : goal.read_primary-returns-then-is_symbol-clause-refused
 read_primary-returns-then-is_symbol-clause-refused t c = subst (λ ts. IfErr c.read_group.result (λ e. Fails (part primary c.args.depth ∷ []) [] ts e.left e.refusal)) (sym c.first_of.ensures) c.read_group.ensures.refused

@@ -2,7 +2,7 @@ use Rattle.std.proofs.Common.{sym, subst}
 use Rattle.algol_tree.specs.Due.{part, one}
 use Rattle.algol_tree.specs.Image.{expr as plain}
 use Rattle.algol_tree.specs.Operators.{expr}
-use Rattle.algol_tree.specs.Found.{Finds}
+use Rattle.algol_tree.specs.Found.{ReaderFinds}
 use Rattle.algol_expr.proofs.Chain.{left_as}
 use Rattle.algol_expr.proofs.whole.read_out.Goals as goal
 
@@ -10,4 +10,4 @@ pub returns-in_err-expr-clause-refused : goal.returns-in_err-expr-clause-refused
 returns-in_err-expr-clause-refused c = left_as _ _ _ c.from_residual.ensures.1 c.in_err-expr.ensures.refused
 
 pub returns-clause-found : goal.returns-clause-found
-returns-clause-found c = subst (λ e. Finds (part expr c.args.depth) c.args.tokens.now (one (plain e)) c.in_ok-expr.rest.now) (sym c.into_inner.ensures) c.in_ok-expr.ensures.found
+returns-clause-found c = subst (λ e. ReaderFinds (part expr c.args.depth) c.args.tokens.now (one (plain e)) c.in_ok-expr.rest.now) (sym c.into_inner.ensures) c.in_ok-expr.ensures.found

@@ -10,7 +10,7 @@ use Rattle.algol_tree.specs.Accepted.{broken, noted_all}
 use Rattle.algol_tree.specs.Names.{place_beyond}
 use Rattle.algol_frames.specs.declared.found.Cell.{Cell}
 use Rattle.algol_frames.specs.declared.found.Block.{Block}
-use Rattle.algol_frames.specs.Framing.{beyond_from, cells_in, places_of}
+use Rattle.algol_frames.specs.Framing.{beyond_from, framed_cells_in, places_of}
 use Rattle.algol_frames.proofs.Noting.{noted-broken}
 use Rattle.algol_frames.proofs.limits.note_cells.Goals as goal
 
@@ -18,7 +18,7 @@ abbrev no_block : Block
 no_block = record { spot = record { line = 0; column = 0 }; level = 0; is_procedure = false }
 
 beyond-item : (table : BTreeMap ℕ (Vec Cell Global)) (bs : List Block) (i : ℕ) (now new all : Option Fault) → i < length bs →
-    new ≡ noted_all now (broken codes.TooManyCells (place_beyond MOST_BLOCK_CELLS (places_of (cells_in table i)))) →
+    new ≡ noted_all now (broken codes.TooManyCells (place_beyond MOST_BLOCK_CELLS (places_of (framed_cells_in table i)))) →
     noted_all now (broken codes.TooManyCells (beyond_from table i (drop i bs))) ≡ all →
     noted_all new (broken codes.TooManyCells (beyond_from table (i + 1) (drop (i + 1) bs))) ≡ all
 beyond-item table bs i now new all h e inv =
@@ -27,7 +27,7 @@ beyond-item table bs i now new all h e inv =
     drop-cons bs i no_block h ∙ ap (λ n. get_or bs i no_block ∷ drop n bs) next in
     ap (λ z. noted_all z (broken codes.TooManyCells (beyond_from table (i + 1) (drop (i + 1) bs)))) e
     ∙ sym
-    (noted-broken now codes.TooManyCells (place_beyond MOST_BLOCK_CELLS (places_of (cells_in table i))) (beyond_from table (i + 1) (drop (i + 1) bs)))
+    (noted-broken now codes.TooManyCells (place_beyond MOST_BLOCK_CELLS (places_of (framed_cells_in table i))) (beyond_from table (i + 1) (drop (i + 1) bs)))
     ∙ ap (λ z. noted_all now (broken codes.TooManyCells (beyond_from table i z))) (sym at) ∙ inv
 
 pub each-preserved : goal.each-preserved

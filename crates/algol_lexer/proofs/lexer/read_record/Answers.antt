@@ -1,5 +1,5 @@
 use Rattle.std.proofs.Common.{◌≡◌, ◌+◌, ◌<◌, ◌≤◌, length, drop, ap, subst, arith, length-append}
-use Rattle.algol_tree.specs.Lexes.{Stands, Piece, Wrong, token_at, Fails}
+use Rattle.algol_tree.specs.Lexes.{TokenStands, Piece, Wrong, token_at, Fails}
 use Rattle.algol_tree.specs.Records.{columns, spot_in}
 use Rattle.algol_tree.specs.declared.TheConstants.{MOST_RECORD_BYTES}
 use Rattle.algol_tree.specs.declared.refusal.Code.TheVariants.{LineTooLong}
@@ -18,23 +18,23 @@ reading-init c = record { reached = reaches_start (record_of c.args.card.now) (m
 -- over a piece
 pub put-requires : goal.put-requires
 put-requires c =
-    let fits : (0 < c.in-Piece.size) × (c.in-Piece.size ≤ length c.split_at.result.1.now) = stands_fits (subst (λ f. Stands (mode_of c.reading.mode) c.split_at.result.1.now (front_shown f)) c.in-Piece.is c.in_ok-size.ensures) in
+    let fits : (0 < c.in-Piece.size) × (c.in-Piece.size ≤ length c.split_at.result.1.now) = stands_fits (subst (λ f. TokenStands (mode_of c.reading.mode) c.split_at.result.1.now (front_shown f)) c.in-Piece.is c.in_ok-size.ensures) in
     omega (arith, fits.0, fits.1, c.split_at.ensures.back_len, c.columns-columns.ensures.within, c.requires.room)
 
 pub overflow_add-at : goal.overflow_add-at
 overflow_add-at c =
-    let fits : (0 < c.in-Piece.size) × (c.in-Piece.size ≤ length c.split_at.result.1.now) = stands_fits (subst (λ f. Stands (mode_of c.reading.mode) c.split_at.result.1.now (front_shown f)) c.in-Piece.is c.in_ok-size.ensures) in
+    let fits : (0 < c.in-Piece.size) × (c.in-Piece.size ≤ length c.split_at.result.1.now) = stands_fits (subst (λ f. TokenStands (mode_of c.reading.mode) c.split_at.result.1.now (front_shown f)) c.in-Piece.is c.in_ok-size.ensures) in
     omega (arith, fits.0, fits.1, c.split_at.ensures.back_len, c.columns-columns.ensures.within, c.requires.room)
 
 pub reading-smaller : goal.reading-smaller
 reading-smaller c =
-    let fits : (0 < c.in-Piece.size) × (c.in-Piece.size ≤ length c.split_at.result.1.now) = stands_fits (subst (λ f. Stands (mode_of c.reading.mode) c.split_at.result.1.now (front_shown f)) c.in-Piece.is c.in_ok-size.ensures) in
+    let fits : (0 < c.in-Piece.size) × (c.in-Piece.size ≤ length c.split_at.result.1.now) = stands_fits (subst (λ f. TokenStands (mode_of c.reading.mode) c.split_at.result.1.now (front_shown f)) c.in-Piece.is c.in_ok-size.ensures) in
     omega (arith, fits.0, fits.1, c.split_at.ensures.back_len)
 
 pub reading-preserved : goal.reading-preserved
 reading-preserved c =
-    let st : Stands (mode_of c.reading.mode) (drop c.reading.at (columns (record_of c.args.card.now))) (Piece c.in-Piece.size c.in-Piece.kind (mode_of c.in-Piece.next)) = stands_there c.reading.at c.in_ok-size.ensures (ap front_shown c.in-Piece.is) c.split_at.ensures.back c.columns-columns.ensures.value in
-    let fits : (0 < c.in-Piece.size) × (c.in-Piece.size ≤ length c.split_at.result.1.now) = stands_fits (subst (λ f. Stands (mode_of c.reading.mode) c.split_at.result.1.now (front_shown f)) c.in-Piece.is c.in_ok-size.ensures) in
+    let st : TokenStands (mode_of c.reading.mode) (drop c.reading.at (columns (record_of c.args.card.now))) (Piece c.in-Piece.size c.in-Piece.kind (mode_of c.in-Piece.next)) = stands_there c.reading.at c.in_ok-size.ensures (ap front_shown c.in-Piece.is) c.split_at.ensures.back c.columns-columns.ensures.value in
+    let fits : (0 < c.in-Piece.size) × (c.in-Piece.size ≤ length c.split_at.result.1.now) = stands_fits (subst (λ f. TokenStands (mode_of c.reading.mode) c.split_at.result.1.now (front_shown f)) c.in-Piece.is c.in_ok-size.ensures) in
     let new = c.in_ok-put-in-Piece.ensures in
     record {
       reached = reaches_more c.reading.invariant.reached st new;
@@ -45,17 +45,17 @@ reading-preserved c =
 -- what cannot be read
 pub overflow_add-at-in-Wrong : goal.overflow_add-at-in-Wrong
 overflow_add-at-in-Wrong c =
-    let fits : c.in-Wrong.skipped < length c.split_at.result.1.now = stands_fits (subst (λ f. Stands (mode_of c.reading.mode) c.split_at.result.1.now (front_shown f)) c.in-Wrong.is c.in_ok-size.ensures) in
+    let fits : c.in-Wrong.skipped < length c.split_at.result.1.now = stands_fits (subst (λ f. TokenStands (mode_of c.reading.mode) c.split_at.result.1.now (front_shown f)) c.in-Wrong.is c.in_ok-size.ensures) in
     omega (arith, fits, c.split_at.ensures.back_len, c.columns-columns.ensures.within, c.requires.room)
 
 pub spot-requires : goal.spot-requires
 spot-requires c =
-    let fits : c.in-Wrong.skipped < length c.split_at.result.1.now = stands_fits (subst (λ f. Stands (mode_of c.reading.mode) c.split_at.result.1.now (front_shown f)) c.in-Wrong.is c.in_ok-size.ensures) in
+    let fits : c.in-Wrong.skipped < length c.split_at.result.1.now = stands_fits (subst (λ f. TokenStands (mode_of c.reading.mode) c.split_at.result.1.now (front_shown f)) c.in-Wrong.is c.in_ok-size.ensures) in
     omega (arith, fits, c.split_at.ensures.back_len, c.columns-columns.ensures.within, c.requires.room)
 
 pub returns-in-Wrong-clause-refused : goal.returns-in-Wrong-clause-refused
 returns-in-Wrong-clause-refused c =
-    let st : Stands (mode_of c.reading.mode) (drop c.reading.at (columns (record_of c.args.card.now))) (Wrong c.in-Wrong.skipped c.in-Wrong.code) = stands_there c.reading.at c.in_ok-size.ensures (ap front_shown c.in-Wrong.is) c.split_at.ensures.back c.columns-columns.ensures.value in
+    let st : TokenStands (mode_of c.reading.mode) (drop c.reading.at (columns (record_of c.args.card.now))) (Wrong c.in-Wrong.skipped c.in-Wrong.code) = stands_there c.reading.at c.in_ok-size.ensures (ap front_shown c.in-Wrong.is) c.split_at.ensures.back c.columns-columns.ensures.value in
     let fails : Fails (record_of c.args.card.now) (mode_of c.args.mode) (spot_in (record_of c.args.card.now) (c.reading.at + c.in-Wrong.skipped)) c.in-Wrong.code = reaches_wrong c.reading.invariant.reached st in
     λ spot code e.
     let spots : spot_in (record_of c.args.card.now) (c.reading.at + c.in-Wrong.skipped) ≡ spot = let here = c.spot.ensures in cc in

@@ -2,13 +2,13 @@ use Rattle.std.proofs.Common.{◌∙◌, Option, subst}
 use Rattle.std.specs.Prelude.{OnOk}
 use Rattle.algol_tree.specs.declared.token.Spot.{Spot}
 use Rattle.algol_paths.specs.Arrays.{Lows}
-use Rattle.algol_lows.specs.Lows.{Adds}
+use Rattle.algol_lows.specs.Lows.{LowsAdd}
 use Rattle.algol_lows.proofs.LowerBounds.{case_within, decls_step, else_added, on_ok, stmts_step, then_added}
 use Rattle.algol_lows.proofs.bounds.+statements.Goals as goal
 
 pub add_in_stmt-returns-in-Case : goal.add_in_stmt-returns-in-Case
 add_in_stmt-returns-in-Case t c =
-    subst (λ (found : Spot → Option Lows). OnOk c.add_in_stmts.result (Adds c.args.table.now c.add_in_stmts.new.table found))
+    subst (λ (found : Spot → Option Lows). OnOk c.add_in_stmts.result (LowsAdd c.args.table.now c.add_in_stmts.new.table found))
     (case_within c.args.scopes.now c.args.s.now c.in-Case.field-0 c.in-Case.ss c.as_slice.result.now c.in-Case.is (c.as_slice.ensures.value ∙ c.items.ensures))
     c.add_in_stmts.ensures
 

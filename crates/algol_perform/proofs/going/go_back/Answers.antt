@@ -5,7 +5,7 @@ use Rattle.algol_meaning.specs.Instances.{leave}
 use Rattle.algol_rest.specs.SeenRest as seen
 use Rattle.algol_cells.specs.SeenScope.{scoped}
 use Rattle.algol_cells.specs.declared.scope.Scopes.{Scopes}
-use Rattle.algol_world.specs.Going.{chosen}
+use Rattle.algol_world.specs.Going.{action_chosen}
 use Rattle.algol_world.specs.SeenActed.{acted_choice}
 use Rattle.algol_world.specs.SeenWorld.{world_of}
 use Rattle.algol_world.specs.declared.acted.Acted.{Acted}
@@ -31,6 +31,6 @@ returns-clause-gone c =
     ∙ ap (λ (s : Scopes). going_back (leave w (owned left)) p (length left) (seen.rest (scoped s) rest)) c.leave_all.ensures.same
     ∙ ap (going_back (leave w (owned left)) p (length left)) c.in_ok-rest.ensures in
     ap (λ (a : Acted). acted_choice a (world_of c.cut_back.new.world)) c.alone-2.ensures
-    ∙ ap (chosen actions.GoTo) gone
+    ∙ ap (action_chosen actions.GoTo) gone
     ∙ goes_back (scoped c.args.world.now.scopes) w p c.args.n.now c.args.number left c.requires.own c.requires.free c.requires.acts c.requires.left
     (sym c.is_past.ensures ∙ c.if-is_past.false)

@@ -2,7 +2,7 @@ use Rattle.std.proofs.Common.{◌≡◌, true, List, ℕ, Option, ap, sym, ◌�
 use Rattle.b67_deeds.specs.declared.Letter.TheVariants as actions
 use Rattle.algol_meaning.specs.Critical.{some_depends_on_any}
 use Rattle.algol_cells.specs.SeenScope.{scoped}
-use Rattle.algol_world.specs.Going.{chosen}
+use Rattle.algol_world.specs.Going.{action_chosen}
 use Rattle.algol_world.specs.SeenActed.{acted_choice}
 use Rattle.algol_world.specs.SeenWorld.{world_of}
 use Rattle.algol_world.specs.declared.acted.Acted.{Acted}
@@ -18,6 +18,6 @@ returns-then-some_depends_on_any-clause-performed c =
     ap (λ (l : List (Option ℕ)). some_depends_on_any w.processes (owned l)) (sym (c.deref.ensures.value ∙ c.items.ensures))
     ∙ sym c.some_depends_on_any.ensures ∙ c.if-some_depends_on_any.true in
     ap (λ (a : Acted). acted_choice a (world_of c.fail-then-some_depends_on_any.new.self)) c.alone-then-some_depends_on_any.ensures
-    ∙ ap (chosen actions.Fault) c.fail-then-some_depends_on_any.ensures.failed
+    ∙ ap (action_chosen actions.Fault) c.fail-then-some_depends_on_any.ensures.failed
     ∙ goes_past_critical (scoped c.args.world.now.scopes) w c.args.process c.args.n.now c.args.number left c.requires.acts
     (sym c.is_own.ensures ∙ c.if-not-is_own.false) c.in_ok-left.ensures depends

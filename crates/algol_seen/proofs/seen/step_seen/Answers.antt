@@ -3,7 +3,7 @@ use Rattle.algol_meaning.specs.Value.{Reference}
 use Rattle.algol_cells.specs.SeenScope.{scoped}
 use Rattle.algol_world.specs.SeenWorld.{world_of, process_of}
 use Rattle.algol_world.specs.SeenActed.{acted_choice}
-use Rattle.algol_run.specs.Stepping.{told, is_going}
+use Rattle.algol_run.specs.Stepping.{told_step, is_going}
 use Rattle.algol_run.specs.declared.stepping.Stepped.{Stepped}
 use Rattle.b67_race.specs.Entries.{Signal}
 use Rattle.algol_seen.specs.Accesses.{signal_after}
@@ -25,9 +25,9 @@ returns-in-Went-clause-seen c =
     (c.told_of.ensures.signal
     ∙ ap (λ (o : Option Reference). signal_after a.action o (signal c.foreseen.result.1)) c.task_of-task.ensures
     ∙ ap (λ (s : Signal). signal_after a.action ((process_of c.args.world.now c.args.process).task) s) c.foreseen.ensures.signal)
-    c.told_of.ensures.released c.told_of.ensures.started (told c.in_ok-step_in_place.field-0 after) c.in_ok-step_in_place.ensures.stepped
-    (ap (λ (s : Stepped). is_step (told s after)) c.in-Went.is) (ap (λ (s : Stepped). chosen_in (acted_choice a after) (told s after)) c.in-Went.is)
-    (c.told_of.ensures.ended ∙ sym (ap (λ (s : Stepped). has_ended (told s after)) c.in-Went.is))
+    c.told_of.ensures.released c.told_of.ensures.started (told_step c.in_ok-step_in_place.field-0 after) c.in_ok-step_in_place.ensures.stepped
+    (ap (λ (s : Stepped). is_step (told_step s after)) c.in-Went.is) (ap (λ (s : Stepped). chosen_in (acted_choice a after) (told_step s after)) c.in-Went.is)
+    (c.told_of.ensures.ended ∙ sym (ap (λ (s : Stepped). has_ended (told_step s after)) c.in-Went.is))
 
 pub returns-in-Ended-clause-seen : goal.returns-in-Ended-clause-seen
 returns-in-Ended-clause-seen c =
@@ -38,6 +38,6 @@ returns-in-Ended-clause-seen c =
     (c.told_of-in-Ended.ensures.signal
     ∙ ap (λ (o : Option Reference). signal_after a.action o (signal c.foreseen.result.1)) c.task_of-task.ensures
     ∙ ap (λ (s : Signal). signal_after a.action ((process_of c.args.world.now c.args.process).task) s) c.foreseen.ensures.signal)
-    c.told_of-in-Ended.ensures.released c.told_of-in-Ended.ensures.started (told c.in_ok-step_in_place.field-0 after) c.in_ok-step_in_place.ensures.stepped
-    (ap (λ (s : Stepped). is_step (told s after)) c.in-Ended.is) (ap (λ (s : Stepped). chosen_in (acted_choice a after) (told s after)) c.in-Ended.is)
-    (c.told_of-in-Ended.ensures.ended ∙ sym (ap (λ (s : Stepped). has_ended (told s after)) c.in-Ended.is))
+    c.told_of-in-Ended.ensures.released c.told_of-in-Ended.ensures.started (told_step c.in_ok-step_in_place.field-0 after) c.in_ok-step_in_place.ensures.stepped
+    (ap (λ (s : Stepped). is_step (told_step s after)) c.in-Ended.is) (ap (λ (s : Stepped). chosen_in (acted_choice a after) (told_step s after)) c.in-Ended.is)
+    (c.told_of-in-Ended.ensures.ended ∙ sym (ap (λ (s : Stepped). has_ended (told_step s after)) c.in-Ended.is))

@@ -1,5 +1,5 @@
 use Rattle.std.proofs.Common.{sym, subst}
-use Rattle.algol_part.specs.Openings.{Begins}
+use Rattle.algol_part.specs.Openings.{PartBegins}
 use Rattle.algol_part.proofs.Chains.{left_as, no_memory}
 use Rattle.algol_tree.specs.Due as due
 use Rattle.algol_stmt.proofs.begun.read_begun.Goals as goal
@@ -11,4 +11,4 @@ pub returns-in_err-begun-clause-refused : goal.returns-in_err-begun-clause-refus
 returns-in_err-begun-clause-refused c = left_as _ _ _ c.from_residual-in_err-begun.ensures.1 (no_memory c.in_err-begun.ensures.memory)
 
 pub returns-clause-found : goal.returns-clause-found
-returns-clause-found c = subst (λ b. Begins (due.statement c.args.depth) c.args.tokens.now b c.in_ok-beginning.rest.now) (sym c.in_ok-begun.ensures.boxed) c.in_ok-beginning.ensures.found
+returns-clause-found c = subst (λ b. PartBegins (due.statement c.args.depth) c.args.tokens.now b c.in_ok-beginning.rest.now) (sym c.in_ok-begun.ensures.boxed) c.in_ok-beginning.ensures.found

@@ -3,7 +3,7 @@ use Rattle.std.proofs.Common.{◌≡◌, sym, ap, subst, ◌∙◌, Some, Ok}
 use Rattle.b67_store.specs.Store.{Rows, row_words, with_cut}
 use Rattle.b67_table.specs.Moves.{replaced}
 use Rattle.b67_table.specs.Program.{answer}
-use Rattle.b67_reach.specs.Answers.{Performs}
+use Rattle.b67_reach.specs.Answers.{ProgramPerforms}
 use Rattle.b67_reach.specs.Images.{Own}
 use Rattle.b67_action.specs.Reaching.{own_of}
 use Rattle.b67_action.proofs.Told.{element_loaded}
@@ -22,4 +22,4 @@ returns-clause-done g c = λ done.
     ap (λ (z : Rows). slice_get (row_words z d.address) at) (sym (ap (λ (o : Own). o.rows) same)) ∙ sym c.in-Some-read_row.ensures in
     let new = own_of (g.C.Core.stacks c.put.new.core) (g.C.Core.rows c.put.new.core) c.put.new.regs in
     element_loaded (with_cut st r.stack r.s) rows r c.args.next d at w there new c.in-Some.ensures.found (sym c.if-not-is_operand.ensures)
-    (subst (λ (o : Own). Performs {A = Unit {0}} (answer (replaced r c.args.next 2 w)) o new (Ok (tt {0}))) same c.put.ensures.done)
+    (subst (λ (o : Own). ProgramPerforms {A = Unit {0}} (answer (replaced r c.args.next 2 w)) o new (Ok (tt {0}))) same c.put.ensures.done)

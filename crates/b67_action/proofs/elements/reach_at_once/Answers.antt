@@ -5,7 +5,7 @@ use Rattle.b67_private.specs.declared.operators.WordsRow.{WordsRow}
 use Rattle.b67_private.specs.declared.operators.WordsRow.TheVariants as words
 use Rattle.b67_private.specs.Actions.{words_program}
 use Rattle.b67_private.specs.Lettered.{words_letter}
-use Rattle.b67_reach.specs.Answers.{Performs}
+use Rattle.b67_reach.specs.Answers.{ProgramPerforms}
 use Rattle.b67_action.specs.Reaching.{own_of}
 use Rattle.b67_action.proofs.Went.{went_so, none_went}
 use Rattle.b67_action.proofs.elements.reach_at_once.Goals as goal
@@ -16,8 +16,8 @@ returns-in-IndexAndLoad-clause-done g c =
     let rows = g.C.Core.rows c.args.core.now in
     let r = c.args.regs.now in
     let new = own_of (g.C.Core.stacks c.load_element.new.core) (g.C.Core.rows c.load_element.new.core) c.load_element.new.regs in
-    went_so c.load_element.result letters.ElementRead (λ named. Performs {A = Unit {0}} (words_program c.args.kind r c.args.next) (own_of st rows r) new (Ok (tt {0}))) c.if_went.result c.if_went.ensures
-    (λ done. subst (λ (w : WordsRow). Performs {A = Unit {0}} (words_program w r c.args.next) (own_of st rows r) new (Ok (tt {0}))) (sym c.in-IndexAndLoad.is) (c.load_element.ensures.done done))
+    went_so c.load_element.result letters.ElementRead (λ named. ProgramPerforms {A = Unit {0}} (words_program c.args.kind r c.args.next) (own_of st rows r) new (Ok (tt {0}))) c.if_went.result c.if_went.ensures
+    (λ done. subst (λ (w : WordsRow). ProgramPerforms {A = Unit {0}} (words_program w r c.args.next) (own_of st rows r) new (Ok (tt {0}))) (sym c.in-IndexAndLoad.is) (c.load_element.ensures.done done))
 
 pub returns-in-IndexAndLoad-clause-letter : goal.returns-in-IndexAndLoad-clause-letter
 returns-in-IndexAndLoad-clause-letter g c =
@@ -34,8 +34,8 @@ returns-in-IndexMother-clause-done g c =
     let rows = g.C.Core.rows c.args.core.now in
     let r = c.args.regs.now in
     let new = own_of (g.C.Core.stacks c.load_row.new.core) (g.C.Core.rows c.load_row.new.core) c.load_row.new.regs in
-    went_so c.load_row.result letters.Index (λ named. Performs {A = Unit {0}} (words_program c.args.kind r c.args.next) (own_of st rows r) new (Ok (tt {0}))) c.if_went-in-IndexMother.result c.if_went-in-IndexMother.ensures
-    (λ done. subst (λ (w : WordsRow). Performs {A = Unit {0}} (words_program w r c.args.next) (own_of st rows r) new (Ok (tt {0}))) (sym c.in-IndexMother.is) (c.load_row.ensures.done done))
+    went_so c.load_row.result letters.Index (λ named. ProgramPerforms {A = Unit {0}} (words_program c.args.kind r c.args.next) (own_of st rows r) new (Ok (tt {0}))) c.if_went-in-IndexMother.result c.if_went-in-IndexMother.ensures
+    (λ done. subst (λ (w : WordsRow). ProgramPerforms {A = Unit {0}} (words_program w r c.args.next) (own_of st rows r) new (Ok (tt {0}))) (sym c.in-IndexMother.is) (c.load_row.ensures.done done))
 
 pub returns-in-IndexMother-clause-letter : goal.returns-in-IndexMother-clause-letter
 returns-in-IndexMother-clause-letter g c =
@@ -52,8 +52,8 @@ returns-else-keeps-clause-done g c =
     let rows = g.C.Core.rows c.args.core.now in
     let r = c.args.regs.now in
     let new = own_of (g.C.Core.stacks c.store_element.new.core) (g.C.Core.rows c.store_element.new.core) c.store_element.new.regs in
-    went_so c.store_element.result letters.ElementStore (λ named. Performs {A = Unit {0}} (words_program c.args.kind r c.args.next) (own_of st rows r) new (Ok (tt {0}))) c.if_went-else-keeps.result c.if_went-else-keeps.ensures
-    (λ done. subst (λ (w : WordsRow). Performs {A = Unit {0}} (words_program w r c.args.next) (own_of st rows r) new (Ok (tt {0}))) (sym (c.in-Store.is ∙ ap (λ (b : Bool). words.Store b) c.if-keeps.false)) (c.store_element.ensures.done done))
+    went_so c.store_element.result letters.ElementStore (λ named. ProgramPerforms {A = Unit {0}} (words_program c.args.kind r c.args.next) (own_of st rows r) new (Ok (tt {0}))) c.if_went-else-keeps.result c.if_went-else-keeps.ensures
+    (λ done. subst (λ (w : WordsRow). ProgramPerforms {A = Unit {0}} (words_program w r c.args.next) (own_of st rows r) new (Ok (tt {0}))) (sym (c.in-Store.is ∙ ap (λ (b : Bool). words.Store b) c.if-keeps.false)) (c.store_element.ensures.done done))
 
 pub returns-else-keeps-clause-letter : goal.returns-else-keeps-clause-letter
 returns-else-keeps-clause-letter g c =

@@ -5,14 +5,14 @@ use Rattle.b67_store.specs.Store.{with_stack}
 use Rattle.b67_private.specs.Parts.{own_outcome, part_in}
 use Rattle.b67_private.proofs.Above.{ready_part}
 use Rattle.b67_reach.specs.declared.Stop.{Stop}
-use Rattle.b67_reach.specs.Images.{own}
-use Rattle.b67_action.specs.Own.{part_of, DoesOwn}
+use Rattle.b67_reach.specs.Images.{own_of_image}
+use Rattle.b67_action.specs.Own.{part_of_process, DoesOwn}
 use Rattle.b67_action.proofs.InRoom.{still_open, cut_after, place_in, room_goes, room_stops}
 use Rattle.b67_action.proofs.OwnOutcome.{performs_stops, performs_stays}
 use Rattle.b67_action.proofs.own.perform_own.Goals as goal
 
 pub operate-answer-requires-clause-ready : goal.operate-answer-requires-clause-ready
-operate-answer-requires-clause-ready g c = ready_part (part_of (g.C.Core.stacks c.args.core.now) c.args.regs.now) c.requires.part
+operate-answer-requires-clause-ready g c = ready_part (part_of_process (g.C.Core.stacks c.args.core.now) c.args.regs.now) c.requires.part
 
 pub operate-answer-requires-clause-room : goal.operate-answer-requires-clause-room
 operate-answer-requires-clause-room g c =
@@ -55,7 +55,7 @@ returns-in-Err g c =
     let cut = cut_after st lent r.stack left c.requires.linked.opened (c.room-room.ensures.stacks left whole) (g.C.Core.stacks c.cut_words.new.core) q.regs.s c.cut_words.ensures.stacks in
     let outcome = own_outcome c.args.op.now c.args.next old in
     let size = length room in
-    subst (λ (s : Stop). DoesOwn {A = Unit {0}} c.args.op.now c.args.next (own st rows r) (own (g.C.Core.stacks c.cut_words.new.core) (g.C.Core.rows c.cut_words.new.core) q.regs) (Err s))
+    subst (λ (s : Stop). DoesOwn {A = Unit {0}} c.args.op.now c.args.next (own_of_image st rows r) (own_of_image (g.C.Core.stacks c.cut_words.new.core) (g.C.Core.rows c.cut_words.new.core) q.regs) (Err s))
     (sym c.stop_by.ensures)
     (room_stops st rows r c.requires.linked c.args.op.now c.args.next c.room_for-least.result room c.room-room.ensures.words c.in-Err.stop q (g.C.Core.stacks c.cut_words.new.core) (g.C.Core.rows c.cut_words.new.core)
     (performs_stops size outcome old q c.operate-answer.result c.in-Err.stop c.in-Err.is

@@ -1,7 +1,7 @@
 use Rattle.std.proofs.Common.{◌≡◌, sym, ap, subst, ◌∙◌, Some, Ok}
 use Rattle.b67_segment.specs.Decoded.{found}
 use Rattle.b67_store.specs.Store.{with_cut}
-use Rattle.b67_table.specs.Privacy.{Keeps}
+use Rattle.b67_table.specs.Privacy.{RegistersStay}
 use Rattle.b67_linkage.specs.Held.{IsLinked}
 use Rattle.b67_private.specs.declared.operators.Row.{Row}
 use Rattle.b67_private.specs.declared.operators.Row.TheVariants as rows
@@ -9,10 +9,10 @@ use Rattle.b67_deeds.specs.declared.Letter.{Letter}
 use Rattle.b67_private.specs.Actions.{words_program}
 use Rattle.b67_private.specs.Lettered.{words_letter}
 use Rattle.b67_private.specs.Prepared.{IsRowOf}
-use Rattle.b67_reach.specs.Answers.{Performs}
-use Rattle.b67_reach.specs.Images.{Own, own, with_own}
+use Rattle.b67_reach.specs.Answers.{ProgramPerforms}
+use Rattle.b67_reach.specs.Images.{Own, own_of_image as own, with_own}
 use Rattle.b67_action.specs.Reaching.{own_of, IsOpen}
-use Rattle.b67_action.specs.Running.{GoesOn}
+use Rattle.b67_action.specs.Running.{ActionGoesOn}
 use Rattle.b67_action.proofs.Gone.{row_stands}
 use Rattle.b67_action.proofs.InStore.{linked, goes_on, in_again}
 use Rattle.b67_action.proofs.Open.{open_linked, own_whole, own_cut_twice}
@@ -65,14 +65,14 @@ returns-clause-went g c =
     let new = own more others q in
     let same = c.reach_at_once.ensures.none c.in_default-reach_at_once.is in
     let goes = goes_on code img p (with_cut st r.stack r.s) rows' r h new stands.op c.in-Some.next c.in-Words.kind stands.here stands.is c.counted-2.ensures.few
-    (subst (λ (x : Own). Performs {A = Unit {0}} (words_program c.in-Words.kind x.regs c.in-Some.next) x new (Ok (tt {0}))) same
-    (some_is (λ (l : Letter). Performs {A = Unit {0}} (words_program c.in-Words.kind c.reach_at_once.new.regs c.in-Some.next) (own_of (g.C.Core.stacks c.reach_at_once.new.core) (g.C.Core.rows c.reach_at_once.new.core) c.reach_at_once.new.regs) new (Ok (tt {0}))) c.reach_by_cut-done.result named e c.reach_by_cut-done.ensures.done))
+    (subst (λ (x : Own). ProgramPerforms {A = Unit {0}} (words_program c.in-Words.kind x.regs c.in-Some.next) x new (Ok (tt {0}))) same
+    (some_is (λ (l : Letter). ProgramPerforms {A = Unit {0}} (words_program c.in-Words.kind c.reach_at_once.new.regs c.in-Some.next) (own_of (g.C.Core.stacks c.reach_at_once.new.core) (g.C.Core.rows c.reach_at_once.new.core) c.reach_at_once.new.regs) new (Ok (tt {0}))) c.reach_by_cut-done.result named e c.reach_by_cut-done.ensures.done))
     named stands.letter
     (subst (λ (x : Own). words_letter c.in-Words.kind x.stacks x.regs ≡ Some named) same
     (some_is (λ (l : Letter). words_letter c.in-Words.kind (with_cut (g.C.Core.stacks c.reach_at_once.new.core) c.reach_at_once.new.regs.stack c.reach_at_once.new.regs.s) c.reach_at_once.new.regs ≡ Some l)
     c.reach_by_cut-done.result named e c.reach_by_cut-done.ensures.letter)) in
     let l = linked code (with_own new p img) p more others q (in_again code img p (with_cut st r.stack r.s) rows' r h new goes.gone.valid) in
-    subst (λ (x : Own). GoesOn code p named img (with_own x p img)) (sym (own_whole more others q l)) goes)
+    subst (λ (x : Own). ActionGoesOn code p named img (with_own x p img)) (sym (own_whole more others q l)) goes)
 
 pub returns-clause-none : goal.returns-clause-none
 returns-clause-none g c = λ none.
@@ -100,8 +100,8 @@ returns-clause-open g c =
     named_or {P = IsOpen more q} c.reach_by_cut-done.result
     (λ named e.
     let goes = goes_on code img p (with_cut st r.stack r.s) rows' r h new stands.op c.in-Some.next c.in-Words.kind stands.here stands.is c.counted-2.ensures.few
-    (subst (λ (x : Own). Performs {A = Unit {0}} (words_program c.in-Words.kind x.regs c.in-Some.next) x new (Ok (tt {0}))) same
-    (some_is (λ (l : Letter). Performs {A = Unit {0}} (words_program c.in-Words.kind c.reach_at_once.new.regs c.in-Some.next) (own_of (g.C.Core.stacks c.reach_at_once.new.core) (g.C.Core.rows c.reach_at_once.new.core) c.reach_at_once.new.regs) new (Ok (tt {0}))) c.reach_by_cut-done.result named e c.reach_by_cut-done.ensures.done))
+    (subst (λ (x : Own). ProgramPerforms {A = Unit {0}} (words_program c.in-Words.kind x.regs c.in-Some.next) x new (Ok (tt {0}))) same
+    (some_is (λ (l : Letter). ProgramPerforms {A = Unit {0}} (words_program c.in-Words.kind c.reach_at_once.new.regs c.in-Some.next) (own_of (g.C.Core.stacks c.reach_at_once.new.core) (g.C.Core.rows c.reach_at_once.new.core) c.reach_at_once.new.regs) new (Ok (tt {0}))) c.reach_by_cut-done.result named e c.reach_by_cut-done.ensures.done))
     named stands.letter
     (subst (λ (x : Own). words_letter c.in-Words.kind x.stacks x.regs ≡ Some named) same
     (some_is (λ (l : Letter). words_letter c.in-Words.kind (with_cut (g.C.Core.stacks c.reach_at_once.new.core) c.reach_at_once.new.regs.stack c.reach_at_once.new.regs.s) c.reach_at_once.new.regs ≡ Some l)
@@ -121,10 +121,10 @@ returns-clause-keeps g c =
     let q = c.reach_by_cut-done.new.regs in
     let new = own more others q in
     let same = c.reach_at_once.ensures.none c.in_default-reach_at_once.is in
-    named_or {P = Keeps r q} c.reach_by_cut-done.result
+    named_or {P = RegistersStay r q} c.reach_by_cut-done.result
     (λ named e.
     gone_keeps r c.in-Some.next c.in-Words.kind (with_cut (g.C.Core.stacks c.args.core.now) r.stack r.s) (g.C.Core.rows c.args.core.now) new c.requires.stands.1 c.requires.stands.0
     (sym c.if-enters.ensures) h.stacks_are h.rows_are h.has
-    (subst (λ (x : Own). Performs {A = Unit {0}} (words_program c.in-Words.kind x.regs c.in-Some.next) x new (Ok (tt {0}))) same
-    (some_is (λ (l : Letter). Performs {A = Unit {0}} (words_program c.in-Words.kind c.reach_at_once.new.regs c.in-Some.next) (own_of (g.C.Core.stacks c.reach_at_once.new.core) (g.C.Core.rows c.reach_at_once.new.core) c.reach_at_once.new.regs) new (Ok (tt {0}))) c.reach_by_cut-done.result named e c.reach_by_cut-done.ensures.done)))
+    (subst (λ (x : Own). ProgramPerforms {A = Unit {0}} (words_program c.in-Words.kind x.regs c.in-Some.next) x new (Ok (tt {0}))) same
+    (some_is (λ (l : Letter). ProgramPerforms {A = Unit {0}} (words_program c.in-Words.kind c.reach_at_once.new.regs c.in-Some.next) (own_of (g.C.Core.stacks c.reach_at_once.new.core) (g.C.Core.rows c.reach_at_once.new.core) c.reach_at_once.new.regs) new (Ok (tt {0}))) c.reach_by_cut-done.result named e c.reach_by_cut-done.ensures.done)))
     (λ none. same_keeps r q (ap (λ (x : Own). x.regs) (c.reach_by_cut-done.ensures.none none ∙ same)))

@@ -4,8 +4,8 @@ use Rattle.b67_store.specs.Store.{Stacks, Rows, with_cut}
 use Rattle.b67_linkage.specs.Held.{IsLinked}
 use Rattle.b67_private.specs.Actions.{words_program}
 use Rattle.b67_private.specs.Lettered.{words_letter}
-use Rattle.b67_reach.specs.Answers.{Performs}
-use Rattle.b67_reach.specs.Images.{Own, own}
+use Rattle.b67_reach.specs.Answers.{ProgramPerforms}
+use Rattle.b67_reach.specs.Images.{Own, own_of_image}
 use Rattle.b67_action.proofs.InStore.{performed, unmoved}
 use Rattle.b67_action.proofs.Went.{ok_so, ok_is, none_ok}
 use Rattle.b67_action.proofs.reaching.reach_by_cut.Goals as goal
@@ -19,13 +19,13 @@ pub returns-clause-done : goal.returns-clause-done
 returns-clause-done g c =
     let r = c.args.regs.now in
     let same =
-    ap (λ (z : Stacks). own z (g.C.Core.rows c.cut_words.new.core) r) c.cut_words.ensures.stacks
-    ∙ ap (λ (z : Rows). own (with_cut (g.C.Core.stacks c.args.core.now) r.stack r.s) z r) c.cut_words.ensures.rows in
-    let new = own (g.C.Core.stacks c.perform.new.core) (g.C.Core.rows c.perform.new.core) c.perform.new.regs in
+    ap (λ (z : Stacks). own_of_image z (g.C.Core.rows c.cut_words.new.core) r) c.cut_words.ensures.stacks
+    ∙ ap (λ (z : Rows). own_of_image (with_cut (g.C.Core.stacks c.args.core.now) r.stack r.s) z r) c.cut_words.ensures.rows in
+    let new = own_of_image (g.C.Core.stacks c.perform.new.core) (g.C.Core.rows c.perform.new.core) c.perform.new.regs in
     ok_so c.perform.result c.ok.result c.ok.ensures.value
-    (λ l. Performs {A = Unit {0}} (words_program c.args.kind r c.args.next) (own (with_cut (g.C.Core.stacks c.args.core.now) r.stack r.s) (g.C.Core.rows c.args.core.now) r) new (Ok (tt {0})))
-    (λ l e. subst (λ (o : Own). Performs {A = Unit {0}} (words_program c.args.kind r c.args.next) o new (Ok (tt {0}))) same
-    (performed (words_program c.args.kind r c.args.next) (own (g.C.Core.stacks c.cut_words.new.core) (g.C.Core.rows c.cut_words.new.core) r) new c.perform.result
+    (λ l. ProgramPerforms {A = Unit {0}} (words_program c.args.kind r c.args.next) (own_of_image (with_cut (g.C.Core.stacks c.args.core.now) r.stack r.s) (g.C.Core.rows c.args.core.now) r) new (Ok (tt {0})))
+    (λ l e. subst (λ (o : Own). ProgramPerforms {A = Unit {0}} (words_program c.args.kind r c.args.next) o new (Ok (tt {0}))) same
+    (performed (words_program c.args.kind r c.args.next) (own_of_image (g.C.Core.stacks c.cut_words.new.core) (g.C.Core.rows c.cut_words.new.core) r) new c.perform.result
     (ap is_ok e) c.perform.ensures.performs))
 
 pub returns-clause-letter : goal.returns-clause-letter
@@ -39,9 +39,9 @@ pub returns-clause-none : goal.returns-clause-none
 returns-clause-none g c = λ none.
     let r = c.args.regs.now in
     let same =
-    ap (λ (z : Stacks). own z (g.C.Core.rows c.cut_words.new.core) r) c.cut_words.ensures.stacks
-    ∙ ap (λ (z : Rows). own (with_cut (g.C.Core.stacks c.args.core.now) r.stack r.s) z r) c.cut_words.ensures.rows in
-    unmoved (words_program c.args.kind r c.args.next) (own (g.C.Core.stacks c.cut_words.new.core) (g.C.Core.rows c.cut_words.new.core) r)
-    (own (g.C.Core.stacks c.perform.new.core) (g.C.Core.rows c.perform.new.core) c.perform.new.regs) c.perform.result (none_ok c.perform.result c.ok.result c.ok.ensures.value none)
+    ap (λ (z : Stacks). own_of_image z (g.C.Core.rows c.cut_words.new.core) r) c.cut_words.ensures.stacks
+    ∙ ap (λ (z : Rows). own_of_image (with_cut (g.C.Core.stacks c.args.core.now) r.stack r.s) z r) c.cut_words.ensures.rows in
+    unmoved (words_program c.args.kind r c.args.next) (own_of_image (g.C.Core.stacks c.cut_words.new.core) (g.C.Core.rows c.cut_words.new.core) r)
+    (own_of_image (g.C.Core.stacks c.perform.new.core) (g.C.Core.rows c.perform.new.core) c.perform.new.regs) c.perform.result (none_ok c.perform.result c.ok.result c.ok.ensures.value none)
     c.perform.ensures.performs
     ∙ same

@@ -1,6 +1,6 @@
 use Rattle.std.proofs.Common.{◌≡◌, ◌+◌, ◌≤◌, ℕ, true, false, length}
 use Rattle.b67_table.specs.Image.{Image}
-use Rattle.b67_table.specs.Privacy.{Keeps}
+use Rattle.b67_table.specs.Privacy.{RegistersStay}
 use Rattle.b67_reach.specs.Images.{with_own}
 use Rattle.b67_action.specs.Reaching.{IsInOpen, IsOpen, own_of}
 use Rattle.b67_action.specs.Running.{IsOpenAt, HasCome, HasRun}
@@ -19,7 +19,7 @@ invariant-lending g l = record {
   entries : l.lent.ran.entries ≤ length l.letters;
   counted : l.lent.ran.entries ≤ l.lent.ran.operators;
   most : l.lent.ran.operators + l.lent.ran.plain ≤ l.fn.most;
-  keeps : Keeps l.fn.regs l.regs;
+  keeps : RegistersStay l.fn.regs l.regs;
 }
 
 abbrev pub decreases-lending : goal.decreases-lending

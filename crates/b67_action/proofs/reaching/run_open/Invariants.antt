@@ -1,6 +1,6 @@
 use Rattle.std.proofs.Common.{◌≡◌, ◌-◌, ◌+◌, ◌≤◌, ℕ, length}
 use Rattle.b67_table.specs.Image.{Image}
-use Rattle.b67_table.specs.Privacy.{Keeps}
+use Rattle.b67_table.specs.Privacy.{RegistersStay}
 use Rattle.b67_reach.specs.Images.{with_own}
 use Rattle.b67_action.specs.Reaching.{IsInOpen, IsOpen, own_of}
 use Rattle.b67_action.specs.Running.{HasRun}
@@ -15,7 +15,7 @@ invariant-running g l = record {
   entries : l.ran.entries ≤ length l.letters;
   counted : l.ran.entries ≤ l.ran.operators;
   most : l.ran.operators + l.ran.plain ≤ l.fn.most;
-  keeps : Keeps l.fn.regs l.regs;
+  keeps : RegistersStay l.fn.regs l.regs;
 }
 
 abbrev pub decreases-running : goal.decreases-running

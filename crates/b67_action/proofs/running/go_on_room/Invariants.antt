@@ -1,6 +1,6 @@
 use Rattle.std.proofs.Common.{◌≡◌, ◌-◌, ◌≤◌, ℕ, length, take}
 use Rattle.b67_table.specs.Image.{Image}
-use Rattle.b67_table.specs.Privacy.{Keeps}
+use Rattle.b67_table.specs.Privacy.{RegistersStay}
 use Rattle.b67_action.specs.Running.{IsLent, IsOpenAt, HasCome, given_back}
 use Rattle.b67_action.proofs.Runs.{Going}
 use Rattle.b67_action.proofs.running.go_on_room.Given as goal
@@ -17,7 +17,7 @@ invariant-running l = record {
   few : l.entries ≤ l.operators;
   is_open : IsOpenAt l.entries l.letters;
   done : l.done ≤ l.fn.most;
-  keeps : Keeps l.fn.regs l.regs;
+  keeps : RegistersStay l.fn.regs l.regs;
 }
 
 abbrev pub decreases-running : goal.decreases-running

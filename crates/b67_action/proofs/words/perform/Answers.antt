@@ -4,17 +4,17 @@ use Rattle.b67_private.specs.declared.operators.WordsRow.{WordsRow}
 use Rattle.b67_private.specs.declared.operators.WordsRow.TheVariants as words
 use Rattle.b67_private.specs.Actions.{words_program}
 use Rattle.b67_private.specs.Lettered.{words_letter}
-use Rattle.b67_reach.specs.Answers.{Performs}
-use Rattle.b67_reach.specs.Images.{own}
+use Rattle.b67_reach.specs.Answers.{ProgramPerforms}
+use Rattle.b67_reach.specs.Images.{own_of_image}
 use Rattle.b67_operators.proofs.Lettering.{lettered_as}
 use Rattle.b67_action.proofs.words.perform.Goals as goal
 
 pub returns-in-Turn-clause-performs : goal.returns-in-Turn-clause-performs
 returns-in-Turn-clause-performs g c =
     let r = c.args.regs.now in
-    let old = own (g.C.Core.stacks c.args.core.now) (g.C.Core.rows c.args.core.now) r in
-    let new = own (g.C.Core.stacks c.turn.new.core) (g.C.Core.rows c.turn.new.core) c.turn.new.regs in
-    subst (λ (w : WordsRow). Performs (words_program w r c.args.next) old new c.lettered.result) (sym c.in-Turn.is)
+    let old = own_of_image (g.C.Core.stacks c.args.core.now) (g.C.Core.rows c.args.core.now) r in
+    let new = own_of_image (g.C.Core.stacks c.turn.new.core) (g.C.Core.rows c.turn.new.core) c.turn.new.regs in
+    subst (λ (w : WordsRow). ProgramPerforms (words_program w r c.args.next) old new c.lettered.result) (sym c.in-Turn.is)
     (c.lettered.ensures.performs (words_program (words.Turn c.in-Turn.kind c.in-Turn.target) r c.args.next) old new c.turn.ensures)
 
 pub returns-in-Turn-clause-letter : goal.returns-in-Turn-clause-letter
@@ -25,9 +25,9 @@ returns-in-Turn-clause-letter g c =
 pub returns-in-LoadThrough-clause-performs : goal.returns-in-LoadThrough-clause-performs
 returns-in-LoadThrough-clause-performs g c =
     let r = c.args.regs.now in
-    let old = own (g.C.Core.stacks c.args.core.now) (g.C.Core.rows c.args.core.now) r in
-    let new = own (g.C.Core.stacks c.load_through.new.core) (g.C.Core.rows c.load_through.new.core) c.load_through.new.regs in
-    subst (λ (w : WordsRow). Performs (words_program w r c.args.next) old new c.lettered-in-LoadThrough.result) (sym c.in-LoadThrough.is)
+    let old = own_of_image (g.C.Core.stacks c.args.core.now) (g.C.Core.rows c.args.core.now) r in
+    let new = own_of_image (g.C.Core.stacks c.load_through.new.core) (g.C.Core.rows c.load_through.new.core) c.load_through.new.regs in
+    subst (λ (w : WordsRow). ProgramPerforms (words_program w r c.args.next) old new c.lettered-in-LoadThrough.result) (sym c.in-LoadThrough.is)
     (c.lettered-in-LoadThrough.ensures.performs (words_program words.LoadThrough r c.args.next) old new c.load_through.ensures)
 
 pub returns-in-LoadThrough-clause-letter : goal.returns-in-LoadThrough-clause-letter
@@ -38,9 +38,9 @@ returns-in-LoadThrough-clause-letter g c =
 pub returns-in-Index-clause-performs : goal.returns-in-Index-clause-performs
 returns-in-Index-clause-performs g c =
     let r = c.args.regs.now in
-    let old = own (g.C.Core.stacks c.args.core.now) (g.C.Core.rows c.args.core.now) r in
-    let new = own (g.C.Core.stacks c.index.new.core) (g.C.Core.rows c.index.new.core) c.index.new.regs in
-    subst (λ (w : WordsRow). Performs (words_program w r c.args.next) old new c.lettered-in-Index.result) (sym c.in-Index.is)
+    let old = own_of_image (g.C.Core.stacks c.args.core.now) (g.C.Core.rows c.args.core.now) r in
+    let new = own_of_image (g.C.Core.stacks c.index.new.core) (g.C.Core.rows c.index.new.core) c.index.new.regs in
+    subst (λ (w : WordsRow). ProgramPerforms (words_program w r c.args.next) old new c.lettered-in-Index.result) (sym c.in-Index.is)
     (c.lettered-in-Index.ensures.performs (words_program words.Index r c.args.next) old new c.index.ensures)
 
 pub returns-in-Index-clause-letter : goal.returns-in-Index-clause-letter
@@ -51,9 +51,9 @@ returns-in-Index-clause-letter g c =
 pub returns-in-IndexAndLoad-clause-performs : goal.returns-in-IndexAndLoad-clause-performs
 returns-in-IndexAndLoad-clause-performs g c =
     let r = c.args.regs.now in
-    let old = own (g.C.Core.stacks c.args.core.now) (g.C.Core.rows c.args.core.now) r in
-    let new = own (g.C.Core.stacks c.index_and_load.new.core) (g.C.Core.rows c.index_and_load.new.core) c.index_and_load.new.regs in
-    subst (λ (w : WordsRow). Performs (words_program w r c.args.next) old new c.lettered-in-IndexAndLoad.result) (sym c.in-IndexAndLoad.is)
+    let old = own_of_image (g.C.Core.stacks c.args.core.now) (g.C.Core.rows c.args.core.now) r in
+    let new = own_of_image (g.C.Core.stacks c.index_and_load.new.core) (g.C.Core.rows c.index_and_load.new.core) c.index_and_load.new.regs in
+    subst (λ (w : WordsRow). ProgramPerforms (words_program w r c.args.next) old new c.lettered-in-IndexAndLoad.result) (sym c.in-IndexAndLoad.is)
     (c.lettered-in-IndexAndLoad.ensures.performs (words_program words.IndexAndLoad r c.args.next) old new c.index_and_load.ensures)
 
 pub returns-in-IndexAndLoad-clause-letter : goal.returns-in-IndexAndLoad-clause-letter
@@ -64,9 +64,9 @@ returns-in-IndexAndLoad-clause-letter g c =
 pub returns-in-IndexMother-clause-performs : goal.returns-in-IndexMother-clause-performs
 returns-in-IndexMother-clause-performs g c =
     let r = c.args.regs.now in
-    let old = own (g.C.Core.stacks c.args.core.now) (g.C.Core.rows c.args.core.now) r in
-    let new = own (g.C.Core.stacks c.index_mother.new.core) (g.C.Core.rows c.index_mother.new.core) c.index_mother.new.regs in
-    subst (λ (w : WordsRow). Performs (words_program w r c.args.next) old new c.lettered-in-IndexMother.result) (sym c.in-IndexMother.is)
+    let old = own_of_image (g.C.Core.stacks c.args.core.now) (g.C.Core.rows c.args.core.now) r in
+    let new = own_of_image (g.C.Core.stacks c.index_mother.new.core) (g.C.Core.rows c.index_mother.new.core) c.index_mother.new.regs in
+    subst (λ (w : WordsRow). ProgramPerforms (words_program w r c.args.next) old new c.lettered-in-IndexMother.result) (sym c.in-IndexMother.is)
     (c.lettered-in-IndexMother.ensures.performs (words_program words.IndexMother r c.args.next) old new c.index_mother.ensures)
 
 pub returns-in-IndexMother-clause-letter : goal.returns-in-IndexMother-clause-letter

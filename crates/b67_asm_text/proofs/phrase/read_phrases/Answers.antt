@@ -3,7 +3,7 @@ use Rattle.std.proofs.lemmas.List.{drop_all}
 use Rattle.b67_segment.specs.declared.code.Phrase.{Phrase}
 use Rattle.b67_asm_text.specs.declared.phrase.Stand.{Stand}
 use Rattle.b67_asm_text.specs.declared.phrase.Stand.TheVariants.{Before, Due, Quoted, Sized, After, Closed, Wrong}
-use Rattle.b67_asm_text.specs.Phrases.{Read, next, phrases_at, read_from, seen}
+use Rattle.b67_asm_text.specs.Phrases.{Read, next, phrases_at, read_from, phrases_seen}
 use Rattle.b67_asm_text.proofs.phrase.read_phrases.Goals as goal
 
 -- one more byte was read
@@ -31,14 +31,14 @@ not-closed Wrong phrases h = refl
 
 pub bytes-preserved : goal.bytes-preserved
 bytes-preserved c =
-    after-byte c.args.text.now c.bytes.byte-index (seen c.bytes.reader) _ _ c.bytes-test.true c.in_ok-next.ensures c.bytes.invariant
+    after-byte c.args.text.now c.bytes.byte-index (phrases_seen c.bytes.reader) _ _ c.bytes-test.true c.in_ok-next.ensures c.bytes.invariant
 
 pub returns-in-Closed : goal.returns-in-Closed
 returns-in-Closed c =
     sym (ap (λ s. phrases_at s c.bytes.reader.phrases.items) c.in-Closed.is)
-    ∙ after-all c.args.text.now c.bytes.byte-index (seen c.bytes.reader) _ c.bytes-test.false c.bytes.invariant
+    ∙ after-all c.args.text.now c.bytes.byte-index (phrases_seen c.bytes.reader) _ c.bytes-test.false c.bytes.invariant
 
 pub returns : goal.returns
 returns c =
     sym (not-closed c.bytes.reader.stand c.bytes.reader.phrases.items c.in_default.not-Closed)
-    ∙ after-all c.args.text.now c.bytes.byte-index (seen c.bytes.reader) _ c.bytes-test.false c.bytes.invariant
+    ∙ after-all c.args.text.now c.bytes.byte-index (phrases_seen c.bytes.reader) _ c.bytes-test.false c.bytes.invariant

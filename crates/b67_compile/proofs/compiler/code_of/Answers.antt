@@ -10,7 +10,7 @@ use Rattle.b67_segment.specs.declared.code.Code.{Code}
 use Rattle.b67_emit_text.specs.Programs.{AreDue, AreShort, Coded}
 use Rattle.b67_emit_text.specs.Targets.{AreSmall}
 use Rattle.b67_emit_text.specs.Texts.{HaveLevelsBody, StandOnce, texts}
-use Rattle.b67_faithful.specs.Faithful.{IsShort}
+use Rattle.b67_faithful.specs.Faithful.{IsShortSegment}
 use Rattle.b67_compile.proofs.LabelsOnce.{labels_once}
 use Rattle.b67_compile.proofs.Premises.{given, few, due, inner, near}
 use Rattle.b67_compile.proofs.Shape.{parts_of, texts_leveled, texts_few, texts_small}
@@ -116,7 +116,7 @@ returns-clause-short g c =
     let coded = subst (λ (z : PBody). Coded sc formats segments (texts z)) (body_is b) (c.in_ok-segments.ensures.code sc texts_due) in
     let short = subst (λ (z : PBody). AreShort segments (texts z)) (body_is b) c.in_ok-segments.ensures.short in
     let code : Code = record { segments = segments; formats = formats } in
-    rw c.of.ensures (subst (λ (z : PBody). IsShort (tree.program z) code) (sym (body_is b)) (short_code b.spot ds ss n has segments formats coded.many short))
+    rw c.of.ensures (subst (λ (z : PBody). IsShortSegment (tree.program z) code) (sym (body_is b)) (short_code b.spot ds ss n has segments formats coded.many short))
 
 pub returns-clause-listable : goal.returns-clause-listable
 returns-clause-listable g c =

@@ -9,7 +9,7 @@ use Rattle.b67_table.specs.Sound.{Sound}
 use Rattle.b67_fronts.specs.Fronts.{GoesThrough}
 use Rattle.b67_machine.proofs.Loading.{none_in}
 use Rattle.b67_stops.specs.Answering.{AreAnswers}
-use Rattle.b67_console.specs.Moments.{most_operators, IsTold}
+use Rattle.b67_console.specs.Moments.{most_operators, CommandIsTold}
 use Rattle.b67_console.proofs.Together.{goes_through}
 use Rattle.b67_console.proofs.Whole.{segments_short, few_entries, legal_whole, at_each, at_within, console_so}
 use Rattle.b67_console.proofs.texts.console.Goals as goal
@@ -61,5 +61,5 @@ returns c =
     let found : c.as_slice-commands.result.now ≡ c.args.commands.now = c.as_slice-commands.ensures.value ∙ c.items.ensures in
     console_so tree c.args.code h given c.args.commands.now c.as_slice-commands.result.now c.in_ok-at.at.items c.runs_of.ensures found c.requires.faithful c.requires.whole c.in_ok-at.ensures
     c.positions_are_within.ensures c.in_ok-machine.machine.code c.in_ok-texts.texts.items c.as_slice-2.result.now c.in_ok-text.text.items c.in_ok-machine.ensures.code
-    (subst (λ (xs : List ℕ). AreAnswers (IsTold (scopes_of tree) c.in_ok-machine.machine.code) given c.as_slice-commands.result.now xs c.in_ok-texts.texts.items) c.as_slice.ensures.value
+    (subst (λ (xs : List ℕ). AreAnswers (CommandIsTold (scopes_of tree) c.in_ok-machine.machine.code) given c.as_slice-commands.result.now xs c.in_ok-texts.texts.items) c.as_slice.ensures.value
     c.in_ok-texts.ensures) c.as_slice-2.ensures.value c.in_ok-text.ensures

@@ -1,6 +1,6 @@
 use Rattle.std.specs.Prelude.{length}
 use Rattle.std.proofs.Common.{subst}
-use Rattle.b67_schedule.specs.Schedules.{IsSchedule, Kept as Schedule}
+use Rattle.b67_schedule.specs.Schedules.{IsSchedule, ScheduleModel}
 use Rattle.b67_desk.proofs.Told.{left_is}
 use Rattle.b67_desk.proofs.running.left_report.Goals as goal
 
@@ -11,4 +11,4 @@ pub returns-clause-left : goal.returns-clause-left
 returns-clause-left c =
     let ran = c.args.ran in
     left_is ran.machine ran.answer c.args.lines (length c.args.acts) ran.schedule c.report_of.result c.in_default.not-NoMemory
-    (subst (λ (s : Schedule). IsSchedule s.runs s.letters) c.schedule.view_is c.schedule.invariant) c.report_of.ensures.report
+    (subst (λ (s : ScheduleModel). IsSchedule s.runs s.letters) c.schedule.view_is c.schedule.invariant) c.report_of.ensures.report

@@ -5,7 +5,7 @@ use Rattle.b67_schedule.specs.Schedules.{entries}
 use Rattle.b67_segment.specs.declared.code.Code.{Code}
 use Rattle.b67_machine.specs.Replaying.{Replays}
 use Rattle.b67_machine.proofs.Loading.{none_in}
-use Rattle.b67_desk.specs.Calls.{IsLeft}
+use Rattle.b67_desk.specs.Calls.{ReportIsLeft}
 use Rattle.b67_explain.proofs.Explained.{can_be_told}
 use Rattle.b67_desk.proofs.Told.{segments_short, replay_answered}
 use Rattle.b67_desk.proofs.Wholes.{whole_is_performed}
@@ -27,7 +27,7 @@ returns-clause-explained c =
     replay_answered c.args.code c.args.given.now c.args.budget m c.replay-answer.result done
     (subst (λ (k : Code). Replays k c.args.given.now c.args.budget done m c.replay-answer.result) c.in_ok-machine.ensures.code c.replay-answer.ensures.replays)
     c.in_ok-lines.lines c.left_report.result
-    (subst (λ (n : ℕ). IfOk c.left_report.result (IsLeft m c.replay-answer.result c.in_ok-lines.lines n done)) c.in_ok-acts.ensures.acts.each c.left_report.ensures.left)
+    (subst (λ (n : ℕ). IfOk c.left_report.result (ReportIsLeft m c.replay-answer.result c.in_ok-lines.lines n done)) c.in_ok-acts.ensures.acts.each c.left_report.ensures.left)
     c.in_ok-lines.ensures
 
 pub returns-clause-whole : goal.returns-clause-whole
@@ -37,7 +37,7 @@ returns-clause-whole c =
     whole_is_performed c.args.code c.args.given.now c.args.budget m c.replay-answer.result done
     (subst (λ (k : Code). Replays k c.args.given.now c.args.budget done m c.replay-answer.result) c.in_ok-machine.ensures.code c.replay-answer.ensures.replays)
     c.requires.most c.in_ok-lines.lines c.left_report.result
-    (subst (λ (n : ℕ). IfOk c.left_report.result (IsLeft m c.replay-answer.result c.in_ok-lines.lines n done)) c.in_ok-acts.ensures.acts.each c.left_report.ensures.left)
+    (subst (λ (n : ℕ). IfOk c.left_report.result (ReportIsLeft m c.replay-answer.result c.in_ok-lines.lines n done)) c.in_ok-acts.ensures.acts.each c.left_report.ensures.left)
     c.in_ok-lines.ensures
 
 pub replay-answer-requires-clause-room : goal.replay-answer-requires-clause-room

@@ -2,11 +2,11 @@ use Rattle.std.specs.Prelude.{IfOk}
 use Rattle.std.proofs.Common.{ℕ, subst, ◌∙◌}
 use Rattle.b67_segment.specs.declared.code.Code.{Code}
 use Rattle.b67_ready.specs.declared.order.Order.{Order}
-use Rattle.b67_ready.specs.Orders.{place_of}
+use Rattle.b67_ready.specs.Orders.{order_place_of}
 use Rattle.b67_stands.specs.Ran.{HasRunAlone}
 use Rattle.b67_explain.specs.Telling.{AreOfFirst}
 use Rattle.b67_machine.proofs.Loading.{none_in}
-use Rattle.b67_desk.specs.Calls.{IsLeft}
+use Rattle.b67_desk.specs.Calls.{ReportIsLeft}
 use Rattle.b67_desk.proofs.Told.{segments_short, kept_short, alone_can_be_told, run_reported}
 use Rattle.b67_desk.proofs.running.run_report.Goals as goal
 
@@ -34,7 +34,7 @@ left_report-requires c =
       all = c.in_ok-acts.ensures.acts.sum_is ∙ c.len.ensures;
       numbers = c.in_ok-acts.ensures.numbers;
       told = λ some.
-          alone_can_be_told c.args.job.code c.in_ok-machine.machine.code c.requires.faithful.0 c.requires.faithful.1 c.args.job.budget (place_of c.order_of.result)
+          alone_can_be_told c.args.job.code c.in_ok-machine.machine.code c.requires.faithful.0 c.requires.faithful.1 c.args.job.budget (order_place_of c.order_of.result)
           ran.machine ran.schedule ran.answer some c.in_ok-machine.ensures.code c.in_ok-ran.ensures;
     }
 
@@ -43,8 +43,8 @@ returns c =
     let ran = c.in_ok-ran.ran in
     let job = c.args.job in
     run_reported job ran.machine ran.answer ran.schedule
-    (subst (λ (o : Order). HasRunAlone job.code job.budget (place_of o) ran.machine ran.schedule ran.answer) c.order_of.ensures
-    (subst (λ (k : Code). HasRunAlone k job.budget (place_of c.order_of.result) ran.machine ran.schedule ran.answer) c.in_ok-machine.ensures.code c.in_ok-ran.ensures))
+    (subst (λ (o : Order). HasRunAlone job.code job.budget (order_place_of o) ran.machine ran.schedule ran.answer) c.order_of.ensures
+    (subst (λ (k : Code). HasRunAlone k job.budget (order_place_of c.order_of.result) ran.machine ran.schedule ran.answer) c.in_ok-machine.ensures.code c.in_ok-ran.ensures))
     c.in_ok-acts.acts (subst (λ (n : ℕ). AreOfFirst job.processors n c.in_ok-acts.acts) c.len.ensures c.in_ok-acts.ensures.first) c.in_ok-lines.lines c.left_report.result
-    (subst (λ (n : ℕ). IfOk c.left_report.result (IsLeft ran.machine ran.answer c.in_ok-lines.lines n ran.schedule)) c.in_ok-acts.ensures.acts.each c.left_report.ensures.left)
+    (subst (λ (n : ℕ). IfOk c.left_report.result (ReportIsLeft ran.machine ran.answer c.in_ok-lines.lines n ran.schedule)) c.in_ok-acts.ensures.acts.each c.left_report.ensures.left)
     c.left_report.ensures.acts c.in_ok-lines.ensures

@@ -9,7 +9,7 @@ use Rattle.algol_tree.specs.Plain as tree
 use Rattle.b67_segment.specs.declared.TheConstants.{MOST_SEGMENT_SYLLABLES}
 use Rattle.b67_segment.specs.Operators.{size}
 use Rattle.b67_segment.specs.Building.{level_set}
-use Rattle.b67_templates.specs.Fragments.{IsWhole, MovedAt, operator_for, truth_literal}
+use Rattle.b67_templates.specs.Fragments.{IsWholeNumber, MovedAt, operator_for, truth_literal}
 use Rattle.b67_templates.specs.Emitting.{Emitted}
 use Rattle.b67_templates.specs.Paying.{mode_at, given_syllables, inline, inline_given}
 use Rattle.b67_emitter.specs.Values.{meant, meanings, filled_syllables}
@@ -1063,7 +1063,7 @@ subscript-append_moved-requires-clause-set t c = set_after c.args.out.now c.oper
 
 pub subscript-append_moved-requires-clause-whole : goal.subscript-append_moved-requires-clause-whole
 subscript-append_moved-requires-clause-whole t c =
-    let W : ℤ → Type 0 = λ z. IsWhole z in subst W (sym (read_back c.args.low c.requires.whole)) c.requires.whole
+    let W : ℤ → Type 0 = λ z. IsWholeNumber z in subst W (sym (read_back c.args.low c.requires.whole)) c.requires.whole
 
 pub subscript-append_moved-requires-clause-room : goal.subscript-append_moved-requires-clause-room
 subscript-append_moved-requires-clause-room t c = omega (arith, c.in_ok-operand.ensures.size, c.requires.room)

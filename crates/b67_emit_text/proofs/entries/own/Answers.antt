@@ -3,7 +3,7 @@ use Rattle.std.proofs.lemmas.List.{drop_more}
 use Rattle.algol_tree.specs.declared.tree.Named.{Named}
 use Rattle.algol_tree.specs.Image.{decls, stmts}
 use Rattle.b67_templates.specs.Labels.{labels_in}
-use Rattle.b67_emit_text.specs.Entries.{Entry, entry_of, own_entries}
+use Rattle.b67_emit_text.specs.Entries.{DeclaredLabel, entry_of, own_entries}
 use Rattle.b67_emit_text.proofs.Entered.{carried, labels_more, labels_same, own_both}
 use Rattle.b67_emit_text.proofs.entries.own.Goals.{in-Labels+in_ok-add, in_default}
 use Rattle.b67_emit_text.proofs.entries.own.Goals as goal
@@ -30,7 +30,7 @@ decls-preserved c =
           ∙ own_both level ss ns (labels_in (decls rest)) in
           ap (λ t. map entry_of t.items ++ later) w.to-is
           ∙ carried old before (map entry_of w.add.new.to.items) (own_entries level ss ns) later all w.in_ok-add.ensures
-          (ap (λ (l : List Entry). before ++ l) (sym split) ∙ c.decls.invariant)
+          (ap (λ (l : List DeclaredLabel). before ++ l) (sym split) ∙ c.decls.invariant)
       | in_default w ↦
           ap (λ t. map entry_of t.items ++ later) w.to-is
           ∙ ap (λ (l : List Named). before ++ own_entries level ss l) (sym (labels_same d (drop i ds) rest next w.in_default.not-Labels)) ∙ c.decls.invariant

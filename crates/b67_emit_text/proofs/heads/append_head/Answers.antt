@@ -7,10 +7,10 @@ use Rattle.b67_ops.specs.declared.BranchKind.TheVariants.{Brun}
 use Rattle.b67_ops.specs.Spelling.{spelling}
 use Rattle.b67_segment.specs.Operators.{Placed, size}
 use Rattle.b67_segment.specs.Building.{Built, level_set}
-use Rattle.b67_templates.specs.Emitting.{Keeps}
+use Rattle.b67_templates.specs.Emitting.{OperatorsStay}
 use Rattle.b67_templates.specs.Fragments.{Has}
 use Rattle.b67_emit_text.specs.declared.entries.Declared.{Declared}
-use Rattle.b67_emit_text.specs.Entries.{Entry, HeadAt, IsLeveled, entry_of}
+use Rattle.b67_emit_text.specs.Entries.{DeclaredLabel, HeadAt, IsLeveled, entry_of}
 use Rattle.b67_emit_text.proofs.Tables.{head_more}
 use Rattle.b67_emit_text.proofs.heads.append_head.Goals as goal
 
@@ -53,7 +53,7 @@ entries-preserved c =
     let from : size n.operators ≡ size b.operators = ap size same in
     let three : length (spelling (size n.operators) (level_set n) (ops.Branch Brun 0)) ≡ 3 = refl in
     let wide : size d.operators ≡ size b.operators + 3 = omega (arith, three, c.in_ok-append_operator-2.ensures.size, from) in
-    let K : List Placed → Type 0 = λ ps. Keeps 0 (size ps) ps d.operators in
+    let K : List Placed → Type 0 = λ ps. OperatorsStay 0 (size ps) ps d.operators in
     let H : ℕ → ℕ → Type 0 = λ l f. Has d.operators l f (ops.Branch Brun 0) (size d.operators) in
     let here = subst (H e.level) from (subst (λ l. H l (size n.operators)) level (code.claimed d.operators (λ at l next op lo hi s. s))) in
     let many : length (take i es) ≡ i = length-take-le i es (omega (arith, c.entries-test.true)) in
@@ -63,7 +63,7 @@ entries-preserved c =
     let next = drop_more es i e c.entries-test.true ∙ ap (λ (x : Declared). x ∷ drop (i + 1) es) (sym c.entry-item.is) in
     let L : List Declared → Type 0 = λ l. AllByRecursion IsLeveled (map entry_of l) in
     let left = subst L next c.entries.invariant.left in
-    let D : List Entry → Type 0 = λ l. HeadAt d.operators c.args.level l in
+    let D : List DeclaredLabel → Type 0 = λ l. HeadAt d.operators c.args.level l in
     record {
       head = subst D (sym took)
           (head_more b.operators d.operators c.args.level (size b.operators) (size d.operators) (map entry_of (take i es)) (entry_of e) (subst K same code.kept) to c.entries.invariant.head here wide);

@@ -7,8 +7,8 @@ use Rattle.b67_emit_stmt.specs.declared.draft.Label.{Label}
 use Rattle.b67_emit_stmt.specs.Drafts.{spots_of}
 use Rattle.b67_emit_stmt.specs.Labels.{label_spots_in}
 use Rattle.b67_emit_stmt.specs.Places.{Later}
-use Rattle.b67_emit_text.specs.Entries.{place_in}
-use Rattle.b67_emit_text.specs.Texts.{outer_text, Text, text_of, text_spots, texts, texts_lines}
+use Rattle.b67_emit_text.specs.Entries.{label_place_in}
+use Rattle.b67_emit_text.specs.Texts.{outer_text, Text, text_of_procedure, text_spots, texts, texts_lines}
 use Rattle.b67_emit_stmt.proofs.Added.{both_added}
 use Rattle.b67_emit_text.proofs.TextLines.{next_text_lines, next_text_spots}
 use Rattle.b67_emit_text.proofs.TextProgram.{all_taken, behind, can_stand, first_stands, next_stands, number_few, places_few, stands_there, text_there}
@@ -48,10 +48,10 @@ pub emit_procedure-requires-clause-text : goal.emit_procedure-requires-clause-te
 emit_procedure-requires-clause-text g c =
     let b = c.args.body.now in
     let p = c.procedure-item.result in
-    let there = behind (body b) c.procedures.procedure-index (text_of p)
+    let there = behind (body b) c.procedures.procedure-index (text_of_procedure p)
     (text_there (body b) c.args.procedures.now c.requires.found c.procedures.procedure-index p c.procedures-test.true c.procedure-item.is) in
     let number_is : c.len.result ≡ c.procedures.procedure-index + 1 = omega (arith, c.len.ensures, c.procedures.segments.ok.0, c.procedures.invariant.many) in
-    can_stand c.requires.due.0 c.args.names.now (body b) c.requires.due.1 (c.procedures.procedure-index + 1) (text_of p) there
+    can_stand c.requires.due.0 c.args.names.now (body b) c.requires.due.1 (c.procedures.procedure-index + 1) (text_of_procedure p) there
     _ refl c.requires.places
     c.requires.few number_is
 
@@ -59,7 +59,7 @@ pub procedures-preserved : goal.procedures-preserved
 procedures-preserved g c =
     let b = c.args.body.now in
     let p = c.procedure-item.result in
-    let there = behind (body b) c.procedures.procedure-index (text_of p)
+    let there = behind (body b) c.procedures.procedure-index (text_of_procedure p)
     (text_there (body b) c.args.procedures.now c.requires.found c.procedures.procedure-index p c.procedures-test.true c.procedure-item.is) in
     let number_is : c.len.result ≡ c.procedures.procedure-index + 1 = omega (arith, c.len.ensures, c.procedures.segments.ok.0, c.procedures.invariant.many) in
     let made = c.in_ok-segment.ensures in
@@ -70,19 +70,19 @@ procedures-preserved g c =
       many = omega (arith, one, c.procedures.invariant.many);
       few = omega (arith, one, made.few, c.procedures.invariant.few);
       listed = made.listed c.procedures.invariant.listed;
-      lines = both_added [] c.procedures.formats.items c.in_ok-segment.more.items (texts_lines (take (c.procedures.procedure-index + 1) (texts (body b)))) (stmts_lines (text_of p).stmts)
-          (texts_lines (take (c.procedures.procedure-index + 1 + 1) (texts (body b)))) (next_text_lines (texts (body b)) (c.procedures.procedure-index + 1) (text_of p) there)
+      lines = both_added [] c.procedures.formats.items c.in_ok-segment.more.items (texts_lines (take (c.procedures.procedure-index + 1) (texts (body b)))) (stmts_lines (text_of_procedure p).stmts)
+          (texts_lines (take (c.procedures.procedure-index + 1 + 1) (texts (body b)))) (next_text_lines (texts (body b)) (c.procedures.procedure-index + 1) (text_of_procedure p) there)
           c.procedures.invariant.lines made.lines;
       stood = record {
         labels = so_far.labels ++ made.code.labels;
         spots = map-append (λ (l : Label). l.spot) so_far.labels made.code.labels ∙ ap (λ (l : List Spot). l ++ spots_of made.code.labels) so_far.spots
             ∙ ap (λ (l : List Spot). text_spots (take (c.procedures.procedure-index + 1) (texts (body b))) ++ l) made.code.spots
-            ∙ sym (next_text_spots (texts (body b)) (c.procedures.procedure-index + 1) (text_of p) there);
+            ∙ sym (next_text_spots (texts (body b)) (c.procedures.procedure-index + 1) (text_of_procedure p) there);
         stand = λ sc due all known.
-            let parts = agrees_parts c.procedures.formats.items c.in_ok-segment.more.items so_far.labels made.code.labels all (formats_for (stmts_lines (text_of p).stmts), made.lines) known in
-            next_stands sc all c.push-in-procedures.new.self.items c.procedures.segments.items c.in_ok-segment.segment (texts (body b)) (c.procedures.procedure-index + 1) (text_of p) there pushed
+            let parts = agrees_parts c.procedures.formats.items c.in_ok-segment.more.items so_far.labels made.code.labels all (formats_for (stmts_lines (text_of_procedure p).stmts), made.lines) known in
+            next_stands sc all c.push-in-procedures.new.self.items c.procedures.segments.items c.in_ok-segment.segment (texts (body b)) (c.procedures.procedure-index + 1) (text_of_procedure p) there pushed
             (so_far.stand sc due all parts.0)
-            (stands_there sc c.args.names.now (body b) due (c.procedures.procedure-index + 1) (text_of p) there
+            (stands_there sc c.args.names.now (body b) due (c.procedures.procedure-index + 1) (text_of_procedure p) there
             _ refl c.requires.places
             c.requires.few number_is all c.in_ok-segment.segment c.in_ok-segment.more.items made.code parts.1 made.short);
       };
@@ -93,7 +93,7 @@ returns-clause-code g c =
     let b = c.args.body.now in
     let whole = all_taken (body b) c.args.procedures.now c.requires.found c.procedures.procedure-index (omega (arith, c.procedures-test.false)) in
     let so_far = c.procedures.invariant.stood in
-    let all : Later = record { formats = c.procedures.formats.items; labels = place_in so_far.labels } in
+    let all : Later = record { formats = c.procedures.formats.items; labels = label_place_in so_far.labels } in
     λ sc due.
     let A : List Text → Type 0 = λ ts. AllStand sc all c.procedures.segments.items ts in
     all_coded sc all c.procedures.segments.items (texts (body b))
@@ -104,7 +104,7 @@ returns-clause-short g c =
     let b = c.args.body.now in
     let whole = all_taken (body b) c.args.procedures.now c.requires.found c.procedures.procedure-index (omega (arith, c.procedures-test.false)) in
     let so_far = c.procedures.invariant.stood in
-    let all : Later = record { formats = c.procedures.formats.items; labels = place_in so_far.labels } in
+    let all : Later = record { formats = c.procedures.formats.items; labels = label_place_in so_far.labels } in
     let sc = c.requires.due.0 in
     let A : List Text → Type 0 = λ ts. AllStand sc all c.procedures.segments.items ts in
     all_short sc all c.procedures.segments.items (texts (body b))

@@ -2,7 +2,7 @@ use Rattle.std.proofs.Common.{ℕ, Option, sym, subst, ◌∙◌, arith}
 use Rattle.std.specs.Prelude.{IsSome}
 use Rattle.std.proofs.lemmas.List.{length-take-le}
 use Rattle.std.proofs.lemmas.Result.{on_ok_weaker}
-use Rattle.b67_ops.specs.Spelling.{IsSeen}
+use Rattle.b67_ops.specs.Spelling.{CoupleIsSeen}
 use Rattle.b67_segment.specs.Building.{level_set}
 use Rattle.b67_emitter.proofs.Appends.{same_level}
 use Rattle.b67_emitter.proofs.OnEvents.{known_event, seen_event, has_at, referred_first, referred_more, referred_whole, events_form}
@@ -27,7 +27,7 @@ append_reference-requires-clause-seen c =
     let e = c.event-item.result in
     let same = same_level c.args.out.now c.events.out (c.events.invariant.level ∙ c.in_ok-append_intrinsic.ensures.level) in
     let has = has_at c.args.names.now level c.args.events.now c.events.event-index e e c.events-test.true c.event-item.is c.requires.code in
-    subst (λ (n : ℕ). IsSeen n c.couple_of.result) (sym same) (seen_event c.args.names.now level e.name c.couple_of.result c.requires.near c.couple_of.ensures has)
+    subst (λ (n : ℕ). CoupleIsSeen n c.couple_of.result) (sym same) (seen_event c.args.names.now level e.name c.couple_of.result c.requires.near c.couple_of.ensures has)
 
 pub append_reference-requires-clause-room : goal.append_reference-requires-clause-room
 append_reference-requires-clause-room c =

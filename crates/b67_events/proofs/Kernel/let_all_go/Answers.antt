@@ -1,7 +1,7 @@
 use Rattle.std.proofs.Common.{Bool, ◌∙◌, ap, not, map, arith, vec_capacity}
 use Rattle.std.specs.Prelude.{filter}
-use Rattle.b67_events.specs.Events.{number_of, position_of, unlisted, waiters_at, changed, with_state, withdrawn}
-use Rattle.b67_events.specs.Kept.{stands_in, listed, events_of, with_happened, is_named, without_waiters}
+use Rattle.b67_events.specs.Events.{position_number_of as number_of, position_of, unlisted, waiters_at, event_changed as changed, with_state, withdrawn}
+use Rattle.b67_events.specs.Kept.{stands_in, waiters_listed as listed, events_of, with_happened, is_named, without_waiters}
 use Rattle.b67_events.specs.declared.Queue.TheVariants.{Waiters}
 use Rattle.b67_events.specs.declared.Waiting.{Waiting}
 use Rattle.b67_events.proofs.Steps.{held, kept-one, kept-set, kept-filter, kept-wider, woken-shown, event-released}

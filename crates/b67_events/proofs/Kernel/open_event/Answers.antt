@@ -1,7 +1,7 @@
 use Rattle.std.proofs.Common.{◌≡◌, Bool, true, false, ap, arith, not, vec_capacity, ◌∙◌}
 use Rattle.std.specs.Prelude.{filter}
 use Rattle.b67_events.specs.Events.{same_place}
-use Rattle.b67_events.specs.Kept.{put}
+use Rattle.b67_events.specs.Kept.{event_put}
 use Rattle.b67_events.proofs.Places.{entry-put}
 use Rattle.b67_events.proofs.Shown.{events-opened}
 use Rattle.b67_events.proofs.Steps.{held, kept-opened, kept-wider}
@@ -11,7 +11,7 @@ use Rattle.b67_events.proofs.Order.{order-filter}
 use Rattle.b67_events.proofs.Kernel.open_event.Goals as goal
 
 events_are : (c : goal.After-forget) → c.insert.new.self.entries
-    ≡ put (c.args.at, record { happened = false; available = true }) (filter (λ f. not (same_place f.0 c.args.at)) c.self.inside.events.entries)
+    ≡ event_put (c.args.at, record { happened = false; available = true }) (filter (λ f. not (same_place f.0 c.args.at)) c.self.inside.events.entries)
 events_are c =
     c.in_ok-insert.ensures.entries ∙ entry-put c.args.at (record { happened = false; available = true }) c.self.inside.events.entries c.in_ok-insert.ensures.was_ordered
 

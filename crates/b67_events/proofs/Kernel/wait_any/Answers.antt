@@ -1,5 +1,5 @@
 use Rattle.std.proofs.Common.{◌≡◌, [], ◌∙◌, ap, sym, get_or, None, arith, vec_capacity}
-use Rattle.b67_events.specs.Events.{first_happened, took_any, waited_any, with_list}
+use Rattle.b67_events.specs.Events.{first_event_happened as first_happened, took_any, waited_any, with_list}
 use Rattle.b67_events.specs.Kept.{events_of, joiners}
 use Rattle.b67_events.proofs.OfSeveral.{first-shown}
 use Rattle.b67_events.proofs.Shown.{open-shown}

@@ -1,7 +1,7 @@
 use Rattle.std.proofs.Common.{◌≡◌, ◌<◌, ◌+◌, ◌∙◌, true, false, ap, sym, take, drop, get_or, length, arith}
 use Rattle.std.proofs.lemmas.List.{drop_more}
 use Rattle.b67_word.specs.declared.Place.{Place}
-use Rattle.b67_events.specs.Events.{is_among}
+use Rattle.b67_events.specs.Events.{event_is_among}
 use Rattle.b67_events.specs.Kept.{joiners, stand_all}
 use Rattle.b67_events.proofs.Joined.{one, joiners-again, joiners-new}
 use Rattle.b67_events.proofs.Order.{order-stand}
@@ -22,7 +22,7 @@ joining-preserved c =
     let fewer : length (drop i places) ≡ length (drop (i + 1) places) + 1 = ap length (drop_more places i d short) ∙ omega arith in
     elim c.if-not-is_among.branch [
       | then-not-is_among w ↦
-          let fresh : is_among (take i places) (get_or places i d) ≡ false = sym c.is_among.ensures ∙ w.if-not-is_among.true in
+          let fresh : event_is_among (take i places) (get_or places i d) ≡ false = sym c.is_among.ensures ∙ w.if-not-is_among.true in
           let count : length w.enqueue.new.waiting.items ≡ length ws + 1 = ap length w.enqueue.ensures.items ∙ length-stand (one p (get_or places i d)) ws in
           record {
             order = rw (w.waiting-is, w.enqueue.ensures.items) (order-stand (one p (get_or places i d)) ws (c.requires.low i d short) inv.order);
@@ -31,7 +31,7 @@ joining-preserved c =
             capacity = rw w.waiting-is (omega (arith, inv.capacity, w.enqueue.ensures.capacity));
           }
       | else-not-is_among w ↦
-          let seen : is_among (take i places) (get_or places i d) ≡ true = sym c.is_among.ensures ∙ w.if-not-is_among.false in
+          let seen : event_is_among (take i places) (get_or places i d) ≡ true = sym c.is_among.ensures ∙ w.if-not-is_among.false in
           record {
             order = rw w.waiting-is inv.order;
             waiting = rw w.waiting-is (ap (λ js. stand_all js ws) (sym (joiners-again p i places d short seen)) ∙ inv.waiting);

@@ -1,7 +1,7 @@
 use Rattle.std.proofs.Common.{◌≡◌, ◌<◌, ◌≤◌, ◌+◌, true, false, [], ◌++◌, length, map, take, drop, sym, ap, ◌∙◌, arith}
 use Rattle.std.specs.Prelude.{slice_get}
 use Rattle.std.proofs.lemmas.List.{get_or_default, take-append-drop}
-use Rattle.b67_events.specs.Kept.{stands_in, listed, without_first, rank_at, below}
+use Rattle.b67_events.specs.Kept.{stands_in, waiters_listed, without_first, rank_at, below}
 use Rattle.b67_events.specs.declared.Queue.TheVariants.{Procurers}
 use Rattle.b67_events.proofs.Listed.{found-first, found-rest}
 use Rattle.b67_events.proofs.Order.{from_rank, rank_by_stand, first-from, listed-from, none_from, none-first, none_higher, from-past}
@@ -24,7 +24,7 @@ returns-then-is_in-clause-first c =
     let at = c.args.at in
     let i = c.below-index.result in
     let place : i ≡ below (rank_at Procurers at) ws = c.below-index.ensures ∙ ap (λ r. below r ws) c.rank_at.ensures in
-    let same : listed Procurers at (drop i ws) ≡ listed Procurers at ws = ap (λ k. listed Procurers at (drop k ws)) place ∙ ap (map (λ w. w.process)) (listed-from Procurers at ws) in
+    let same : waiters_listed Procurers at (drop i ws) ≡ waiters_listed Procurers at ws = ap (λ k. waiters_listed Procurers at (drop k ws)) place ∙ ap (map (λ w. w.process)) (listed-from Procurers at ws) in
     sym (found-first Procurers at ws i c.remove.result (short c) c.remove.ensures.value (stands c)) ∙ ap (λ ps. slice_get ps 0) same
 
 pub returns-then-is_in-clause-rest : goal.returns-then-is_in-clause-rest
@@ -60,8 +60,8 @@ returns-clause-first c =
     let at = c.args.at in
     let i = c.below-index.result in
     let place : i ≡ below (rank_at Procurers at) ws = c.below-index.ensures ∙ ap (λ r. below r ws) c.rank_at.ensures in
-    let same : listed Procurers at (drop i ws) ≡ listed Procurers at ws = ap (λ k. listed Procurers at (drop k ws)) place ∙ ap (map (λ w. w.process)) (listed-from Procurers at ws) in
-    let empty : listed Procurers at ws ≡ [] = sym same ∙ ap (map (λ w. w.process)) (none_higher Procurers at (drop i ws) (none c)) in
+    let same : waiters_listed Procurers at (drop i ws) ≡ waiters_listed Procurers at ws = ap (λ k. waiters_listed Procurers at (drop k ws)) place ∙ ap (map (λ w. w.process)) (listed-from Procurers at ws) in
+    let empty : waiters_listed Procurers at ws ≡ [] = sym same ∙ ap (map (λ w. w.process)) (none_higher Procurers at (drop i ws) (none c)) in
     sym (ap (λ ps. slice_get ps 0) empty)
 
 pub returns-clause-rest : goal.returns-clause-rest

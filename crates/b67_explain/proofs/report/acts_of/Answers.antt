@@ -3,7 +3,7 @@ use Rattle.std.specs.Prelude.{sum}
 use Rattle.std.proofs.lemmas.List.{length-append, replicate-append-replicate}
 use Rattle.std.proofs.lemmas.List.Elements.{All-nil, All-push}
 use Rattle.std.proofs.lemmas.List.Sums.{sum_by_push}
-use Rattle.b67_report.specs.Reading.{AreCounts as AreNumbers}
+use Rattle.b67_report.specs.Reading.{ReportCounts}
 use Rattle.b67_explain.specs.Telling.{AreActs, AreOfFirst}
 use Rattle.b67_explain.proofs.report.acts_of.Goals as goal
 
@@ -53,5 +53,5 @@ returns-clause-first c =
 
 pub returns-clause-numbers : goal.returns-clause-numbers
 returns-clause-numbers c =
-    subst AreNumbers (sym c.of.ensures)
+    subst ReportCounts (sym c.of.ensures)
     (record { each = c.others.invariant.numbers; few = omega (arith, c.others.invariant.processors) })

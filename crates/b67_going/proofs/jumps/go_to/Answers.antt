@@ -5,13 +5,13 @@ use Rattle.b67_control.specs.declared.Registers.{Registers}
 use Rattle.b67_store.specs.Store.{words_of}
 use Rattle.b67_table.specs.GoingTo.{go_to, gone_to}
 use Rattle.b67_table.specs.Image.{with_events}
-use Rattle.b67_table.specs.Look.{seen}
+use Rattle.b67_table.specs.Look.{look_seen}
 use Rattle.b67_table.specs.Program.{changed}
 use Rattle.b67_table.specs.Private.{display_at}
 use Rattle.b67_linkage.specs.Held.{IsLinked}
 use Rattle.b67_linkage.specs.Leaving.{cutting}
-use Rattle.b67_reach.specs.Images.{image_of, own, with_own}
-use Rattle.b67_reach.specs.Answers.{Acts}
+use Rattle.b67_reach.specs.Images.{image_of, own_of_image, with_own}
+use Rattle.b67_reach.specs.Answers.{ProgramActs}
 use Rattle.b67_intrinsics.specs.Called.{arguments, called_in}
 use Rattle.b67_going.specs.Targets.{tabled, named_target, IsClear}
 use Rattle.b67_going.proofs.Numbers.{is_within, read_is, written_is, then_there}
@@ -29,11 +29,11 @@ returns-in_err-may_go-clause-acts g c = λ next mark.
     let img = image_of st rows c.args.kernel.now c.args.parts.now in
     let code = c.args.parts.now.code in
     let t = tabled c.in_ok-target.target in
-    let to = target_was (seen st (named_target r (arguments st r))) c.in_ok-target.target c.in_ok-target.ensures.value in
+    let to = target_was (look_seen st (named_target r (arguments st r))) c.in_ok-target.target c.in_ok-target.ensures.value in
     let stop = c.in_err-may_go.field-0.0 in
     let res = c.from_residual-in_err-may_go.result in
     let routes = c.in_err-may_go.ensures.routes img refl (sym c.deref.ensures.value) (sym c.deref-2.ensures.value) in
-    subst (λ (o : Option Registers). Acts p (called_in go_to code o next mark) img img res) (sym c.registers-regs.ensures)
+    subst (λ (o : Option Registers). ProgramActs p (called_in go_to code o next mark) img img res) (sym c.registers-regs.ensures)
     (acts_exit p (called_in go_to code (Some r) next mark) img res stop c.from_residual-in_err-may_go.ensures.1
     (way_stops code r next mark img p t to stop (routes p _)))
 
@@ -106,18 +106,18 @@ returns-clause-acts g c = λ next mark.
     let img = image_of st rows c.args.kernel.now c.args.parts.now in
     let code = c.args.parts.now.code in
     let t = tabled c.in_ok-target.target in
-    let to = target_was (seen st (named_target r (arguments st r))) c.in_ok-target.target c.in_ok-target.ensures.value in
+    let to = target_was (look_seen st (named_target r (arguments st r))) c.in_ok-target.target c.in_ok-target.ensures.value in
     let same = read_is all p r c.index_mut-regs.result.now _ c.registers-regs.ensures c.index_mut-regs.ensures.value in
     let k = c.in_ok-may_go.ensures.clear.0 in
     let cut = c.in_ok-may_go.ensures.clear.1 in
     let routes = c.in_ok-may_go.ensures.routes img refl (sym c.deref.ensures.value) (sym c.deref-2.ensures.value) k cut in
     let q = c.leave_above.new.regs in
-    let left = with_events (with_own (own (g.C.Core.stacks c.leave_above.new.core) (g.C.Core.rows c.leave_above.new.core) q) p img) c.leave_above.new.kernel.events in
+    let left = with_events (with_own (own_of_image (g.C.Core.stacks c.leave_above.new.core) (g.C.Core.rows c.leave_above.new.core) q) p img) c.leave_above.new.kernel.events in
     let written = written_is all p r q c.registers-regs.ensures in
-    let is = subst (λ (x : Registers). seen st (cutting x t.frame t.level) ≡ Ok k → changed p (gone_to x t k.passing k.display (words_of st x.stack)) img ≡ left) same
+    let is = subst (λ (x : Registers). look_seen st (cutting x t.frame t.level) ≡ Ok k → changed p (gone_to x t k.passing k.display (words_of st x.stack)) img ≡ left) same
     (λ x. c.leave_above.ensures.changes k x p img refl refl refl) cut in
     let new = record left { regs = slice_set all (p - 1) q; lists = c.leave_above.new.kernel.lists } in
-    subst (λ (o : Option Registers). Acts p (called_in go_to code o next mark) img new (Ok tt)) (sym c.registers-regs.ensures)
+    subst (λ (o : Option Registers). ProgramActs p (called_in go_to code o next mark) img new (Ok tt)) (sym c.registers-regs.ensures)
     (goes code r next mark img p t to k new q routes (calling st rows (numbered all p) r c.requires c.registers-regs.ensures).0.size
     (is ∙ ap (λ (zs : List Registers). record left { regs = zs }) (sym written)
     ∙ ap (λ (z : List (List Place)). record left { regs = slice_set all (p - 1) q; lists = z }) (sym c.leave_above.ensures.lists))

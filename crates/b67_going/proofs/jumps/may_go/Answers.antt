@@ -5,7 +5,7 @@ use Rattle.b67_table.specs.declared.ProcessState.{ProcessState}
 use Rattle.b67_table.specs.Chains.{rebuilt}
 use Rattle.b67_table.specs.GoingTo.{passed_by, passed_frames}
 use Rattle.b67_table.specs.Linkage.{is_critical}
-use Rattle.b67_table.specs.Look.{seen}
+use Rattle.b67_table.specs.Look.{look_seen}
 use Rattle.b67_table.specs.Program.{asked}
 use Rattle.b67_table.specs.Questions.{live_criticals}
 use Rattle.b67_linkage.specs.Leaving.{Cutting}
@@ -22,7 +22,7 @@ returns-in_err-critical-clause-routes g c = λ img s e u.
     let places = live_criticals c.args.states.now c.args.all.now in
     let stop = c.in_err-critical.field-0.0 in
     routes_exit r t img c.from_residual.result stop c.from_residual.ensures.1
-    (λ p next. way_broken img r t p next stop (is_broken st places r t.frame stop c.in_err-critical.ensures ∙ ap (λ (z : Stacks). looked (seen z (passed_by r t.frame))) (sym s)))
+    (λ p next. way_broken img r t p next stop (is_broken st places r t.frame stop c.in_err-critical.ensures ∙ ap (λ (z : Stacks). looked (look_seen z (passed_by r t.frame))) (sym s)))
 
 pub returns-in_err-display_of-clause-routes : goal.returns-in_err-display_of-clause-routes
 returns-in_err-display_of-clause-routes g c = λ img s e u.
@@ -31,10 +31,10 @@ returns-in_err-display_of-clause-routes g c = λ img s e u.
     let t = tabled c.args.target.now in
     let places = live_criticals c.args.states.now c.args.all.now in
     let way = is_passed st places r t.frame c.in_ok-critical.critical c.in_ok-critical.ensures in
-    let is : seen img.stacks (passed_by r t.frame) ≡ Ok way.passing = ap (λ (z : Stacks). seen z (passed_by r t.frame)) s ∙ way.is in
+    let is : look_seen img.stacks (passed_by r t.frame) ≡ Ok way.passing = ap (λ (z : Stacks). look_seen z (passed_by r t.frame)) s ∙ way.is in
     let stop = c.in_err-display_of.field-0.0 in
     routes_exit r t img c.from_residual-in_err-display_of.result stop c.from_residual-in_err-display_of.ensures.1
-    (λ p next. display_broken img r t p next way.passing is stop (c.in_err-display_of.ensures ∙ ap (λ (z : Stacks). looked (seen z (rebuilt t.frame t.level))) (sym s)))
+    (λ p next. display_broken img r t p next way.passing is stop (c.in_err-display_of.ensures ∙ ap (λ (z : Stacks). looked (look_seen z (rebuilt t.frame t.level))) (sym s)))
 
 pub returns-then-target-regs-clause-routes : goal.returns-then-target-regs-clause-routes
 returns-then-target-regs-clause-routes g c = λ img s e u p next.
@@ -43,9 +43,9 @@ returns-then-target-regs-clause-routes g c = λ img s e u p next.
     let t = tabled c.args.target.now in
     let places = live_criticals c.args.states.now c.args.all.now in
     let way = is_passed st places r t.frame c.in_ok-critical.critical c.in_ok-critical.ensures in
-    let is : seen img.stacks (passed_by r t.frame) ≡ Ok way.passing = ap (λ (z : Stacks). seen z (passed_by r t.frame)) s ∙ way.is in
-    let shape : seen st (rebuilt t.frame t.level) ≡ Ok c.in_ok-display_of.field-0 = found_of (seen st (rebuilt t.frame t.level)) c.in_ok-display_of.field-0 c.in_ok-display_of.ensures in
-    let has : seen img.stacks (rebuilt t.frame t.level) ≡ Ok c.in_ok-display_of.field-0 = ap (λ (z : Stacks). seen z (rebuilt t.frame t.level)) s ∙ shape in
+    let is : look_seen img.stacks (passed_by r t.frame) ≡ Ok way.passing = ap (λ (z : Stacks). look_seen z (passed_by r t.frame)) s ∙ way.is in
+    let shape : look_seen st (rebuilt t.frame t.level) ≡ Ok c.in_ok-display_of.field-0 = found_of (look_seen st (rebuilt t.frame t.level)) c.in_ok-display_of.field-0 c.in_ok-display_of.ensures in
+    let has : look_seen img.stacks (rebuilt t.frame t.level) ≡ Ok c.in_ok-display_of.field-0 = ap (λ (z : Stacks). look_seen z (rebuilt t.frame t.level)) s ∙ shape in
     other_stack img r t p next way.passing is c.in_ok-display_of.field-0 has c.if-target-regs.true
 
 pub returns-then-critical-clause-routes : goal.returns-then-critical-clause-routes
@@ -55,9 +55,9 @@ returns-then-critical-clause-routes g c = λ img s e u p next.
     let t = tabled c.args.target.now in
     let places = live_criticals c.args.states.now c.args.all.now in
     let way = is_passed st places r t.frame c.in_ok-critical.critical c.in_ok-critical.ensures in
-    let is : seen img.stacks (passed_by r t.frame) ≡ Ok way.passing = ap (λ (z : Stacks). seen z (passed_by r t.frame)) s ∙ way.is in
-    let shape : seen st (rebuilt t.frame t.level) ≡ Ok c.in_ok-display_of.field-0 = found_of (seen st (rebuilt t.frame t.level)) c.in_ok-display_of.field-0 c.in_ok-display_of.ensures in
-    let has : seen img.stacks (rebuilt t.frame t.level) ≡ Ok c.in_ok-display_of.field-0 = ap (λ (z : Stacks). seen z (rebuilt t.frame t.level)) s ∙ shape in
+    let is : look_seen img.stacks (passed_by r t.frame) ≡ Ok way.passing = ap (λ (z : Stacks). look_seen z (passed_by r t.frame)) s ∙ way.is in
+    let shape : look_seen st (rebuilt t.frame t.level) ≡ Ok c.in_ok-display_of.field-0 = found_of (look_seen st (rebuilt t.frame t.level)) c.in_ok-display_of.field-0 c.in_ok-display_of.ensures in
+    let has : look_seen img.stacks (rebuilt t.frame t.level) ≡ Ok c.in_ok-display_of.field-0 = ap (λ (z : Stacks). look_seen z (rebuilt t.frame t.level)) s ∙ shape in
     let critical : is_critical r.stack (passed_frames way.passing.frames) (live_criticals img.states img.regs) ≡ c.in_ok-critical.critical =
     ap (λ (z : List ProcessState). is_critical r.stack (passed_frames way.passing.frames) (live_criticals z img.regs)) e
     ∙ ap (λ (z : List Registers). is_critical r.stack (passed_frames way.passing.frames) (live_criticals c.args.states.now z)) u ∙ way.critical in
@@ -70,9 +70,9 @@ returns-clause-routes g c = λ img s e u k cut next.
     let t = tabled c.args.target.now in
     let places = live_criticals c.args.states.now c.args.all.now in
     let way = is_passed st places r t.frame c.in_ok-critical.critical c.in_ok-critical.ensures in
-    let is : seen img.stacks (passed_by r t.frame) ≡ Ok way.passing = ap (λ (z : Stacks). seen z (passed_by r t.frame)) s ∙ way.is in
-    let shape : seen st (rebuilt t.frame t.level) ≡ Ok c.in_ok-display_of.field-0 = found_of (seen st (rebuilt t.frame t.level)) c.in_ok-display_of.field-0 c.in_ok-display_of.ensures in
-    let has : seen img.stacks (rebuilt t.frame t.level) ≡ Ok c.in_ok-display_of.field-0 = ap (λ (z : Stacks). seen z (rebuilt t.frame t.level)) s ∙ shape in
+    let is : look_seen img.stacks (passed_by r t.frame) ≡ Ok way.passing = ap (λ (z : Stacks). look_seen z (passed_by r t.frame)) s ∙ way.is in
+    let shape : look_seen st (rebuilt t.frame t.level) ≡ Ok c.in_ok-display_of.field-0 = found_of (look_seen st (rebuilt t.frame t.level)) c.in_ok-display_of.field-0 c.in_ok-display_of.ensures in
+    let has : look_seen img.stacks (rebuilt t.frame t.level) ≡ Ok c.in_ok-display_of.field-0 = ap (λ (z : Stacks). look_seen z (rebuilt t.frame t.level)) s ∙ shape in
     let critical : is_critical r.stack (passed_frames way.passing.frames) (live_criticals img.states img.regs) ≡ c.in_ok-critical.critical =
     ap (λ (z : List ProcessState). is_critical r.stack (passed_frames way.passing.frames) (live_criticals z img.regs)) e
     ∙ ap (λ (z : List Registers). is_critical r.stack (passed_frames way.passing.frames) (live_criticals c.args.states.now z)) u ∙ way.critical in
@@ -88,7 +88,7 @@ returns-clause-clear g c =
     let t = tabled c.args.target.now in
     let places = live_criticals c.args.states.now c.args.all.now in
     let way = is_passed st places r t.frame c.in_ok-critical.critical c.in_ok-critical.ensures in
-    let shape : seen st (rebuilt t.frame t.level) ≡ Ok c.in_ok-display_of.field-0 = found_of (seen st (rebuilt t.frame t.level)) c.in_ok-display_of.field-0 c.in_ok-display_of.ensures in (
+    let shape : look_seen st (rebuilt t.frame t.level) ≡ Ok c.in_ok-display_of.field-0 = found_of (look_seen st (rebuilt t.frame t.level)) c.in_ok-display_of.field-0 c.in_ok-display_of.ensures in (
       record { passing = way.passing; display = c.in_ok-display_of.field-0 },
       cut_of st r t.frame t.level way.passing c.in_ok-display_of.field-0 way.is shape,
       omega (arith, ends_lower st r t.frame way.passing c.if-target-regs.false way.is, c.requires.linked.above, c.requires.linked.room),

@@ -1,6 +1,6 @@
 use Rattle.std.proofs.Common.{sym, ap, ◌∙◌, ◌+◌, Ok, arith}
 use Rattle.b67_table.specs.declared.InterruptKind.TheVariants.{BrokenChain}
-use Rattle.b67_table.specs.Look.{seen}
+use Rattle.b67_table.specs.Look.{look_seen}
 use Rattle.b67_table.specs.Chains.{frame_below}
 use Rattle.b67_reach.specs.Answers.{looked}
 use Rattle.b67_reach.proofs.Looking.{looked_ok}
@@ -33,11 +33,11 @@ down-preserved g c =
     record {
       rest = c.down.invariant.rest
           ∙ met_below st (needed st c.args.needs.now) c.down.frame c.down.steps (Ok c.in-Ok.lower) c.down-test.true (sym c.is_needed.ensures ∙ c.if-is_needed.false)
-          c.if-frame-eq0.false (looked_ok (seen st (frame_below c.down.frame)) c.in-Ok.lower (sym c.in-Ok.is ∙ c.frame_below.ensures));
+          c.if-frame-eq0.false (looked_ok (look_seen st (frame_below c.down.frame)) c.in-Ok.lower (sym c.in-Ok.is ∙ c.frame_below.ensures));
     }
 
 pub returns : goal.returns
 returns g c =
     let st = g.C.Core.stacks c.args.core.now in
-    refusal c.broken.result (seen st (met (c.args.from.at + 1) (needed st c.args.needs.now) c.args.from)) BrokenChain c.broken.ensures
+    refusal c.broken.result (look_seen st (met (c.args.from.at + 1) (needed st c.args.needs.now) c.args.from)) BrokenChain c.broken.ensures
     (c.down.invariant.rest ∙ no_steps st (needed st c.args.needs.now) c.down.frame c.down.steps (omega (arith, c.down-test.false)))

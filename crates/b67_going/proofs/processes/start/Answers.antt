@@ -5,7 +5,7 @@ use Rattle.b67_store.specs.Store.{opened_at}
 use Rattle.b67_table.specs.Image.{Image}
 use Rattle.b67_table.specs.Starting.{first_words, start_process}
 use Rattle.b67_reach.specs.Images.{image_of}
-use Rattle.b67_reach.specs.Answers.{Acts}
+use Rattle.b67_reach.specs.Answers.{ProgramActs}
 use Rattle.b67_intrinsics.specs.Called.{called_in, IsCalled, IsChained, finished_in, ended}
 use Rattle.b67_going.specs.declared.processes.Unstarted.TheVariants.{Stopped}
 use Rattle.b67_going.specs.Starts.{starting_of, Starts}
@@ -57,4 +57,4 @@ returns-clause-starts g c =
     (is_started c.args.parts.now.code r c.args.next m img p (record { starting = starting_of st c.in-Ok.found.0; regs = c.in-Ok.found.1 }) mid new c.add_process.new.parts.started
     (c.in-Ok.ensures.told img refl refl (sym c.deref.ensures.value) refl)
     (c.in-Ok-add_process.ensures.added p kernel)
-    (subst (λ (o : Option Registers). Acts {A = Unit {0}} p (finished_in o m [] c.args.next) mid new (Ok tt)) there (c.end.ensures.acts mid refl refl refl)))
+    (subst (λ (o : Option Registers). ProgramActs {A = Unit {0}} p (finished_in o m [] c.args.next) mid new (Ok tt)) there (c.end.ensures.acts mid refl refl refl)))

@@ -10,7 +10,7 @@ use Rattle.b67_table.specs.Intrinsics.{arrays}
 use Rattle.b67_descriptor.specs.Sizes.{extents_of}
 use Rattle.b67_reach.specs.declared.Stop.TheVariants.{StackLimit}
 use Rattle.b67_reach.specs.Images.{image_of}
-use Rattle.b67_reach.specs.Answers.{Acts}
+use Rattle.b67_reach.specs.Answers.{ProgramActs}
 use Rattle.b67_intrinsics.specs.Called.{called_in, finished_in, ended}
 use Rattle.b67_intrinsics.specs.Arrays.{array_tests_in}
 use Rattle.b67_intrinsics.proofs.Trying.{leads_on, tries_exit}
@@ -36,7 +36,7 @@ returns-then-not-has_room-clause-acts g c = λ kernel.
     let order : ℕ × Extents = (c.in_ok-count.count, extents_of c.in_ok-count.size) in
     leads_on p img (called_in arrays code regs c.args.next m) (array_tests_in regs m img.stacks) (making regs m c.args.next) order img (Err StackLimit)
     (arrays_is img code c.args.next m regs) (c.in_ok-count.ensures.leads img refl refl)
-    (subst (λ (o : Option Registers). Acts {A = Unit {0}} p (making o m c.args.next order) img img (Err StackLimit)) (sym c.registers.ensures)
+    (subst (λ (o : Option Registers). ProgramActs {A = Unit {0}} p (making o m c.args.next order) img img (Err StackLimit)) (sym c.registers.ensures)
     (too_long p img m c.args.next order c.registers.result.now c.registers.ensures (sym c.has_room.ensures ∙ c.if-not-has_room.true)))
 
 pub returns-in-Ok-clause-acts : goal.returns-in-Ok-clause-acts
@@ -53,4 +53,4 @@ returns-in-Ok-clause-acts g c = λ kernel.
     leads_on p img (called_in arrays code regs c.args.next m) (array_tests_in regs m img.stacks) (making regs m c.args.next) order new (Ok tt)
     (arrays_is img code c.args.next m regs) (c.in_ok-count.ensures.leads img refl refl)
     (made_then p img new m c.args.next order c.in-Ok.made.items after regs c.in-Ok.ensures.made
-    (subst (λ (ds : List Descriptor). Acts {A = Unit {0}} p (finished_in regs m (map descriptor_word ds) c.args.next) (with_rows img after) new (Ok tt)) c.as_slice.ensures.value q))
+    (subst (λ (ds : List Descriptor). ProgramActs {A = Unit {0}} p (finished_in regs m (map descriptor_word ds) c.args.next) (with_rows img after) new (Ok tt)) c.as_slice.ensures.value q))

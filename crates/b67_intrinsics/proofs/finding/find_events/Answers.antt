@@ -5,10 +5,10 @@ use Rattle.b67_word.specs.declared.Place.{Place}
 use Rattle.b67_store.specs.Store.{Stacks}
 use Rattle.b67_events.specs.Events.{is_open}
 use Rattle.b67_table.specs.Limits.{most_events}
-use Rattle.b67_table.specs.Look.{seen}
+use Rattle.b67_table.specs.Look.{look_seen}
 use Rattle.b67_reach.specs.declared.Stop.{Stop}
 use Rattle.b67_reach.specs.Answers.{looked}
-use Rattle.b67_intrinsics.specs.Called.{Leads, arguments, mark_below, several_tests}
+use Rattle.b67_intrinsics.specs.Called.{IntrinsicLeads, arguments, mark_below, several_tests}
 use Rattle.b67_intrinsics.proofs.ManyEvents.{AreFound, found_first, found_next, put_after, within_most, not_several, one_stops, chain_stops, all_found, leads_exit}
 use Rattle.b67_intrinsics.proofs.finding.find_events.Goals as goal
 
@@ -47,7 +47,7 @@ returns-then-not-is_several-clause-leads g c = λ img s e.
     let test : nat_le 1 (length (arguments img.stacks r)) && nat_le (length (arguments img.stacks r)) most_events ≡ false =
     ap (λ (n : ℕ). nat_le 1 n && nat_le n most_events) (ap (λ (st : Stacks). length (arguments st r)) s ∙ sym c.arguments-count.ensures)
     ∙ sym c.is_several.ensures ∙ c.if-not-is_several.true in
-    subst (λ (k : Stop). Leads {A = List Place} img (several_tests r m (arguments img.stacks r)) (Err k)) (sym c.invalid.ensures)
+    subst (λ (k : Stop). IntrinsicLeads {A = List Place} img (several_tests r m (arguments img.stacks r)) (Err k)) (sym c.invalid.ensures)
     (not_several img r m (arguments img.stacks r) test)
 
 pub returns-in_err-place-clause-leads : goal.returns-in_err-place-clause-leads
@@ -59,7 +59,7 @@ returns-in_err-place-clause-leads g c = λ img s e.
     ap (λ (n : ℕ). nat_le 1 n && nat_le n most_events) (sym c.arguments-count.ensures) ∙ sym c.is_several.ensures ∙ c.if-not-is_several.false in
     let stop = c.in_err-place.field-0.0 in
     leads_exit img (several_tests r m (arguments img.stacks r)) c.from_residual.result c.finding.places stop c.from_residual.ensures.1
-    (subst (λ (st : Stacks). Leads {A = List Place} img (several_tests r m (arguments st r)) (Err stop)) (sym s)
+    (subst (λ (st : Stacks). IntrinsicLeads {A = List Place} img (several_tests r m (arguments st r)) (Err stop)) (sym s)
     (one_stops img r m words some (take c.finding.n c.finding.places) c.finding.n (c.finding.invariant.found img s e) stop (c.in_err-place.ensures.told img s e)))
 
 pub returns-in_err-chained-clause-leads : goal.returns-in_err-chained-clause-leads
@@ -71,10 +71,10 @@ returns-in_err-chained-clause-leads g c = λ img s e.
     ap (λ (n : ℕ). nat_le 1 n && nat_le n most_events) (sym c.arguments-count.ensures) ∙ sym c.is_several.ensures ∙ c.if-not-is_several.false in
     let stop = c.in_err-chained.field-0.0 in
     leads_exit img (several_tests r m (arguments img.stacks r)) c.from_residual-in_err-chained.result c.finding.places stop c.from_residual-in_err-chained.ensures.1
-    (subst (λ (st : Stacks). Leads {A = List Place} img (several_tests r m (arguments st r)) (Err stop)) (sym s)
+    (subst (λ (st : Stacks). IntrinsicLeads {A = List Place} img (several_tests r m (arguments st r)) (Err stop)) (sym s)
     (chain_stops img r m words some (take c.finding.n c.finding.places) c.finding.n (c.finding.invariant.found img s e)
     (omega (arith, c.finding-test.false, c.arguments-count.ensures)) stop
-    (c.in_err-chained.ensures.value ∙ ap (λ (st : Stacks). looked (seen st (mark_below r m))) (sym s))))
+    (c.in_err-chained.ensures.value ∙ ap (λ (st : Stacks). looked (look_seen st (mark_below r m))) (sym s))))
 
 pub returns-clause-leads : goal.returns-clause-leads
 returns-clause-leads g c = λ img s e.
@@ -85,10 +85,10 @@ returns-clause-leads g c = λ img s e.
     ap (λ (n : ℕ). nat_le 1 n && nat_le n most_events) (sym c.arguments-count.ensures) ∙ sym c.is_several.ensures ∙ c.if-not-is_several.false in
     let n = c.finding.n in
     let all : n ≡ c.arguments-count.result = omega (arith, c.finding-test.false, c.finding.auto) in
-    subst (λ (st : Stacks). Leads img (several_tests r m (arguments st r)) (Ok (take c.arguments-count.result c.finding.places))) (sym s)
-    (subst (λ (k : ℕ). Leads img (several_tests r m words) (Ok (take k c.finding.places))) all
+    subst (λ (st : Stacks). IntrinsicLeads img (several_tests r m (arguments st r)) (Ok (take c.arguments-count.result c.finding.places))) (sym s)
+    (subst (λ (k : ℕ). IntrinsicLeads img (several_tests r m words) (Ok (take k c.finding.places))) all
     (all_found img r m words some (take n c.finding.places) n (c.finding.invariant.found img s e) (omega (arith, c.finding-test.false, c.arguments-count.ensures))
-    c.in_ok-chained.field-0 (c.in_ok-chained.ensures.value ∙ ap (λ (st : Stacks). looked (seen st (mark_below r m))) (sym s))))
+    c.in_ok-chained.field-0 (c.in_ok-chained.ensures.value ∙ ap (λ (st : Stacks). looked (look_seen st (mark_below r m))) (sym s))))
 
 pub returns-clause-there : goal.returns-clause-there
 returns-clause-there g c =

@@ -3,7 +3,7 @@ use Rattle.std.proofs.lemmas.List.{length-map}
 use Rattle.b67_list.specs.Numbered.{numbered}
 use Rattle.b67_deeds.specs.declared.EventAct.TheVariants as act
 use Rattle.b67_deeds.specs.Deeds.{acts}
-use Rattle.b67_events.specs.Events.{Events, waiters_at, number_of, position_of}
+use Rattle.b67_events.specs.Events.{Events, waiters_at, position_number_of, position_of}
 use Rattle.b67_table.specs.Writes.{able_again}
 use Rattle.b67_reach.specs.Images.{image_of}
 use Rattle.b67_intrinsics.specs.Called.{ended}
@@ -36,5 +36,5 @@ returns-clause-acts g c =
 pub wake_all-requires : goal.wake_all-requires
 wake_all-requires g c =
     let at = c.in_ok-place.place in
-    let f : ℕ → ℕ = λ p. number_of (position_of at c.args.kernel.now.lists p) in
+    let f : ℕ → ℕ = λ p. position_number_of (position_of at c.args.kernel.now.lists p) in
     omega (arith, ap length c.cause_and_reset.ensures.woken, ap length c.cause_and_reset.ensures.positions ∙ length-map (waiters_at at c.args.kernel.now.events) f)

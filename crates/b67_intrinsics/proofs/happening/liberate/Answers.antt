@@ -5,7 +5,7 @@ use Rattle.b67_deeds.specs.Deeds.{acts}
 use Rattle.b67_events.specs.Events.{Events, procurers_at}
 use Rattle.b67_table.specs.Writes.{able_again}
 use Rattle.b67_reach.specs.Images.{image_of}
-use Rattle.b67_intrinsics.specs.Called.{ended, listed}
+use Rattle.b67_intrinsics.specs.Called.{ended, process_listed}
 use Rattle.b67_intrinsics.proofs.Acting.{first_listed, event_stops, event_ends}
 use Rattle.b67_intrinsics.proofs.happening.liberate.Goals as goal
 
@@ -28,5 +28,5 @@ returns-clause-acts g c =
     (ended (g.C.Core.stacks c.end.new.core) (g.C.Core.rows c.end.new.core) c.end.new.all.items mid) (c.in_ok-place.ensures.leads img refl refl) k xs ns
     (ap (λ (e : Events). e.events) c.liberate-served.ensures.after) (ap (λ (e : Events). e.lists) c.liberate-served.ensures.after)
     (c.wake_one.ensures.states ∙ ap (λ (ps : List ℕ). able_again ps c.args.parts.now.states.items)
-    (ap listed c.liberate-served.ensures.answer ∙ first_listed (procurers_at at c.args.kernel.now.events)))
+    (ap process_listed c.liberate-served.ensures.answer ∙ first_listed (procurers_at at c.args.kernel.now.events)))
     refl (c.end.ensures.acts mid refl refl refl)

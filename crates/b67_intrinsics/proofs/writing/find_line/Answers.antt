@@ -1,6 +1,6 @@
 use Rattle.std.proofs.Common.{◌≡◌, ◌∙◌, ap, subst, sym, Err, Some}
 use Rattle.b67_store.specs.Store.{Stacks}
-use Rattle.b67_table.specs.Look.{seen}
+use Rattle.b67_table.specs.Look.{look_seen}
 use Rattle.b67_table.specs.Arguments.{wholes_in}
 use Rattle.b67_reach.specs.Answers.{looked}
 use Rattle.b67_intrinsics.specs.Called.{arguments, mark_below}
@@ -21,7 +21,7 @@ returns-in_err-chained-clause-leads g c = λ img s.
     ap (λ (st : Stacks). line_in c.args.code.now (wholes_in (arguments st c.args.regs.now))) s ∙ c.in_ok-line.ensures in
     may_exit img (line_tests c.args.code.now c.args.regs.now c.args.mark.now words) c.from_residual-in_err-chained.result c.in_err-chained.field-0.0 c.from_residual-in_err-chained.ensures.1
     (line_unchained img c.args.code.now c.args.regs.now c.args.mark.now words c.in_ok-line.line given c.in_err-chained.field-0.0
-    (c.in_err-chained.ensures.value ∙ ap (λ (st : Stacks). looked (seen st (mark_below c.args.regs.now c.args.mark.now))) (sym s)))
+    (c.in_err-chained.ensures.value ∙ ap (λ (st : Stacks). looked (look_seen st (mark_below c.args.regs.now c.args.mark.now))) (sym s)))
 
 pub returns-clause-leads : goal.returns-clause-leads
 returns-clause-leads g c = λ img s.
@@ -29,4 +29,4 @@ returns-clause-leads g c = λ img s.
     let given : line_in c.args.code.now (wholes_in words) ≡ Some c.in_ok-line.line =
     ap (λ (st : Stacks). line_in c.args.code.now (wholes_in (arguments st c.args.regs.now))) s ∙ c.in_ok-line.ensures in
     line_chained img c.args.code.now c.args.regs.now c.args.mark.now words c.in_ok-line.line given c.in_ok-chained.field-0
-    (c.in_ok-chained.ensures.value ∙ ap (λ (st : Stacks). looked (seen st (mark_below c.args.regs.now c.args.mark.now))) (sym s))
+    (c.in_ok-chained.ensures.value ∙ ap (λ (st : Stacks). looked (look_seen st (mark_below c.args.regs.now c.args.mark.now))) (sym s))

@@ -2,10 +2,10 @@ use Rattle.std.specs.Prelude.{IfSome}
 use Rattle.std.proofs.Common.{List, [], Option, Some, None}
 use Rattle.b67_deeds.specs.declared.Letter.{Letter}
 use Rattle.b67_machine.specs.declared.replay.Replayed.{Replayed}
-use Rattle.b67_machine.specs.Replaying.{Agrees, NoneDiffers}
+use Rattle.b67_machine.specs.Replaying.{LettersAgree, NoneDiffers}
 use Rattle.b67_machine.proofs.Machine.advance.Goals as goal
 
-none_differs : (before noted : List Letter) (r : Option Replayed) → Agrees None before noted r → IfSome r NoneDiffers
+none_differs : (before noted : List Letter) (r : Option Replayed) → LettersAgree None before noted r → IfSome r NoneDiffers
 none_differs before noted None h = tt
 none_differs before noted (Some answer) h = h []
 

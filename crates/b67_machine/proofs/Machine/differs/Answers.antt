@@ -7,7 +7,7 @@ use Rattle.b67_reach.specs.Images.{image_of}
 use Rattle.b67_store.specs.Store.{words_of}
 use Rattle.b67_table.specs.Image.{is_live}
 use Rattle.b67_action.specs.Own.{part_from}
-use Rattle.b67_machine.specs.Kept.{Kept}
+use Rattle.b67_machine.specs.Kept.{MachineModel}
 use Rattle.b67_machine.specs.Machines.{with_failure}
 use Rattle.b67_machine.specs.Parts.{kept_from, register_list, FirstOf}
 use Rattle.b67_machine.proofs.Differing.{with_more, after_same}
@@ -19,13 +19,13 @@ returns-in-Some g c = λ from whole.
     let r = c.registers-kept.result.now in
     let own = part_from (from r) base.stacks r in
     let part : kept_from from c.args.self.now.image (numbered c.args.self.now.image.regs c.args.process) ≡ Some own =
-    ap (λ (k : Kept). kept_from from k.image (numbered k.image.regs c.args.process)) (sym c.self.view_is)
+    ap (λ (k : MachineModel). kept_from from k.image (numbered k.image.regs c.args.process)) (sym c.self.view_is)
     ∙ ap (λ (o : Option Registers). kept_from from (with_failure base c.self.inside.failure) o) c.registers-kept.ensures in
     (own, part, with_more (register_list r) (register_list c.args.given.now.regs) own.words c.args.given.now.words _ _ _ c.in-Some.ensures.some)
 
 pub first_word-requires-clause-linked : goal.first_word-requires-clause-linked
 first_word-requires-clause-linked g c =
-    let live = subst (λ (k : Kept). is_live (numbered k.image.states c.args.process) ≡ true) (sym c.self.view_is) c.requires.lives in
+    let live = subst (λ (k : MachineModel). is_live (numbered k.image.states c.args.process) ≡ true) (sym c.self.view_is) c.requires.lives in
     live_are_linked c.self.inside.parts.code (image_of (g.C.Core.stacks c.self.inside.core) (g.C.Core.rows c.self.inside.core) c.self.inside.kernel c.self.inside.parts)
     c.args.process c.registers-kept.result.now c.self.invariant.0 live c.registers-kept.ensures
 
@@ -43,7 +43,7 @@ returns-in-Some-first_word g c = λ from whole.
     let own = part_from (from r) base.stacks r in
     let same = c.in_default.ensures.none refl in
     let part : kept_from from c.args.self.now.image (numbered c.args.self.now.image.regs c.args.process) ≡ Some own =
-    ap (λ (k : Kept). kept_from from k.image (numbered k.image.regs c.args.process)) (sym c.self.view_is)
+    ap (λ (k : MachineModel). kept_from from k.image (numbered k.image.regs c.args.process)) (sym c.self.view_is)
     ∙ ap (λ (o : Option Registers). kept_from from (with_failure base c.self.inside.failure) o) c.registers-kept.ensures in (
       own,
       part,

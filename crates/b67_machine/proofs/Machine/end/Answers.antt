@@ -1,7 +1,7 @@
 use Rattle.std.proofs.Common.{◌≡◌, refl, subst, ◌∙◌, Some}
 use Rattle.b67_table.specs.Ending.{image_end}
 use Rattle.b67_reach.specs.Images.{image_of}
-use Rattle.b67_machine.specs.Kept.{Kept}
+use Rattle.b67_machine.specs.Kept.{MachineModel}
 use Rattle.b67_machine.specs.Machines.{with_failure}
 use Rattle.b67_machine.specs.Reads.{machine_end}
 use Rattle.b67_machine.proofs.Ends.{ended_by_found, end_some, end_none}
@@ -9,7 +9,7 @@ use Rattle.b67_machine.proofs.Machine.end.Goals as goal
 
 pub returns-in-Some : goal.returns-in-Some
 returns-in-Some g c =
-    let m : Kept = record {
+    let m : MachineModel = record {
       code = c.self.inside.parts.code;
       image = with_failure (image_of (g.C.Core.stacks c.self.inside.core) (g.C.Core.rows c.self.inside.core) c.self.inside.kernel c.self.inside.parts) c.self.inside.failure;
       counts = c.self.inside.counts.items;
@@ -18,14 +18,14 @@ returns-in-Some g c =
       lacked = c.self.inside.lacked;
       letter = c.self.inside.letter;
     } in
-    subst (λ (k : Kept). Some c.in-Some.end ≡ machine_end k) c.self.view_is
+    subst (λ (k : MachineModel). Some c.in-Some.end ≡ machine_end k) c.self.view_is
     (end_some m (image_end m.image) c.in-Some.end
     (ended_by_found m c.self.inside.failure c.as_slice-states.result.now c.first_ended.result c.some_able.result c.some_lives.result c.ended_by.result refl
     c.as_slice-states.ensures.value c.first_ended.ensures c.some_able.ensures c.some_lives.ensures c.ended_by.ensures ∙ c.in-Some.is))
 
 pub returns-in-None : goal.returns-in-None
 returns-in-None g c =
-    let m : Kept = record {
+    let m : MachineModel = record {
       code = c.self.inside.parts.code;
       image = with_failure (image_of (g.C.Core.stacks c.self.inside.core) (g.C.Core.rows c.self.inside.core) c.self.inside.kernel c.self.inside.parts) c.self.inside.failure;
       counts = c.self.inside.counts.items;
@@ -34,7 +34,7 @@ returns-in-None g c =
       lacked = c.self.inside.lacked;
       letter = c.self.inside.letter;
     } in
-    subst (λ (k : Kept). c.limit_end.result ≡ machine_end k) c.self.view_is
+    subst (λ (k : MachineModel). c.limit_end.result ≡ machine_end k) c.self.view_is
     (c.limit_end.ensures
     ∙ end_none m (image_end m.image)
     (ended_by_found m c.self.inside.failure c.as_slice-states.result.now c.first_ended.result c.some_able.result c.some_lives.result c.ended_by.result refl

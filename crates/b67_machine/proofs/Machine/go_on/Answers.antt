@@ -13,7 +13,7 @@ use Rattle.b67_action.specs.declared.done.Done.TheVariants.{Went}
 use Rattle.b67_action.proofs.Ready.{registers_there, if_some, some_is, kept_places}
 use Rattle.b67_deeds.specs.declared.Letter.{Letter}
 use Rattle.b67_machine.specs.declared.Failure.{Failure}
-use Rattle.b67_machine.specs.Kept.{Kept, Counts}
+use Rattle.b67_machine.specs.Kept.{MachineModel, Counts}
 use Rattle.b67_machine.specs.Letters.{or_before}
 use Rattle.b67_machine.specs.Machines.{with_failure}
 use Rattle.b67_machine.specs.Stepping.{StepsBy}
@@ -32,7 +32,7 @@ no_one None e = refl
 no_one (Some l) e = cc
 
 -- a machine of which these are the same is the same
-stays : (old : Kept) (code : Code) (image : Image) (released : List ℕ) → code ≡ old.code → image ≡ old.image → released ≡ old.released
+stays : (old : MachineModel) (code : Code) (image : Image) (released : List ℕ) → code ≡ old.code → image ≡ old.image → released ≡ old.released
     → record old { code = code; image = image; released = released } ≡ old
 stays old code image released c i r =
     ap (λ (x : Code). record old { code = x; image = image; released = released }) c
@@ -42,7 +42,7 @@ stays old code image released c i r =
 pub registers-regs-requires : goal.registers-regs-requires
 registers-regs-requires g c =
     registers_there c.self.inside.parts.code (image_of (g.C.Core.stacks c.self.inside.core) (g.C.Core.rows c.self.inside.core) c.self.inside.kernel c.self.inside.parts) c.args.process
-    c.self.invariant.0 (subst (λ (k : Kept). is_able (numbered k.image.states c.args.process) ≡ true) (sym c.self.view_is) c.requires.able)
+    c.self.invariant.0 (subst (λ (k : MachineModel). is_able (numbered k.image.states c.args.process) ≡ true) (sym c.self.view_is) c.requires.able)
 
 pub go_on-letter-requires-clause-valid : goal.go_on-letter-requires-clause-valid
 go_on-letter-requires-clause-valid g c = c.self.invariant.0
@@ -62,7 +62,7 @@ returns-clause-went g c = λ done.
     let old = c.args.self.now in
     let base = image_of (g.C.Core.stacks c.self.inside.core) (g.C.Core.rows c.self.inside.core) c.self.inside.kernel c.self.inside.parts in
     let acted = image_of (g.C.Core.stacks c.go_on-letter.new.core) (g.C.Core.rows c.go_on-letter.new.core) c.go_on-letter.new.kernel c.go_on-letter.new.parts in
-    let new : Kept = record {
+    let new : MachineModel = record {
       code = c.go_on-letter.new.parts.code;
       image = with_failure acted c.self.inside.failure;
       counts = c.count.new.counts.items;
@@ -71,15 +71,15 @@ returns-clause-went g c = λ done.
       lacked = c.self.inside.lacked;
       letter = c.go_on-letter.result;
     } in
-    let none : c.self.inside.failure ≡ None = none_kept c.self.inside.failure (ap (λ (k : Kept). k.image.fault) c.self.view_is ∙ (goes_on old c.requires.going).fault) in
-    let image : old.image ≡ base = ap (λ (k : Kept). k.image) (sym c.self.view_is) ∙ ap (λ (f : Option Failure). with_failure base f) none in
+    let none : c.self.inside.failure ≡ None = none_kept c.self.inside.failure (ap (λ (k : MachineModel). k.image.fault) c.self.view_is ∙ (goes_on old c.requires.going).fault) in
+    let image : old.image ≡ base = ap (λ (k : MachineModel). k.image) (sym c.self.view_is) ∙ ap (λ (f : Option Failure). with_failure base f) none in
     let one = some_one c.go_on-letter.result (c.is_none.ensures ∙ ap not c.if-is_none.false) in
     let gone = some_is _ c.go_on-letter.result one.0 one.1 c.go_on-letter.ensures.went in
-    subst (λ (b : Bool). StepsBy b old c.args.process Went new) (sym c.if-self.false ∙ ap (λ (k : Kept). k.lacked) c.self.view_is)
-    (acts_by old new c.self.inside.parts.code base acted c.args.process Went (ap (λ (k : Kept). k.code) (sym c.self.view_is)) image refl gone.came
+    subst (λ (b : Bool). StepsBy b old c.args.process Went new) (sym c.if-self.false ∙ ap (λ (k : MachineModel). k.lacked) c.self.view_is)
+    (acts_by old new c.self.inside.parts.code base acted c.args.process Went (ap (λ (k : MachineModel). k.code) (sym c.self.view_is)) image refl gone.came
     (ap (λ (f : Option Failure). with_failure acted f) none)
-    (subst (λ (k : Kept). Counts k.counts c.args.process 1 c.count.new.counts.items) c.self.view_is c.count.ensures.counts)
-    gone.woken (λ e. gone.able) (ap (λ (k : Kept). k.limit) c.self.view_is ∙ (goes_on old c.requires.going).limit) c.if-self.false
+    (subst (λ (k : MachineModel). Counts k.counts c.args.process 1 c.count.new.counts.items) c.self.view_is c.count.ensures.counts)
+    gone.woken (λ e. gone.able) (ap (λ (k : MachineModel). k.limit) c.self.view_is ∙ (goes_on old c.requires.going).limit) c.if-self.false
     (one.1 ∙ sym (ap (λ (l : Option Letter). or_before l old.letter) (some_is _ c.go_on-letter.result one.0 one.1 c.go_on-letter.ensures.letter))) c.go_on-letter.ensures.code)
 
 pub returns-clause-calm : goal.returns-clause-calm
@@ -87,9 +87,9 @@ returns-clause-calm g c = λ done.
     let one = some_one c.go_on-letter.result (c.is_none.ensures ∙ ap not c.if-is_none.false) in
     let calm = some_is _ c.go_on-letter.result one.0 one.1 c.go_on-letter.ensures.calm in
     record {
-      states = ap (λ v. v.items) calm.0 ∙ ap (λ (k : Kept). k.image.states) c.self.view_is;
-      started = calm.1 ∙ ap (λ (k : Kept). k.image.started) c.self.view_is;
-      fault = ap (λ (k : Kept). k.image.fault) c.self.view_is;
+      states = ap (λ v. v.items) calm.0 ∙ ap (λ (k : MachineModel). k.image.states) c.self.view_is;
+      started = calm.1 ∙ ap (λ (k : MachineModel). k.image.started) c.self.view_is;
+      fault = ap (λ (k : MachineModel). k.image.fault) c.self.view_is;
       released = calm.2;
     }
 
@@ -102,7 +102,7 @@ returns-clause-valid g c =
 
 pub returns-then-self-clause-valid : goal.returns-then-self-clause-valid
 returns-then-self-clause-valid g c =
-    subst (λ (k : Kept). IsValid k.code k.image) c.self.view_is
+    subst (λ (k : MachineModel). IsValid k.code k.image) c.self.view_is
     (valid_with c.self.inside.parts.code (image_of (g.C.Core.stacks c.self.inside.core) (g.C.Core.rows c.self.inside.core) c.self.inside.kernel c.self.inside.parts)
     c.self.inside.failure refl c.self.invariant.0)
 
@@ -130,7 +130,7 @@ returns-then-is_none-clause-valid g c =
 pub returns-then-is_none-clause-stays : goal.returns-then-is_none-clause-stays
 returns-then-is_none-clause-stays g c = λ none.
     let same = c.go_on-letter.ensures.stays (no_one c.go_on-letter.result (c.is_none.ensures ∙ ap not c.if-is_none.true)) in
-    let kept : Kept = record {
+    let kept : MachineModel = record {
       code = c.self.inside.parts.code;
       image = with_failure (image_of (g.C.Core.stacks c.self.inside.core) (g.C.Core.rows c.self.inside.core) c.self.inside.kernel c.self.inside.parts) c.self.inside.failure;
       counts = c.self.inside.counts.items;

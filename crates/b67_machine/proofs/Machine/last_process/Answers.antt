@@ -5,7 +5,7 @@ use Rattle.b67_table.specs.declared.ProcessState.TheVariants.{Able, WaitsFor, Wa
 use Rattle.b67_table.specs.Ending.{ImageEnd, goes_on, image_end, may_act}
 use Rattle.b67_table.specs.Image.{Image, is_able}
 use Rattle.b67_table.proofs.Lists.{numbered_from, numbered_within}
-use Rattle.b67_machine.specs.Kept.{Kept}
+use Rattle.b67_machine.specs.Kept.{MachineModel}
 use Rattle.b67_machine.proofs.Machine.last_process.Goals as goal
 
 goes_able : (o : Option ImageEnd) (b : Bool) → goes_on o b ≡ true → b ≡ true
@@ -30,6 +30,6 @@ returns-clause-few g c = omega (arith, c.self.invariant.0.most)
 pub returns-clause-all : goal.returns-clause-all
 returns-clause-all g c = λ p e.
     let states = c.self.inside.parts.states.items in
-    let able : is_able (numbered states p) ≡ true = ap (λ (k : Kept). is_able (numbered k.image.states p)) c.self.view_is ∙ may_able c.args.self.now.image p e in
+    let able : is_able (numbered states p) ≡ true = ap (λ (k : MachineModel). is_able (numbered k.image.states p)) c.self.view_is ∙ may_able c.args.self.now.image p e in
     let there : numbered states p ≡ Some Able = able_is (numbered states p) able in
     (numbered_from states p Able there, omega (arith, numbered_within states p Able there, c.self.invariant.0.states))

@@ -11,7 +11,7 @@ use Rattle.b67_table.specs.Valid.{IsValid}
 use Rattle.b67_reach.specs.declared.Parts.{Parts}
 use Rattle.b67_reach.specs.Images.{image_of}
 use Rattle.b67_load.specs.Closed.{NoneOpen, first_on}
-use Rattle.b67_machine.specs.Kept.{counted}
+use Rattle.b67_machine.specs.Kept.{operators_counted}
 use Rattle.b67_machine.specs.Tables.{AreTables}
 use Rattle.b67_machine.proofs.Begun.{none_counted, no_tables}
 use Rattle.b67_machine.proofs.Loading.{fresh_on, first_on_is_valid}
@@ -39,7 +39,7 @@ returns-clause-untried g c =
     let items : c.in_ok-counts.counts.items ≡ replicate 256 0 = c.in_ok-counts.ensures.items_if_clones_equal (λ y h. h) in
     record {
       image = without _ refl ∙ c.in_ok-kernel.ensures.image;
-      counts = λ p. subst (λ (xs : List ℕ). counted xs p ≡ 0) (sym items) (none_counted 256 p);
+      counts = λ p. subst (λ (xs : List ℕ). operators_counted xs p ≡ 0) (sym items) (none_counted 256 p);
       limit = refl;
       lacked = refl;
       letter = refl;

@@ -5,8 +5,8 @@ use Rattle.b67_deeds.specs.declared.Letter.{Letter}
 use Rattle.b67_action.specs.declared.done.Done.{Done}
 use Rattle.b67_action.specs.declared.done.Done.TheVariants.{Went}
 use Rattle.b67_machine.specs.Entries as entries
-use Rattle.b67_machine.specs.Entries.{Passes, Enters}
-use Rattle.b67_machine.specs.Stepping.{Acts, Steps}
+use Rattle.b67_machine.specs.Entries.{EntryPasses, EntriesFollow}
+use Rattle.b67_machine.specs.Stepping.{MachineActs, Steps}
 use Rattle.b67_machine.proofs.Chains.{acts, passes_by, passing_more, performs_after, able_then_from, runs_able, runs_going, runs_here, runs_action}
 use Rattle.b67_machine.proofs.Enabling.{able_after}
 use Rattle.b67_machine.proofs.Noting.{steps_named, follows_named, noted_last, noted_if, first_noted, noted_on, whole_again}
@@ -82,10 +82,10 @@ passing-preserved g c =
     let action = inv.stops (omega (arith, c.passing-test.true)) (omega (arith, c.passing-test.true)) in
     let few : ran.plain < most - ran.operators = omega (arith, c.passing-test.true) in
     let named = steps_named b a p Went steps action refl in
-    let pass : Passes inv.passes.between p (most - ran.operators) ran.plain named.l a =
+    let pass : EntryPasses inv.passes.between p (most - ran.operators) ran.plain named.l a =
     passes_by inv.passes.between b a p (most - ran.operators) ran.plain inv.going inv.passes.goes few action steps (k.1 ∙ sym inv.started) k.2 inv.here c.act-done.ensures.valid named.l
     named.kept in
-    let one : Acts b p Went a =
+    let one : MachineActs b p Went a =
     acts inv.passes.between b a p (most - ran.operators) ran.plain inv.going inv.passes.goes few action steps (k.1 ∙ sym inv.started) k.2 inv.here c.act-done.ensures.valid in
     let limit : ℕ = most - 1 - (ran.operators + ran.plain + 1) in
     let room = length c.args.letters.now - 1 in
@@ -129,7 +129,7 @@ returns-then-not-is_passed-clause-performs g c =
     record {
       between = inv.passes.between;
       few = omega (arith, inv.entries, inv.room, length-set c.passing.letters ran.entries c.write_letter.new.place);
-      enters = subst (λ (ls : List Letter). Enters c.args.process c.args.most c.args.self.now ls ran.operators inv.passes.between)
+      enters = subst (λ (ls : List Letter). EntriesFollow c.args.process c.args.most c.args.self.now ls ran.operators inv.passes.between)
           (sym (take-set-le ran.entries c.passing.letters ran.entries c.write_letter.new.place (omega arith))) inv.passes.enters;
       within = omega (arith, inv.less);
       less = λ some. omega (arith, inv.less);
@@ -155,7 +155,7 @@ returns-clause-performs g c =
     record {
       between = h.between;
       few = omega (arith, inv.entries, inv.room, length-set c.passing.letters ran.entries c.write_letter-2.new.place);
-      enters = subst (λ (ls : List Letter). Enters p c.args.most c.args.self.now ls ran.operators h.between)
+      enters = subst (λ (ls : List Letter). EntriesFollow p c.args.most c.args.self.now ls ran.operators h.between)
           (sym (take-set-le ran.entries c.passing.letters ran.entries c.write_letter-2.new.place (omega arith))) h.enters;
       within = omega (arith, inv.less);
       less = λ some. omega (arith, inv.less);

@@ -3,7 +3,7 @@ use Rattle.b67_list.specs.Numbered.{numbered}
 use Rattle.b67_table.specs.Image.{is_able}
 use Rattle.b67_table.specs.Table.{plain}
 use Rattle.b67_machine.specs.Chaining.{Passing}
-use Rattle.b67_machine.specs.Kept.{counted}
+use Rattle.b67_machine.specs.Kept.{operators_counted}
 use Rattle.b67_machine.specs.Reads.{machine_end}
 use Rattle.b67_machine.proofs.Machine.pass.Given as goal
 
@@ -16,7 +16,7 @@ invariant-passing g l = record {
   few : l.ran.entries ≤ l.ran.operators;
   less : l.ran.operators + l.ran.plain + 1 ≤ l.fn.most;
   stops : l.ran.operators + l.ran.plain + 1 < l.fn.most → l.ran.entries < l.room → plain l.self.code l.self.image l.fn.process ≡ false;
-  counts : counted l.self.counts l.fn.process ≡ counted l.fn.self.counts l.fn.process + (l.ran.operators + l.ran.plain);
+  counts : operators_counted l.self.counts l.fn.process ≡ operators_counted l.fn.self.counts l.fn.process + (l.ran.operators + l.ran.plain);
   able : is_able (numbered l.self.image.states l.fn.process) ≡ true;
   going : machine_end l.self ≡ None;
   here : l.self.lacked ≡ false;

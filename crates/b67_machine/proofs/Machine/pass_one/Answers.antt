@@ -3,7 +3,7 @@ use Rattle.std.proofs.lemmas.List.{length-set}
 use Rattle.b67_action.specs.declared.done.Done.TheVariants.{Went}
 use Rattle.b67_machine.specs.declared.entries.Entered.{Entered}
 use Rattle.b67_machine.specs.Entries.{PerformsEntries, stay}
-use Rattle.b67_machine.specs.Stepping.{Goes, Performs}
+use Rattle.b67_machine.specs.Stepping.{MachineGoes, MachinePerforms}
 use Rattle.b67_machine.proofs.Chains.{one_performs, one_able, one_noted, runs_able, runs_going, runs_action, runs_plainly}
 use Rattle.b67_machine.proofs.Enabling.{able_after}
 use Rattle.b67_machine.proofs.Noting.{steps_named, noted_last}
@@ -31,7 +31,7 @@ returns-then-ran-gt0-clause-performs g c =
       enters = stay;
       within = omega arith;
       less = λ some. omega (arith, some);
-      performs = subst (λ (n : ℕ). Performs a p n (record { plain = ran.operators - 1; done = Some Went }) new) all
+      performs = subst (λ (n : ℕ). MachinePerforms a p n (record { plain = ran.operators - 1; done = Some Went }) new) all
           (one_performs a new p most ran noted h c.requires.going c.requires.here c.requires.able within one none);
       able = λ x. one_able a new p most ran noted h c.requires.going c.requires.here c.requires.able within one none;
       last = λ x. one_noted a new p most ran noted h c.requires.going c.requires.here c.requires.able within one none;
@@ -57,7 +57,7 @@ returns-then-ran-most-clause-performs g c =
       enters = stay;
       within = omega arith;
       less = λ some. omega (arith, some);
-      performs = record { between = new; plains = subst (λ (n : ℕ). Goes a p n new) all goes.0; then = (omega arith, refl) };
+      performs = record { between = new; plains = subst (λ (n : ℕ). MachineGoes a p n new) all goes.0; then = (omega arith, refl) };
       able = tt;
       last = tt;
     })

@@ -3,10 +3,10 @@ use Rattle.std.proofs.Common.{◌≡◌, ◌<◌, refl, sym, ap, subst, ◌∙�
 use Rattle.std.proofs.lemmas.List.{length-take-le}
 use Rattle.b67_deeds.specs.declared.Letter.{Letter}
 use Rattle.b67_deeds.specs.declared.Letter.TheVariants.{Read}
-use Rattle.b67_schedule.specs.Schedules.{entries, most}
+use Rattle.b67_schedule.specs.Schedules.{entries, most_in_schedule}
 use Rattle.b67_machine.specs.declared.replay.Replayed.{Replayed}
 use Rattle.b67_machine.specs.declared.replay.Replayed.TheVariants as replayed
-use Rattle.b67_machine.specs.Replaying.{Advances, Agrees, Between, GoOnAs, StopsBefore, first_of}
+use Rattle.b67_machine.specs.Replaying.{Advances, LettersAgree, Between, GoOnAs, StopsBefore, first_of}
 use Rattle.b67_machine.proofs.Advancing.{at_once}
 use Rattle.b67_machine.proofs.Agreeing.{noted_length, agrees_here, stops_by, within_by, agrees_within, goes_on_as, differs_as, compares, some_long}
 use Rattle.b67_machine.proofs.Entering.{done_within, counted_within, one_of_able, stops}
@@ -132,7 +132,7 @@ push_many-requires-clause-actions g c =
     let size : length part ≡ most' = c.perform_entries-entered.ensures.size ∙ length-take-le most' c.args.notes.now (omega (arith, c.most_at_once-most.ensures.most.0, c.requires.notes)) in
     let k = at_once m.code c.args.budget done noted c.args.spent.now p c.requires.sound m c.requires.between c.in_default.ensures entered part rest new c.perform_entries-entered.ensures.performs
     c.perform_entries-entered.ensures.valid c.args.times most' size c.most_at_once-most.ensures.most.1 in
-    omega (arith, k.room most c.requires.few, k.count)
+    omega (arith, k.room most_in_schedule c.requires.few, k.count)
 
 pub push-requires-clause-room : goal.push-requires-clause-room
 push-requires-clause-room g c =
@@ -164,7 +164,7 @@ push-requires-clause-actions g c =
     let size : length part ≡ most' = c.perform_entries-entered.ensures.size ∙ length-take-le most' c.args.notes.now (omega (arith, c.most_at_once-most.ensures.most.0, c.requires.notes)) in
     let k = at_once m.code c.args.budget done noted c.args.spent.now p c.requires.sound m c.requires.between c.in_default.ensures entered part rest new c.perform_entries-entered.ensures.performs
     c.perform_entries-entered.ensures.valid c.args.times most' size c.most_at_once-most.ensures.most.1 in
-    omega (arith, k.room most c.requires.few, ap length c.push_many.ensures.letters, length-append noted (take entered.entries (part ++ rest)), k.count)
+    omega (arith, k.room most_in_schedule c.requires.few, ap length c.push_many.ensures.letters, length-append noted (take entered.entries (part ++ rest)), k.count)
 
 -- ---- the replay ends within an entry
 
@@ -204,7 +204,7 @@ returns-in-Some-within_entry-clause-letters g c =
     let k = at_once m.code c.args.budget done noted c.args.spent.now p c.requires.sound m c.requires.between c.in_default.ensures entered part rest new c.perform_entries-entered.ensures.performs
     c.perform_entries-entered.ensures.valid c.args.times most' size c.most_at_once-most.ensures.most.1 in
     let given = option_copied c.args.letters in
-    subst (λ (ls : List Letter). Agrees given noted ls (Some c.in-Some-within_entry.answer)) (sym c.push_many.ensures.letters)
+    subst (λ (ls : List Letter). LettersAgree given noted ls (Some c.in-Some-within_entry.answer)) (sym c.push_many.ensures.letters)
     (agrees_within c.in-Some-within_entry.answer (within_by entered.last.done c.in-Some-within_entry.answer (sym c.in-Some-within_entry.ensures)) given noted
     (take entered.entries (part ++ rest)) entered.entries most' c.most_at_once-most.ensures.one (omega (arith, c.perform_entries-entered.ensures.performs.few, size)) k.count)
 
@@ -278,7 +278,7 @@ returns-then-differs-clause-letters g c =
     let number = c.len-then-differs.result in
     let long : number ≡ length (noted ++ take entered.entries part ++ through.l ∷ []) =
     c.len-then-differs.ensures ∙ sym (noted_length m.code (entries c.push.new.self.runs) c.push.new.self.letters spent new between) ∙ ap length letters_are in
-    subst (λ (ls : List Letter). Agrees given noted ls (Some (replayed.Differs number))) (sym letters_are)
+    subst (λ (ls : List Letter). LettersAgree given noted ls (Some (replayed.Differs number))) (sym letters_are)
     (differs_as given noted (take entered.entries part) through.l (get_or (part ++ rest) 0 Read) entered.entries most' number c.most_at_once-most.ensures.one
     (some_long given 1 c.args.times c.requires.some c.requires.each) few count here (compares given (get_or (part ++ rest) 0 Read) c.differs.result true c.if-differs.true c.differs.ensures) long)
 

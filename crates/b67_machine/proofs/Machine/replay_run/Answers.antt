@@ -2,9 +2,9 @@ use Rattle.std.specs.Prelude.{option_copied, IfSome}
 use Rattle.std.proofs.Common.{◌≡◌, ◌≤◌, sym, ap, subst, ◌∙◌, ℕ, ◌+◌, ◌-◌, List, ◌++◌, length, length-append, append-nil, replicate, refl, Option, Some, arith}
 use Rattle.std.proofs.lemmas.List.{length-replicate}
 use Rattle.b67_deeds.specs.declared.Letter.{Letter}
-use Rattle.b67_schedule.specs.Schedules.{entries, most}
+use Rattle.b67_schedule.specs.Schedules.{entries, most_in_schedule}
 use Rattle.b67_segment.specs.declared.code.Code.{Code}
-use Rattle.b67_machine.specs.Replaying.{Between, Agrees, GoOnAs, first_of, rest_of}
+use Rattle.b67_machine.specs.Replaying.{Between, LettersAgree, GoOnAs, first_of, rest_of}
 use Rattle.b67_machine.proofs.Agreeing.{noted_length, goes_none, goes_whole, goes_after, agrees_after, rest_of_all, rest_after, rest_long, some_long}
 use Rattle.b67_machine.proofs.Following.{more_of_run, ends_in_run, room_left}
 use Rattle.b67_machine.proofs.Machine.replay_run.Goals as goal
@@ -43,7 +43,7 @@ replay_entries-requires-clause-room g c =
 pub replay_entries-requires-clause-few : goal.replay_entries-requires-clause-few
 replay_entries-requires-clause-few g c =
     let inv = c.times.invariant in
-    room_left (length c.args.done.now.letters) (length c.times.done.letters) c.args.run.now.times c.times.times most most c.args.budget c.requires.few
+    room_left (length c.args.done.now.letters) (length c.times.done.letters) c.args.run.now.times c.times.times most_in_schedule most_in_schedule c.args.budget c.requires.few
     (omega (
       arith,
       noted_length _ _ _ _ _ inv.between,
@@ -93,7 +93,7 @@ pub returns-in-Err-clause-letters : goal.returns-in-Err-clause-letters
 returns-in-Err-clause-letters g c =
     let inv = c.times.invariant in
     agrees_after (option_copied c.args.letters) c.times.times c.args.done.now.letters c.times.done.letters c.replay_entries.new.done.letters c.in-Err.answer inv.letters
-    (subst (λ (o : Option (List Letter)). Agrees o c.times.done.letters c.replay_entries.new.done.letters (Some c.in-Err.answer)) inv.left c.in-Err.ensures.letters)
+    (subst (λ (o : Option (List Letter)). LettersAgree o c.times.done.letters c.replay_entries.new.done.letters (Some c.in-Err.answer)) inv.left c.in-Err.ensures.letters)
 
 pub returns-clause-letters : goal.returns-clause-letters
 returns-clause-letters g c =

@@ -3,10 +3,10 @@ use Rattle.std.proofs.Common.{◌≡◌, ◌<◌, ◌≤◌, ◌⊎◌, sym, ap,
 use Rattle.std.proofs.lemmas.List.{length-replicate}
 use Rattle.b67_deeds.specs.declared.Letter.{Letter}
 use Rattle.b67_schedule.specs.declared.Run.{Run}
-use Rattle.b67_schedule.specs.Schedules.{entries, most}
+use Rattle.b67_schedule.specs.Schedules.{entries, most_in_schedule}
 use Rattle.b67_segment.specs.declared.code.Code.{Code}
-use Rattle.b67_machine.specs.Kept.{Kept}
-use Rattle.b67_machine.specs.Replaying.{ReplaysEntries, Between, Agrees, GoOnAs, first_of, rest_of}
+use Rattle.b67_machine.specs.Kept.{MachineModel}
+use Rattle.b67_machine.specs.Replaying.{ReplaysEntries, Between, LettersAgree, GoOnAs, first_of, rest_of}
 use Rattle.b67_machine.proofs.Agreeing.{noted_length, ends_by, goes_none, goes_after, agrees_after, agrees_first, agrees_whole, agrees_at_end, rest_of_all, rest_after, rest_long, some_long, theirs_long}
 use Rattle.b67_machine.proofs.Finishing.{begins, finishes}
 use Rattle.b67_machine.proofs.Following.{next_within, room_next, ends_in, entries_end, entries_then}
@@ -33,7 +33,7 @@ runs-init g c =
     }
 
 -- so many letters and those of the next run are within all
-next_few : (code : Code) (budget : ℕ) (runs : List Run) (i : ℕ) → i < length runs → (its : Code) (m : Kept) (performed : List ℕ) (noted : List Letter) (spent : ℕ) → Between its performed noted spent m
+next_few : (code : Code) (budget : ℕ) (runs : List Run) (i : ℕ) → i < length runs → (its : Code) (m : MachineModel) (performed : List ℕ) (noted : List Letter) (spent : ℕ) → Between its performed noted spent m
     → performed ≡ entries (take i runs) → length noted + (get_or runs i no_run).times ≤ length (entries runs)
 next_few code budget runs i less its m performed noted spent b e =
     omega (arith, next_within code budget runs i no_run less performed e, noted_length its performed noted spent m b)
@@ -74,9 +74,9 @@ replay_run-requires-clause-room g c =
 pub replay_run-requires-clause-few : goal.replay_run-requires-clause-few
 replay_run-requires-clause-few g c =
     let inv = c.runs.invariant in
-    subst (λ (n : ℕ). (n + (get_or c.args.runs.now c.runs.run-index no_run).times ≤ most) ⊎ (c.args.budget ≤ most))
+    subst (λ (n : ℕ). (n + (get_or c.args.runs.now c.runs.run-index no_run).times ≤ most_in_schedule) ⊎ (c.args.budget ≤ most_in_schedule))
     (sym (noted_length _ (entries c.runs.done.runs) c.runs.done.letters c.runs.spent c.runs.self inv.between))
-    (room_next c.args.self.now.code c.args.budget c.args.runs.now c.runs.run-index no_run c.runs-test.true (entries c.runs.done.runs) most most inv.performed (omega arith) c.requires.few)
+    (room_next c.args.self.now.code c.args.budget c.args.runs.now c.runs.run-index no_run c.runs-test.true (entries c.runs.done.runs) most_in_schedule most_in_schedule inv.performed (omega arith) c.requires.few)
 
 pub runs-preserved : goal.runs-preserved
 runs-preserved g c =
@@ -126,7 +126,7 @@ returns-in-Some g c =
         ends_in c.args.self.now.code c.args.budget c.args.runs.now c.runs.run-index no_run c.runs-test.true c.runs.self.code inv.between.same (entries c.runs.done.runs)
             (entries c.replay_run.new.done.runs) noted c.replay_run.new.self answer inv.performed c.in-Some.ensures.entries,
         agrees_whole answer given noted (agrees_after given (length before) [] before noted answer inv.letters (agrees_first (rest_of (length before) given) run.times before noted answer
-            (subst (λ (o : Option (List Letter)). Agrees o before noted (Some answer)) (c.split.ensures.first ∙ ap (first_of run.times) inv.left) c.in-Some.ensures.letters))),
+            (subst (λ (o : Option (List Letter)). LettersAgree o before noted (Some answer)) (c.split.ensures.first ∙ ap (first_of run.times) inv.left) c.in-Some.ensures.letters))),
       );
     }
 

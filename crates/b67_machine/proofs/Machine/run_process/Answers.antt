@@ -10,7 +10,7 @@ use Rattle.b67_action.specs.Running.{HasRun}
 use Rattle.b67_action.proofs.Ready.{registers_there, kept_places}
 use Rattle.b67_machine.specs.declared.Failure.{Failure}
 use Rattle.b67_machine.specs.Chaining.{released_after}
-use Rattle.b67_machine.specs.Kept.{Kept, Counts}
+use Rattle.b67_machine.specs.Kept.{MachineModel, Counts}
 use Rattle.b67_machine.specs.Letters.{last_or}
 use Rattle.b67_machine.specs.Machines.{with_failure}
 use Rattle.b67_machine.specs.Tables.{AreTables}
@@ -23,11 +23,11 @@ use Rattle.b67_machine.proofs.Machine.run_process.Goals as goal
 pub registers-regs-requires : goal.registers-regs-requires
 registers-regs-requires g c =
     registers_there c.self.inside.parts.code (image_of (g.C.Core.stacks c.self.inside.core) (g.C.Core.rows c.self.inside.core) c.self.inside.kernel c.self.inside.parts) c.args.process
-    c.self.invariant.0 (subst (λ (k : Kept). is_able (numbered k.image.states c.args.process) ≡ true) (sym c.self.view_is) c.requires.able)
+    c.self.invariant.0 (subst (λ (k : MachineModel). is_able (numbered k.image.states c.args.process) ≡ true) (sym c.self.view_is) c.requires.able)
 
 pub prepare-requires-clause-level : goal.prepare-requires-clause-level
 prepare-requires-clause-level g c =
-    let able = subst (λ (k : Kept). is_able (numbered k.image.states c.args.process) ≡ true) (sym c.self.view_is) c.requires.able in
+    let able = subst (λ (k : MachineModel). is_able (numbered k.image.states c.args.process) ≡ true) (sym c.self.view_is) c.requires.able in
     omega (
       arith,
       (live_are_linked c.self.inside.parts.code
@@ -53,9 +53,9 @@ returns-clause-runs g c =
     let v = c.self.invariant.0 in
     let base = image_of (g.C.Core.stacks c.self.inside.core) (g.C.Core.rows c.self.inside.core) c.self.inside.kernel parts in
     let acted = image_of (g.C.Core.stacks c.run_in-ran.new.core) (g.C.Core.rows c.run_in-ran.new.core) c.self.inside.kernel c.run_in-ran.new.parts in
-    let none : c.self.inside.failure ≡ None = none_kept c.self.inside.failure (ap (λ (k : Kept). k.image.fault) c.self.view_is ∙ (goes_on old c.requires.going).fault) in
-    let image : old.image ≡ base = ap (λ (k : Kept). k.image) (sym c.self.view_is) ∙ ap (λ (f : Option Failure). with_failure base f) none in
-    let new : Kept = record {
+    let none : c.self.inside.failure ≡ None = none_kept c.self.inside.failure (ap (λ (k : MachineModel). k.image.fault) c.self.view_is ∙ (goes_on old c.requires.going).fault) in
+    let image : old.image ≡ base = ap (λ (k : MachineModel). k.image) (sym c.self.view_is) ∙ ap (λ (f : Option Failure). with_failure base f) none in
+    let new : MachineModel = record {
       code = c.run_in-ran.new.parts.code;
       image = with_failure acted c.self.inside.failure;
       counts = c.count.new.counts.items;
@@ -67,18 +67,18 @@ returns-clause-runs g c =
     let run = subst (λ (f : Option Failure). HasRun parts.code p c.args.most base ran noted (with_failure acted f)) (sym none)
     (c.run_in-ran.ensures.ran c.self.inside.kernel v) in
     record {
-      begun = subst (λ (k : Kept). IsValid k.code k.image) c.self.view_is (valid_with parts.code base c.self.inside.failure refl v);
+      begun = subst (λ (k : MachineModel). IsValid k.code k.image) c.self.view_is (valid_with parts.code base c.self.inside.failure refl v);
       number = numbered_from parts.regs.items p c.registers-regs.result.now c.registers-regs.ensures;
-      known = subst (λ (k : Kept). p ≤ length k.counts) c.self.view_is
+      known = subst (λ (k : MachineModel). p ≤ length k.counts) c.self.view_is
           (omega (arith, numbered_within parts.regs.items p c.registers-regs.result.now c.registers-regs.ensures, v.registers, v.most, c.self.invariant.2));
-      run = subst (λ (k : Code). HasRun k p c.args.most old.image ran noted new.image) (ap (λ (k : Kept). k.code) c.self.view_is)
+      run = subst (λ (k : Code). HasRun k p c.args.most old.image ran noted new.image) (ap (λ (k : MachineModel). k.code) c.self.view_is)
           (subst (λ (x : Image). HasRun parts.code p c.args.most x ran noted new.image) (sym image) run);
-      counts = subst (λ (k : Kept). Counts k.counts p (ran.operators + ran.plain) c.count.new.counts.items) c.self.view_is c.count.ensures.counts;
+      counts = subst (λ (k : MachineModel). Counts k.counts p (ran.operators + ran.plain) c.count.new.counts.items) c.self.view_is c.count.ensures.counts;
       others = kept_with old new (released_after ran.entries old.released) (last_or (take ran.entries noted) old.letter)
-          (c.run_in-ran.ensures.code ∙ ap (λ (k : Kept). k.code) c.self.view_is)
-          (c.run_in-ran.ensures.released ∙ ap (λ (k : Kept). released_after ran.entries k.released) c.self.view_is)
-          (ap (λ (k : Kept). k.limit) c.self.view_is) (ap (λ (k : Kept). k.lacked) c.self.view_is)
-          (c.note_last.ensures ∙ ap (λ (k : Kept). last_or (take ran.entries noted) k.letter) c.self.view_is);
+          (c.run_in-ran.ensures.code ∙ ap (λ (k : MachineModel). k.code) c.self.view_is)
+          (c.run_in-ran.ensures.released ∙ ap (λ (k : MachineModel). released_after ran.entries k.released) c.self.view_is)
+          (ap (λ (k : MachineModel). k.limit) c.self.view_is) (ap (λ (k : MachineModel). k.lacked) c.self.view_is)
+          (c.note_last.ensures ∙ ap (λ (k : MachineModel). last_or (take ran.entries noted) k.letter) c.self.view_is);
     }
 
 pub returns-clause-valid : goal.returns-clause-valid

@@ -20,7 +20,7 @@ use Rattle.b67_deeds.specs.declared.Letter.{Letter}
 use Rattle.b67_letters.specs.Letters.{letter, letter_by, registers_letter}
 use Rattle.b67_machine.specs.Letters.{or_before, lettered}
 use Rattle.b67_machine.specs.declared.Failure.{Failure}
-use Rattle.b67_machine.specs.Kept.{Kept, counted, Counts}
+use Rattle.b67_machine.specs.Kept.{MachineModel, operators_counted, Counts}
 use Rattle.b67_machine.specs.Machines.{with_failure}
 use Rattle.b67_machine.specs.Stepping.{operators_in, StepsBy}
 use Rattle.b67_machine.proofs.Ends.{goes_on}
@@ -58,22 +58,22 @@ noted_as dones.NoMemory found before none = refl
 
 pub returns-then-self-clause-steps : goal.returns-then-self-clause-steps
 returns-then-self-clause-steps g c =
-    subst (λ (b : Bool). StepsBy b c.args.self.now c.args.process dones.NoMemory c.args.self.now) (sym c.if-self.true ∙ ap (λ (k : Kept). k.lacked) c.self.view_is) (refl, refl)
+    subst (λ (b : Bool). StepsBy b c.args.self.now c.args.process dones.NoMemory c.args.self.now) (sym c.if-self.true ∙ ap (λ (k : MachineModel). k.lacked) c.self.view_is) (refl, refl)
 
 pub returns-then-self-clause-valid : goal.returns-then-self-clause-valid
 returns-then-self-clause-valid g c =
-    subst (λ (k : Kept). IsValid k.code k.image) c.self.view_is
+    subst (λ (k : MachineModel). IsValid k.code k.image) c.self.view_is
     (valid_with c.self.inside.parts.code (image_of (g.C.Core.stacks c.self.inside.core) (g.C.Core.rows c.self.inside.core) c.self.inside.kernel c.self.inside.parts)
     c.self.inside.failure refl c.self.invariant.0)
 
 pub registers-regs-requires : goal.registers-regs-requires
 registers-regs-requires g c =
     registers_there c.self.inside.parts.code (image_of (g.C.Core.stacks c.self.inside.core) (g.C.Core.rows c.self.inside.core) c.self.inside.kernel c.self.inside.parts) c.args.process
-    c.self.invariant.0 (subst (λ (k : Kept). is_able (numbered k.image.states c.args.process) ≡ true) (sym c.self.view_is) c.requires.able)
+    c.self.invariant.0 (subst (λ (k : MachineModel). is_able (numbered k.image.states c.args.process) ≡ true) (sym c.self.view_is) c.requires.able)
 
 pub prepare-requires-clause-level : goal.prepare-requires-clause-level
 prepare-requires-clause-level g c =
-    let able = subst (λ (k : Kept). is_able (numbered k.image.states c.args.process) ≡ true) (sym c.self.view_is) c.requires.able in
+    let able = subst (λ (k : MachineModel). is_able (numbered k.image.states c.args.process) ≡ true) (sym c.self.view_is) c.requires.able in
     omega (
       arith,
       (live_are_linked c.self.inside.parts.code
@@ -94,7 +94,7 @@ count-requires-clause-room g c =
     omega (
       arith,
       c.requires.count,
-      ap (λ (k : Kept). counted k.counts c.args.process) c.self.view_is,
+      ap (λ (k : MachineModel). operators_counted k.counts c.args.process) c.self.view_is,
       c.operators_in.ensures,
       at_most_one c.action-done.result.0,
     )
@@ -107,7 +107,7 @@ count-requires-clause-most g c =
 pub returns-clause-steps : goal.returns-clause-steps
 returns-clause-steps g c =
     let old = c.args.self.now in
-    let new : Kept = record {
+    let new : MachineModel = record {
       code = c.action-done.new.parts.code;
       image = with_failure (image_of (g.C.Core.stacks c.action-done.new.core) (g.C.Core.rows c.action-done.new.core) c.action-done.new.kernel c.action-done.new.parts)
           c.failure_of-self-inside.result;
@@ -120,13 +120,13 @@ returns-clause-steps g c =
     let base = image_of (g.C.Core.stacks c.self.inside.core) (g.C.Core.rows c.self.inside.core) c.self.inside.kernel c.self.inside.parts in
     let acted = image_of (g.C.Core.stacks c.action-done.new.core) (g.C.Core.rows c.action-done.new.core) c.action-done.new.kernel c.action-done.new.parts in
     let done = c.action-done.result.0 in
-    let none : c.self.inside.failure ≡ None = none_kept c.self.inside.failure (ap (λ (k : Kept). k.image.fault) c.self.view_is ∙ (goes_on old c.requires.going).fault) in
-    let image : old.image ≡ base = ap (λ (k : Kept). k.image) (sym c.self.view_is) ∙ ap (λ (f : Option Failure). with_failure base f) none in
-    subst (λ (b : Bool). StepsBy b old c.args.process done new) (sym c.if-self.false ∙ ap (λ (k : Kept). k.lacked) c.self.view_is)
-    (acts_by old new c.self.inside.parts.code base acted c.args.process done (ap (λ (k : Kept). k.code) (sym c.self.view_is)) image refl c.action-done.ensures.came
+    let none : c.self.inside.failure ≡ None = none_kept c.self.inside.failure (ap (λ (k : MachineModel). k.image.fault) c.self.view_is ∙ (goes_on old c.requires.going).fault) in
+    let image : old.image ≡ base = ap (λ (k : MachineModel). k.image) (sym c.self.view_is) ∙ ap (λ (f : Option Failure). with_failure base f) none in
+    subst (λ (b : Bool). StepsBy b old c.args.process done new) (sym c.if-self.false ∙ ap (λ (k : MachineModel). k.lacked) c.self.view_is)
+    (acts_by old new c.self.inside.parts.code base acted c.args.process done (ap (λ (k : MachineModel). k.code) (sym c.self.view_is)) image refl c.action-done.ensures.came
     (ap (λ (f : Option Failure). with_failure acted f) c.failure_of-self-inside.ensures)
     (subst (λ (n : ℕ). Counts old.counts c.args.process n c.count.new.counts.items) c.operators_in.ensures
-    (subst (λ (k : Kept). Counts k.counts c.args.process c.operators_in.result c.count.new.counts.items) c.self.view_is c.count.ensures.counts))
+    (subst (λ (k : MachineModel). Counts k.counts c.args.process c.operators_in.result c.count.new.counts.items) c.self.view_is c.count.ensures.counts))
     (released_so (is_performed done) c.self.inside.parts.code base c.args.process c.action-done.new.parts.woken.processes.items c.settle.new.released.items
     c.action-done.ensures.woken c.settle.ensures.kept c.settle.ensures.none)
     (λ e. subst (AbleAfter base acted c.args.process) (sym (c.settle.ensures.kept e)) (c.action-done.ensures.able e))
@@ -135,7 +135,7 @@ returns-clause-steps g c =
     ∙ ap (λ (l : Option Letter). or_before l c.self.inside.letter) c.action-done.ensures.letter
     ∙ noted_as done (letter c.self.inside.parts.code base c.args.process) c.self.inside.letter
     (none_by c.self.inside.parts.code base acted c.args.process done c.action-done.ensures.came)
-    ∙ ap (λ (k : Kept). lettered (operators_in done) (letter c.self.inside.parts.code base c.args.process) k.letter) c.self.view_is)
+    ∙ ap (λ (k : MachineModel). lettered (operators_in done) (letter c.self.inside.parts.code base c.args.process) k.letter) c.self.view_is)
     c.action-done.ensures.code)
 
 pub returns-clause-valid : goal.returns-clause-valid

@@ -2,14 +2,14 @@ use Rattle.std.specs.Prelude.{reverse}
 use Rattle.std.proofs.Common.{◌≡◌, sym, ap, ◌∙◌, ℕ, take, ◌++◌}
 use Rattle.b67_control.specs.declared.Registers.{Registers}
 use Rattle.b67_store.specs.Store.{words_of, with_stack}
-use Rattle.b67_table.specs.Privacy.{Keeps}
+use Rattle.b67_table.specs.Privacy.{RegistersStay}
 use Rattle.b67_machine.proofs.parts.put_from.Goals as goal
 
 -- registers with what the operators set
 abbrev with_set : Registers → Registers → Registers
 with_set own q = record own { s = q.s; f = q.f; cells = q.cells; place = q.place }
 
-set_is : (own q : Registers) → Keeps own q → with_set own q ≡ q
+set_is : (own q : Registers) → RegistersStay own q → with_set own q ≡ q
 set_is own q kept =
     ap (λ v. record own { stack = v; s = q.s; f = q.f; cells = q.cells; place = q.place }) (sym kept.0)
     ∙ ap (λ v. record q { ll = v; display = own.display; segment = own.segment; task = own.task; critical = own.critical }) (sym kept.1)

@@ -6,7 +6,7 @@ use Rattle.std.proofs.lemmas.Option.{slice_get_read}
 use Rattle.b67_segment.specs.declared.code.Code.{Code}
 use Rattle.b67_segment.specs.Decoded.{AreDecoded}
 use Rattle.b67_machine.specs.declared.tables.Levels.{Levels}
-use Rattle.b67_machine.specs.Tables.{Operators, joined, level_at, levels_in, AreTables}
+use Rattle.b67_machine.specs.Tables.{Operators, tables_joined, table_at_level, levels_in, AreTables}
 use Rattle.b67_machine.proofs.tables.decoded.Goals as goal
 
 -- the table that was found is the segment's at that level
@@ -14,7 +14,7 @@ found : (code : Code) (segments : List Levels) (segment level : ℕ) (levels : L
     → slice_get levels.tables.items level ≡ Some (option_copied table) → AreTables code segments → IfSome table (λ t. AreDecoded code segment level t.now)
 found code segments segment level levels None h k are = tt
 found code segments segment level levels (Some t) h k are =
-    are segment level t.now (ap (λ (o : Option Levels). level_at (levels_in o) level) h ∙ ap joined k)
+    are segment level t.now (ap (λ (o : Option Levels). table_at_level (levels_in o) level) h ∙ ap tables_joined k)
 
 pub returns-in-Some-get : goal.returns-in-Some-get
 returns-in-Some-get c = λ code are.

@@ -7,9 +7,9 @@ use Rattle.b67_table.specs.Linkage.{entered}
 use Rattle.b67_table.specs.Program.{answer}
 use Rattle.b67_linkage.specs.Showing.{entry_shown}
 use Rattle.b67_linkage.proofs.Entered.{above_stays}
-use Rattle.b67_reach.specs.Images.{own}
-use Rattle.b67_reach.specs.Answers.{Performs}
-use Rattle.b67_operators.specs.Entries.{opening}
+use Rattle.b67_reach.specs.Images.{own_of_image}
+use Rattle.b67_reach.specs.Answers.{ProgramPerforms}
+use Rattle.b67_operators.specs.Entries.{entry_opening}
 use Rattle.b67_operators.proofs.Changing.{when_ok, there_below, opening_performs}
 use Rattle.b67_operators.proofs.at_once.open_shown.Goals as goal
 
@@ -44,7 +44,7 @@ returns g c =
     let above = place r.stack (r.f + 1) in
     let q : entered r r.s r.f pcw e (r.s - (r.f + 2)) ≡ c.go_in_shown.new.regs =
     ap (λ (f : ℕ). entered r r.s r.f pcw e (r.s - (f + 2))) (sym c.from.ensures) ∙ sym c.go_in_shown.ensures in
-    subst (λ (z : Registers). Performs (answer (opening r next df pcw e)) (own st rows r) (own twice more z) (Ok tt)) q
+    subst (λ (z : Registers). ProgramPerforms (answer (entry_opening r next df pcw e)) (own_of_image st rows r) (own_of_image twice more z) (Ok tt)) q
     (opening_performs r next df pcw e st once twice rows more c.requires.linked.room
     (when_ok c.write.result c.unwrap.result once (with_word st mark c.pack.result) st c.unwrap.ensures c.write.ensures.stacks
     ∙ ap (λ (w : Word). with_word st mark w) c.pack.ensures)

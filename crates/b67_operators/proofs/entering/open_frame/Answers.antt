@@ -4,8 +4,8 @@ use Rattle.b67_control.specs.declared.Registers.{Registers}
 use Rattle.b67_store.specs.Store.{Stacks, with_cut, with_push, stack_limit}
 use Rattle.b67_table.specs.Linkage.{entered, selected}
 use Rattle.b67_table.specs.Program.{answer}
-use Rattle.b67_reach.specs.Images.{own}
-use Rattle.b67_reach.specs.Answers.{Performs}
+use Rattle.b67_reach.specs.Images.{own_of_image}
+use Rattle.b67_reach.specs.Answers.{ProgramPerforms}
 use Rattle.b67_operators.specs.Entries.{accident}
 use Rattle.b67_operators.proofs.Changing.{Reaches, when_ok, cut_reaches, push_reaches, push_goes, framed, is_framed, accident_plain, accident_named}
 use Rattle.b67_operators.proofs.entering.open_frame.Goals as goal
@@ -76,14 +76,14 @@ returns g c =
           ∙ ap (λ (z : Stacks). with_push z r.stack (operand (pos selector))) there_is in
           let q : entered r (mark + 2 + 1) mark pcw e 0 ≡ c.go_in.new.regs =
           ap (λ (s : ℕ). entered r s mark pcw e 0) (ap (λ (k : ℕ). k + 2 + 1) (sym c.from-s.ensures) ∙ sym w.s-is) ∙ sym c.go_in.ensures in
-          subst (λ (z : Registers). Performs (answer (accident r next mark pcw e selector)) (own st rows r) (own (g.C.Core.stacks c.if-pcw.core) (g.C.Core.rows c.if-pcw.core) z) (Ok tt)) q
+          subst (λ (z : Registers). ProgramPerforms (answer (accident r next mark pcw e selector)) (own_of_image st rows r) (own_of_image (g.C.Core.stacks c.if-pcw.core) (g.C.Core.rows c.if-pcw.core) z) (Ok tt)) q
           (accident_named r next mark pcw e selector st (g.C.Core.stacks c.if-pcw.core) rows (g.C.Core.rows c.if-pcw.core) w.if-pcw.true room
           (ap g.C.Core.stacks w.core-is ∙ stacks) (ap g.C.Core.rows w.core-is ∙ w.push-then-pcw.ensures.rows ∙ same))
       | else-pcw w ↦
           let room : mark + 2 + 0 ≤ stack_limit = subst (λ (b : Bool). mark + 2 + length (selected b selector) ≤ stack_limit) w.if-pcw.false c.requires.room in
           let size : c.if-pcw.s ≡ mark + 2 + 0 = omega (arith, w.s-is, c.from-s.ensures) in
           let q : entered r (mark + 2 + 0) mark pcw e 0 ≡ c.go_in.new.regs = ap (λ (s : ℕ). entered r s mark pcw e 0) (sym size) ∙ sym c.go_in.ensures in
-          subst (λ (z : Registers). Performs (answer (accident r next mark pcw e selector)) (own st rows r) (own (g.C.Core.stacks c.if-pcw.core) (g.C.Core.rows c.if-pcw.core) z) (Ok tt)) q
+          subst (λ (z : Registers). ProgramPerforms (answer (accident r next mark pcw e selector)) (own_of_image st rows r) (own_of_image (g.C.Core.stacks c.if-pcw.core) (g.C.Core.rows c.if-pcw.core) z) (Ok tt)) q
           (accident_plain r next mark pcw e selector st (g.C.Core.stacks c.if-pcw.core) rows (g.C.Core.rows c.if-pcw.core) w.if-pcw.false room
           (ap g.C.Core.stacks w.core-is ∙ there_is) (ap g.C.Core.rows w.core-is ∙ same))
     ]

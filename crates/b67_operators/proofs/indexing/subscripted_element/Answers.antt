@@ -1,8 +1,8 @@
 use Rattle.std.proofs.Common.{FitsSigned, ◌<◌, ◌^◌, ℤ, unsigned_abs, subst, arith}
 use Rattle.std.specs.Int.{w64}
 use Rattle.std.proofs.lemmas.Int.{to_z-of_z, fits_signed_from_abs}
-use Rattle.b67_reach.specs.Answers.{Tells}
-use Rattle.b67_operators.specs.Arrays.{element_at}
+use Rattle.b67_reach.specs.Answers.{TestTells}
+use Rattle.b67_operators.specs.Arrays.{test_element_at}
 use Rattle.b67_operators.proofs.Subscripts.{element_found, element_stops}
 use Rattle.b67_operators.proofs.indexing.subscripted_element.Goals as goal
 
@@ -18,4 +18,4 @@ returns-clause-value g c =
     let there = to_z-of_z w64 c.in_ok-array.subscript fits in
     element_found (g.C.Core.stacks c.args.core.now) (g.C.Core.rows c.args.core.now) c.args.regs.now c.args.mother c.element_at.result
     c.in_ok-array.array c.in_ok-array.subscript c.in_ok-array.ensures.value
-    (subst (λ (z : ℤ). Tells (element_at c.in_ok-array.array z) (g.C.Core.stacks c.args.core.now) (g.C.Core.rows c.args.core.now) c.element_at.result) there c.element_at.ensures)
+    (subst (λ (z : ℤ). TestTells (test_element_at c.in_ok-array.array z) (g.C.Core.stacks c.args.core.now) (g.C.Core.rows c.args.core.now) c.element_at.result) there c.element_at.ensures)

@@ -1,7 +1,7 @@
 use Rattle.std.proofs.Common.{◌≡◌, sym, ap, ◌∙◌, ℕ, false, List, length, map, Option, arith}
 use Rattle.std.proofs.lemmas.List.{length-map}
 use Rattle.b67_word.specs.declared.Place.{Place}
-use Rattle.b67_events.specs.Events.{is_open, waiters_at, number_of, position_of}
+use Rattle.b67_events.specs.Events.{is_open, waiters_at, position_number_of, position_of}
 use Rattle.b67_table.specs.Writes.{able_again}
 use Rattle.b67_reach.specs.Woken.{told_numbers}
 use Rattle.b67_reach.proofs.Woken.{positions_told}
@@ -31,7 +31,7 @@ returns-else-is_open-clause-woken c =
 
 pub wake_all-requires : goal.wake_all-requires
 wake_all-requires c =
-    let f : ℕ → ℕ = λ p. number_of (position_of c.in-Some.event c.args.kernel.now.lists p) in
+    let f : ℕ → ℕ = λ p. position_number_of (position_of c.in-Some.event c.args.kernel.now.lists p) in
     let ps = waiters_at c.in-Some.event c.args.kernel.now.events in
     omega (arith, ap length c.cause.ensures.woken, ap length c.cause.ensures.positions ∙ length-map ps f)
 

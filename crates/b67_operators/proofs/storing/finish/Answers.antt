@@ -2,8 +2,8 @@ use Rattle.std.proofs.Common.{◌≡◌, ◌∙◌, sym, ap, subst, ℕ, ◌+◌
 use Rattle.b67_control.specs.declared.Registers.{Registers}
 use Rattle.b67_store.specs.Store.{Stacks, with_cut, with_push, stack_limit}
 use Rattle.b67_table.specs.Program.{answer}
-use Rattle.b67_reach.specs.Images.{own}
-use Rattle.b67_reach.specs.Answers.{Performs}
+use Rattle.b67_reach.specs.Images.{own_of_image}
+use Rattle.b67_reach.specs.Answers.{ProgramPerforms}
 use Rattle.b67_operators.specs.Stages.{finished}
 use Rattle.b67_operators.proofs.Changing.{Reaches, when_ok, cut_reaches, push_goes, finished_dropped, finished_kept}
 use Rattle.b67_operators.proofs.storing.finish.Goals as goal
@@ -41,15 +41,15 @@ returns g c =
           ∙ when_ok w.push.result w.unwrap-then-keeps.result (g.C.Core.stacks w.push.new.self) (with_push once r.stack x) once w.unwrap-then-keeps.ensures w.push.ensures.stacks
           ∙ ap (λ (z : Stacks). with_push z r.stack x) once_is in
           let q : record r { s = k + 1; place = next } ≡ last = ap (λ (z : Registers). record z { place = next }) (sym w.regs-is) in
-          subst (λ (b : Bool). Performs (answer (finished b r next x)) (own st rows r) (own stacks more last) (Ok tt)) (sym w.if-keeps.true)
-          (subst (λ (z : Registers). Performs (answer (finished true r next x)) (own st rows r) (own stacks more z) (Ok tt)) q
+          subst (λ (b : Bool). ProgramPerforms (answer (finished b r next x)) (own_of_image st rows r) (own_of_image stacks more last) (Ok tt)) (sym w.if-keeps.true)
+          (subst (λ (z : Registers). ProgramPerforms (answer (finished true r next x)) (own_of_image st rows r) (own_of_image stacks more z) (Ok tt)) q
           (finished_kept r next x st stacks rows more room stacks_are (ap g.C.Core.rows w.core-is ∙ w.push.ensures.rows ∙ c.cut.ensures.rows)))
       | else-keeps w ↦
           let room : k + 0 ≤ stack_limit = omega (arith, c.requires.ready.room) in
           let size : k + 0 ≡ k = omega arith in
           let q : record r { s = k + 0; place = next } ≡ last =
           ap (λ (n : ℕ). record r { s = n; place = next }) size ∙ ap (λ (z : Registers). record z { place = next }) (sym w.regs-is) in
-          subst (λ (b : Bool). Performs (answer (finished b r next x)) (own st rows r) (own stacks more last) (Ok tt)) (sym w.if-keeps.false)
-          (subst (λ (z : Registers). Performs (answer (finished false r next x)) (own st rows r) (own stacks more z) (Ok tt)) q
+          subst (λ (b : Bool). ProgramPerforms (answer (finished b r next x)) (own_of_image st rows r) (own_of_image stacks more last) (Ok tt)) (sym w.if-keeps.false)
+          (subst (λ (z : Registers). ProgramPerforms (answer (finished false r next x)) (own_of_image st rows r) (own_of_image stacks more z) (Ok tt)) q
           (finished_dropped r next x st stacks rows more room (ap g.C.Core.stacks w.core-is ∙ once_is) (ap g.C.Core.rows w.core-is ∙ c.cut.ensures.rows)))
     ]

@@ -1,7 +1,7 @@
 use Rattle.std.proofs.Common.{◌≡◌, ◌⊎◌, refl, sym, ap, subst, ◌∙◌, Bool, false, List, ◌∷◌, [], ◌++◌, ℕ, ◌+◌, arith}
 use Rattle.b67_segment.specs.declared.code.Code.{Code}
 use Rattle.b67_outcomes.specs.declared.found.Limit.{Limit}
-use Rattle.b67_outcomes.specs.Entering.{Enters}
+use Rattle.b67_outcomes.specs.Entering.{ProcessEnters}
 use Rattle.b67_outcomes.specs.Finding.{History, IsAfter, IsArrived, IsFollowed, IsSearched}
 use Rattle.b67_outcomes.specs.Kept.{IsSame, IsReady, IsHeld, IsTree}
 use Rattle.b67_outcomes.proofs.Histories.{after_more, after_none, at_history, ok_map, ok_both}
@@ -20,7 +20,7 @@ returns-then-not-entered-clause-searched g c =
     let here = c.requires.stands in
     noted_searched (g.W.Walker.code c.args.walker.now) c.args.most c.args.found.now _ l here.history (g.W.Walker.image c.args.walker.now)
     (g.W.Walker.image c.enter.new.self) c.requires.searched refl refl c.in_ok-push.ensures.items refl here.is here.leads c.requires.may
-    (subst (λ (b : Bool). Enters (g.W.Walker.code c.args.walker.now) c.args.process (g.W.Walker.image c.args.walker.now) b (g.W.Walker.image c.enter.new.self))
+    (subst (λ (b : Bool). ProcessEnters (g.W.Walker.code c.args.walker.now) c.args.process (g.W.Walker.image c.args.walker.now) b (g.W.Walker.image c.enter.new.self))
     c.if-not-entered.true c.in_ok-entered.ensures.entered)
 
 pub returns-then-not-entered-clause-followed : goal.returns-then-not-entered-clause-followed
@@ -30,7 +30,7 @@ returns-then-not-entered-clause-followed g c = λ history is.
     let here = g.W.Walker.image c.args.walker.now in
     noted_followed code (g.W.Walker.Local code) _ c.args.found.now.limits.items l history here
     (g.W.Walker.image c.enter.new.self) c.in_ok-push.ensures.items (at_history code c.args.found.now.steps.items c.args.number here history c.requires.stands is)
-    (subst (λ (b : Bool). Enters code c.args.process here b (g.W.Walker.image c.enter.new.self))
+    (subst (λ (b : Bool). ProcessEnters code c.args.process here b (g.W.Walker.image c.enter.new.self))
     c.if-not-entered.true c.in_ok-entered.ensures.entered)
 
 -- some run leads to where the machine stands
@@ -44,7 +44,7 @@ arrive-requires-clause-stands g c =
     let here = g.W.Walker.image c.args.walker.now in
     let there = g.W.Walker.image c.enter.new.self in
     let p = c.args.process in
-    let entered = subst (λ (b : Bool). Enters code p here b there) c.if-not-entered.false c.in_ok-entered.ensures.entered in
+    let entered = subst (λ (b : Bool). ProcessEnters code p here b there) c.if-not-entered.false c.in_ok-entered.ensures.entered in
     let path : c.push-2.new.self.items ≡ p ∷ [] = c.in_ok-push-2.ensures.items ∙ ap (λ (z : List ℕ). z ++ p ∷ []) c.clear.ensures.items in
     subst (λ (k : Code). IsAfter k steps c.args.number c.push-2.new.self.items there) (sym c.enter.ensures.code)
     (after_more code steps c.args.number [] c.push-2.new.self.items p entered.0 here there path
@@ -57,7 +57,7 @@ returns-clause-followed g c =
     let here = g.W.Walker.image c.args.walker.now in
     let there = g.W.Walker.image c.enter.new.self in
     let steps = c.args.found.now.steps.items in
-    let entered = subst (λ (b : Bool). Enters code c.args.process here b there) c.if-not-entered.false c.in_ok-entered.ensures.entered in
+    let entered = subst (λ (b : Bool). ProcessEnters code c.args.process here b there) c.if-not-entered.false c.in_ok-entered.ensures.entered in
     ok_map c.arrive.result (λ u. c.arrive.new.found.cut ≡ false → IsArrived after (g.W.Walker.Local after) c.arrive.new.found there)
     (λ u. (history : List ℕ) → History steps c.args.number history
     → IsFollowed code (g.W.Walker.Local code) c.arrive.new.found c.args.number history c.args.process)
@@ -83,7 +83,7 @@ returns-clause-tree g c =
     let new = c.arrive.new.found in
     let path = c.push-2.new.self.items in
     let p = c.args.process in
-    let entered = subst (λ (b : Bool). Enters code p here b there) c.if-not-entered.false c.in_ok-entered.ensures.entered in
+    let entered = subst (λ (b : Bool). ProcessEnters code p here b there) c.if-not-entered.false c.in_ok-entered.ensures.entered in
     let path_is : path ≡ p ∷ [] = c.in_ok-push-2.ensures.items ∙ ap (λ (z : List ℕ). z ++ p ∷ []) c.clear.ensures.items in
     ok_both c.arrive.result (λ u. IsSearched after c.args.most new)
     (λ u. IsSame c.args.most old new ⊎ IsHeld after (g.W.Walker.Local after) old c.args.number path there new)

@@ -1,7 +1,7 @@
 use Rattle.std.proofs.Common.{refl, sym, subst, ◌+◌, List, arith}
 use Rattle.b67_segment.specs.declared.code.Code.{Code}
 use Rattle.b67_outcomes.specs.declared.found.Step.{Step}
-use Rattle.b67_outcomes.specs.Finding.{IsAt, IsLed}
+use Rattle.b67_outcomes.specs.Finding.{NumberIsAt, IsLed}
 use Rattle.b67_outcomes.proofs.Histories.{at_led, at_stays, at_history, ok_map}
 use Rattle.b67_outcomes.proofs.Keeping.{grown_none, followed_idle}
 use Rattle.b67_outcomes.proofs.Trees.{kept_same}
@@ -38,9 +38,9 @@ pub returns-clause-stands : goal.returns-clause-stands
 returns-clause-stands g c =
     let code = g.W.Walker.code c.args.walker.now in
     let there = g.W.Walker.image c.walk.new.walker in
-    ok_map c.walk.result (λ u. IsAt (g.W.Walker.code c.find.new.walker) c.as_slice.result.now c.args.number there)
-    (λ u. IsAt code c.find.new.found.steps.items c.args.number there)
+    ok_map c.walk.result (λ u. NumberIsAt (g.W.Walker.code c.find.new.walker) c.as_slice.result.now c.args.number there)
+    (λ u. NumberIsAt code c.find.new.found.steps.items c.args.number there)
     (λ u x.
-    subst (λ (xs : List Step). IsAt code xs c.args.number there) c.as_slice.ensures.value
-    (subst (λ (k : Code). IsAt k c.as_slice.result.now c.args.number there) c.find.ensures.code x))
+    subst (λ (xs : List Step). NumberIsAt code xs c.args.number there) c.as_slice.ensures.value
+    (subst (λ (k : Code). NumberIsAt k c.as_slice.result.now c.args.number there) c.find.ensures.code x))
     c.walk.ensures.at

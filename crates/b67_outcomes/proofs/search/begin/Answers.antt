@@ -1,7 +1,7 @@
 use Rattle.std.proofs.Common.{◌⊎◌, sym, subst, ◌≤◌, [], length}
 use Rattle.b67_segment.specs.declared.code.Code.{Code}
 use Rattle.b67_table.specs.Image.{Image}
-use Rattle.b67_outcomes.specs.Entering.{LeadsTo}
+use Rattle.b67_outcomes.specs.Entering.{HistoryLeadsTo}
 use Rattle.b67_outcomes.specs.Finding.{first, IsSearched}
 use Rattle.b67_outcomes.specs.Kept.{IsSame, AreNotExpanded, IsHeld, IsTree}
 use Rattle.b67_outcomes.proofs.Histories.{led_none, after_none, ok_both}
@@ -13,7 +13,7 @@ arrive-requires-clause-stands g c =
     let code = g.W.Walker.code c.restart.new.self in
     let here = g.W.Walker.image c.restart.new.self in
     after_none code c.args.found.now.steps.items 0 c.args.path.now.items here c.requires.empty
-    (record { history = []; is = first; leads = subst (λ (x : Image). LeadsTo code [] x) (sym c.in_ok-restart.ensures.first) (led_none code) })
+    (record { history = []; is = first; leads = subst (λ (x : Image). HistoryLeadsTo code [] x) (sym c.in_ok-restart.ensures.first) (led_none code) })
 
 pub returns-clause-tree : goal.returns-clause-tree
 returns-clause-tree g c =

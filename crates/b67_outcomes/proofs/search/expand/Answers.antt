@@ -4,7 +4,7 @@ use Rattle.b67_segment.specs.declared.code.Code.{Code}
 use Rattle.b67_table.specs.Image.{Image}
 use Rattle.b67_table.specs.Ending.{may_act}
 use Rattle.b67_outcomes.specs.declared.found.Step.{Step}
-use Rattle.b67_outcomes.specs.Finding.{History, Grows, IsAt, IsLed, IsSearched, IsFollowed, IsExpanded, IsLastAble}
+use Rattle.b67_outcomes.specs.Finding.{History, FoundGrows, NumberIsAt, IsLed, IsSearched, IsFollowed, IsExpanded, IsLastAble}
 use Rattle.b67_outcomes.specs.Kept.{AreOpen, IsReady, IsTree}
 use Rattle.b67_outcomes.proofs.Histories.{at_one, at_stays, ok_map, ok_both}
 use Rattle.b67_outcomes.proofs.Keeping.{same_grows, same_searched, grown_history, grown_more, followed_idle}
@@ -17,7 +17,7 @@ stand-requires g c =
     let code = g.W.Walker.code c.args.walker.now in
     record {
       led = subst (λ (xs : List Step). IsLed code xs c.args.number) (sym c.as_slice.ensures.value) (c.requires.searched.led c.args.number c.requires.there);
-      there = subst (λ (xs : List Step). IfSome c.args.at (λ n. IsAt code xs n (g.W.Walker.image c.args.walker.now))) (sym c.as_slice.ensures.value) c.requires.stands;
+      there = subst (λ (xs : List Step). IfSome c.args.at (λ n. NumberIsAt code xs n (g.W.Walker.image c.args.walker.now))) (sym c.as_slice.ensures.value) c.requires.stands;
     }
 
 pub processes-init : goal.processes-init
@@ -26,7 +26,7 @@ processes-init g c = (
   refl,
   same_grows c.args.found.now _ refl refl refl (λ e. e),
   same_searched (g.W.Walker.code c.args.walker.now) c.args.most c.args.found.now _ c.requires.searched refl refl refl c.requires.searched.cause,
-  subst (λ (xs : List Step). IsAt (g.W.Walker.code c.args.walker.now) xs c.args.number (g.W.Walker.image c.stand.new.walker)) c.as_slice.ensures.value
+  subst (λ (xs : List Step). NumberIsAt (g.W.Walker.code c.args.walker.now) xs c.args.number (g.W.Walker.image c.stand.new.walker)) c.as_slice.ensures.value
       c.in_ok-stand.ensures.at,
   λ history is p one below. absurd (omega (arith, one, below)),
   kept_same (g.W.Walker.code c.args.walker.now) (g.W.Walker.Local (g.W.Walker.code c.args.walker.now)) c.args.found.now _ c.args.number 0 refl refl c.requires.tree
@@ -54,7 +54,7 @@ processes-preserved g c =
       c.follow.ensures.second ∙ i.1,
       grown_more c.args.found.now old new i.2 c.in_ok-follow.ensures.grows,
       subst (λ (k : Code). IsSearched k c.args.most new) i.0 c.in_ok-follow.ensures.searched,
-      subst (λ (k : Code). IsAt k new.steps.items c.args.number (g.W.Walker.image c.follow.new.walker)) i.0 c.in_ok-follow.ensures.stands,
+      subst (λ (k : Code). NumberIsAt k new.steps.items c.args.number (g.W.Walker.image c.follow.new.walker)) i.0 c.in_ok-follow.ensures.stands,
       λ history is.
           followed_next code Local old new c.args.number history c.processes.process c.in_ok-follow.ensures.grows (i.5 history is)
           (subst (λ (k : Code). IsFollowed k (g.W.Walker.Local k) new c.args.number history c.processes.process) i.0
@@ -70,7 +70,7 @@ pub returns-in_default-clause-expanded : goal.returns-in_default-clause-expanded
 returns-in_default-clause-expanded g c =
     let code = g.W.Walker.code c.args.walker.now in
     let here = g.W.Walker.image c.stand.new.walker in
-    let there = subst (λ (xs : List Step). IsAt code xs c.args.number here) c.as_slice.ensures.value c.in_ok-stand.ensures.at in
+    let there = subst (λ (xs : List Step). NumberIsAt code xs c.args.number here) c.as_slice.ensures.value c.in_ok-stand.ensures.at in
     record {
       history = there.history;
       is = there.is;
@@ -109,7 +109,7 @@ find-requires-clause-may g c =
     let code = g.W.Walker.code c.args.walker.now in
     let here = g.W.Walker.image c.stand.new.walker in
     let able = subst (λ (o : Option ℕ). IsLastAble here o) c.in-Some.is c.last_able-able.ensures in
-    let there = subst (λ (xs : List Step). IsAt code xs c.args.number here) c.as_slice.ensures.value c.in_ok-stand.ensures.at in
+    let there = subst (λ (xs : List Step). NumberIsAt code xs c.args.number here) c.as_slice.ensures.value c.in_ok-stand.ensures.at in
     let also = at_stays code c.args.found.now.steps.items i.2.more c.processes.found.steps.items c.args.number here i.2.steps there in
     subst (λ (x : Image). may_act x c.in-Some.last ≡ true)
     (at_one code c.processes.found.steps.items c.args.number here (g.W.Walker.image c.processes.walker) also i.4) able.0
@@ -124,11 +124,11 @@ returns-clause-expanded g c =
     let old = c.processes.found in
     let new = c.find.new.found in
     let able = subst (λ (o : Option ℕ). IsLastAble here o) c.in-Some.is c.last_able-able.ensures in
-    let there = subst (λ (xs : List Step). IsAt code xs c.args.number here) c.as_slice.ensures.value c.in_ok-stand.ensures.at in
+    let there = subst (λ (xs : List Step). NumberIsAt code xs c.args.number here) c.as_slice.ensures.value c.in_ok-stand.ensures.at in
     let h = there.history in
     let is = there.is in
     let after = g.W.Walker.code c.processes.walker in
-    ok_both c.find.result (λ u. Grows old new)
+    ok_both c.find.result (λ u. FoundGrows old new)
     (λ u. (history : List ℕ) → History old.steps.items c.args.number history → IsFollowed after (g.W.Walker.Local after) new c.args.number history last)
     (λ u. IsExpanded code Local new c.args.number)
     (λ u grows followed.

@@ -1,5 +1,5 @@
 use Rattle.std.proofs.Common.{◌≡◌, ℕ, List, ◌-◌, ◌<◌, ◌≤◌}
-use Rattle.b67_outcomes.specs.Finding.{History, Grows, IsAt, IsSearched, IsFollowed}
+use Rattle.b67_outcomes.specs.Finding.{History, FoundGrows, NumberIsAt, IsSearched, IsFollowed}
 use Rattle.b67_outcomes.specs.Kept.{IsReady, IsTree}
 use Rattle.b67_outcomes.proofs.search.expand.Given as goal
 
@@ -7,8 +7,8 @@ use Rattle.b67_outcomes.proofs.search.expand.Given as goal
 abbrev pub invariant-processes : goal.invariant-processes
 invariant-processes g l =
     (g.W.Walker.code l.walker ≡ g.W.Walker.code l.fn.walker) × (g.W.Walker.code l.second ≡ g.W.Walker.code l.fn.second)
-    × Grows l.fn.found l.found × IsSearched (g.W.Walker.code l.fn.walker) l.most l.found
-    × IsAt (g.W.Walker.code l.fn.walker) l.found.steps.items l.number (g.W.Walker.image l.walker)
+    × FoundGrows l.fn.found l.found × IsSearched (g.W.Walker.code l.fn.walker) l.most l.found
+    × NumberIsAt (g.W.Walker.code l.fn.walker) l.found.steps.items l.number (g.W.Walker.image l.walker)
     × ((history : List ℕ) → History l.fn.found.steps.items l.number history → (p : ℕ) → 1 ≤ p → p < l.process
     → IsFollowed (g.W.Walker.code l.fn.walker) (g.W.Walker.Local (g.W.Walker.code l.fn.walker)) l.found l.number history p)
     × (IsTree (g.W.Walker.code l.fn.walker) (g.W.Walker.Local (g.W.Walker.code l.fn.walker)) l.found × IsReady l.found l.number l.process)

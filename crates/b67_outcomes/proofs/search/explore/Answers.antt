@@ -3,7 +3,7 @@ use Rattle.std.specs.Prelude.{slice_get, IfSome}
 use Rattle.std.proofs.lemmas.Option.{slice_get-get_or, slice_get_within}
 use Rattle.b67_segment.specs.declared.code.Code.{Code}
 use Rattle.b67_outcomes.specs.declared.found.State.{State}
-use Rattle.b67_outcomes.specs.Finding.{IsAt, IsSearched, IsExpanded}
+use Rattle.b67_outcomes.specs.Finding.{NumberIsAt, IsSearched, IsExpanded}
 use Rattle.b67_outcomes.specs.Kept.{AreOpen, IsReady, IsTree}
 use Rattle.b67_outcomes.proofs.Keeping.{arrived_stays}
 use Rattle.b67_outcomes.proofs.Closing.{begun_searched, expanded_next, all_noted, closure}
@@ -54,7 +54,7 @@ states-preserved g c =
       λ e. arrived_stays code (g.W.Walker.Local code) c.states.found c.expand.new.found _ grows (i.3 (grows.cut e)),
       expanded_next code (g.W.Walker.Local code) c.states.found c.expand.new.found c.states.done s grows there i.4
           (subst (λ (k : Code). IsExpanded k (g.W.Walker.Local k) c.expand.new.found s.number) i.0 c.in_ok-at-2.ensures.expanded),
-      subst (λ (k : Code). IfSome c.in_ok-at-2.at (λ (n : ℕ). IsAt k c.expand.new.found.steps.items n (g.W.Walker.image c.expand.new.walker))) i.0
+      subst (λ (k : Code). IfSome c.in_ok-at-2.at (λ (n : ℕ). NumberIsAt k c.expand.new.found.steps.items n (g.W.Walker.image c.expand.new.walker))) i.0
           c.in_ok-at-2.ensures.stands,
       tree.0,
       expanded_open code (g.W.Walker.Local code) c.states.found c.expand.new.found c.states.done s grows tree.0 tree.1 there,

@@ -1,7 +1,7 @@
 use Rattle.std.proofs.Common.{◌≡◌, ◌-◌, ◌≤◌, false, length}
 use Rattle.std.specs.Prelude.{IfSome}
 use Rattle.b67_table.specs.Beginning.{first_image}
-use Rattle.b67_outcomes.specs.Finding.{IsArrived, IsAt, IsSearched}
+use Rattle.b67_outcomes.specs.Finding.{IsArrived, NumberIsAt, IsSearched}
 use Rattle.b67_outcomes.specs.Kept.{AreNotExpanded, IsTree}
 use Rattle.b67_outcomes.proofs.Closing.{AreExpanded}
 use Rattle.b67_outcomes.proofs.search.explore.Given as goal
@@ -13,7 +13,7 @@ invariant-states g l =
     × IsSearched (g.W.Walker.code l.fn.walker) l.most l.found
     × (l.found.cut ≡ false → IsArrived (g.W.Walker.code l.fn.walker) (g.W.Walker.Local (g.W.Walker.code l.fn.walker)) l.found first_image)
     × AreExpanded (g.W.Walker.code l.fn.walker) (g.W.Walker.Local (g.W.Walker.code l.fn.walker)) l.found l.done
-    × IfSome l.at (λ number. IsAt (g.W.Walker.code l.fn.walker) l.found.steps.items number (g.W.Walker.image l.walker))
+    × IfSome l.at (λ number. NumberIsAt (g.W.Walker.code l.fn.walker) l.found.steps.items number (g.W.Walker.image l.walker))
     × IsTree (g.W.Walker.code l.fn.walker) (g.W.Walker.Local (g.W.Walker.code l.fn.walker)) l.found × AreNotExpanded l.found l.done
     × (1 ≤ length l.found.states.items)
 

@@ -3,9 +3,9 @@ use Rattle.std.specs.Prelude.{IfSome, reverse}
 use Rattle.std.proofs.lemmas.List.{reverse-append}
 use Rattle.b67_segment.specs.declared.code.Code.{Code}
 use Rattle.b67_table.specs.Image.{Image}
-use Rattle.b67_outcomes.specs.Entering.{Enters, IsReached}
+use Rattle.b67_outcomes.specs.Entering.{ProcessEnters, IsReached}
 use Rattle.b67_outcomes.specs.Finding.{IsAfter}
-use Rattle.b67_outcomes.specs.Settling.{CanSettle, Settles, rest, settle}
+use Rattle.b67_outcomes.specs.Settling.{CanSettle, ImageSettles, rest, settle}
 use Rattle.b67_outcomes.proofs.Histories.{after_more, after_one, ok_map}
 use Rattle.b67_outcomes.proofs.settling.settle.Goals as goal
 
@@ -39,11 +39,11 @@ returns-then-not-entered-clause-settles g c =
     let same : g.W.Walker.code c.enter.new.self ≡ code = c.enter.ensures.code ∙ c.next_settled.ensures.code ∙ i.0 in
     ok_map c.walk_on.result (λ u. IsAfter (g.W.Walker.code c.enter.new.self) steps c.args.number c.as_slice.result.now there)
     (λ u. (more : List ℕ) × (c.entries.path.items ≡ c.args.path.now.items ++ more)
-    × Settles code (g.W.Walker.Local code) (g.W.Walker.image c.args.walker.now) (reverse more) there)
+    × ImageSettles code (g.W.Walker.Local code) (g.W.Walker.image c.args.walker.now) (reverse more) there)
     (λ u l. (
       i.2.0,
       i.2.1,
-      subst (λ (x : Image). Settles code (g.W.Walker.Local code) (g.W.Walker.image c.args.walker.now) (reverse i.2.0) x)
+      subst (λ (x : Image). ImageSettles code (g.W.Walker.Local code) (g.W.Walker.image c.args.walker.now) (reverse i.2.0) x)
           (after_one code steps c.args.number c.entries.path.items (g.W.Walker.image c.entries.walker) there i.1
           (subst (λ (z : List ℕ). IsAfter code steps c.args.number z there) c.as_slice.ensures.value
           (subst (λ (k : Code). IsAfter k steps c.args.number c.as_slice.result.now there) same l))) i.2.2,
@@ -61,16 +61,16 @@ entries-preserved g c =
     subst (λ (k : Code). CanSettle (g.W.Walker.Local k) here p) i.0
     (subst (λ (o : Option ℕ). IfSome o (CanSettle (g.W.Walker.Local (g.W.Walker.code c.entries.walker)) here)) c.in-Some.is c.in_ok-next.ensures.settles) in
     let entered =
-    subst (λ (k : Code). Enters k p here true there) (c.next_settled.ensures.code ∙ i.0)
-    (subst (λ (x : Image). Enters (g.W.Walker.code c.next_settled.new.walker) p x true there) c.next_settled.ensures.stays
-    (subst (λ (b : Bool). Enters (g.W.Walker.code c.next_settled.new.walker) p (g.W.Walker.image c.next_settled.new.walker) b there) c.if-not-entered.false
+    subst (λ (k : Code). ProcessEnters k p here true there) (c.next_settled.ensures.code ∙ i.0)
+    (subst (λ (x : Image). ProcessEnters (g.W.Walker.code c.next_settled.new.walker) p x true there) c.next_settled.ensures.stays
+    (subst (λ (b : Bool). ProcessEnters (g.W.Walker.code c.next_settled.new.walker) p (g.W.Walker.image c.next_settled.new.walker) b there) c.if-not-entered.false
     c.in_ok-entered.ensures.entered)) in (
       c.enter.ensures.code ∙ c.next_settled.ensures.code ∙ i.0,
       after_more code c.args.steps.now c.args.number c.entries.path.items c.push.new.self.items p entered.0 here there c.in_ok-push.ensures.items i.1 entered.1,
       (
         i.2.0 ++ p ∷ [],
         c.in_ok-push.ensures.items ∙ ap (λ (z : List ℕ). z ++ p ∷ []) i.2.1 ∙ append_assoc c.args.path.now.items i.2.0 (p ∷ []),
-        subst (λ (z : List ℕ). Settles code (g.W.Walker.Local code) (g.W.Walker.image c.args.walker.now) z there) (sym (reverse-append i.2.0 (p ∷ [])))
+        subst (λ (z : List ℕ). ImageSettles code (g.W.Walker.Local code) (g.W.Walker.image c.args.walker.now) z there) (sym (reverse-append i.2.0 (p ∷ [])))
             (settle i.2.2 can entered.1),
       ),
     )

@@ -2,7 +2,7 @@ use Rattle.std.proofs.Common.{sym, subst, ◌∙◌, ℕ, ◌-◌, List, drop, g
 use Rattle.std.specs.List.{All}
 use Rattle.b67_segment.specs.declared.code.Code.{Code}
 use Rattle.b67_table.specs.Image.{Image}
-use Rattle.b67_outcomes.specs.Entering.{IsNumber, IsReached, Leads, LeadsTo, Repeats}
+use Rattle.b67_outcomes.specs.Entering.{IsProcessNumber, IsReached, HistoryLeads, HistoryLeadsTo, Repeats}
 use Rattle.b67_outcomes.proofs.Histories.{led_begun, numbers_begun}
 use Rattle.b67_outcomes.proofs.Repeating.{has_repeats, led_repeats, numbers_repeat, part_leads}
 use Rattle.b67_outcomes.proofs.walking.perform.Goals as goal
@@ -19,7 +19,7 @@ enter_run-requires g c =
     let here = g.W.Walker.image c.runs.walker in
     let p = get_or h (c.runs.left - 1) 0 in
     let rest = drop c.runs.left h in
-    let leads = subst (λ (z : List ℕ). Leads code z) c.times-count.ensures.same (part_leads code h (c.runs.left - c.times-count.result) c.requires.leads) in
+    let leads = subst (λ (z : List ℕ). HistoryLeads code z) c.times-count.ensures.same (part_leads code h (c.runs.left - c.times-count.result) c.requires.leads) in
     let has = has_repeats code p c.times-count.result rest here leads i.2 in
     record {
       some = c.times-count.ensures.some;
@@ -40,6 +40,6 @@ runs-preserved g c =
     let entered = subst (λ (k : Code). Repeats k p count here there) i.0 c.in_ok-enter_run.ensures.entered in (
       c.enter_run.ensures.code ∙ i.0,
       omega (arith, i.1),
-      subst (λ (z : List ℕ). LeadsTo code z there) (sym c.times-count.ensures.same) (led_repeats code p count rest here there i.2 entered),
-      subst (λ (z : List ℕ). All IsNumber z) (sym c.times-count.ensures.same) (numbers_repeat count p rest c.enter_run.ensures.number i.3),
+      subst (λ (z : List ℕ). HistoryLeadsTo code z there) (sym c.times-count.ensures.same) (led_repeats code p count rest here there i.2 entered),
+      subst (λ (z : List ℕ). All IsProcessNumber z) (sym c.times-count.ensures.same) (numbers_repeat count p rest c.enter_run.ensures.number i.3),
     )

@@ -1,7 +1,7 @@
 use Rattle.std.proofs.Common.{◌≡◌, refl, ap, subst, ◌∙◌, ℕ, ◌<◌, List, length, take, get_or, arith}
 use Rattle.std.proofs.Math.Seq.{take-length}
 use Rattle.b67_segment.specs.declared.code.Code.{Code}
-use Rattle.b67_outcomes.specs.Entering.{Enters}
+use Rattle.b67_outcomes.specs.Entering.{ProcessEnters}
 use Rattle.b67_outcomes.specs.Finding.{IsAfter}
 use Rattle.b67_outcomes.proofs.Histories.{after_none, part_leads, path_may, path_after}
 use Rattle.b67_outcomes.proofs.walking.walk_on.Goals as goal
@@ -32,7 +32,7 @@ entries-preserved g c =
       omega (arith, below),
       path_after (g.W.Walker.code c.args.walker.now) c.args.steps.now c.args.number c.args.path.now c.entries.done c.requires.leads.0
           (g.W.Walker.image c.entries.walker) (g.W.Walker.image c.enter.new.self) c.in_ok-enter.field-0 below c.requires.leads.1 i.2
-          (subst (λ (k : Code). Enters k (get_or c.args.path.now c.entries.done 0) (g.W.Walker.image c.entries.walker) c.in_ok-enter.field-0
+          (subst (λ (k : Code). ProcessEnters k (get_or c.args.path.now c.entries.done 0) (g.W.Walker.image c.entries.walker) c.in_ok-enter.field-0
           (g.W.Walker.image c.enter.new.self)) i.0 c.in_ok-enter.ensures.entered),
     )
 

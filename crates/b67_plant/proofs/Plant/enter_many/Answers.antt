@@ -2,16 +2,16 @@ use Rattle.std.specs.Prelude.{slice_set}
 use Rattle.std.proofs.Common.{◌≡◌, refl, sym, ap, subst, ◌∙◌, ℕ, ◌+◌, ◌-◌, ◌≤◌, ◌<◌, true, false, List, [], ◌++◌, length, take, get_or, None, arith}
 use Rattle.std.proofs.lemmas.List.{length-take-le, with_items_is}
 use Rattle.b67_deeds.specs.declared.Letter.{Letter}
-use Rattle.b67_schedule.specs.Schedules.{Kept as Schedule}
+use Rattle.b67_schedule.specs.Schedules.{ScheduleModel}
 use Rattle.b67_ready.specs.Ready.{counted_times}
 use Rattle.b67_joining.specs.Joining.{joining}
 use Rattle.b67_processors.specs.Acts.{IsActed}
 use Rattle.b67_plant.specs.Calls.{answer_to}
-use Rattle.b67_machine.specs.Stepping.{Performs}
+use Rattle.b67_machine.specs.Stepping.{MachinePerforms}
 use Rattle.b67_stands.specs.Running.{Running, answer_of}
 use Rattle.b67_stands.specs.Placing.{holder_of}
 use Rattle.b67_stands.specs.Stands.{Stands}
-use Rattle.b67_stands.specs.Calls.{is_action, ActsOnce}
+use Rattle.b67_stands.specs.Calls.{done_is_action, ActsOnce}
 use Rattle.b67_stands.specs.Turns.{StandsOut, ActsMany}
 use Rattle.b67_stands.proofs.Ends.{goes_on}
 use Rattle.b67_stands.proofs.Acting.{Given, stands_after}
@@ -222,18 +222,18 @@ invariant_of-self g c =
     λ h. subst (λ (s : Running). s.waiting ≡ []) (sym c.self.view_is)
     (c.requires.alone (omega (arith, h, first_few notes most))) in
     let first = one_picked g.P.Rule.pick g.N.Named.pick c.self.inside.ready.rule g.met.P.Rule.within i.4 in
-    let s : Schedule = c.push_many.new.self in
+    let s : ScheduleModel = c.push_many.new.self in
     let whole = with_items_is c.self.inside.notes notes (c.perform_most-entered.ensures.size ∙ c.deref_mut.ensures.len) in
     let grown : Grown c.self.inside.schedule c.args.process (take c.perform_most-entered.result.entries part) s =
     grown_by c.self.inside.schedule s c.args.process c.deref.result.now notes most c.perform_most-entered.result.entries (c.deref.ensures.value ∙ whole)
     c.perform_most-entered.ensures.performs.few c.push_many.ensures.added c.push_many.ensures.letters c.push_many.ensures.none in
     let mid : Running = turned old c.perform_most-entered.result.entries c.perform_most-entered.result.operators c.perform_most-entered.ensures.performs.between s in
     let st : StandsOut g.N.Named.code g.N.Named.budget c.args.process mid = stands_then g.N.Named.code g.N.Named.budget g.N.Named.pick old c.args.process part c.self.inside.budget c.perform_most-entered.result c.perform_most-entered.new.machine i.1 i.0 going held alone i.2 i.3 first c.perform_most-entered.ensures.performs s grown in
-    let performs : Performs c.perform_most-entered.ensures.performs.between c.args.process (c.self.inside.budget - mid.spent) c.perform_most-entered.result.last c.perform_most-entered.new.machine = last_performs g.N.Named.code g.N.Named.budget g.N.Named.pick old c.args.process part c.self.inside.budget c.perform_most-entered.result c.perform_most-entered.new.machine i.1 i.0 going held alone i.2 i.3 first c.perform_most-entered.ensures.performs s grown in
+    let performs : MachinePerforms c.perform_most-entered.ensures.performs.between c.args.process (c.self.inside.budget - mid.spent) c.perform_most-entered.result.last c.perform_most-entered.new.machine = last_performs g.N.Named.code g.N.Named.budget g.N.Named.pick old c.args.process part c.self.inside.budget c.perform_most-entered.result c.perform_most-entered.new.machine i.1 i.0 going held alone i.2 i.3 first c.perform_most-entered.ensures.performs s grown in
     let same = same_queue c.self.inside.ready c.take_again.new.self (counted_times c.perform_most-entered.result.entries c.self.inside.ready.takes) c.take_again.ensures.counted in
     let kept = same.waiting in
     let takes = same.takes in
-    let none : is_action c.perform_most-entered.result.last.done ≡ false = sym c.is_action.ensures ∙ c.if-not-is_action.true in
+    let none : done_is_action c.perform_most-entered.result.last.done ≡ false = sym c.is_action.ensures ∙ c.if-not-is_action.true in
     let new : Running = record mid { machine = c.perform_most-entered.new.machine; spent = mid.spent + c.perform_most-entered.result.last.plain } in
     let acts : ActsOnce g.N.Named.budget mid c.args.process c.perform_most-entered.result.last new =
     once g.N.Named.budget mid c.args.process c.perform_most-entered.result.last new c.self.inside.budget i.2 performs false none
@@ -289,18 +289,18 @@ returns-then-not-is_action-clause-acts g c =
     λ h. subst (λ (s : Running). s.waiting ≡ []) (sym c.self.view_is)
     (c.requires.alone (omega (arith, h, first_few notes most))) in
     let first = one_picked g.P.Rule.pick g.N.Named.pick c.self.inside.ready.rule g.met.P.Rule.within i.4 in
-    let s : Schedule = c.push_many.new.self in
+    let s : ScheduleModel = c.push_many.new.self in
     let whole = with_items_is c.self.inside.notes notes (c.perform_most-entered.ensures.size ∙ c.deref_mut.ensures.len) in
     let grown : Grown c.self.inside.schedule c.args.process (take c.perform_most-entered.result.entries part) s =
     grown_by c.self.inside.schedule s c.args.process c.deref.result.now notes most c.perform_most-entered.result.entries (c.deref.ensures.value ∙ whole)
     c.perform_most-entered.ensures.performs.few c.push_many.ensures.added c.push_many.ensures.letters c.push_many.ensures.none in
     let mid : Running = turned old c.perform_most-entered.result.entries c.perform_most-entered.result.operators c.perform_most-entered.ensures.performs.between s in
     let st : StandsOut g.N.Named.code g.N.Named.budget c.args.process mid = stands_then g.N.Named.code g.N.Named.budget g.N.Named.pick old c.args.process part c.self.inside.budget c.perform_most-entered.result c.perform_most-entered.new.machine i.1 i.0 going held alone i.2 i.3 first c.perform_most-entered.ensures.performs s grown in
-    let performs : Performs c.perform_most-entered.ensures.performs.between c.args.process (c.self.inside.budget - mid.spent) c.perform_most-entered.result.last c.perform_most-entered.new.machine = last_performs g.N.Named.code g.N.Named.budget g.N.Named.pick old c.args.process part c.self.inside.budget c.perform_most-entered.result c.perform_most-entered.new.machine i.1 i.0 going held alone i.2 i.3 first c.perform_most-entered.ensures.performs s grown in
+    let performs : MachinePerforms c.perform_most-entered.ensures.performs.between c.args.process (c.self.inside.budget - mid.spent) c.perform_most-entered.result.last c.perform_most-entered.new.machine = last_performs g.N.Named.code g.N.Named.budget g.N.Named.pick old c.args.process part c.self.inside.budget c.perform_most-entered.result c.perform_most-entered.new.machine i.1 i.0 going held alone i.2 i.3 first c.perform_most-entered.ensures.performs s grown in
     let same = same_queue c.self.inside.ready c.take_again.new.self (counted_times c.perform_most-entered.result.entries c.self.inside.ready.takes) c.take_again.ensures.counted in
     let kept = same.waiting in
     let takes = same.takes in
-    let none : is_action c.perform_most-entered.result.last.done ≡ false = sym c.is_action.ensures ∙ c.if-not-is_action.true in
+    let none : done_is_action c.perform_most-entered.result.last.done ≡ false = sym c.is_action.ensures ∙ c.if-not-is_action.true in
     let new : Running = record mid { machine = c.perform_most-entered.new.machine; spent = mid.spent + c.perform_most-entered.result.last.plain } in
     let acts : ActsOnce g.N.Named.budget mid c.args.process c.perform_most-entered.result.last new =
     once g.N.Named.budget mid c.args.process c.perform_most-entered.result.last new c.self.inside.budget i.2 performs false none
@@ -337,7 +337,7 @@ returns-clause-one g c = λ one. omega (arith, c.perform_most-entered.ensures.pe
 
 pub returns-then-not-is_action-clause-count : goal.returns-then-not-is_action-clause-count
 returns-then-not-is_action-clause-count g c =
-    let none : is_action c.perform_most-entered.result.last.done ≡ false = sym c.is_action.ensures ∙ c.if-not-is_action.true in
+    let none : done_is_action c.perform_most-entered.result.last.done ≡ false = sym c.is_action.ensures ∙ c.if-not-is_action.true in
     subst (λ a. IsActed a (c.args.seat.now.count + c.perform_most-entered.result.entries) (c.args.seat.now.count + c.from-2.result)) (sym c.answer_to-answer.ensures)
     (subst (λ (k : ℕ). IsActed (answer_to c.perform_most-entered.result.last.done) (c.args.seat.now.count + c.perform_most-entered.result.entries) (c.args.seat.now.count + k)) (sym c.from-2.ensures)
     (counts_none c.perform_most-entered.result.last.done (c.args.seat.now.count + c.perform_most-entered.result.entries) none))
@@ -364,14 +364,14 @@ push-requires-clause-room g c =
     λ h. subst (λ (s : Running). s.waiting ≡ []) (sym c.self.view_is)
     (c.requires.alone (omega (arith, h, first_few notes most))) in
     let first = one_picked g.P.Rule.pick g.N.Named.pick c.self.inside.ready.rule g.met.P.Rule.within i.4 in
-    let s : Schedule = c.push_many.new.self in
+    let s : ScheduleModel = c.push_many.new.self in
     let whole = with_items_is c.self.inside.notes notes (c.perform_most-entered.ensures.size ∙ c.deref_mut.ensures.len) in
     let grown : Grown c.self.inside.schedule c.args.process (take c.perform_most-entered.result.entries part) s =
     grown_by c.self.inside.schedule s c.args.process c.deref.result.now notes most c.perform_most-entered.result.entries (c.deref.ensures.value ∙ whole)
     c.perform_most-entered.ensures.performs.few c.push_many.ensures.added c.push_many.ensures.letters c.push_many.ensures.none in
     let mid : Running = turned old c.perform_most-entered.result.entries c.perform_most-entered.result.operators c.perform_most-entered.ensures.performs.between s in
     let st : StandsOut g.N.Named.code g.N.Named.budget c.args.process mid = stands_then g.N.Named.code g.N.Named.budget g.N.Named.pick old c.args.process part c.self.inside.budget c.perform_most-entered.result c.perform_most-entered.new.machine i.1 i.0 going held alone i.2 i.3 first c.perform_most-entered.ensures.performs s grown in
-    let performs : Performs c.perform_most-entered.ensures.performs.between c.args.process (c.self.inside.budget - mid.spent) c.perform_most-entered.result.last c.perform_most-entered.new.machine = last_performs g.N.Named.code g.N.Named.budget g.N.Named.pick old c.args.process part c.self.inside.budget c.perform_most-entered.result c.perform_most-entered.new.machine i.1 i.0 going held alone i.2 i.3 first c.perform_most-entered.ensures.performs s grown in
+    let performs : MachinePerforms c.perform_most-entered.ensures.performs.between c.args.process (c.self.inside.budget - mid.spent) c.perform_most-entered.result.last c.perform_most-entered.new.machine = last_performs g.N.Named.code g.N.Named.budget g.N.Named.pick old c.args.process part c.self.inside.budget c.perform_most-entered.result c.perform_most-entered.new.machine i.1 i.0 going held alone i.2 i.3 first c.perform_most-entered.ensures.performs s grown in
     let same = same_queue c.self.inside.ready c.take_again.new.self (counted_times c.perform_most-entered.result.entries c.self.inside.ready.takes) c.take_again.ensures.counted in
     let kept = same.waiting in
     let takes = same.takes in
@@ -448,14 +448,14 @@ push-requires-clause-actions g c =
     λ h. subst (λ (s : Running). s.waiting ≡ []) (sym c.self.view_is)
     (c.requires.alone (omega (arith, h, first_few notes most))) in
     let first = one_picked g.P.Rule.pick g.N.Named.pick c.self.inside.ready.rule g.met.P.Rule.within i.4 in
-    let s : Schedule = c.push_many.new.self in
+    let s : ScheduleModel = c.push_many.new.self in
     let whole = with_items_is c.self.inside.notes notes (c.perform_most-entered.ensures.size ∙ c.deref_mut.ensures.len) in
     let grown : Grown c.self.inside.schedule c.args.process (take c.perform_most-entered.result.entries part) s =
     grown_by c.self.inside.schedule s c.args.process c.deref.result.now notes most c.perform_most-entered.result.entries (c.deref.ensures.value ∙ whole)
     c.perform_most-entered.ensures.performs.few c.push_many.ensures.added c.push_many.ensures.letters c.push_many.ensures.none in
     let mid : Running = turned old c.perform_most-entered.result.entries c.perform_most-entered.result.operators c.perform_most-entered.ensures.performs.between s in
     let st : StandsOut g.N.Named.code g.N.Named.budget c.args.process mid = stands_then g.N.Named.code g.N.Named.budget g.N.Named.pick old c.args.process part c.self.inside.budget c.perform_most-entered.result c.perform_most-entered.new.machine i.1 i.0 going held alone i.2 i.3 first c.perform_most-entered.ensures.performs s grown in
-    let performs : Performs c.perform_most-entered.ensures.performs.between c.args.process (c.self.inside.budget - mid.spent) c.perform_most-entered.result.last c.perform_most-entered.new.machine = last_performs g.N.Named.code g.N.Named.budget g.N.Named.pick old c.args.process part c.self.inside.budget c.perform_most-entered.result c.perform_most-entered.new.machine i.1 i.0 going held alone i.2 i.3 first c.perform_most-entered.ensures.performs s grown in
+    let performs : MachinePerforms c.perform_most-entered.ensures.performs.between c.args.process (c.self.inside.budget - mid.spent) c.perform_most-entered.result.last c.perform_most-entered.new.machine = last_performs g.N.Named.code g.N.Named.budget g.N.Named.pick old c.args.process part c.self.inside.budget c.perform_most-entered.result c.perform_most-entered.new.machine i.1 i.0 going held alone i.2 i.3 first c.perform_most-entered.ensures.performs s grown in
     let same = same_queue c.self.inside.ready c.take_again.new.self (counted_times c.perform_most-entered.result.entries c.self.inside.ready.takes) c.take_again.ensures.counted in
     let kept = same.waiting in
     let takes = same.takes in
@@ -508,18 +508,18 @@ join_queue-requires-clause-room g c =
     λ h. subst (λ (s : Running). s.waiting ≡ []) (sym c.self.view_is)
     (c.requires.alone (omega (arith, h, first_few notes most))) in
     let first = one_picked g.P.Rule.pick g.N.Named.pick c.self.inside.ready.rule g.met.P.Rule.within i.4 in
-    let s : Schedule = c.push_many.new.self in
+    let s : ScheduleModel = c.push_many.new.self in
     let whole = with_items_is c.self.inside.notes notes (c.perform_most-entered.ensures.size ∙ c.deref_mut.ensures.len) in
     let grown : Grown c.self.inside.schedule c.args.process (take c.perform_most-entered.result.entries part) s =
     grown_by c.self.inside.schedule s c.args.process c.deref.result.now notes most c.perform_most-entered.result.entries (c.deref.ensures.value ∙ whole)
     c.perform_most-entered.ensures.performs.few c.push_many.ensures.added c.push_many.ensures.letters c.push_many.ensures.none in
     let mid : Running = turned old c.perform_most-entered.result.entries c.perform_most-entered.result.operators c.perform_most-entered.ensures.performs.between s in
     let st : StandsOut g.N.Named.code g.N.Named.budget c.args.process mid = stands_then g.N.Named.code g.N.Named.budget g.N.Named.pick old c.args.process part c.self.inside.budget c.perform_most-entered.result c.perform_most-entered.new.machine i.1 i.0 going held alone i.2 i.3 first c.perform_most-entered.ensures.performs s grown in
-    let performs : Performs c.perform_most-entered.ensures.performs.between c.args.process (c.self.inside.budget - mid.spent) c.perform_most-entered.result.last c.perform_most-entered.new.machine = last_performs g.N.Named.code g.N.Named.budget g.N.Named.pick old c.args.process part c.self.inside.budget c.perform_most-entered.result c.perform_most-entered.new.machine i.1 i.0 going held alone i.2 i.3 first c.perform_most-entered.ensures.performs s grown in
+    let performs : MachinePerforms c.perform_most-entered.ensures.performs.between c.args.process (c.self.inside.budget - mid.spent) c.perform_most-entered.result.last c.perform_most-entered.new.machine = last_performs g.N.Named.code g.N.Named.budget g.N.Named.pick old c.args.process part c.self.inside.budget c.perform_most-entered.result c.perform_most-entered.new.machine i.1 i.0 going held alone i.2 i.3 first c.perform_most-entered.ensures.performs s grown in
     let same = same_queue c.self.inside.ready c.take_again.new.self (counted_times c.perform_most-entered.result.entries c.self.inside.ready.takes) c.take_again.ensures.counted in
     let kept = same.waiting in
     let takes = same.takes in
-    let done : is_action c.perform_most-entered.result.last.done ≡ true = sym c.is_action.ensures ∙ c.if-not-is_action.false in
+    let done : done_is_action c.perform_most-entered.result.last.done ≡ true = sym c.is_action.ensures ∙ c.if-not-is_action.false in
     let new : Running = entered mid c.args.process c.perform_most-entered.result.last c.perform_most-entered.new.machine c.push.new.self (mid.acts + 1) in
     let acts : ActsOnce g.N.Named.budget mid c.args.process c.perform_most-entered.result.last new =
     entered_once g.N.Named.budget mid c.args.process c.perform_most-entered.result.last c.perform_most-entered.new.machine c.push.new.self (mid.acts + 1)
@@ -554,18 +554,18 @@ join_queue-requires-clause-few g c =
     λ h. subst (λ (s : Running). s.waiting ≡ []) (sym c.self.view_is)
     (c.requires.alone (omega (arith, h, first_few notes most))) in
     let first = one_picked g.P.Rule.pick g.N.Named.pick c.self.inside.ready.rule g.met.P.Rule.within i.4 in
-    let s : Schedule = c.push_many.new.self in
+    let s : ScheduleModel = c.push_many.new.self in
     let whole = with_items_is c.self.inside.notes notes (c.perform_most-entered.ensures.size ∙ c.deref_mut.ensures.len) in
     let grown : Grown c.self.inside.schedule c.args.process (take c.perform_most-entered.result.entries part) s =
     grown_by c.self.inside.schedule s c.args.process c.deref.result.now notes most c.perform_most-entered.result.entries (c.deref.ensures.value ∙ whole)
     c.perform_most-entered.ensures.performs.few c.push_many.ensures.added c.push_many.ensures.letters c.push_many.ensures.none in
     let mid : Running = turned old c.perform_most-entered.result.entries c.perform_most-entered.result.operators c.perform_most-entered.ensures.performs.between s in
     let st : StandsOut g.N.Named.code g.N.Named.budget c.args.process mid = stands_then g.N.Named.code g.N.Named.budget g.N.Named.pick old c.args.process part c.self.inside.budget c.perform_most-entered.result c.perform_most-entered.new.machine i.1 i.0 going held alone i.2 i.3 first c.perform_most-entered.ensures.performs s grown in
-    let performs : Performs c.perform_most-entered.ensures.performs.between c.args.process (c.self.inside.budget - mid.spent) c.perform_most-entered.result.last c.perform_most-entered.new.machine = last_performs g.N.Named.code g.N.Named.budget g.N.Named.pick old c.args.process part c.self.inside.budget c.perform_most-entered.result c.perform_most-entered.new.machine i.1 i.0 going held alone i.2 i.3 first c.perform_most-entered.ensures.performs s grown in
+    let performs : MachinePerforms c.perform_most-entered.ensures.performs.between c.args.process (c.self.inside.budget - mid.spent) c.perform_most-entered.result.last c.perform_most-entered.new.machine = last_performs g.N.Named.code g.N.Named.budget g.N.Named.pick old c.args.process part c.self.inside.budget c.perform_most-entered.result c.perform_most-entered.new.machine i.1 i.0 going held alone i.2 i.3 first c.perform_most-entered.ensures.performs s grown in
     let same = same_queue c.self.inside.ready c.take_again.new.self (counted_times c.perform_most-entered.result.entries c.self.inside.ready.takes) c.take_again.ensures.counted in
     let kept = same.waiting in
     let takes = same.takes in
-    let done : is_action c.perform_most-entered.result.last.done ≡ true = sym c.is_action.ensures ∙ c.if-not-is_action.false in
+    let done : done_is_action c.perform_most-entered.result.last.done ≡ true = sym c.is_action.ensures ∙ c.if-not-is_action.false in
     let new : Running = entered mid c.args.process c.perform_most-entered.result.last c.perform_most-entered.new.machine c.push.new.self (mid.acts + 1) in
     let acts : ActsOnce g.N.Named.budget mid c.args.process c.perform_most-entered.result.last new =
     entered_once g.N.Named.budget mid c.args.process c.perform_most-entered.result.last c.perform_most-entered.new.machine c.push.new.self (mid.acts + 1)
@@ -600,14 +600,14 @@ overflow_add-seat-2 g c =
     λ h. subst (λ (s : Running). s.waiting ≡ []) (sym c.self.view_is)
     (c.requires.alone (omega (arith, h, first_few notes most))) in
     let first = one_picked g.P.Rule.pick g.N.Named.pick c.self.inside.ready.rule g.met.P.Rule.within i.4 in
-    let s : Schedule = c.push_many.new.self in
+    let s : ScheduleModel = c.push_many.new.self in
     let whole = with_items_is c.self.inside.notes notes (c.perform_most-entered.ensures.size ∙ c.deref_mut.ensures.len) in
     let grown : Grown c.self.inside.schedule c.args.process (take c.perform_most-entered.result.entries part) s =
     grown_by c.self.inside.schedule s c.args.process c.deref.result.now notes most c.perform_most-entered.result.entries (c.deref.ensures.value ∙ whole)
     c.perform_most-entered.ensures.performs.few c.push_many.ensures.added c.push_many.ensures.letters c.push_many.ensures.none in
     let mid : Running = turned old c.perform_most-entered.result.entries c.perform_most-entered.result.operators c.perform_most-entered.ensures.performs.between s in
     let st : StandsOut g.N.Named.code g.N.Named.budget c.args.process mid = stands_then g.N.Named.code g.N.Named.budget g.N.Named.pick old c.args.process part c.self.inside.budget c.perform_most-entered.result c.perform_most-entered.new.machine i.1 i.0 going held alone i.2 i.3 first c.perform_most-entered.ensures.performs s grown in
-    let performs : Performs c.perform_most-entered.ensures.performs.between c.args.process (c.self.inside.budget - mid.spent) c.perform_most-entered.result.last c.perform_most-entered.new.machine = last_performs g.N.Named.code g.N.Named.budget g.N.Named.pick old c.args.process part c.self.inside.budget c.perform_most-entered.result c.perform_most-entered.new.machine i.1 i.0 going held alone i.2 i.3 first c.perform_most-entered.ensures.performs s grown in
+    let performs : MachinePerforms c.perform_most-entered.ensures.performs.between c.args.process (c.self.inside.budget - mid.spent) c.perform_most-entered.result.last c.perform_most-entered.new.machine = last_performs g.N.Named.code g.N.Named.budget g.N.Named.pick old c.args.process part c.self.inside.budget c.perform_most-entered.result c.perform_most-entered.new.machine i.1 i.0 going held alone i.2 i.3 first c.perform_most-entered.ensures.performs s grown in
     let same = same_queue c.self.inside.ready c.take_again.new.self (counted_times c.perform_most-entered.result.entries c.self.inside.ready.takes) c.take_again.ensures.counted in
     let kept = same.waiting in
     let takes = same.takes in
@@ -635,18 +635,18 @@ invariant_of-self-2 g c =
     λ h. subst (λ (s : Running). s.waiting ≡ []) (sym c.self.view_is)
     (c.requires.alone (omega (arith, h, first_few notes most))) in
     let first = one_picked g.P.Rule.pick g.N.Named.pick c.self.inside.ready.rule g.met.P.Rule.within i.4 in
-    let s : Schedule = c.push_many.new.self in
+    let s : ScheduleModel = c.push_many.new.self in
     let whole = with_items_is c.self.inside.notes notes (c.perform_most-entered.ensures.size ∙ c.deref_mut.ensures.len) in
     let grown : Grown c.self.inside.schedule c.args.process (take c.perform_most-entered.result.entries part) s =
     grown_by c.self.inside.schedule s c.args.process c.deref.result.now notes most c.perform_most-entered.result.entries (c.deref.ensures.value ∙ whole)
     c.perform_most-entered.ensures.performs.few c.push_many.ensures.added c.push_many.ensures.letters c.push_many.ensures.none in
     let mid : Running = turned old c.perform_most-entered.result.entries c.perform_most-entered.result.operators c.perform_most-entered.ensures.performs.between s in
     let st : StandsOut g.N.Named.code g.N.Named.budget c.args.process mid = stands_then g.N.Named.code g.N.Named.budget g.N.Named.pick old c.args.process part c.self.inside.budget c.perform_most-entered.result c.perform_most-entered.new.machine i.1 i.0 going held alone i.2 i.3 first c.perform_most-entered.ensures.performs s grown in
-    let performs : Performs c.perform_most-entered.ensures.performs.between c.args.process (c.self.inside.budget - mid.spent) c.perform_most-entered.result.last c.perform_most-entered.new.machine = last_performs g.N.Named.code g.N.Named.budget g.N.Named.pick old c.args.process part c.self.inside.budget c.perform_most-entered.result c.perform_most-entered.new.machine i.1 i.0 going held alone i.2 i.3 first c.perform_most-entered.ensures.performs s grown in
+    let performs : MachinePerforms c.perform_most-entered.ensures.performs.between c.args.process (c.self.inside.budget - mid.spent) c.perform_most-entered.result.last c.perform_most-entered.new.machine = last_performs g.N.Named.code g.N.Named.budget g.N.Named.pick old c.args.process part c.self.inside.budget c.perform_most-entered.result c.perform_most-entered.new.machine i.1 i.0 going held alone i.2 i.3 first c.perform_most-entered.ensures.performs s grown in
     let same = same_queue c.self.inside.ready c.take_again.new.self (counted_times c.perform_most-entered.result.entries c.self.inside.ready.takes) c.take_again.ensures.counted in
     let kept = same.waiting in
     let takes = same.takes in
-    let done : is_action c.perform_most-entered.result.last.done ≡ true = sym c.is_action.ensures ∙ c.if-not-is_action.false in
+    let done : done_is_action c.perform_most-entered.result.last.done ≡ true = sym c.is_action.ensures ∙ c.if-not-is_action.false in
     let new : Running = entered mid c.args.process c.perform_most-entered.result.last c.perform_most-entered.new.machine c.push.new.self (mid.acts + 1) in
     let acts : ActsOnce g.N.Named.budget mid c.args.process c.perform_most-entered.result.last new =
     entered_once g.N.Named.budget mid c.args.process c.perform_most-entered.result.last c.perform_most-entered.new.machine c.push.new.self (mid.acts + 1)
@@ -711,18 +711,18 @@ returns-clause-acts g c =
     λ h. subst (λ (s : Running). s.waiting ≡ []) (sym c.self.view_is)
     (c.requires.alone (omega (arith, h, first_few notes most))) in
     let first = one_picked g.P.Rule.pick g.N.Named.pick c.self.inside.ready.rule g.met.P.Rule.within i.4 in
-    let s : Schedule = c.push_many.new.self in
+    let s : ScheduleModel = c.push_many.new.self in
     let whole = with_items_is c.self.inside.notes notes (c.perform_most-entered.ensures.size ∙ c.deref_mut.ensures.len) in
     let grown : Grown c.self.inside.schedule c.args.process (take c.perform_most-entered.result.entries part) s =
     grown_by c.self.inside.schedule s c.args.process c.deref.result.now notes most c.perform_most-entered.result.entries (c.deref.ensures.value ∙ whole)
     c.perform_most-entered.ensures.performs.few c.push_many.ensures.added c.push_many.ensures.letters c.push_many.ensures.none in
     let mid : Running = turned old c.perform_most-entered.result.entries c.perform_most-entered.result.operators c.perform_most-entered.ensures.performs.between s in
     let st : StandsOut g.N.Named.code g.N.Named.budget c.args.process mid = stands_then g.N.Named.code g.N.Named.budget g.N.Named.pick old c.args.process part c.self.inside.budget c.perform_most-entered.result c.perform_most-entered.new.machine i.1 i.0 going held alone i.2 i.3 first c.perform_most-entered.ensures.performs s grown in
-    let performs : Performs c.perform_most-entered.ensures.performs.between c.args.process (c.self.inside.budget - mid.spent) c.perform_most-entered.result.last c.perform_most-entered.new.machine = last_performs g.N.Named.code g.N.Named.budget g.N.Named.pick old c.args.process part c.self.inside.budget c.perform_most-entered.result c.perform_most-entered.new.machine i.1 i.0 going held alone i.2 i.3 first c.perform_most-entered.ensures.performs s grown in
+    let performs : MachinePerforms c.perform_most-entered.ensures.performs.between c.args.process (c.self.inside.budget - mid.spent) c.perform_most-entered.result.last c.perform_most-entered.new.machine = last_performs g.N.Named.code g.N.Named.budget g.N.Named.pick old c.args.process part c.self.inside.budget c.perform_most-entered.result c.perform_most-entered.new.machine i.1 i.0 going held alone i.2 i.3 first c.perform_most-entered.ensures.performs s grown in
     let same = same_queue c.self.inside.ready c.take_again.new.self (counted_times c.perform_most-entered.result.entries c.self.inside.ready.takes) c.take_again.ensures.counted in
     let kept = same.waiting in
     let takes = same.takes in
-    let done : is_action c.perform_most-entered.result.last.done ≡ true = sym c.is_action.ensures ∙ c.if-not-is_action.false in
+    let done : done_is_action c.perform_most-entered.result.last.done ≡ true = sym c.is_action.ensures ∙ c.if-not-is_action.false in
     let new : Running = entered mid c.args.process c.perform_most-entered.result.last c.perform_most-entered.new.machine c.push.new.self (mid.acts + 1) in
     let acts : ActsOnce g.N.Named.budget mid c.args.process c.perform_most-entered.result.last new =
     entered_once g.N.Named.budget mid c.args.process c.perform_most-entered.result.last c.perform_most-entered.new.machine c.push.new.self (mid.acts + 1)
@@ -763,7 +763,7 @@ returns-clause-acts g c =
 
 pub returns-clause-count : goal.returns-clause-count
 returns-clause-count g c =
-    let done : is_action c.perform_most-entered.result.last.done ≡ true = sym c.is_action.ensures ∙ c.if-not-is_action.false in
+    let done : done_is_action c.perform_most-entered.result.last.done ≡ true = sym c.is_action.ensures ∙ c.if-not-is_action.false in
     subst (λ a. IsActed a (c.args.seat.now.count + c.perform_most-entered.result.entries) (c.args.seat.now.count + c.from-2.result + 1)) (sym c.answer_to-answer.ensures)
     (subst (λ (k : ℕ). IsActed (answer_to c.perform_most-entered.result.last.done) (c.args.seat.now.count + c.perform_most-entered.result.entries) (c.args.seat.now.count + k + 1)) (sym c.from-2.ensures)
     (counts_one c.perform_most-entered.result.last.done (c.args.seat.now.count + c.perform_most-entered.result.entries) done))

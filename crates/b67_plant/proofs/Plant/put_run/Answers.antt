@@ -1,13 +1,13 @@
 use Rattle.b67_deeds.specs.declared.Letter.{Letter}
 use Rattle.std.proofs.Common.{List, length, ◌≡◌, ◌^◌, true, ◌+◌, ◌≤◌, ◌<◌, ℕ, sym, ap, subst, ◌∙◌, None, arith}
 use Rattle.std.proofs.lemmas.List.{length-take-le}
-use Rattle.b67_schedule.specs.Schedules.{Kept as Schedule}
+use Rattle.b67_schedule.specs.Schedules.{ScheduleModel}
 use Rattle.b67_segment.specs.declared.code.Code.{Code}
 use Rattle.b67_list.specs.Numbered.{numbered}
 use Rattle.b67_table.specs.Image.{is_able}
 use Rattle.b67_action.specs.declared.running.Ran.{Ran}
-use Rattle.b67_machine.specs.Chaining.{Runs}
-use Rattle.b67_machine.specs.Kept.{Kept, counted}
+use Rattle.b67_machine.specs.Chaining.{ChainRuns}
+use Rattle.b67_machine.specs.Kept.{MachineModel, operators_counted}
 use Rattle.b67_machine.specs.Parts.{IsFull}
 use Rattle.b67_stands.specs.Running.{Running, answer_of}
 use Rattle.b67_stands.specs.Placing.{holder_of}
@@ -90,8 +90,8 @@ put_run-requires-clause-count g c =
     let is : IsRun code s = c.requires.run in
     let less : old.spent + (s.ran.operators + s.ran.plain) < budget =
     subst (λ (r : Running). r.spent + (s.ran.operators + s.ran.plain) < budget) (sym c.self.view_is) c.requires.less in
-    subst (λ (q : ℕ). counted old.machine.counts q + (c.ran-ran.result.operators + c.ran-ran.result.plain) < 2 ^ 64) (sym c.process-process.ensures)
-    (subst (λ (r : Ran). counted old.machine.counts s.process + (r.operators + r.plain) < 2 ^ 64) (sym c.ran-ran.ensures) (count_fits code budget old s i.0 going held c.requires.room starts is less c.self.inside.budget i.2 i.3))
+    subst (λ (q : ℕ). operators_counted old.machine.counts q + (c.ran-ran.result.operators + c.ran-ran.result.plain) < 2 ^ 64) (sym c.process-process.ensures)
+    (subst (λ (r : Ran). operators_counted old.machine.counts s.process + (r.operators + r.plain) < 2 ^ 64) (sym c.ran-ran.ensures) (count_fits code budget old s i.0 going held c.requires.room starts is less c.self.inside.budget i.2 i.3))
 
 pub put_run-requires-clause-full : goal.put_run-requires-clause-full
 put_run-requires-clause-full g c =
@@ -379,10 +379,10 @@ invariant_of-self g c =
     let is : IsRun code s = c.requires.run in
     let less : old.spent + (s.ran.operators + s.ran.plain) < budget =
     subst (λ (r : Running). r.spent + (s.ran.operators + s.ran.plain) < budget) (sym c.self.view_is) c.requires.less in
-    let m : Kept = c.put_run.new.self in
-    let runs : Runs old.machine s.process MOST_RUN s.ran s.noted m =
+    let m : MachineModel = c.put_run.new.self in
+    let runs : ChainRuns old.machine s.process MOST_RUN s.ran s.noted m =
     runs_as code budget old s i.0 going held c.requires.room starts is less c.process-process.result c.ran-ran.result c.letters-letters.result.now c.end.result.now c.process-process.ensures c.ran-ran.ensures c.letters-letters.ensures c.end.ensures.value m (c.put_run.ensures.runs MOST_RUN (has_run_as code budget old s i.0 going held c.requires.room starts is less c.process-process.result c.ran-ran.result c.letters-letters.result.now c.end.result.now c.process-process.ensures c.ran-ran.ensures c.letters-letters.ensures c.end.ensures.value)) in
-    let t : Schedule = c.push_many.new.self in
+    let t : ScheduleModel = c.push_many.new.self in
     let added = added_as code budget old s i.0 going held c.requires.room starts is less c.process-process.result c.ran-ran.result c.letters-letters.result.now c.end.result.now c.process-process.ensures c.ran-ran.ensures c.letters-letters.ensures c.end.ensures.value old.schedule t c.push_many.ensures.added in
     let letters = letters_as code budget old s i.0 going held c.requires.room starts is less c.process-process.result c.ran-ran.result c.letters-letters.result.now c.end.result.now c.process-process.ensures c.ran-ran.ensures c.letters-letters.ensures c.end.ensures.value old.schedule t c.push_many.ensures.letters in
     let new : Running = run_put code budget old s i.0 going held c.requires.room starts is less i.1 m runs t added letters in
@@ -430,10 +430,10 @@ returns-clause-puts g c =
     let is : IsRun code s = c.requires.run in
     let less : old.spent + (s.ran.operators + s.ran.plain) < budget =
     subst (λ (r : Running). r.spent + (s.ran.operators + s.ran.plain) < budget) (sym c.self.view_is) c.requires.less in
-    let m : Kept = c.put_run.new.self in
-    let runs : Runs old.machine s.process MOST_RUN s.ran s.noted m =
+    let m : MachineModel = c.put_run.new.self in
+    let runs : ChainRuns old.machine s.process MOST_RUN s.ran s.noted m =
     runs_as code budget old s i.0 going held c.requires.room starts is less c.process-process.result c.ran-ran.result c.letters-letters.result.now c.end.result.now c.process-process.ensures c.ran-ran.ensures c.letters-letters.ensures c.end.ensures.value m (c.put_run.ensures.runs MOST_RUN (has_run_as code budget old s i.0 going held c.requires.room starts is less c.process-process.result c.ran-ran.result c.letters-letters.result.now c.end.result.now c.process-process.ensures c.ran-ran.ensures c.letters-letters.ensures c.end.ensures.value)) in
-    let t : Schedule = c.push_many.new.self in
+    let t : ScheduleModel = c.push_many.new.self in
     let added = added_as code budget old s i.0 going held c.requires.room starts is less c.process-process.result c.ran-ran.result c.letters-letters.result.now c.end.result.now c.process-process.ensures c.ran-ran.ensures c.letters-letters.ensures c.end.ensures.value old.schedule t c.push_many.ensures.added in
     let letters = letters_as code budget old s i.0 going held c.requires.room starts is less c.process-process.result c.ran-ran.result c.letters-letters.result.now c.end.result.now c.process-process.ensures c.ran-ran.ensures c.letters-letters.ensures c.end.ensures.value old.schedule t c.push_many.ensures.letters in
     let new : Running = run_put code budget old s i.0 going held c.requires.room starts is less i.1 m runs t added letters in

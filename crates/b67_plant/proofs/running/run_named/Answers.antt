@@ -2,7 +2,7 @@ use Rattle.std.specs.Prelude.{length, map, replicate}
 use Rattle.std.specs.List.{sum_by}
 use Rattle.std.proofs.Common.{◌≡◌, ℕ, List, All, sym, ap, subst, ◌∙◌, ◌<◌, arith}
 use Rattle.std.proofs.lemmas.List.{with_items_is}
-use Rattle.b67_schedule.specs.Schedules.{entries, Kept as Schedule}
+use Rattle.b67_schedule.specs.Schedules.{entries, ScheduleModel}
 use Rattle.b67_stands.specs.Running.{Running}
 use Rattle.b67_stands.specs.Shared.{Shared, begin}
 use Rattle.b67_plant.specs.Places.{in_order}
@@ -82,4 +82,4 @@ returns-clause-all g c =
     all_made g.N.Named.code g.N.Named.budget g.N.Named.pick c.args.processors c.note_acts.new.counts.items c.gather.new.plant
     (shared_as g.N.Named.code g.N.Named.budget g.N.Named.pick g.N.Named.processors c.args.processors c.into_parts-plant.result.1.numbers c.note_acts.new.counts.items
     c.into_parts-plant.result.0 c.gather.new.plant c.requires.processors.0 own c.gather.ensures.same c.into_parts-plant.ensures.shared)
-    ∙ c.left_by.ensures.stands.acts ∙ ap (λ (s : Schedule). length (entries s.runs)) (sym c.left_by.ensures.parts.1)
+    ∙ c.left_by.ensures.stands.acts ∙ ap (λ (s : ScheduleModel). length (entries s.runs)) (sym c.left_by.ensures.parts.1)

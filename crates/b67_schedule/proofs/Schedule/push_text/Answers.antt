@@ -1,6 +1,6 @@
 use Rattle.std.proofs.Common.{◌≡◌, List, ap, sym, ◌∙◌, arith, ℕ, ◌+◌, ◌-◌, ◌++◌, length, get_or, take, drop}
 use Rattle.b67_schedule.specs.declared.Run.{Run}
-use Rattle.b67_schedule.specs.Schedules.{Kept, entries, letter_line, letter_lines}
+use Rattle.b67_schedule.specs.Schedules.{ScheduleModel, entries, letter_line, letter_lines}
 use Rattle.b67_schedule.proofs.Writing.{run_within, entries_next, line_written, joined}
 use Rattle.b67_schedule.proofs.Schedule.push_text.Goals as goal
 
@@ -14,7 +14,7 @@ overflow_add-after c =
 pub lines-preserved : goal.lines-preserved
 lines-preserved c =
     let runs : c.deref-run-items.result.now ≡ c.self.inside.runs.items = c.deref-run-items.ensures.value in
-    let letters : c.self.inside.letters.items ≡ c.args.self.now.letters = ap (λ (k : Kept). k.letters) c.self.view_is in
+    let letters : c.self.inside.letters.items ≡ c.args.self.now.letters = ap (λ (k : ScheduleModel). k.letters) c.self.view_is in
     let run : Run = get_or c.deref-run-items.result.now c.lines.run-index record { process = 0; times = 0 } in
     let each : length c.args.self.now.letters ≡ length (entries c.deref-run-items.result.now) =
     ap length (sym letters) ∙ c.self.invariant.each ∙ ap (λ (rs : List Run). length (entries rs)) (sym runs) in

@@ -2,7 +2,7 @@ use Rattle.std.proofs.Common.{refl, sym, subst, Bool, true≢false}
 use Rattle.b67_schedule.specs.Giving.{given_entries}
 use Rattle.b67_told.specs.declared.Outcome.{Outcome}
 use Rattle.b67_told.specs.declared.Told.{Told}
-use Rattle.b67_told.specs.Telling.{IsTold}
+use Rattle.b67_told.specs.Telling.{OutcomeIsTold}
 use Rattle.b67_teller.specs.Following.{IsOutcomeEnd}
 use Rattle.b67_teller.specs.Books.{IsAdded}
 use Rattle.b67_teller.proofs.Booking.{same_grows, added_grows, left_out, book_added, book_spent, now_told}
@@ -35,7 +35,7 @@ returns-then-not-added g c =
       code = c.replay.ensures.code;
       grows = same_grows c.args.book.now _ a.0 (λ e. absurd (true≢false e));
       book = left_out g.T.Teller.Explained (g.T.Walker.code c.args.teller.now) c.args.book.now _ item c.requires.book
-          (record { explained = c.in_ok-outcome.ensures.explained; own = own }) (λ t. h.other (subst (λ (o : Outcome). IsTold c.args.book.now.told.items o) one t)) a;
+          (record { explained = c.in_ok-outcome.ensures.explained; own = own }) (λ t. h.other (subst (λ (o : Outcome). OutcomeIsTold c.args.book.now.told.items o) one t)) a;
       told = λ e. absurd (true≢false e);
     }
 
@@ -53,9 +53,9 @@ returns-else-not-added g c =
       code = c.replay.ensures.code;
       grows = added_grows c.args.book.now _ item a.0 refl;
       book = book_added g.T.Teller.Explained (g.T.Walker.code c.args.teller.now) c.args.book.now _ item c.requires.book a.0 a.1 a.2 c.requires.open
-          (record { explained = c.in_ok-outcome.ensures.explained; own = own }) (λ t. h.other (subst (λ (o : Outcome). IsTold c.args.book.now.told.items o) one t));
+          (record { explained = c.in_ok-outcome.ensures.explained; own = own }) (λ t. h.other (subst (λ (o : Outcome). OutcomeIsTold c.args.book.now.told.items o) one t));
       told = λ e o has.
-          subst (λ (y : Outcome). IsTold c.add.new.told.items y)
+          subst (λ (y : Outcome). OutcomeIsTold c.add.new.told.items y)
           (same_one (g.T.Walker.code c.args.teller.now) (given_entries c.args.given) x o has c.in_ok-outcome.ensures.followed c.in_default.not-BudgetSpent)
           (now_told c.args.book.now.told.items c.add.new.told.items item a.0);
     }

@@ -1,11 +1,11 @@
 use Rattle.std.proofs.Common.{◌≡◌, sym, ap, subst, ◌∙◌, ℕ, ◌≤◌, false, List, ◌∷◌, length, reverse}
 use Rattle.b67_segment.specs.declared.code.Code.{Code}
 use Rattle.b67_schedule.specs.Giving.{given_entries}
-use Rattle.b67_schedule.specs.Schedules.{most}
+use Rattle.b67_schedule.specs.Schedules.{most_in_schedule}
 use Rattle.b67_told.specs.declared.Outcome.{Outcome}
-use Rattle.b67_told.specs.Telling.{IsTold}
+use Rattle.b67_told.specs.Telling.{OutcomeIsTold}
 use Rattle.b67_outcomes.specs.declared.found.Step.{Step}
-use Rattle.b67_outcomes.specs.Entering.{Leads, LeadsTo}
+use Rattle.b67_outcomes.specs.Entering.{HistoryLeads, HistoryLeadsTo}
 use Rattle.b67_outcomes.specs.Finding.{History}
 use Rattle.b67_outcomes.proofs.Histories.{history_one, led_leads}
 use Rattle.b67_teller.specs.Following.{HasOutcome, stopped_outcome}
@@ -17,7 +17,7 @@ pub words_at-requires-clause-leads : goal.words_at-requires-clause-leads
 words_at-requires-clause-leads g c =
     let s = c.requires.stop in
     let is = subst (λ (xs : List Step). History xs c.args.limit.state c.in_ok-before.before.items) c.as_slice-steps.ensures.value c.in_ok-before.ensures in
-    subst (λ (h : List ℕ). Leads (g.T.Walker.code c.args.teller.now) h) (sym c.as_slice-entries.ensures.value)
+    subst (λ (h : List ℕ). HistoryLeads (g.T.Walker.code c.args.teller.now) h) (sym c.as_slice-entries.ensures.value)
     (led_leads (g.T.Walker.code c.args.teller.now) c.args.found.now.steps.items c.args.limit.state c.in_ok-before.before.items
     (record { history = s.history; image = s.image; is = s.is; leads = s.leads }) is)
 
@@ -25,27 +25,27 @@ pub words_at-requires-clause-may : goal.words_at-requires-clause-may
 words_at-requires-clause-may g c = λ img leads.
     let is = subst (λ (xs : List Step). History xs c.args.limit.state c.in_ok-before.before.items) c.as_slice-steps.ensures.value c.in_ok-before.ensures in
     limit_may (g.T.Walker.code c.args.teller.now) c.args.found.now.steps.items c.args.limit c.in_ok-before.before.items img c.requires.stop is
-    (subst (λ (h : List ℕ). LeadsTo (g.T.Walker.code c.args.teller.now) h img) c.as_slice-entries.ensures.value leads)
+    (subst (λ (h : List ℕ). HistoryLeadsTo (g.T.Walker.code c.args.teller.now) h img) c.as_slice-entries.ensures.value leads)
 
 pub returns-then-is_told-clause-told : goal.returns-then-is_told-clause-told
 returns-then-is_told-clause-told g c = λ e.
     let s = c.requires.stop in
     let here = g.T.Walker.image c.words_at.new.teller in
     let is = subst (λ (xs : List Step). History xs c.args.limit.state c.in_ok-before.before.items) c.as_slice-steps.ensures.value c.in_ok-before.ensures in
-    let leads = subst (λ (h : List ℕ). LeadsTo (g.T.Walker.code c.args.teller.now) h here) c.as_slice-entries.ensures.value c.in_ok-words.ensures.led in
+    let leads = subst (λ (h : List ℕ). HistoryLeadsTo (g.T.Walker.code c.args.teller.now) h here) c.as_slice-entries.ensures.value c.in_ok-words.ensures.led in
     let same = history_one c.args.found.now.steps.items c.args.limit.state s.history c.in_ok-before.before.items s.is is in
     let has =
     c.in_ok-words.ensures.words s.image s.quiet
-    (subst (λ (h : List ℕ). LeadsTo (g.T.Walker.code c.args.teller.now) h s.image) (same ∙ sym c.as_slice-entries.ensures.value) s.leads) s.stops in
+    (subst (λ (h : List ℕ). HistoryLeadsTo (g.T.Walker.code c.args.teller.now) h s.image) (same ∙ sym c.as_slice-entries.ensures.value) s.leads) s.stops in
     limit_told (g.T.Walker.code c.args.teller.now) c.args.found.now c.args.book.now.told.items c.args.limit s
-    (subst (λ (o : Outcome). IsTold c.args.book.now.told.items o)
+    (subst (λ (o : Outcome). OutcomeIsTold c.args.book.now.told.items o)
     (limit_shown (g.T.Walker.code c.args.teller.now) c.args.found.now.steps.items c.args.limit c.in_ok-before.before.items here c.in_ok-words.words s is leads has)
     (told_here c.as_slice-told.ensures.value c.output-output.ensures (c.is_told.ensures.yes c.if-is_told.true)))
 
 pub schedule_of-requires-clause-few : goal.schedule_of-requires-clause-few
 schedule_of-requires-clause-few g c =
     let is = subst (λ (xs : List Step). History xs c.args.limit.state c.in_ok-before.before.items) c.as_slice-steps.ensures.value c.in_ok-before.ensures in
-    subst (λ (z : List ℕ). length z ≤ most) (sym c.as_slice.ensures.value)
+    subst (λ (z : List ℕ). length z ≤ most_in_schedule) (sym c.as_slice.ensures.value)
     (short_with c.args.found.now.steps.items c.args.limit c.in_ok-history.history.items
     (c.in_ok-before.before.items, is, c.in_ok-history.ensures.is ∙ ap (λ (z : List ℕ). c.args.limit.process ∷ z) c.as_slice-entries.ensures.value) c.requires.few)
 
@@ -54,11 +54,11 @@ note-requires-clause-other g c =
     let s = c.requires.stop in
     let here = g.T.Walker.image c.words_at.new.teller in
     let is = subst (λ (xs : List Step). History xs c.args.limit.state c.in_ok-before.before.items) c.as_slice-steps.ensures.value c.in_ok-before.ensures in
-    let leads = subst (λ (h : List ℕ). LeadsTo (g.T.Walker.code c.args.teller.now) h here) c.as_slice-entries.ensures.value c.in_ok-words.ensures.led in
+    let leads = subst (λ (h : List ℕ). HistoryLeadsTo (g.T.Walker.code c.args.teller.now) h here) c.as_slice-entries.ensures.value c.in_ok-words.ensures.led in
     let same = history_one c.args.found.now.steps.items c.args.limit.state s.history c.in_ok-before.before.items s.is is in
     let has =
     c.in_ok-words.ensures.words s.image s.quiet
-    (subst (λ (h : List ℕ). LeadsTo (g.T.Walker.code c.args.teller.now) h s.image) (same ∙ sym c.as_slice-entries.ensures.value) s.leads) s.stops in
+    (subst (λ (h : List ℕ). HistoryLeadsTo (g.T.Walker.code c.args.teller.now) h s.image) (same ∙ sym c.as_slice-entries.ensures.value) s.leads) s.stops in
     let with : IsHistoryWith c.args.found.now.steps.items c.args.limit c.in_ok-history.history.items =
     (c.in_ok-before.before.items, is, c.in_ok-history.ensures.is ∙ ap (λ (z : List ℕ). c.args.limit.process ∷ z) c.as_slice-entries.ensures.value) in
     subst (λ (k : Code). HasOther k (given_entries c.in_ok-given.given) c.args.book.now.told.items) (sym c.words_at.ensures.code)
@@ -70,7 +70,7 @@ note-requires-clause-other g c =
       other = λ t.
           c.is_told.ensures.no c.if-is_told.false
           (told_back c.as_slice-told.ensures.value c.output-output.ensures
-          (subst (λ (o : Outcome). IsTold c.args.book.now.told.items o)
+          (subst (λ (o : Outcome). OutcomeIsTold c.args.book.now.told.items o)
           (sym (limit_shown (g.T.Walker.code c.args.teller.now) c.args.found.now.steps.items c.args.limit c.in_ok-before.before.items here c.in_ok-words.words s is leads has))
           t));
     })
@@ -88,7 +88,7 @@ returns-clause-told g c =
     (c.in_ok-given.ensures.entries ∙ ap reverse c.as_slice.ensures.value) s) in
     ok_map c.note.result
     (λ u. c.note.new.book.cut ≡ false → (x : Outcome) → HasOutcome (g.T.Walker.code c.words_at.new.teller) (given_entries c.in_ok-given.given) x
-    → IsTold c.note.new.book.told.items x)
+    → OutcomeIsTold c.note.new.book.told.items x)
     (λ u. c.note.new.book.cut ≡ false → IsLimitTold (g.T.Walker.code c.args.teller.now) c.args.found.now c.note.new.book.told.items c.args.limit)
     (λ u t e. limit_told (g.T.Walker.code c.args.teller.now) c.args.found.now c.note.new.book.told.items c.args.limit s (t e o has))
     c.note.ensures.told

@@ -2,12 +2,12 @@ use Rattle.std.proofs.Common.{◌≡◌, sym, ap, subst, ◌∙◌, ℕ, ◌≤�
 use Rattle.std.specs.Prelude.{slice_get}
 use Rattle.b67_segment.specs.declared.code.Code.{Code}
 use Rattle.b67_schedule.specs.Giving.{given_entries}
-use Rattle.b67_schedule.specs.Schedules.{most}
+use Rattle.b67_schedule.specs.Schedules.{most_in_schedule}
 use Rattle.b67_told.specs.declared.Outcome.{Outcome}
 use Rattle.b67_told.specs.declared.Told.{Told}
-use Rattle.b67_told.specs.Telling.{IsTold}
+use Rattle.b67_told.specs.Telling.{OutcomeIsTold}
 use Rattle.b67_outcomes.specs.declared.found.Step.{Step}
-use Rattle.b67_outcomes.specs.Entering.{Leads, LeadsTo}
+use Rattle.b67_outcomes.specs.Entering.{HistoryLeads, HistoryLeadsTo}
 use Rattle.b67_outcomes.specs.Finding.{History}
 use Rattle.b67_outcomes.proofs.Histories.{led_leads}
 use Rattle.b67_teller.specs.Following.{HasOutcome}
@@ -31,7 +31,7 @@ perform-requires g c =
     let led = c.requires.led c.args.number c.requires.there in
     let is = subst (λ (xs : List Step). History xs c.args.number c.in_ok-history.history.items) c.as_slice-steps.ensures.value c.in_ok-history.ensures in
     record {
-      leads = subst (λ (h : List ℕ). Leads (g.T.Walker.code c.args.teller.now) h) (sym c.as_slice-entries.ensures.value)
+      leads = subst (λ (h : List ℕ). HistoryLeads (g.T.Walker.code c.args.teller.now) h) (sym c.as_slice-entries.ensures.value)
           (led_leads (g.T.Walker.code c.args.teller.now) c.args.found.now.steps.items c.args.number c.in_ok-history.history.items led is);
     }
 
@@ -40,7 +40,7 @@ returns-then-is_settled-clause-told g c = λ e.
     let here = g.T.Walker.image c.perform.new.walker in
     let is = subst (λ (xs : List Step). History xs c.args.number c.in_ok-history.history.items) c.as_slice-steps.ensures.value c.in_ok-history.ensures in
     let leads =
-    subst (λ (h : List ℕ). LeadsTo (g.T.Walker.code c.args.teller.now) h here) c.as_slice-entries.ensures.value c.in_ok-perform.ensures.led in
+    subst (λ (h : List ℕ). HistoryLeadsTo (g.T.Walker.code c.args.teller.now) h here) c.as_slice-entries.ensures.value c.in_ok-perform.ensures.led in
     state_settled (g.T.Walker.code c.args.teller.now) c.args.found.now c.args.book.now.told.items c.args.number c.in_ok-history.history.items here is leads
     c.end-end.result (sym c.end-end.ensures)
     (subst (λ (z : List Told). IsSettled z here.output c.end-end.result) c.as_slice-told.ensures.value
@@ -50,14 +50,14 @@ returns-then-is_settled-clause-told g c = λ e.
 pub schedule_of-requires-clause-few : goal.schedule_of-requires-clause-few
 schedule_of-requires-clause-few g c =
     let is = subst (λ (xs : List Step). History xs c.args.number c.in_ok-history.history.items) c.as_slice-steps.ensures.value c.in_ok-history.ensures in
-    subst (λ (z : List ℕ). length z ≤ most) (sym c.as_slice-entries.ensures.value)
+    subst (λ (z : List ℕ). length z ≤ most_in_schedule) (sym c.as_slice-entries.ensures.value)
     (short_of c.args.found.now.steps.items c.args.number c.in_ok-history.history.items is c.requires.few)
 
 pub note-requires-clause-other : goal.note-requires-clause-other
 note-requires-clause-other g c =
     let here = g.T.Walker.image c.perform.new.walker in
     let leads =
-    subst (λ (h : List ℕ). LeadsTo (g.T.Walker.code c.args.teller.now) h here) c.as_slice-entries.ensures.value c.in_ok-perform.ensures.led in
+    subst (λ (h : List ℕ). HistoryLeadsTo (g.T.Walker.code c.args.teller.now) h here) c.as_slice-entries.ensures.value c.in_ok-perform.ensures.led in
     subst (λ (k : Code). HasOther k (given_entries c.in_ok-given.given) c.args.book.now.told.items) (sym c.perform.ensures.code)
     (state_other (g.T.Walker.code c.args.teller.now) c.args.book.now.told.items c.in_ok-history.history.items (given_entries c.in_ok-given.given) here c.end-end.result
     (c.in_ok-given.ensures.entries ∙ ap reverse c.as_slice-entries.ensures.value) leads (sym c.end-end.ensures)
@@ -70,7 +70,7 @@ returns-clause-told g c =
     let here = g.T.Walker.image c.perform.new.walker in
     let is = subst (λ (xs : List Step). History xs c.args.number c.in_ok-history.history.items) c.as_slice-steps.ensures.value c.in_ok-history.ensures in
     let leads =
-    subst (λ (h : List ℕ). LeadsTo (g.T.Walker.code c.args.teller.now) h here) c.as_slice-entries.ensures.value c.in_ok-perform.ensures.led in
+    subst (λ (h : List ℕ). HistoryLeadsTo (g.T.Walker.code c.args.teller.now) h here) c.as_slice-entries.ensures.value c.in_ok-perform.ensures.led in
     let e = open_end c.as_slice-told.result.now c.output-output.result.now c.end-end.result (c.is_settled.ensures.no c.if-is_settled.false) in
     let o : Outcome = record { output = here.output; end = e.0 } in
     let has =
@@ -79,7 +79,7 @@ returns-clause-told g c =
     (c.in_ok-given.ensures.entries ∙ ap reverse c.as_slice-entries.ensures.value) leads (sym c.end-end.ensures ∙ e.1)) in
     ok_map c.note.result
     (λ u. c.note.new.book.cut ≡ false → (x : Outcome) → HasOutcome (g.T.Walker.code c.perform.new.walker) (given_entries c.in_ok-given.given) x
-    → IsTold c.note.new.book.told.items x)
+    → OutcomeIsTold c.note.new.book.told.items x)
     (λ u. c.note.new.book.cut ≡ false → IsStateTold (g.T.Walker.code c.args.teller.now) c.args.found.now c.note.new.book.told.items c.args.number)
     (λ u t cut.
     state_told (g.T.Walker.code c.args.teller.now) c.args.found.now c.note.new.book.told.items c.args.number c.in_ok-history.history.items here is leads e.0

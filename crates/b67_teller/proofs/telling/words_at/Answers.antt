@@ -1,7 +1,7 @@
 use Rattle.std.proofs.Common.{sym, subst, ◌∙◌}
 use Rattle.b67_segment.specs.declared.code.Code.{Code}
 use Rattle.b67_table.specs.Image.{Image}
-use Rattle.b67_outcomes.specs.Entering.{Leads, Stops}
+use Rattle.b67_outcomes.specs.Entering.{HistoryLeads, Stops}
 use Rattle.b67_outcomes.proofs.Determined.{led_one}
 use Rattle.b67_teller.proofs.telling.words_at.Goals as goal
 
@@ -10,7 +10,7 @@ stop-requires-clause-may g c = c.requires.may (g.T.Walker.image c.perform.new.wa
 
 pub perform-requires-2 : goal.perform-requires-2
 perform-requires-2 g c =
-    record { leads = subst (λ (k : Code). Leads k c.args.history.now) (sym (c.stop.ensures.code ∙ c.perform.ensures.code)) c.requires.leads }
+    record { leads = subst (λ (k : Code). HistoryLeads k c.args.history.now) (sym (c.stop.ensures.code ∙ c.perform.ensures.code)) c.requires.leads }
 
 pub returns-clause-words : goal.returns-clause-words
 returns-clause-words g c = λ img quiet leads stops.

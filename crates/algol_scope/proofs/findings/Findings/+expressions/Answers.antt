@@ -6,7 +6,7 @@ use Rattle.algol_tree.specs.Sites.{sites, inside_list}
 use Rattle.b67_deeds.specs.declared.EventTest.TheVariants as test
 use Rattle.algol_known.proofs.Plain.{expr_happened, expr_available, expr_fix, expr_waited}
 use Rattle.algol_scope.specs.declared.findings.Findings.{Findings}
-use Rattle.algol_scope.specs.Noting.{Walks, at_name}
+use Rattle.algol_scope.specs.Noting.{ScopeWalks, at_name}
 use Rattle.algol_scope.proofs.Walking.{follows-item, follows-end, passing-item, passing-end, Follows, walks-then, walks-asked, walks-waited, walks-call, walks-of, on_ok, copied-get, get-within}
 use Rattle.algol_scope.proofs.Waiting.{waiting_parts, under_more, under_last, goes_in_paren, goes_in_plus, goes_in_neg, goes_in_not, goes_left, goes_last, comes_back_as, taken_up, none_waits, none_left, walks_number, walks_truth, walks_variable, walks_called}
 use Rattle.algol_scope.proofs.Sizes.{in_paren, in_plus, in_neg, in_not, in_left, in_right, in_otherwise}
@@ -111,7 +111,7 @@ expr-waiting-init t c =
     let now = c.parts.self in
     let all = sites (expr c.args.e.now) in
     let rs = c.parts.waiting.items in
-    let back : (new : Findings) → Walks k seen now new (sites (expr c.parts.at.now)) → c.match-at.self ≡ new → Follows k seen old c.match-at.self all (waiting_parts rs) =
+    let back : (new : Findings) → ScopeWalks k seen now new (sites (expr c.parts.at.now)) → c.match-at.self ≡ new → Follows k seen old c.match-at.self all (waiting_parts rs) =
     λ new w is. comes_back_as k seen old now all new c.match-at.self rs c.parts.at.now w c.parts.invariant.0 is in (
       elim c.match-at.branch [
         | expr-in-Number w ↦ back now (walks_number k seen now c.parts.at.now _ _ w.in-Number.is) w.self-is

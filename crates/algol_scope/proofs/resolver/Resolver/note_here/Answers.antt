@@ -5,7 +5,7 @@ use Rattle.algol_scope.proofs.Walking.{on_ok}
 use Rattle.algol_scope.proofs.Making.{has-told}
 use Rattle.algol_scope.proofs.Faults.{makes-notes, or_none}
 use Rattle.algol_scope.specs.Declaring.{twice_among}
-use Rattle.algol_known.specs.Naming.{has_name, under}
+use Rattle.algol_known.specs.Naming.{has_name, sort_named}
 use Rattle.algol_scope.proofs.resolver.Resolver.note_here.Goals as goal
 
 pub returns : goal.returns
@@ -19,5 +19,5 @@ returns c =
     has-told blocks c.args.self.now a spots first q s
     ∙ or_none
     (has_name c.args.self.now.around.innermost.typed c.args.self.now.around.innermost.declared c.args.self.now.around.innermost.parameters q)
-    (under c.no_names-before.result q) (c.no_names-before.ensures q))))
+    (sort_named c.no_names-before.result q) (c.no_names-before.ensures q))))
     c.note_repeated.ensures.noted

@@ -1,7 +1,7 @@
 use Rattle.std.proofs.Common.{◌≤◌, length, ap}
 use Rattle.algol_meaning.specs.World as world
 use Rattle.algol_cells.specs.SeenScope.{scoped}
-use Rattle.algol_rest_expr.specs.SeenExpression.{answered}
+use Rattle.algol_rest_expr.specs.SeenExpression.{rest_answered}
 use Rattle.algol_world.specs.Leaving.{left_todo}
 use Rattle.algol_world.specs.SeenWorld.{process, world_of}
 use Rattle.algol_instances.proofs.Numbering.{unchanged}
@@ -22,7 +22,7 @@ returns-in-Some-get_mut-clause-went c =
     c.in-Some.at
     c.in-Some-get_mut.q.now
     c.end_part.new.self
-    (λ (q : world.Process). record q { todo = left_todo sc q.todo (answered c.args.answer) })
+    (λ (q : world.Process). record q { todo = left_todo sc q.todo (rest_answered c.args.answer) })
     c.in-Some.ensures
     item.3.0
     (item.3.1 c.in-Some-get_mut.q.now)

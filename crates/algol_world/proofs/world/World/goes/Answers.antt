@@ -1,7 +1,7 @@
 use Rattle.std.proofs.Common.{◌≤◌, length, ap}
 use Rattle.algol_meaning.specs.World as world
 use Rattle.algol_cells.specs.SeenScope.{scoped}
-use Rattle.algol_rest_expr.specs.SeenExpression.{answered}
+use Rattle.algol_rest_expr.specs.SeenExpression.{rest_answered}
 use Rattle.algol_world.specs.Going.{resumed}
 use Rattle.algol_world.specs.SeenWorld.{world_of}
 use Rattle.algol_instances.proofs.Numbering.{unchanged}
@@ -23,7 +23,7 @@ returns-in-Some-get_mut-clause-went c =
     c.in-Some.at
     c.in-Some-get_mut.q.now
     c.go_on.new.self
-    (λ (q : world.Process). record q { todo = resumed sc q.todo (answered c.args.answer) })
+    (λ (q : world.Process). record q { todo = resumed sc q.todo (rest_answered c.args.answer) })
     c.in-Some.ensures
     item.3.0
     (item.3.1 c.in-Some-get_mut.q.now)

@@ -17,7 +17,7 @@ use Rattle.b67_segment.specs.declared.TheConstants.{MOST_SEGMENT_SYLLABLES}
 use Rattle.b67_segment.specs.Operators.{size}
 use Rattle.b67_segment.specs.Building.{Built, level_set}
 use Rattle.b67_emit_stmt.specs.Places.{CasesAt}
-use Rattle.b67_emit_stmt.specs.Fits.{StmtsFit}
+use Rattle.b67_emit_stmt.specs.Fits.{EmittedStmtsFit}
 use Rattle.b67_emit_stmt.specs.declared.draft.Draft.{Draft}
 use Rattle.b67_emit_stmt.specs.declared.draft.Label.{Label}
 use Rattle.b67_emit_stmt.specs.Actuals.{images}
@@ -408,7 +408,7 @@ case-cases-requires g t c =
     let grown = (c.in_ok-select.ensures.code c.requires.fits.0 unknown c.requires.fits.1.0).grown in
     let ready = matched.ready_behind s a b (stmt_syllables s (tree.case (expr c.args.e.now) ss)) (stmts_syllables s ss) c.requires.ready c.in_ok-select.ensures.level refl grown
     (omega (arith, c.in_ok-select.ensures.size)) in
-    let F : ℕ → Type 0 = λ l. StmtsFit c.requires.fits.0 s l ss in
+    let F : ℕ → Type 0 = λ l. EmittedStmtsFit c.requires.fits.0 s l ss in
     let fit : HaveFit s b ss = (c.requires.fits.0, subst F (sym (level_same a.out b.out c.in_ok-select.ensures.level)) c.requires.fits.1.1) in
     let at = at_same a b c.in_ok-select.ensures.level c.requires.level in
     search (rules, stmts'.the_lemmas, decls'.the_lemmas, bodies'.the_lemmas, ready, fit, at)
@@ -424,7 +424,7 @@ case-returns-clause-code g t c =
     let q = level_same a.out b.out c.in_ok-select.ensures.level in
     on_ok_weaker c.cases.result
     (λ h sc fit.
-    let F : ℕ → Type 0 = λ l. StmtsFit sc c.args.self.now.known.now l (stmts ss) in
+    let F : ℕ → Type 0 = λ l. EmittedStmtsFit sc c.args.self.now.known.now l (stmts ss) in
     let first = piece {n = 19 + expr_syllables c.args.self.now.known.now e} {d = a} {e = b} refl refl c.requires.ready.few (λ later. c.in_ok-select.ensures.code sc later fit.0) c.in_ok-select.ensures.size in
     let rest = at_level level (λ l later qs target. CasesAt sc later qs l (stmts ss) (size b.out.operators) target) q (h sc (subst F (sym q) fit.1)) in
     tabled.case_arm c.args.self.now.known.now sc level e ss a b d first rest)

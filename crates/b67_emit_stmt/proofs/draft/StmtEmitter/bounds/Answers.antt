@@ -8,7 +8,7 @@ use Rattle.algol_tree.specs.Image.{expr, pairs}
 use Rattle.b67_segment.specs.Operators.{size}
 use Rattle.b67_segment.specs.Building.{level_set}
 use Rattle.b67_templates.specs.Emitting.{Emitted}
-use Rattle.b67_templates.specs.Fragments.{IsWhole, NumberAt}
+use Rattle.b67_templates.specs.Fragments.{IsWholeNumber, NumberAt}
 use Rattle.b67_emit_stmt.specs.Lengths.{bounds_syllables}
 use Rattle.b67_emit_stmt.proofs.Bounds.{BoundsLeft, bounds_more, bounds_next, bounds_whole, whole_fits}
 use Rattle.b67_emit_stmt.proofs.Drafts.{level_same}
@@ -28,7 +28,7 @@ fitting-requires g c =
     let p = c.pair-item.result in
     let next : drop i ps ≡ p ∷ drop (i + 1) ps = drop_more ps i p c.pairs-test.true ∙ ap (λ x. x ∷ drop (i + 1) ps) (sym c.pair-item.is) in
     let whole = (bounds_next c.requires.fits.0 c.args.self.now.known.now (level_set c.args.out.now) i ps p (drop (i + 1) ps) next c.requires.fits.1).0 in
-    subst IsWhole (sym (to_z-of_z w64 p.low (whole_fits p.low whole))) whole
+    subst IsWholeNumber (sym (to_z-of_z w64 p.low (whole_fits p.low whole))) whole
 
 pub append_number-requires-clause-set : goal.append_number-requires-clause-set
 append_number-requires-clause-set g c = set_same c.args.out.now c.pairs.out c.pairs.invariant.level c.requires.set

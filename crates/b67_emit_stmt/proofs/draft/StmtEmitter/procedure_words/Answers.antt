@@ -5,7 +5,7 @@ use Rattle.b67_segment.specs.Operators.{size}
 use Rattle.b67_templates.specs.Cells.{procedures, control_segments}
 use Rattle.b67_templates.specs.Emitting.{Emitted}
 use Rattle.b67_templates.specs.Fragments.{ControlsAt, procedure_controls}
-use Rattle.b67_emit_stmt.specs.Bodies.{numbers_of}
+use Rattle.b67_emit_stmt.specs.Bodies.{procedure_numbers_of}
 use Rattle.b67_emit_stmt.proofs.Numbered.{numbers_are, numbers_fit, numbers_inner, numbers_long}
 use Rattle.b67_emit_stmt.proofs.Parts.{leveled}
 use Rattle.b67_emit_stmt.proofs.draft.StmtEmitter.procedure_words.Goals as goal
@@ -41,7 +41,7 @@ pub returns-clause-many : goal.returns-clause-many
 returns-clause-many g c =
     let s = c.args.self.now.known.now in
     let ns = procedures (decls c.args.ds.now) in
-    let listed : length c.in_ok-numbers.numbers.items ≡ length (numbers_of s ns) = ap (λ (l : List ℕ). length l) c.in_ok-numbers.ensures in
+    let listed : length c.in_ok-numbers.numbers.items ≡ length (procedure_numbers_of s ns) = ap (λ (l : List ℕ). length l) c.in_ok-numbers.ensures in
     let counted = c.in_ok-numbers.numbers.ok in
     omega (arith, numbers_long s ns, listed, c.len.ensures, counted.0)
 
@@ -49,5 +49,5 @@ pub returns-clause-size : goal.returns-clause-size
 returns-clause-size g c =
     let s = c.args.self.now.known.now in
     let ns = procedures (decls c.args.ds.now) in
-    let same : length c.deref.result.now ≡ length (numbers_of s ns) = ap (λ (l : List ℕ). length l) (c.deref.ensures.value ∙ c.in_ok-numbers.ensures) in
+    let same : length c.deref.result.now ≡ length (procedure_numbers_of s ns) = ap (λ (l : List ℕ). length l) (c.deref.ensures.value ∙ c.in_ok-numbers.ensures) in
     omega (arith, numbers_long s ns, same, c.in_ok-append_words.ensures.size)

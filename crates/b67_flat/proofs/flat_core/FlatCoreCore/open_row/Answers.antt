@@ -1,6 +1,6 @@
 use Rattle.std.proofs.Common.{◌≡◌, ◌∙◌, true, false, ap, sym, arith, rules}
 use Rattle.b67_store.specs.Store.{opened_at, exceeds}
-use Rattle.b67_flat.specs.Spans.{place_for, opened}
+use Rattle.b67_flat.specs.Spans.{place_for, span_opened as opened}
 use Rattle.b67_flat.specs.Flat.{bare_rows}
 use Rattle.b67_flat.proofs.Opened.{exceeds_seen, least_seen, least_unheld, long_rows, placed_below, placed_within, reclosed, row_placed}
 use Rattle.b67_flat.proofs.flat_core.FlatCoreCore.open_row.Goals as goal

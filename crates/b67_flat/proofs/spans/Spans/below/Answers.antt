@@ -1,5 +1,5 @@
 use Rattle.std.proofs.Common.{◌+◌, ◌-◌, ◌/◌, ◌∙◌, ap, sym, arith}
-use Rattle.b67_flat.specs.Spans.{below}
+use Rattle.b67_flat.specs.Spans.{spans_below}
 use Rattle.b67_flat.proofs.Fits.{below_is}
 use Rattle.b67_flat.proofs.Walks.{lower_half, upper_half, half_below}
 use Rattle.b67_flat.proofs.spans.Spans.below.Goals as goal
@@ -26,4 +26,4 @@ pub returns : goal.returns
 returns c =
     let same = c.halving-test.false in
     sym (below_is c.args.place c.self.inside.spans.items c.halving.low (omega (arith, c.halving.invariant.0, c.halving.invariant.1, c.self.inside.spans.ok)) (λ k d p. c.halving.invariant.2 k d p) (λ d p. c.halving.invariant.3 c.halving.low d (omega (arith, c.halving-test.false)) (omega (arith, p, c.self.inside.spans.ok))))
-    ∙ ap (λ s. below c.args.place s) c.self.view_is
+    ∙ ap (λ s. spans_below c.args.place s) c.self.view_is

@@ -3,7 +3,7 @@ use Rattle.std.proofs.lemmas.Bool.{leb-true}
 use Rattle.b67_action.specs.Able.{one_if}
 use Rattle.b67_tally.specs.declared.Mark.{Mark}
 use Rattle.b67_tally.specs.declared.Tally.{Tally}
-use Rattle.b67_stands.specs.Calls.{is_action}
+use Rattle.b67_stands.specs.Calls.{done_is_action}
 use Rattle.b67_stands.specs.Running.{Running, answer_of}
 use Rattle.b67_stands.specs.Shared.{Shared, IsFree, with_acts}
 use Rattle.b67_plant.specs.Calls.{acts_in}
@@ -20,8 +20,8 @@ invariant_of-self-2 g c =
     let free : IsFree c.args.me c.self.inside.plant = subst (λ (s : Running). IsFree c.args.me s) (sym c.self.view_is) c.requires.free in
     let going : answer_of g.N.Named.budget c.self.inside.plant ≡ None = sym (ap (answer_of g.N.Named.budget) c.in-Some.ensures.picked.new_is) ∙ c.pick.ensures.going in
     let whose : mark.place + 1 ≡ c.args.me = ap (λ (m : Mark). m.place + 1) c.enter_many-acted.ensures.mark ∙ c.requires.whose in
-    let last : c.acts_in-last.result ≡ one_if (is_action acts.0.done) = c.acts_in-last.ensures ∙ ap acts_in acts.2 ∙ action_counts acts.0.done in
-    let is : c.add.new.self.numbers ≡ with_acts numbers c.args.me (c.enter_many-acted.result.1 + one_if (is_action acts.0.done)) =
+    let last : c.acts_in-last.result ≡ one_if (done_is_action acts.0.done) = c.acts_in-last.ensures ∙ ap acts_in acts.2 ∙ action_counts acts.0.done in
+    let is : c.add.new.self.numbers ≡ with_acts numbers c.args.me (c.enter_many-acted.result.1 + one_if (done_is_action acts.0.done)) =
     ap (λ (t : Tally). t.numbers) c.add.ensures.tally
     ∙ raised numbers mark.place mark.number c.args.me (c.from.result + c.acts_in-last.result) whose c.add.ensures.found
     ∙ ap (λ (k : ℕ). with_acts numbers c.args.me (k + c.acts_in-last.result)) c.from.ensures
