@@ -47,18 +47,12 @@ use Rattle.b67_reach.proofs.Looking.{acts_by}
 use Rattle.b67_action.specs.Lettered.{LettersOn}
 use Rattle.b67_action.specs.OnRoom.{IsRoom, PerformsOn}
 use Rattle.b67_action.specs.Onward.{HasGone}
-use Rattle.b67_action.specs.Running.{IsLent, given_back, IsStretchOf, ActionGoesOn, HasPlace, StepsTo, plain_step, act_step}
+use Rattle.b67_action.specs.Running.{IsLent, given_back, IsStretchOf, ActionGoesOn, HasPlace, PlainStep}
 use Rattle.b67_action.proofs.Coming.{comes_by, operator_is}
 use Rattle.b67_action.proofs.Gone.{letter_by_row, gone}
 use Rattle.b67_action.proofs.Ready.{live_of, registers_there}
 
 -- ---- plain operators keep an image valid
-
--- an action was performed, or none
-pub act_steps : (code : Code) (p : ℕ) (old new : Image) (o : Option Letter) → ((named : Letter) → o ≡ Some named → ActionGoesOn code p named old new)
-    → (o ≡ None → IsStretchOf code p 0 1 old new) → StepsTo (act_step o) code p old new
-act_steps code p old new (Some named) goes stays = goes named refl
-act_steps code p old new None goes stays = stays refl
 
 both : (a b : Bool) → (a && b) ≡ true → a ≡ true
 both true b e = refl
@@ -121,10 +115,19 @@ given_twice img p a b us ws same =
     ∙ ap (λ (z : Stacks). with_own (own_of_image z img.rows b) p (record img { regs = set_numbered img.regs p a })) (set_set_here img.stacks b.stack (Some (take a.s us)) (Some (take b.s ws)))
     ∙ ap (λ (rs : List Registers). record img { stacks = with_stack img.stacks b.stack (take b.s ws); regs = rs }) (numbered_twice img.regs p a b)
 
+pub given_thrice : (img : Image) (p : ℕ) (a b c : Registers) (us vs ws : List Word) → b.stack ≡ a.stack → c.stack ≡ b.stack
+    → given_back c ws p (given_back b vs p (given_back a us p img)) ≡ given_back c ws p img
+given_thrice img p a b c us vs ws h k = ap (λ (x : Image). given_back c ws p x) (given_twice img p a b us vs h) ∙ given_twice img p b c vs ws k
+
 -- a room holds what it held, or what was made in it
 pub still_held : (size : ℕ) (outcome : Outcome Private) (old new : Private) (b : Bool) → old.regs.s ≤ size → Steps size outcome old b new → new.regs.s ≤ size
 still_held size outcome old new true h s = s.1
 still_held size outcome old new false h s = omega (arith, h, ap (λ (a : Private). a.regs.s) s.1)
+
+-- and where none was performed, the registers stay
+pub none_done : (size : ℕ) (outcome : Outcome Private) (old new : Private) (b : Bool) → Steps size outcome old b new → b ≡ false → new.regs ≡ old.regs
+none_done size outcome old new true s e = cc
+none_done size outcome old new false s e = ap (λ (a : Private). a.regs) s.1
 
 -- ---- on what is lent
 
@@ -254,7 +257,7 @@ module _ (code : Code) (img : Image) (p : ℕ) (r : Registers) (room : List Word
         (λ (h : length more ≡ stack_limit). inr (sym same ∙ h))
         place
 
-    pub plain_steps : length more ≡ length room → (b : Bool) → StepsOn b → StepsTo (plain_step q more b) code p img (given_back q more p img)
+    pub plain_steps : length more ≡ length room → (b : Bool) → StepsOn b → PlainStep q more b code p img (given_back q more p img)
     unfolding how_many
     plain_steps same true s = stretch_is q more 1 1 (plain_keeps true s) (parts_by true s) (none_more 1)
     plain_steps same false s = (
@@ -263,17 +266,6 @@ module _ (code : Code) (img : Image) (p : ℕ) (r : Registers) (room : List Word
     )
 
   -- ---- an action
-
-  -- an action that is not performed here
-  pub action_waits : (op : Operator) (next : ℕ) (kind : WordsRow) → found code r.segment r.ll r.place ≡ Some (op, next) → row op r.place ≡ acts (words_program kind)
-      → IsStretchOf code p 0 1 img (given_back r room p img)
-  action_waits op next kind here is = record {
-    plains = subst (λ (x : Image). Plains code p img 0 x) (sym back_same) stay;
-    stops = λ less.
-        ap (λ (x : Image). plain code x p) back_same
-        ∙ not_plain code img p r op next (words_program kind) l.has (operator_is code img p r l.able l.has (op, next) here) is;
-    calm = record { states = refl; started = refl; fault = refl };
-  }
 
   module _ (q : Registers) (more : List Word) (op : Operator) (next : ℕ) (kind : WordsRow) (k : RegistersStay r q) (here : found code r.segment r.ll r.place ≡ Some (op, next))
       (is : row op r.place ≡ acts (words_program kind)) (x : PerformsOn (words_program kind r next) r room q more) where

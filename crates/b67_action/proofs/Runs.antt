@@ -53,6 +53,14 @@ module _ (code : Code) (p : ℕ) (img : Image) where
     pub going_action : (l : Letter) → ActionGoesOn code p l x y → Going (noted ++ l ∷ []) (operators + (plains + 1)) 0 y
     going_action l g = record { between = y; walks = go h.walks h.plains g; plains = runs.stay; valid = g.gone.valid; calm = calm_then img x y h.calm g.calm }
 
+  -- an action that goes on, before which nothing was done
+  pub going_next : (noted : List Letter) (operators done : ℕ) (x y z : Image) → operators ≤ done → Going noted operators (done - operators) x
+      → IsStretchOf code p 0 0 x y → IsValid code y → (l : Letter) → ActionGoesOn code p l y z → Going (noted ++ l ∷ []) (done + 1) 0 z
+  going_next noted operators done x y z few h s v l g =
+      let all : operators + (done - operators + 0 + 1) ≡ done + 1 = omega (arith, few) in
+      subst (λ (k : ℕ). Going (noted ++ l ∷ []) k 0 z) all
+      (going_action noted operators (done - operators + 0) y z (going_plain noted operators (done - operators) x y h 0 0 s v) l g)
+
   pub come_none : (noted : List Letter) → IsValid code img → HasCome code p img (record { entries = 0; operators = 0; plain = 0 }) noted img
   come_none noted v = record {
     between = img;

@@ -1,5 +1,5 @@
 -- A run of a process on the lent room of its own stack: plain operators, and actions of its own that go on.
-use Rattle.std.specs.Prelude.{◌≡◌, ◌⊎◌, ℕ, ◌+◌, ◌<◌, Bool, true, false, List, [], ◌∷◌, ◌++◌, ◌≤◌, length, take, Option, Some, None}
+use Rattle.std.specs.Prelude.{◌≡◌, ◌⊎◌, ℕ, ◌+◌, ◌<◌, Bool, true, false, List, [], ◌∷◌, ◌++◌, ◌≤◌, length, take, Some}
 use Rattle.b67_list.specs.Numbered.{numbered}
 use Rattle.b67_word.specs.Word.{Word}
 use Rattle.b67_control.specs.declared.Registers.{Registers}
@@ -53,28 +53,10 @@ pub record ActionGoesOn (code : Code) (p : ℕ) (l : Letter) (old new : Image) :
 abbrev pub HasPlace : Registers → List Word → Type 0
 HasPlace r room = (r.s < length room) ⊎ (length room ≡ stack_limit)
 
--- one operator of a run: a plain one, an action of a letter that went on, or none, where what comes next is not plain, or where a room has no place for it
-pub data OperatorStep : Type 0 where
-  Plain : OperatorStep
-  Action : Letter → OperatorStep
-  Neither : OperatorStep
-  NoneIn : Registers → List Word → OperatorStep
-
-abbrev pub StepsTo : OperatorStep → Code → ℕ → Image → Image → Type 0
-StepsTo Plain code p old new = IsStretchOf code p 1 1 old new
-StepsTo (Action l) code p old new = ActionGoesOn code p l old new
-StepsTo Neither code p old new = IsStretchOf code p 0 1 old new
-StepsTo (NoneIn r room) code p old new = IsStretchOf code p 0 0 old new × (HasPlace r room → plain code new p ≡ false)
-
--- whether a plain operator was performed on the room, as a step
-abbrev pub plain_step : Registers → List Word → Bool → OperatorStep
-plain_step r room true = Plain
-plain_step r room false = NoneIn r room
-
--- whether an action was, and its letter
-abbrev pub act_step : Option Letter → OperatorStep
-act_step (Some l) = Action l
-act_step None = Neither
+-- one operator of a run on a room: a plain one, or none, where what comes next is not plain, or the room has no place for it
+abbrev pub PlainStep : Registers → List Word → Bool → Code → ℕ → Image → Image → Type 0
+PlainStep r room true code p old new = IsStretchOf code p 1 1 old new
+PlainStep r room false code p old new = IsStretchOf code p 0 0 old new × (HasPlace r room → plain code new p ≡ false)
 
 -- entries with these letters, and so many operators in all: each some plain operators, and then an action of its letter that went on
 pub data EntriesWalk (code : Code) (p : ℕ) : Image → List Letter → ℕ → Image → Type 0 where

@@ -1,17 +1,16 @@
 // A run of a process on the lent room of its own stack: its plain operators, and actions of its own that go on.
-ghost use Rattle.std.specs.Prelude.{◌≡◌, ◌+◌, ◌-◌, ◌≤◌, ℕ, IfSome, true, length};
+ghost use Rattle.std.specs.Prelude.{◌≡◌, ◌+◌, ◌-◌, ◌≤◌, ℕ, IfSome, None, true, false, length};
 ghost use Rattle.b67_segment.specs.Decoded.{found, AreDecoded};
 ghost use Rattle.b67_store.specs.Store.{stack_limit};
 ghost use Rattle.b67_table.specs.Image.{Image};
 ghost use Rattle.b67_table.specs.Privacy.{RegistersStay};
 ghost use Rattle.b67_private.specs.Parts.{HasRoom};
-ghost use Rattle.b67_private.specs.Prepared.{IsRowOf};
-ghost use Rattle.b67_private.specs.declared.operators.Row.TheVariants.{Words};
-ghost use Rattle.b67_action.specs.Running.{IsLent, given_back, IsOpenAt, HasCome, HasRunIn, HasRun, StepsTo, plain_step, act_step};
+ghost use Rattle.b67_private.specs.Prepared.{IsFlatRowOf};
+ghost use Rattle.b67_action.specs.Running.{IsLent, given_back, IsOpenAt, HasCome, HasRunIn, HasRun, ActionGoesOn, PlainStep};
 
 use crate::room::perform_on_room;
 use b67_deeds::Letter;
-use b67_private::{Prepared, Row, WordsRow, perform, perform_fetched, row_at};
+use b67_private::{FlatRow, Prepared, flat_at, frequent_words, perform_fetched, perform_flat};
 use b67_reach::Registers;
 use b67_segment::Code;
 use b67_word::Word;
@@ -29,16 +28,23 @@ pub struct Ran {
 
 // Performs the next operator by its row, where it is plain; and answers whether it did. Else nothing is done.
 #[inline(always)]
-fn plain_by_row(regs: &mut Registers, room: &mut [Word], code: &Code, row: Row, next: u16) -> bool
+fn plain_by_row(
+    regs: &mut Registers,
+    room: &mut [Word],
+    code: &Code,
+    row: &FlatRow,
+    next: u16,
+) -> bool
     requires lent { (img : Image) × (p : ℕ) × IsLent code.now img p regs.old room.old }
     requires room { HasRoom regs.old room.old }
-    requires row { IsRowOf regs.old.place (found code.now regs.old.segment regs.old.ll regs.old.place) (row, next) }
-    ensures steps { (img : Image) (p : ℕ) → IsLent code.now img p regs.old room.old → StepsTo (plain_step regs.new room.new result) code.now p img (given_back regs.new room.new p img) }
+    requires row { IsFlatRowOf regs.old.place (found code.now regs.old.segment regs.old.ll regs.old.place) (row.now, next) }
+    ensures steps { (img : Image) (p : ℕ) → IsLent code.now img p regs.old room.old → PlainStep regs.new room.new result code.now p img (given_back regs.new room.new p img) }
     ensures lends { (img : Image) (p : ℕ) → IsLent code.now img p regs.old room.old → IsLent code.now (given_back regs.new room.new p img) p regs.new room.new }
+    ensures none { result ≡ false → regs.new ≡ regs.old }
     ensures held { regs.new.s ≤ length room.old }
     ensures keeps { RegistersStay regs.old regs.new }
 {
-    perform(regs, room, row, next).is_ok()
+    perform_flat(regs, room, *row, next).is_ok()
 }
 
 // Performs the next operator where it is plain, whether its row was made ready or not; and answers whether it did. Else nothing is done.
@@ -52,7 +58,7 @@ fn plain_fetched(
     requires lent { (img : Image) × (p : ℕ) × IsLent code.now img p regs.old room.old }
     requires room { HasRoom regs.old room.old }
     requires table { IfSome table (λ t. AreDecoded code.now regs.old.segment regs.old.ll t.now) }
-    ensures steps { (img : Image) (p : ℕ) → IsLent code.now img p regs.old room.old → StepsTo (plain_step regs.new room.new result) code.now p img (given_back regs.new room.new p img) }
+    ensures steps { (img : Image) (p : ℕ) → IsLent code.now img p regs.old room.old → PlainStep regs.new room.new result code.now p img (given_back regs.new room.new p img) }
     ensures lends { (img : Image) (p : ℕ) → IsLent code.now img p regs.old room.old → IsLent code.now (given_back regs.new room.new p img) p regs.new room.new }
     ensures held { regs.new.s ≤ length room.old }
     ensures keeps { RegistersStay regs.old regs.new }
@@ -60,22 +66,23 @@ fn plain_fetched(
     perform_fetched(regs, room, code, table)
 }
 
-// Performs the next operator, an action, where it is allowed and is one of the process's own that goes on; and answers its letter. Else
-// nothing is done.
+// Performs the next operator where it is allowed and is an action of the process's own that goes on; and answers its letter. Else nothing is
+// done.
 #[inline(always)]
 fn act_by_row(
     regs: &mut Registers,
     room: &mut [Word],
     code: &Code,
-    kind: WordsRow,
+    row: &FlatRow,
     next: u16,
     allowed: bool,
 ) -> Option<Letter>
     requires lent { (img : Image) × (p : ℕ) × IsLent code.now img p regs.old room.old }
     requires room { HasRoom regs.old room.old }
-    requires row { IsRowOf regs.old.place (found code.now regs.old.segment regs.old.ll regs.old.place) (Words kind, next) }
-    ensures steps { (img : Image) (p : ℕ) → IsLent code.now img p regs.old room.old → StepsTo (act_step result) code.now p img (given_back regs.new room.new p img) }
-    ensures lends { (img : Image) (p : ℕ) → IsLent code.now img p regs.old room.old → IsLent code.now (given_back regs.new room.new p img) p regs.new room.new }
+    requires row { IsFlatRowOf regs.old.place (found code.now regs.old.segment regs.old.ll regs.old.place) (row.now, next) }
+    ensures goes { IfSome result (λ l. (img : Image) (p : ℕ) → IsLent code.now img p regs.old room.old → ActionGoesOn code.now p l img (given_back regs.new room.new p img)) }
+    ensures lends { IfSome result (λ l. (img : Image) (p : ℕ) → IsLent code.now img p regs.old room.old → IsLent code.now (given_back regs.new room.new p img) p regs.new room.new) }
+    ensures none { result ≡ None → (regs.new ≡ regs.old) × (room.new ≡ room.old) }
     ensures held { regs.new.s ≤ length room.old }
     ensures keeps { RegistersStay regs.old regs.new }
     ensures allowed { IfSome result (λ l. allowed ≡ true) }
@@ -83,6 +90,9 @@ fn act_by_row(
     if !allowed {
         return None;
     }
+    let Some(kind) = frequent_words(*row) else {
+        return None;
+    };
     perform_on_room(regs, room, kind, next)
 }
 
@@ -131,32 +141,34 @@ pub fn go_on_room(
     let mut entries = so_far.entries;
     let mut operators = so_far.operators;
     let mut done = so_far.operators + so_far.plain;
+    let mut place = regs.place;
     'running: while done < most {
-        match row_at(table, regs.place) {
-            Some((Row::Words(kind), next)) => {
-                let allowed = (entries as usize) < letters.len();
-                let Some(letter) = act_by_row(regs, room, code, kind, next, allowed) else {
-                    return ran_to(entries, operators, done);
-                };
-                letters[entries as usize] = letter;
-                entries += 1;
-                done += 1;
-                operators = done;
-                if entries as usize == letters.len() {
-                    return ran_to(entries, operators, done);
-                }
-            }
+        match flat_at(table, place) {
             Some((row, next)) => {
-                if !plain_by_row(regs, room, code, row, next) {
-                    return ran_to(entries, operators, done);
+                if plain_by_row(regs, room, code, &row, next) {
+                    done += 1;
+                    place = regs.place;
+                } else {
+                    let allowed = (entries as usize) < letters.len();
+                    let Some(letter) = act_by_row(regs, room, code, &row, next, allowed) else {
+                        return ran_to(entries, operators, done);
+                    };
+                    letters[entries as usize] = letter;
+                    entries += 1;
+                    done += 1;
+                    place = regs.place;
+                    operators = done;
+                    if entries as usize == letters.len() {
+                        return ran_to(entries, operators, done);
+                    }
                 }
-                done += 1;
             }
             None => {
                 if !plain_fetched(regs, room, code, table) {
                     return ran_to(entries, operators, done);
                 }
                 done += 1;
+                place = regs.place;
             }
         }
     }

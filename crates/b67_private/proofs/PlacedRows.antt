@@ -12,11 +12,12 @@ use Rattle.b67_segment.specs.Decoded.{found, at_place, AreDecoded}
 use Rattle.b67_table.specs.declared.Private.{Private}
 use Rattle.b67_table.specs.Outcome.{limited}
 use Rattle.b67_private.specs.declared.Stop.{Stop}
+use Rattle.b67_private.specs.declared.flat.FlatRow.{FlatRow}
 use Rattle.b67_private.specs.declared.operators.Row.{Row}
 use Rattle.b67_private.specs.Operating.{IsHeldCouple, effect_by}
 use Rattle.b67_private.specs.Parts.{length_of, own_next}
 use Rattle.b67_private.specs.Performing.{PrivatePerforms, Steps}
-use Rattle.b67_private.specs.Prepared.{Operators, AreHeld, Rows, row_at, IsRowOf, AreRows}
+use Rattle.b67_private.specs.Prepared.{Operators, AreHeld, Rows, row_at, IsRowOf, IsFlatRowOf, AreRows}
 use Rattle.b67_private.proofs.Stepping.{held_operand, fits_found, performed, steps_found}
 
 -- ---- rows that are made one after another
@@ -26,7 +27,7 @@ at_front [] more place h = absurd (omega (arith, h))
 at_front (r ∷ rows) more zero h = refl
 at_front (r ∷ rows) more (suc place) h = at_front rows more place (omega (arith, h))
 
-at_seam : (rows : Rows) (r : Option (Row × ℕ)) → row_at (rows ++ r ∷ []) (length rows) ≡ r
+at_seam : (rows : Rows) (r : Option (FlatRow × ℕ)) → row_at (rows ++ r ∷ []) (length rows) ≡ r
 at_seam [] None = refl
 at_seam [] (Some r) = refl
 at_seam (q ∷ rows) r = at_seam rows r
@@ -39,22 +40,22 @@ past_rows (r ∷ rows) (suc place) h = past_rows rows place (omega (arith, h))
 pub none_yet : (operators : Operators) → AreRows operators []
 none_yet operators place = tt
 
-pub row_more : (operators : Operators) (rows : Rows) (r : Option (Row × ℕ)) → AreRows operators rows
-    → IfSome r (λ q. IsRowOf (length rows) (at_place operators (length rows)) q) → AreRows operators (rows ++ r ∷ [])
+pub row_more : (operators : Operators) (rows : Rows) (r : Option (FlatRow × ℕ)) → AreRows operators rows
+    → IfSome r (λ q. IsFlatRowOf (length rows) (at_place operators (length rows)) q) → AreRows operators (rows ++ r ∷ [])
 row_more operators rows r are e place =
     ⊎_elim before (λ (l : length rows ≤ place). ⊎_elim here past (eq-or-lt_of_le l)) (cases_lt place (length rows))
   where
-    before : place < length rows → IfSome (row_at (rows ++ r ∷ []) place) (λ q. IsRowOf place (at_place operators place) q)
-    before l = subst (λ (o : Option (Row × ℕ)). IfSome o (λ q. IsRowOf place (at_place operators place) q)) (sym (at_front rows (r ∷ []) place l)) (are place)
+    before : place < length rows → IfSome (row_at (rows ++ r ∷ []) place) (λ q. IsFlatRowOf place (at_place operators place) q)
+    before l = subst (λ (o : Option (FlatRow × ℕ)). IfSome o (λ q. IsFlatRowOf place (at_place operators place) q)) (sym (at_front rows (r ∷ []) place l)) (are place)
 
-    here : length rows ≡ place → IfSome (row_at (rows ++ r ∷ []) place) (λ q. IsRowOf place (at_place operators place) q)
+    here : length rows ≡ place → IfSome (row_at (rows ++ r ∷ []) place) (λ q. IsFlatRowOf place (at_place operators place) q)
     here i =
-        subst (λ (n : ℕ). IfSome (row_at (rows ++ r ∷ []) n) (λ q. IsRowOf n (at_place operators n) q)) i
-        (subst (λ (o : Option (Row × ℕ)). IfSome o (λ q. IsRowOf (length rows) (at_place operators (length rows)) q)) (sym (at_seam rows r)) e)
+        subst (λ (n : ℕ). IfSome (row_at (rows ++ r ∷ []) n) (λ q. IsFlatRowOf n (at_place operators n) q)) i
+        (subst (λ (o : Option (FlatRow × ℕ)). IfSome o (λ q. IsFlatRowOf (length rows) (at_place operators (length rows)) q)) (sym (at_seam rows r)) e)
 
-    past : length rows < place → IfSome (row_at (rows ++ r ∷ []) place) (λ q. IsRowOf place (at_place operators place) q)
+    past : length rows < place → IfSome (row_at (rows ++ r ∷ []) place) (λ q. IsFlatRowOf place (at_place operators place) q)
     past l =
-        subst (λ (o : Option (Row × ℕ)). IfSome o (λ q. IsRowOf place (at_place operators place) q))
+        subst (λ (o : Option (FlatRow × ℕ)). IfSome o (λ q. IsFlatRowOf place (at_place operators place) q))
         (sym (past_rows (rows ++ r ∷ []) place (omega (arith, l, length-append rows (r ∷ []))))) tt
 
 -- ---- operators that were decoded

@@ -3,5 +3,6 @@ pub mod Performing
 pub mod Operating
 pub mod Actions
 pub mod Lettered
+pub mod Flat
 pub mod Prepared
 pub mod Laws

@@ -4,6 +4,7 @@
 //! process. So a processor can perform a stretch of them on a copy of the private part only.
 #![tactic(auto)]
 
+mod flat;
 mod laws;
 mod operators;
 mod prepared;
@@ -13,10 +14,11 @@ mod taking;
 
 use b67_num::{FaultKind, NumFault};
 use b67_table::InterruptKind;
+pub use flat::{FlatRow, frequent_words, perform_flat};
 pub use laws::{operators_are_own, parts_of_valid_images, stretches_are_own};
 pub use operators::{Row, WordsRow, operate, perform, row_of};
 pub use prepared::Prepared;
-pub use stretch::{burst, burst_in_place, next_operator, perform_fetched, row_at};
+pub use stretch::{burst, burst_in_place, flat_at, next_operator, perform_fetched, row_at};
 
 /// Why an operator has no effect.
 #[derive(Clone, Copy)]

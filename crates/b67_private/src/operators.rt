@@ -69,7 +69,8 @@ pub enum Row {
     Enter,
 }
 
-const FOREIGN: Stop = Stop::Interrupt(InterruptKind::BadCode);
+/// What an action is to a private part.
+pub const FOREIGN: Stop = Stop::Interrupt(InterruptKind::BadCode);
 
 // The row of an operator without an operand.
 fn row_of_plain(kind: PlainKind) -> Row

@@ -5,8 +5,9 @@ ghost use Rattle.b67_ops.specs.Spelling.{FitsAs};
 ghost use Rattle.b67_segment.specs.declared.TheConstants.{MOST_SEGMENT_WORDS};
 ghost use Rattle.b67_segment.specs.Decoded.{at_place, AreDecoded};
 ghost use Rattle.b67_private.specs.Operating.{IsHeldCouple};
-ghost use Rattle.b67_private.specs.Prepared.{AreHeld, AreRows, IsRowOf};
+ghost use Rattle.b67_private.specs.Prepared.{AreHeld, AreRows, IsFlatRowOf, IsRowOf};
 
+use crate::flat::{FlatRow, flat_of, row_from};
 use crate::operators::{Row, row_of};
 use b67_ops::Operator;
 use b67_segment::{Code, Decoded};
@@ -20,7 +21,7 @@ use std::marker::Model;
 pub struct Prepared {
     operators: Decoded,
     // By place, as far as there was memory for them.
-    rows: Vec<Option<(Row, u16)>>,
+    rows: Vec<Option<(FlatRow, u16)>>,
 }
 
 impl Model for Prepared {
@@ -48,18 +49,18 @@ fn places_of(code: &Code, segment: u16) -> usize
 
 // The row of an operator at its place, with the place after it.
 #[inline(always)]
-fn row_by(found: Option<(Operator, u16)>, place: u16) -> Option<(Row, u16)>
+fn row_by(found: Option<(Operator, u16)>, place: u16) -> Option<(FlatRow, u16)>
     requires { IfSome found (λ f. FitsAs IsHeldCouple f.0) }
-    ensures { IfSome result (λ r. IsRowOf place found r) }
+    ensures { IfSome result (λ r. IsFlatRowOf place found r) }
 {
     match found {
-        Some((op, next)) => Some((row_of(&op, place), next)),
+        Some((op, next)) => Some((flat_of(row_of(&op, place)), next)),
         None => None,
     }
 }
 
 // The rows of these operators at so many places, as far as there is memory for them.
-fn add_rows(rows: &mut Vec<Option<(Row, u16)>>, operators: &Decoded, count: usize)
+fn add_rows(rows: &mut Vec<Option<(FlatRow, u16)>>, operators: &Decoded, count: usize)
     requires held { AreHeld operators.now }
     requires none { rows.old.items ≡ [] }
     requires count { count ≤ 6 * MOST_SEGMENT_WORDS }
@@ -94,13 +95,24 @@ impl Prepared {
         self.operators.at(place)
     }
 
+    /// The flat row of the operator at a place, and the place after it, where they are made ready.
+    #[inline(always)]
+    pub fn flat(&self, place: u16) -> Option<(FlatRow, u16)>
+        ensures { IfSome result (λ r. IsFlatRowOf place (at_place self.now place) r) }
+    {
+        match self.rows.get(usize::from(place)) {
+            Some(row) => *row,
+            None => None,
+        }
+    }
+
     /// The row of the operator at a place, and the place after it, where they are made ready.
     #[inline(always)]
     pub fn row(&self, place: u16) -> Option<(Row, u16)>
         ensures { IfSome result (λ r. IsRowOf place (at_place self.now place) r) }
     {
-        match self.rows.get(usize::from(place)) {
-            Some(row) => *row,
+        match self.flat(place) {
+            Some((flat, next)) => Some((row_from(flat), next)),
             None => None,
         }
     }

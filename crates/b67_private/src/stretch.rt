@@ -9,8 +9,9 @@ ghost use Rattle.b67_store.specs.Store.{stack_limit};
 ghost use Rattle.b67_table.specs.Privacy.{RegistersStay};
 ghost use Rattle.b67_private.specs.Parts.{AreReady, HasRoom, HasPart, IsPrivatePart, PlainParts, is_plain, own_next, part_in};
 ghost use Rattle.b67_private.specs.Performing.{Steps};
-ghost use Rattle.b67_private.specs.Prepared.{IsRowOf};
+ghost use Rattle.b67_private.specs.Prepared.{IsFlatRowOf, IsRowOf};
 
+use crate::flat::FlatRow;
 use crate::operators::{Row, operate, perform};
 use crate::prepared::Prepared;
 use b67_ops::Operator;
@@ -40,6 +41,17 @@ pub fn next_operator(
             Ok(found) => Some(found),
             Err(_) => None,
         },
+    }
+}
+
+/// The flat row of the operator at a place, and the place after it, where they are made ready.
+#[inline(always)]
+pub fn flat_at(table: Option<&Prepared>, place: u16) -> Option<(FlatRow, u16)>
+    ensures { (code : Code) (segment level : ℕ) → IfSome table.entry (λ t. AreDecoded code segment level t.now) → IfSome result (λ r. IsFlatRowOf place (found code segment level place) r) }
+{
+    match table {
+        Some(operators) => operators.flat(place),
+        None => None,
     }
 }
 

@@ -2,16 +2,18 @@ use Rattle.std.specs.Prelude.{IfSome}
 use Rattle.std.proofs.Common.{◌≡◌, sym, subst, ◌∙◌, suc, ◌+◌, ◌-◌, ◌∷◌, [], ◌++◌, ℕ, length, take, set, List, arith, refl}
 use Rattle.std.proofs.lemmas.Bool.{leb-true}
 use Rattle.std.proofs.lemmas.List.{length-set, take_more_set}
+use Rattle.b67_word.specs.Word.{Word}
+use Rattle.b67_control.specs.declared.Registers.{Registers}
 use Rattle.b67_deeds.specs.declared.Letter.{Letter}
 use Rattle.b67_segment.specs.Decoded.{found, AreDecoded}
 use Rattle.b67_table.specs.Image.{Image}
-use Rattle.b67_private.specs.Prepared.{IsRowOf}
+use Rattle.b67_private.specs.Prepared.{IsFlatRowOf}
 use Rattle.b67_private.proofs.Stepping.{kept_all}
 use Rattle.b67_action.specs.declared.running.Ran.{Ran}
-use Rattle.b67_action.specs.Running.{IsLent, HasRunIn, StepsTo, act_step, given_back}
-use Rattle.b67_action.proofs.Lent.{back_same, lent_same, given_twice}
+use Rattle.b67_action.specs.Running.{IsLent, HasRunIn, ActionGoesOn, given_back}
+use Rattle.b67_action.proofs.Lent.{back_same, lent_same, given_twice, given_thrice}
 use Rattle.b67_action.proofs.Ready.{some_is}
-use Rattle.b67_action.proofs.Runs.{Going, going_on, going_plain, going_action, has_come, has_ended, has_filled}
+use Rattle.b67_action.proofs.Runs.{Going, going_on, going_plain, going_next, has_come, has_ended, has_filled}
 use Rattle.b67_action.proofs.running.go_on_room.Goals as goal
 
 pub running-init : goal.running-init
@@ -33,25 +35,30 @@ running-init c =
       is_open = c.requires.is_open;
       done = c.requires.most;
       keeps = (refl, refl, refl, refl, refl, refl);
+      place = refl;
     }
 
--- nothing more, since the next operator is no such action
+-- nothing more, since the next operator is neither plain nor such an action
 pub returns-in_default-clause-ran : goal.returns-in_default-clause-ran
 returns-in_default-clause-ran c =
     let code = c.args.code.now in
     let r = c.running.regs in
     let us = c.running.room in
+    let a = c.plain_by_row.new.regs in
+    let vs = c.plain_by_row.new.room in
     let q = c.act_by_row.new.regs in
     let ws = c.act_by_row.new.room in
     let ran : Ran = record { entries = c.running.entries; operators = c.running.operators; plain = c.running.done - c.running.operators } in
+    let same = c.act_by_row.ensures.none c.in_default.is in
     λ first img p l h.
     let x = given_back r us p img in
     let lx = c.running.invariant.lends img p l in
-    let waits = subst (λ o. StepsTo (act_step o) code p x (given_back q ws p x)) c.in_default.is (c.act_by_row.ensures.steps x p lx) in
     subst (λ (k : Ran). HasRunIn q ws code p c.args.most first k c.running.letters (given_back q ws p img)) (sym c.ran_to.ensures)
-    (subst (λ (z : Image). HasRunIn q ws code p c.args.most first ran c.running.letters z) (given_twice img p r q us ws c.act_by_row.ensures.keeps.0)
-    (has_ended code p first q ws c.args.most ran c.running.letters x (given_back q ws p x) c.running.invariant.entries c.running.invariant.is_open (c.running.invariant.ran first img p l h)
-    1 waits (λ place. waits.stops (omega arith)) (c.act_by_row.ensures.lends x p lx).valid))
+    (subst (λ (z : Registers). HasRunIn z ws code p c.args.most first ran c.running.letters (given_back z ws p img)) (sym same.0)
+    (subst (λ (zs : List Word). HasRunIn a zs code p c.args.most first ran c.running.letters (given_back a zs p img)) (sym same.1)
+    (subst (λ (z : Image). HasRunIn a vs code p c.args.most first ran c.running.letters z) (given_twice img p r a us vs c.plain_by_row.ensures.keeps.0)
+    (has_ended code p first a vs c.args.most ran c.running.letters x (given_back a vs p x) c.running.invariant.entries c.running.invariant.is_open (c.running.invariant.ran first img p l h)
+    0 (c.if-plain_by_row.ensures.steps x p lx).0 (c.if-plain_by_row.ensures.steps x p lx).1 (c.plain_by_row.ensures.lends x p lx).valid))))
 
 -- an action of the last letter
 pub returns-then-entries-letters-clause-ran : goal.returns-then-entries-letters-clause-ran
@@ -59,6 +66,8 @@ returns-then-entries-letters-clause-ran c =
     let code = c.args.code.now in
     let r = c.running.regs in
     let us = c.running.room in
+    let a = c.plain_by_row.new.regs in
+    let vs = c.plain_by_row.new.room in
     let q = c.act_by_row.new.regs in
     let ws = c.act_by_row.new.room in
     let n = c.running.entries in
@@ -69,19 +78,20 @@ returns-then-entries-letters-clause-ran c =
     let ran : Ran = record { entries = n + 1; operators = done; plain = done - done } in
     let none : done - done ≡ 0 = omega arith in
     let full : n + 1 ≡ length noted = c.if-entries-letters.true in
-    let all : c.running.operators + (c.running.done - c.running.operators + 1) ≡ done = omega (arith, c.running.invariant.operators) in
     λ first img p l h.
     let x = given_back r us p img in
     let lx = c.running.invariant.lends img p l in
-    let y = given_back q ws p x in
+    let y = given_back a vs p x in
+    let ly = c.plain_by_row.ensures.lends x p lx in
+    let z = given_back q ws p y in
     subst (λ (k : Ran). HasRunIn q ws code p c.args.most first k noted (given_back q ws p img)) (sym c.ran_to-then-entries-letters.ensures)
-    (subst (λ (z : Image). HasRunIn q ws code p c.args.most first ran noted z) (given_twice img p r q us ws c.act_by_row.ensures.keeps.0)
-    (has_filled code p first q ws c.args.most ran noted y (omega arith) full none
-    (subst (λ (ls : List Letter). Going code p first ls done (done - done) y) (sym (take_more_set c.running.letters n letter (omega (arith, less))))
-    (subst (λ (k : ℕ). Going code p first (take n c.running.letters ++ letter ∷ []) done k y) (sym none)
-    (subst (λ (k : ℕ). Going code p first (take n c.running.letters ++ letter ∷ []) k 0 y) all
-    (going_action code p first (take n c.running.letters) c.running.operators (c.running.done - c.running.operators) x y (c.running.invariant.ran first img p l h) letter
-    (subst (λ o. StepsTo (act_step o) code p x y) c.in-Some-act_by_row.is (c.act_by_row.ensures.steps x p lx))))))))
+    (subst (λ (z : Image). HasRunIn q ws code p c.args.most first ran noted z) (given_thrice img p r a q us vs ws c.plain_by_row.ensures.keeps.0 c.act_by_row.ensures.keeps.0)
+    (has_filled code p first q ws c.args.most ran noted z (omega (arith, full)) full none
+    (subst (λ (ls : List Letter). Going code p first ls done (done - done) z) (sym (take_more_set c.running.letters n letter (omega (arith, less))))
+    (subst (λ (k : ℕ). Going code p first (take n c.running.letters ++ letter ∷ []) done k z) (sym none)
+    (going_next code p first (take n c.running.letters) c.running.operators c.running.done x y z c.running.invariant.operators (c.running.invariant.ran first img p l h)
+    (c.if-plain_by_row.ensures.steps x p lx).0 ly.valid letter
+    (some_is (λ (k : Letter). (i : Image) (o : ℕ) → IsLent code i o a vs → ActionGoesOn code o k i (given_back q ws o i)) c.act_by_row.result letter c.in-Some-act_by_row.is c.act_by_row.ensures.goes y p ly))))))
 
 -- an action of this letter
 pub running-preserved-else-entries-letters : goal.running-preserved-else-entries-letters
@@ -89,6 +99,8 @@ running-preserved-else-entries-letters c =
     let code = c.args.code.now in
     let r = c.running.regs in
     let us = c.running.room in
+    let a = c.plain_by_row.new.regs in
+    let vs = c.plain_by_row.new.room in
     let q = c.act_by_row.new.regs in
     let ws = c.act_by_row.new.room in
     let n = c.running.entries in
@@ -98,19 +110,24 @@ running-preserved-else-entries-letters c =
       ran = λ first img p l h.
           let x = given_back r us p img in
           let lx = c.running.invariant.lends img p l in
+          let y = given_back a vs p x in
+          let ly = c.plain_by_row.ensures.lends x p lx in
+          let z = given_back q ws p y in
           let none : c.running.done + 1 - (c.running.done + 1) ≡ 0 = omega arith in
-          let all : c.running.operators + (c.running.done - c.running.operators + 1) ≡ c.running.done + 1 = omega (arith, c.running.invariant.operators) in
-          subst (λ (z : Image). Going code p first (take (n + 1) (set c.running.letters n letter)) (c.running.done + 1) (c.running.done + 1 - (c.running.done + 1)) z) (given_twice img p r q us ws c.act_by_row.ensures.keeps.0)
-          (subst (λ (ls : List Letter). Going code p first ls (c.running.done + 1) (c.running.done + 1 - (c.running.done + 1)) (given_back q ws p x))
-          (sym (take_more_set c.running.letters n letter (omega (arith, less))))
-          (subst (λ (k : ℕ). Going code p first (take n c.running.letters ++ letter ∷ []) (c.running.done + 1) k (given_back q ws p x)) (sym none)
-          (subst (λ (k : ℕ). Going code p first (take n c.running.letters ++ letter ∷ []) k 0 (given_back q ws p x)) all
-          (going_action code p first (take n c.running.letters) c.running.operators (c.running.done - c.running.operators) x (given_back q ws p x) (c.running.invariant.ran first img p l h) letter
-          (subst (λ o. StepsTo (act_step o) code p x (given_back q ws p x)) c.in-Some-act_by_row.is (c.act_by_row.ensures.steps x p lx))))));
+          subst (λ (i : Image). Going code p first (take (n + 1) (set c.running.letters n letter)) (c.running.done + 1) (c.running.done + 1 - (c.running.done + 1)) i)
+          (given_thrice img p r a q us vs ws c.plain_by_row.ensures.keeps.0 c.act_by_row.ensures.keeps.0)
+          (subst (λ (ls : List Letter). Going code p first ls (c.running.done + 1) (c.running.done + 1 - (c.running.done + 1)) z) (sym (take_more_set c.running.letters n letter (omega (arith, less))))
+          (subst (λ (k : ℕ). Going code p first (take n c.running.letters ++ letter ∷ []) (c.running.done + 1) k z) (sym none)
+          (going_next code p first (take n c.running.letters) c.running.operators c.running.done x y z c.running.invariant.operators (c.running.invariant.ran first img p l h)
+          (c.if-plain_by_row.ensures.steps x p lx).0 ly.valid letter
+          (some_is (λ (k : Letter). (i : Image) (o : ℕ) → IsLent code i o a vs → ActionGoesOn code o k i (given_back q ws o i)) c.act_by_row.result letter c.in-Some-act_by_row.is c.act_by_row.ensures.goes y p ly))));
       lends = λ img p l.
           let x = given_back r us p img in
-          subst (λ (z : Image). IsLent code z p q ws) (given_twice img p r q us ws c.act_by_row.ensures.keeps.0)
-          (c.act_by_row.ensures.lends x p (c.running.invariant.lends img p l));
+          let lx = c.running.invariant.lends img p l in
+          let y = given_back a vs p x in
+          let ly = c.plain_by_row.ensures.lends x p lx in
+          subst (λ (z : Image). IsLent code z p q ws) (given_thrice img p r a q us vs ws c.plain_by_row.ensures.keeps.0 c.act_by_row.ensures.keeps.0)
+          (some_is (λ (k : Letter). (i : Image) (o : ℕ) → IsLent code i o a vs → IsLent code (given_back q ws o i) o q ws) c.act_by_row.result letter c.in-Some-act_by_row.is c.act_by_row.ensures.lends y p ly);
       held = omega (arith, c.act_by_row.ensures.held, c.act_by_row.auto.room);
       size = length-set c.running.letters n letter ∙ c.running.invariant.size;
       entries = omega (arith, less, length-set c.running.letters n letter);
@@ -118,7 +135,28 @@ running-preserved-else-entries-letters c =
       few = omega (arith, c.running.invariant.few, c.running.invariant.operators);
       is_open = λ some. omega (arith, less, length-set c.running.letters n letter, c.if-entries-letters.false);
       done = omega (arith, c.running-test.true);
-      keeps = kept_all c.args.regs.now r q c.running.invariant.keeps c.act_by_row.ensures.keeps;
+      keeps = kept_all c.args.regs.now r q c.running.invariant.keeps (kept_all r a q c.plain_by_row.ensures.keeps c.act_by_row.ensures.keeps);
+      place = refl;
+    }
+
+pub act_by_row-requires : goal.act_by_row-requires
+act_by_row-requires c =
+    let code = c.args.code.now in
+    let r = c.running.regs in
+    let a = c.plain_by_row.new.regs in
+    let first = c.args.regs.now in
+    let keeps = c.running.invariant.keeps in
+    let decoded : IfSome c.args.table (λ t. AreDecoded code r.segment r.ll t.now) =
+    subst (λ (n : ℕ). IfSome c.args.table (λ t. AreDecoded code n r.ll t.now)) (sym keeps.3)
+    (subst (λ (n : ℕ). IfSome c.args.table (λ t. AreDecoded code first.segment n t.now)) (sym keeps.1) c.requires.table) in
+    let x = given_back r c.running.room c.requires.lent.1 c.requires.lent.0 in
+    let lx = c.running.invariant.lends c.requires.lent.0 c.requires.lent.1 c.requires.lent.2 in
+    record {
+      lent = (given_back a c.plain_by_row.new.room c.requires.lent.1 x, c.requires.lent.1, c.plain_by_row.ensures.lends x c.requires.lent.1 lx);
+      room = (omega (arith, c.plain_by_row.ensures.held, c.plain_by_row.auto.room), omega (arith, c.plain_by_row.auto.room, c.running.auto.room, c.requires.room.1));
+      row = subst (λ (z : Registers). IsFlatRowOf z.place (found code z.segment z.ll z.place) (c.in-Some.row, c.in-Some.next)) (sym (c.plain_by_row.ensures.none c.if-plain_by_row.false))
+          (subst (λ (n : ℕ). IsFlatRowOf n (found code r.segment r.ll n) (c.in-Some.row, c.in-Some.next)) c.running.invariant.place
+          (some_is (λ w. IsFlatRowOf c.running.place (found code r.segment r.ll c.running.place) w) c.flat_at.result (c.in-Some.row, c.in-Some.next) c.in-Some.is (c.flat_at.ensures code r.segment r.ll decoded)));
     }
 
 pub plain_by_row-requires : goal.plain_by_row-requires
@@ -133,14 +171,12 @@ plain_by_row-requires c =
     record {
       lent = (given_back r c.running.room c.requires.lent.1 c.requires.lent.0, c.requires.lent.1, c.running.invariant.lends c.requires.lent.0 c.requires.lent.1 c.requires.lent.2);
       room = (c.running.invariant.held, omega (arith, c.running.auto.room, c.requires.room.1));
-      row = some_is (λ w. IsRowOf r.place (found code r.segment r.ll r.place) w) c.row_at.result (c.in-Some.row, c.in-Some.next) c.in-Some.is (c.row_at.ensures code r.segment r.ll decoded);
+      row = subst (λ (n : ℕ). IsFlatRowOf n (found code r.segment r.ll n) (c.in-Some.row, c.in-Some.next)) c.running.invariant.place
+          (some_is (λ w. IsFlatRowOf c.running.place (found code r.segment r.ll c.running.place) w) c.flat_at.result (c.in-Some.row, c.in-Some.next) c.in-Some.is (c.flat_at.ensures code r.segment r.ll decoded));
     }
 
 pub plain_fetched-requires-clause-room : goal.plain_fetched-requires-clause-room
 plain_fetched-requires-clause-room c = (c.running.invariant.held, omega (arith, c.running.auto.room, c.requires.room.1))
-
-pub act_by_row-requires-clause-room : goal.act_by_row-requires-clause-room
-act_by_row-requires-clause-room c = (c.running.invariant.held, omega (arith, c.running.auto.room, c.requires.room.1))
 
 pub plain_fetched-requires-clause-lent : goal.plain_fetched-requires-clause-lent
 plain_fetched-requires-clause-lent c = (
@@ -149,24 +185,8 @@ plain_fetched-requires-clause-lent c = (
   c.running.invariant.lends c.requires.lent.0 c.requires.lent.1 c.requires.lent.2,
 )
 
-pub returns-then-not-plain_by_row-clause-ran : goal.returns-then-not-plain_by_row-clause-ran
-returns-then-not-plain_by_row-clause-ran c =
-    let code = c.args.code.now in
-    let r = c.running.regs in
-    let us = c.running.room in
-    let q = c.plain_by_row.new.regs in
-    let ws = c.plain_by_row.new.room in
-    let ran : Ran = record { entries = c.running.entries; operators = c.running.operators; plain = c.running.done - c.running.operators } in
-    λ first img p l h.
-    let x = given_back r us p img in
-    let lx = c.running.invariant.lends img p l in
-    subst (λ (k : Ran). HasRunIn q ws code p c.args.most first k c.running.letters (given_back q ws p img)) (sym c.ran_to-then-not-plain_by_row.ensures)
-    (subst (λ (z : Image). HasRunIn q ws code p c.args.most first ran c.running.letters z) (given_twice img p r q us ws c.plain_by_row.ensures.keeps.0)
-    (has_ended code p first q ws c.args.most ran c.running.letters x (given_back q ws p x) c.running.invariant.entries c.running.invariant.is_open (c.running.invariant.ran first img p l h)
-    0 (c.if-not-plain_by_row.ensures.steps x p lx).0 (c.if-not-plain_by_row.ensures.steps x p lx).1 (c.plain_by_row.ensures.lends x p lx).valid))
-
-pub running-preserved-in-Some : goal.running-preserved-in-Some
-running-preserved-in-Some c =
+pub running-preserved-then-plain_by_row : goal.running-preserved-then-plain_by_row
+running-preserved-then-plain_by_row c =
     let code = c.args.code.now in
     let r = c.running.regs in
     let us = c.running.room in
@@ -181,7 +201,7 @@ running-preserved-in-Some c =
           let lx = c.running.invariant.lends img p l in
           subst (λ (z : Image). Going code p first noted c.running.operators (c.running.done + 1 - c.running.operators) z) (given_twice img p r q us ws c.plain_by_row.ensures.keeps.0)
           (subst (λ (k : ℕ). Going code p first noted c.running.operators k (given_back q ws p x)) more
-          (going_plain code p first noted c.running.operators plain x (given_back q ws p x) (c.running.invariant.ran first img p l h) 1 1 (c.if-not-plain_by_row.ensures.steps x p lx)
+          (going_plain code p first noted c.running.operators plain x (given_back q ws p x) (c.running.invariant.ran first img p l h) 1 1 (c.if-plain_by_row.ensures.steps x p lx)
           (c.plain_by_row.ensures.lends x p lx).valid));
       lends = λ img p l.
           let x = given_back r us p img in
@@ -194,6 +214,7 @@ running-preserved-in-Some c =
       is_open = c.running.invariant.is_open;
       done = omega (arith, c.running-test.true);
       keeps = kept_all c.args.regs.now r q c.running.invariant.keeps c.plain_by_row.ensures.keeps;
+      place = refl;
     }
 
 pub returns-then-not-plain_fetched-clause-ran : goal.returns-then-not-plain_fetched-clause-ran
@@ -241,6 +262,7 @@ running-preserved c =
       is_open = c.running.invariant.is_open;
       done = omega (arith, c.running-test.true);
       keeps = kept_all c.args.regs.now r q c.running.invariant.keeps c.plain_fetched.ensures.keeps;
+      place = refl;
     }
 
 pub returns-clause-ran : goal.returns-clause-ran

@@ -18,6 +18,7 @@ invariant-running l = record {
   is_open : IsOpenAt l.entries l.letters;
   done : l.done ≤ l.fn.most;
   keeps : RegistersStay l.fn.regs l.regs;
+  place : l.place ≡ l.regs.place;
 }
 
 abbrev pub decreases-running : goal.decreases-running

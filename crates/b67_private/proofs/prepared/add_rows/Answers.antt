@@ -4,7 +4,7 @@ use Rattle.b67_ops.specs.declared.Operator.{Operator}
 use Rattle.b67_ops.specs.Spelling.{FitsAs}
 use Rattle.b67_segment.specs.Decoded.{at_place}
 use Rattle.b67_private.specs.Operating.{IsHeldCouple}
-use Rattle.b67_private.specs.Prepared.{Rows, AreRows, IsRowOf}
+use Rattle.b67_private.specs.Prepared.{Rows, AreRows, IsFlatRowOf}
 use Rattle.b67_private.proofs.PlacedRows.{none_yet, row_more}
 use Rattle.b67_private.proofs.prepared.add_rows.Goals as goal
 
@@ -25,10 +25,10 @@ rows-preserved c =
     let place = c.rows.index in
     let ok : is_ok c.push.result ≡ true = c.is_err.ensures.negation ∙ ap not c.if-is_err.false in
     let pushed : c.push.new.self.items ≡ rows ++ r ∷ [] = c.push.ensures.items ∙ ap (λ (b : Bool). cond b (rows ++ r ∷ []) rows) ok in
-    let found : IfSome r (λ q. IsRowOf place (at_place ops place) q) =
-    subst (λ (o : Option (Operator × ℕ)). IfSome r (λ q. IsRowOf place o q)) c.at.ensures c.row_by.ensures in
-    let here : IfSome r (λ q. IsRowOf (length rows) (at_place ops (length rows)) q) =
-    subst (λ (n : ℕ). IfSome r (λ q. IsRowOf n (at_place ops n) q)) (sym c.rows.invariant.size) found in
+    let found : IfSome r (λ q. IsFlatRowOf place (at_place ops place) q) =
+    subst (λ (o : Option (Operator × ℕ)). IfSome r (λ q. IsFlatRowOf place o q)) c.at.ensures c.row_by.ensures in
+    let here : IfSome r (λ q. IsFlatRowOf (length rows) (at_place ops (length rows)) q) =
+    subst (λ (n : ℕ). IfSome r (λ q. IsFlatRowOf n (at_place ops n) q)) (sym c.rows.invariant.size) found in
     record {
       size = omega (arith, ap length pushed, length-append rows (r ∷ []), c.rows.invariant.size);
       are = subst (λ (xs : Rows). AreRows ops xs) (sym pushed) (row_more ops rows r c.rows.invariant.are here);
