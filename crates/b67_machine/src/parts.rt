@@ -1,12 +1,10 @@
 // Parts of a process, its private one and the whole: copied out, compared, and put back.
-ghost use Rattle.std.specs.Prelude.{◌≡◌, ℕ, ◌+◌, ◌<◌, ◌≤◌, ◌++◌, ◌^◌, List, length, reverse, take, Some, None, IfSome, true};
+ghost use Rattle.std.specs.Prelude.{◌≡◌, ℕ, ◌+◌, ◌<◌, ◌≤◌, ◌^◌, length, Some, None, IfSome, true};
 ghost use Rattle.b67_list.specs.Numbered.{numbered};
 ghost use Rattle.b67_events.specs.Events.{Events};
-ghost use Rattle.b67_linkage.specs.Held.{IsLinked};
-ghost use Rattle.b67_store.specs.Store.{stack_limit, words_of, with_stack};
+ghost use Rattle.b67_store.specs.Store.{stack_limit};
 ghost use Rattle.b67_table.specs.declared.Private.{Private as Part};
 ghost use Rattle.b67_table.specs.Image.{is_able, is_live, with_private};
-ghost use Rattle.b67_table.specs.Private.{floor};
 ghost use Rattle.b67_table.specs.Privacy.{RegistersStay};
 ghost use Rattle.b67_table.specs.Valid.{IsValid};
 ghost use Rattle.b67_operators.specs.Leaves.{IsLinkedIn};
@@ -27,52 +25,35 @@ use crate::counting::{count, note_last};
 use b67_action::{Ran, put_words, take_words};
 use b67_deeds::Letter;
 use b67_intrinsics::registers;
-use b67_reach::{Parts, Registers, floor};
+use b67_reach::{Parts, floor};
 use b67_store::Core;
 use b67_table::Private;
 use b67_word::Word;
 
-// A part is put in place of a process's own, from a base on: its words, and the registers that operators of the process's own set.
-fn put_from<C: Core>(core: &mut C, own: &mut Registers, base: u32, end: &Private)
-    requires linked { IsLinked (C.Core.stacks core.old) (C.Core.rows core.old) own.old }
-    requires keeps { RegistersStay own.old end.now.regs }
+// A part is put in place of a process's own, from a base on, after so many entries, which release nobody: its words, and the registers that
+// operators of the process's own set.
+fn put_from<C: Core>(
+    core: &mut C,
+    parts: &mut Parts,
+    process: u32,
+    base: u32,
+    end: &Private,
+    entries: u32,
+)
+    requires linked { IsLinkedIn (C.Core.stacks core.old) (C.Core.rows core.old) (numbered parts.old.regs.items process) }
+    requires keeps { IfSome (numbered parts.old.regs.items process) (λ r. RegistersStay r end.now.regs) }
     requires room { base + length end.now.words ≤ stack_limit }
-    ensures regs { own.new ≡ end.now.regs }
-    ensures stacks { C.Core.stacks core.new ≡ with_stack (C.Core.stacks core.old) end.now.regs.stack (take base (words_of (C.Core.stacks core.old) end.now.regs.stack) ++ reverse end.now.words) }
-    ensures rows { C.Core.rows core.new ≡ C.Core.rows core.old }
-{
-    put_words(core, own.stack, base, &end.words);
-    own.s = end.regs.s;
-    own.f = end.regs.f;
-    own.cells = end.regs.cells;
-    own.place = end.regs.place;
-}
-
-// A private part is put in place of a process's own, from the floor before it on.
-fn put_part<C: Core>(core: &mut C, parts: &mut Parts, process: u32, end: &Private)
-    requires linked { IsLinkedIn (C.Core.stacks core.old) (C.Core.rows core.old) (numbered parts.old.regs.items process) }
-    requires keeps { IfSome (numbered parts.old.regs.items process) (λ r. RegistersStay r end.now.regs) }
-    requires room { IfSome (numbered parts.old.regs.items process) (λ r. floor r + length end.now.words ≤ stack_limit) }
-    ensures put { (kernel : Events) → IfSome (numbered parts.old.regs.items process) (λ r. image_of (C.Core.stacks core.new) (C.Core.rows core.new) kernel parts.new ≡ with_private (image_of (C.Core.stacks core.old) (C.Core.rows core.old) kernel parts.old) process (floor r) end.now) }
-    ensures others { parts.new ≡ record parts.old { regs = parts.new.regs } }
-{
-    let own = &mut parts.regs[process as usize - 1];
-    let base = floor(own);
-    put_from(core, own, base, end);
-}
-
-// A part with all the words of its stack is put in place of a process's own, after so many entries, which release nobody.
-fn put_whole<C: Core>(core: &mut C, parts: &mut Parts, process: u32, end: &Private, entries: u32)
-    requires linked { IsLinkedIn (C.Core.stacks core.old) (C.Core.rows core.old) (numbered parts.old.regs.items process) }
-    requires keeps { IfSome (numbered parts.old.regs.items process) (λ r. RegistersStay r end.now.regs) }
-    requires room { length end.now.words ≤ stack_limit }
-    ensures put { (kernel : Events) → image_of (C.Core.stacks core.new) (C.Core.rows core.new) kernel parts.new ≡ with_private (image_of (C.Core.stacks core.old) (C.Core.rows core.old) kernel parts.old) process 0 end.now }
+    ensures put { (kernel : Events) → image_of (C.Core.stacks core.new) (C.Core.rows core.new) kernel parts.new ≡ with_private (image_of (C.Core.stacks core.old) (C.Core.rows core.old) kernel parts.old) process base end.now }
     ensures released { parts.new.woken.processes.items ≡ released_after entries parts.old.woken.processes.items }
     ensures places { KeepsPlaces parts.old.woken parts.new.woken }
     ensures code { parts.new.code ≡ parts.old.code }
 {
     let own = &mut parts.regs[process as usize - 1];
-    put_from(core, own, 0, end);
+    put_words(core, own.stack, base, &end.words);
+    own.s = end.regs.s;
+    own.f = end.regs.f;
+    own.cells = end.regs.cells;
+    own.place = end.regs.place;
     if entries > 0 {
         parts.woken.processes.clear();
     }
@@ -131,7 +112,9 @@ impl<C: Core> Machine<C> {
         ensures goes { MachineGoes self.old process performed self.new }
         ensures valid { IsValid self.new.code self.new.image }
     {
-        put_part(&mut self.core, &mut self.parts, process, end);
+        let regs = registers(&self.parts.regs, process);
+        let base = floor(regs);
+        put_from(&mut self.core, &mut self.parts, process, base, end, 0);
         count(&mut self.counts, process, performed);
     }
 
@@ -148,7 +131,14 @@ impl<C: Core> Machine<C> {
         ensures runs { (most : ℕ) → HasRun self.old.code process most self.old.image ran letters.now (with_private self.old.image process 0 end.now) → ChainRuns self.old process most ran letters.now self.new }
         ensures valid { IsValid self.new.code self.new.image }
     {
-        put_whole(&mut self.core, &mut self.parts, process, end, ran.entries);
+        put_from(
+            &mut self.core,
+            &mut self.parts,
+            process,
+            0,
+            end,
+            ran.entries,
+        );
         note_last(&mut self.letter, &letters[..ran.entries as usize]);
         count(&mut self.counts, process, ran.operators + ran.plain);
     }
