@@ -1,5 +1,5 @@
 -- What is found in frames is what they were laid out from.
-use Rattle.std.proofs.Common.{◌≡◌, ℕ, ◌+◌, Bool, List, [], ◌∷◌, Option, Some, None, refl, ap, ◌∙◌}
+use Rattle.std.proofs.Common.{◌≡◌, ℕ, ◌+◌, ◌<◌, suc, Bool, true, false, List, [], ◌∷◌, length, drop, get_or, drop-cons, add-one, Option, Some, None, refl, ap, sym, ◌∙◌}
 use Rattle.std.specs.Prelude.{◌&&◌, if◌then◌else◌}
 use Rattle.std.specs.Option.{option_or}
 use Rattle.std.specs.declared.alloc.Global.{Global}
@@ -14,6 +14,7 @@ use Rattle.algol_frames.specs.declared.found.Cell.{Cell}
 use Rattle.algol_frames.specs.declared.found.Content.TheVariants as content
 use Rattle.algol_frames.specs.declared.found.Use.{Use}
 use Rattle.algol_frames.specs.declared.scopes.Couple.{Couple}
+use Rattle.algol_frames.specs.declared.scopes.Declared.{Declared}
 use Rattle.algol_frames.specs.declared.scopes.Scopes.{Scopes}
 use Rattle.algol_frames.specs.Laying.{AreLaid, actual_from, declared_by, declared_from, framed_in, is_of, laid_in, levels_of, number_from, parameters_from, result_from}
 
@@ -41,9 +42,30 @@ module _ (f g : ℕ → Spot → Option Couple) (same : (q : ℕ) (spot : Spot) 
       ap (λ z. option_or (if same_spot b.spot spot then z else None) (result_from f (n + 1) bs spot)) (same n b.spot)
       ∙ ap (λ z. option_or (if same_spot b.spot spot then g n b.spot else None) z) (result-alike (n + 1) bs spot)
 
+-- one more use in its place
+one-use : (x rest : Option Declared) (d : Declared) (b : Bool) → option_or (option_or x (if b then Some d else None)) rest ≡ option_or x (if b then Some d else rest)
+one-use None rest d true = refl
+one-use None rest d false = refl
+one-use (Some e) rest d b = refl
+
+abbrev declared_with : Use → Option Couple → Declared
+declared_with u couple = record { spot = u.declared; block = u.block; level = u.level; sort = u.sort; couple = couple }
+
+pub use-placed : (f : ℕ → Spot → Option Couple) (us : List Use) (i : ℕ) (u : Use) (couple : Option Couple) (q : Spot) (old new : Option Declared) → i < length us →
+    u ≡ get_or us i u → couple ≡ f u.block u.declared →
+    new ≡ option_or old (if same_spot u.spot q then Some (record { spot = u.declared; block = u.block; level = u.level; sort = u.sort; couple = couple }) else None) →
+    option_or old (declared_from f (drop i us) q) ≡ declared_from f us q → option_or new (declared_from f (drop (i + 1) us) q) ≡ declared_from f us q
+use-placed f us i u couple q old new h same is put inv =
+    rw add-one
+    (let at : drop i us ≡ u ∷ drop (suc i) us = drop-cons us i u h ∙ ap (λ z. z ∷ drop (suc i) us) (sym same) in
+    ap (λ z. option_or z (declared_from f (drop (suc i) us) q)) put
+    ∙ one-use old (declared_from f (drop (suc i) us) q) (declared_with u couple) (same_spot u.spot q)
+    ∙ ap (λ z. option_or old (if same_spot u.spot q then Some (declared_with u z) else declared_from f (drop (suc i) us) q)) is
+    ∙ ap (λ z. option_or old (declared_from f z q)) (sym at) ∙ inv)
+
 pub laid : (blocks : List Block) (table : BTreeMap ℕ (Vec Cell Global)) (cells : List Cell) (uses : List Use) (frames held : List (BTreeMap Spot Couple)) →
     frames ≡ held → ((q : ℕ) (spot : Spot) → framed_in held q spot ≡ laid_in blocks table q spot) → (s : Scopes) →
-    ((q : Spot) → placed_in s.declared.lines.items q ≡ declared_from (framed_in frames) uses q) →
+    ((q : Spot) → placed_in s.declared q ≡ declared_from (framed_in frames) uses q) →
     ((q : Spot) → get ghosts.cmp s.results q ≡ result_from (framed_in frames) 0 blocks q) →
     ((q : Spot) → get ghosts.cmp s.actuals q ≡ actual_from (framed_in frames) cells q) → s.levels.items ≡ levels_of blocks →
     ((q : Spot) → get ghosts.cmp s.parameters q ≡ parameters_from uses q) → ((q : Spot) → get ghosts.cmp s.numbers q ≡ number_from 0 blocks q) →

@@ -10,7 +10,7 @@ use Rattle.algol_frames.specs.declared.scopes.Scopes.{Scopes}
 use Rattle.algol_frames.specs.ByLine.{placed_in}
 
 abbrev pub declaration_of : Scopes → Spot → Option Declared
-declaration_of s spot = placed_in s.declared.lines.items spot
+declaration_of s spot = placed_in s.declared spot
 
 abbrev pub actual_of : Scopes → Spot → Option Couple
 actual_of s spot = get ghosts.cmp s.actuals spot

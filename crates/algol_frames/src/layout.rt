@@ -29,9 +29,7 @@ const FIRST_INDEX: u16 = 2;
 fn add(frame: &mut Frame, spot: Spot, couple: Couple) -> Result<(), AllocError>
     ensures { OnOk result (PlaceAdds frame.old frame.new spot (Some couple)) }
 {
-    if !frame.contains_key(&spot) {
-        frame.insert(spot, couple)?;
-    }
+    frame.entry(spot)?.or_insert(couple);
     Ok(())
 }
 
@@ -107,7 +105,7 @@ fn couple_in(frames: &[Frame], block: usize, spot: Spot) -> Option<Couple>
 
 /// The declaration that each name means, by the place of the name.
 fn declared(alloc: Global, frames: &[Frame], uses: &[Use]) -> Result<ByLine, AllocError>
-    ensures { IfOk result (λ table. (q : token.Spot) → placed_in table.lines.items q ≡ declared_from (framed_in frames.now) uses.now q) }
+    ensures { IfOk result (λ table. (q : token.Spot) → placed_in table q ≡ declared_from (framed_in frames.now) uses.now q) }
 {
     let mut declared = ByLine::new(alloc);
     'uses: for found in uses {
@@ -166,9 +164,7 @@ fn add_list(
 ) -> Result<(), AllocError>
     ensures { OnOk result (PlaceAdds table.old table.new spot (Some list)) }
 {
-    if !table.contains_key(&spot) {
-        table.insert(spot, list)?;
-    }
+    table.entry(spot)?.or_insert(list);
     Ok(())
 }
 
@@ -212,9 +208,7 @@ fn add_number(
 ) -> Result<(), AllocError>
     ensures { OnOk result (PlaceAdds table.old table.new spot (Some number)) }
 {
-    if !table.contains_key(&spot) {
-        table.insert(spot, number)?;
-    }
+    table.entry(spot)?.or_insert(number);
     Ok(())
 }
 
