@@ -9,6 +9,8 @@ use Rattle.b67_action.specs.declared.done.Done.TheVariants as dones
 use Rattle.b67_machine.specs.declared.replay.Replayed.{Replayed}
 use Rattle.b67_machine.specs.declared.replay.Replayed.TheVariants.{Ended, BudgetSpent, NoMemory}
 use Rattle.b67_machine.specs.Reads.{machine_end}
+use Rattle.b67_machine.proofs.Going.{still_goes}
+use Rattle.b67_machine.proofs.Lasting.{went_goes}
 use Rattle.b67_processors.specs.declared.Acted.{Acted}
 use Rattle.b67_processors.specs.declared.Acted.TheVariants as acted
 use Rattle.b67_stands.specs.Picked.{Pick}
@@ -30,6 +32,22 @@ module _ (old new : MachineModel) (p most : ℕ) (performed : Performed) (none :
 
   pub lacked_after : new.lacked ≡ lacks_in performed.done
   lacked_after = by performed.done performs.then
+
+  -- where the action went on, the run does
+  pub went_on : machine_end old ≡ None → performed.done ≡ Some dones.Went → machine_end new ≡ None
+  went_on end went = goes performed.done went performs.then
+    where
+      goes : (o : Option Done) → o ≡ Some dones.Went → MachineFollows performs.between p performed.plain most o new → machine_end new ≡ None
+      goes None e f = cc
+      goes (Some dones.Went) e f =
+          went_goes performs.between new p (still_goes old performs.between p performed.plain end performs.plains)
+          (subst (λ (b : Bool). StepsBy b performs.between p dones.Went new) between f.2)
+      goes (Some dones.Waits) e f = cc
+      goes (Some dones.Ended) e f = cc
+      goes (Some (dones.Fault kind)) e f = cc
+      goes (Some (dones.Interrupt kind)) e f = cc
+      goes (Some dones.StackLimit) e f = cc
+      goes (Some dones.NoMemory) e f = cc
 
 -- ---- a machine that lacks memory
 

@@ -18,7 +18,9 @@ use Rattle.b67_action.specs.Running.{HasRun}
 use Rattle.b67_machine.specs.Chaining.{ChainRuns, Passing}
 use Rattle.b67_machine.specs.Kept.{MachineModel, operators_counted}
 use Rattle.b67_machine.specs.Parts.{whole_part, kept_from, bottom}
+use Rattle.b67_machine.specs.Reads.{machine_end}
 use Rattle.b67_machine.proofs.Chains.{runs_pass}
+use Rattle.b67_machine.proofs.Going.{still_goes}
 use Rattle.b67_stands.specs.Running.{Running, answer_of}
 use Rattle.b67_stands.specs.Placing.{IsOut}
 use Rattle.b67_stands.specs.Stands.{Stands}
@@ -136,3 +138,8 @@ module _ (code : Code) (budget : ℕ) (old : Running) (s : Stretch) (stands : St
 
     pub lacks_put : m.lacked ≡ old.machine.lacked
     lacks_put = ap (λ (k : MachineModel). k.lacked) runs.others
+
+    -- and the run goes on
+    pub ends_put : machine_end m ≡ None
+    ends_put =
+        still_goes pass.between m s.process s.ran.plain (goes_on budget between (runs_go_on budget old between s.process (entries_in s) s.ran.operators going runs_on)).end pass.goes

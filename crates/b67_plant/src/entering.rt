@@ -15,7 +15,7 @@ ghost use Rattle.b67_stands.specs.Placing.{holder_of};
 ghost use Rattle.b67_stands.specs.Running.{answer_of};
 ghost use Rattle.b67_stands.specs.Turns.{ActsMany};
 
-use crate::placing::{answer_to, is_action, lacks};
+use crate::placing::{answer_to, is_action, lacks, went};
 use crate::{Named, Plant, SHARE, Seat};
 use b67_deeds::Letter;
 use b67_joining::join_queue;
@@ -27,6 +27,7 @@ use b67_store::Core;
 use std::sync::ledger::Ledger;
 
 // Entries of a process on the machine, of which at most so many letters are noted.
+#[inline(always)]
 fn perform_most<C: Core>(
     machine: &mut Machine<C>,
     process: u32,
@@ -48,6 +49,7 @@ fn perform_most<C: Core>(
 
 impl<N: Named, L: Ledger, C: Core, P: Rule> Plant<N, L, C, P> {
     // Tests that nobody waits.
+    #[inline(always)]
     pub fn is_alone(&self) -> bool
         ensures { result ≡ true → self.now.waiting ≡ [] }
     {
@@ -68,6 +70,7 @@ impl<N: Named, L: Ledger, C: Core, P: Rule> Plant<N, L, C, P> {
     }
 
     // How many entries a processor that shares the plant may perform beyond one before the others have it: the more, the longer the schedule is.
+    #[inline(always)]
     pub fn further(&self) -> u32
         ensures { result < MOST_LETTERS }
     {
@@ -75,6 +78,7 @@ impl<N: Named, L: Ledger, C: Core, P: Rule> Plant<N, L, C, P> {
     }
 
     // How many entries of one process are performed at once: where nobody waits, so many beyond one; else one.
+    #[inline(always)]
     pub fn at_once(&self, further: u32) -> usize
         requires { further < MOST_LETTERS }
         ensures some { 1 ≤ result }
@@ -90,6 +94,7 @@ impl<N: Named, L: Ledger, C: Core, P: Rule> Plant<N, L, C, P> {
 
     // Entries of a process that is out, one after another, at most so many: after each of them but the last it is taken again, since nobody
     // waits. What is answered is what the last one came to, and how many there were before it.
+    #[inline]
     pub fn enter_many(&mut self, process: u32, most: usize, seat: &mut Seat<N, L>) -> (Acted, u32)
         requires going { answer_of N.budget self.old ≡ None }
         requires out { 1 ≤ holder_of self.old.out process }
@@ -112,6 +117,7 @@ impl<N: Named, L: Ledger, C: Core, P: Rule> Plant<N, L, C, P> {
         self.spent += entered.operators;
         self.spent += last.plain;
         self.lacked = lacks(last.done);
+        self.going = went(last.done);
         self.schedule.push_many(process, &self.notes[..entries]);
         self.ready.take_again(entered.entries);
         self.acts.audit(&mut seat.acts);

@@ -82,6 +82,8 @@ pub struct Plant<N: Named, L: Ledger, C: Core, P: Rule> {
     budget: u32,
     spent: u32,
     lacked: bool,
+    // Whether the last action went on, so that the run does: where it did not, an end is looked for.
+    going: bool,
     acts: Book<N>,
     leaves: Book<L>,
     left: u64,
@@ -89,11 +91,12 @@ pub struct Plant<N: Named, L: Ledger, C: Core, P: Rule> {
 
 impl<N: Named, L: Ledger, C: Core, P: Rule> Model for Plant<N, L, C, P> {
     ghost use Rattle.b67_stands.specs.Running.{Running};
-    ghost use Rattle.std.specs.Prelude.{◌≡◌, ◌≤◌, ◌<◌, ◌+◌, ℕ, length};
+    ghost use Rattle.std.specs.Prelude.{◌≡◌, ◌≤◌, ◌<◌, ◌+◌, ℕ, true, None, length};
     ghost use Rattle.b67_limits.specs.declared.TheConstants.{MOST_LETTERS};
     ghost use Rattle.b67_table.specs.Limits.{most_processes};
     ghost use Rattle.b67_table.specs.Sound.{Sound};
     ghost use Rattle.b67_limits.specs.declared.TheConstants.{MOST_BUDGET};
+    ghost use Rattle.b67_machine.specs.Reads.{machine_end};
     ghost use Rattle.b67_stands.specs.Stands.{Stands};
 
     ghost Value = { Running };
@@ -128,5 +131,6 @@ impl<N: Named, L: Ledger, C: Core, P: Rule> Model for Plant<N, L, C, P> {
         × (p.budget ≤ p.schedule.room)
         × (length p.notes.items ≡ MOST_LETTERS)
         × (p.lacked ≡ p.machine.lacked)
-        × (p.left ≡ p.leaves.total) };
+        × (p.left ≡ p.leaves.total)
+        × (p.going ≡ true → machine_end p.machine ≡ None) };
 }

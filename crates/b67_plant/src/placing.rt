@@ -1,5 +1,6 @@
 // What a processor is answered after an action.
-ghost use Rattle.std.specs.Prelude.{◌≡◌};
+ghost use Rattle.std.specs.Prelude.{◌≡◌, Some, true};
+ghost use Rattle.b67_action.specs.declared.done.Done.TheVariants.{Went};
 ghost use Rattle.b67_stands.specs.Calls.{done_is_action};
 ghost use Rattle.b67_plant.specs.Calls.{lacks_in, refusal, answer_to, acts_in};
 
@@ -8,6 +9,7 @@ use b67_machine::Replayed;
 use b67_processors::Acted;
 
 /// Tests that an action was performed.
+#[inline(always)]
 pub fn is_action(done: Option<Done>) -> bool
     ensures { result ≡ done_is_action done }
 {
@@ -19,13 +21,23 @@ pub fn is_action(done: Option<Done>) -> bool
 }
 
 /// Tests that there was no memory for an action.
+#[inline(always)]
 pub fn lacks(done: Option<Done>) -> bool
     ensures { result ≡ lacks_in done }
 {
     matches!(done, Some(Done::NoMemory))
 }
 
+/// Tests that an action went on.
+#[inline(always)]
+pub fn went(done: Option<Done>) -> bool
+    ensures { result ≡ true → done ≡ Some Went }
+{
+    matches!(done, Some(Done::Went))
+}
+
 /// What a processor is answered. In sound code no interrupt comes.
+#[inline(always)]
 pub fn answer_to(done: Option<Done>) -> Acted
     ensures { result ≡ answer_to done }
 {
@@ -39,6 +51,7 @@ pub fn answer_to(done: Option<Done>) -> Acted
 }
 
 /// How many acts an answer says: one where an action was performed.
+#[inline(always)]
 pub fn acts_in(acted: Acted) -> u64
     ensures { result ≡ acts_in acted }
 {
@@ -49,6 +62,7 @@ pub fn acts_in(acted: Acted) -> u64
 }
 
 /// What is answered where the run has ended.
+#[inline(always)]
 pub fn refusal(answer: Option<Replayed>) -> Option<Acted>
     ensures { result ≡ refusal answer }
 {

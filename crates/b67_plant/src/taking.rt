@@ -49,6 +49,7 @@ pub enum PlantLanding {
 }
 
 // Whether the budget is spent.
+#[inline(always)]
 fn spends(budget: u32, spent: u32) -> Option<Replayed>
     ensures { result ≡ spends (nat_le budget spent) }
 {
@@ -61,6 +62,7 @@ fn spends(budget: u32, spent: u32) -> Option<Replayed>
 
 impl<N: Named, L: Ledger, C: Core, P: Rule> Plant<N, L, C, P> {
     /// How the run has ended, where it has: without memory, by the machine's end, or because the budget is spent.
+    #[inline]
     pub fn answer(&self) -> Option<Replayed>
         ensures value { result ≡ answer_of N.budget self.now }
         ensures stands { Stands N.code N.budget self.now }
@@ -68,6 +70,9 @@ impl<N: Named, L: Ledger, C: Core, P: Rule> Plant<N, L, C, P> {
     {
         if self.lacked {
             return Some(Replayed::NoMemory);
+        }
+        if self.going {
+            return spends(self.budget, self.spent);
         }
         match self.machine.end() {
             Some(_) => Some(Replayed::Ended),
@@ -90,6 +95,7 @@ impl<N: Named, L: Ledger, C: Core, P: Rule> Plant<N, L, C, P> {
     }
 
     // How many wait for a processor.
+    #[inline(always)]
     pub fn waiting(&self) -> u32
         ensures { result ≡ length self.now.waiting }
     {
@@ -97,6 +103,7 @@ impl<N: Named, L: Ledger, C: Core, P: Rule> Plant<N, L, C, P> {
     }
 
     // Tests that the budget is spent.
+    #[inline(always)]
     pub fn is_spent(&self) -> bool
         ensures { result ≡ nat_le N.budget self.now.spent }
     {
@@ -104,6 +111,7 @@ impl<N: Named, L: Ledger, C: Core, P: Rule> Plant<N, L, C, P> {
     }
 
     // The processor with which a process is out.
+    #[inline(always)]
     pub fn holder(&self, process: u32) -> u32
         ensures { result ≡ holder_of self.now.out process }
     {
@@ -117,6 +125,7 @@ impl<N: Named, L: Ledger, C: Core, P: Rule> Plant<N, L, C, P> {
     }
 
     // Takes the process at the place that the rule picks: it is out with the processor then. None comes exactly where nobody waits.
+    #[inline]
     pub fn pick(&mut self, me: u32) -> Option<u32>
         requires me { 1 ≤ me }
         requires going { answer_of N.budget self.old ≡ None }

@@ -7,6 +7,7 @@ use Rattle.b67_deeds.specs.Letters.{byte_of}
 use Rattle.b67_schedule.specs.Letters.{bytes_of}
 use Rattle.b67_schedule.specs.Schedules.{entries, letter_line, letter_lines}
 use Rattle.b67_schedule.proofs.Pushes.{entries-push}
+use Rattle.std.specs.Prelude.{if◌then◌else◌, Result, Ok, Err, OnOk, is_ok}
 
 nothing : (xs : List Letter) → length xs ≡ 0 → xs ≡ []
 nothing [] e = refl
@@ -121,3 +122,8 @@ line_written runs letters i at d inside each is =
 -- what is written after what was written
 pub joined : (new before front lines line more : List ℕ) → new ≡ before ++ line → before ≡ front ++ lines → more ≡ lines ++ line → new ≡ front ++ more
 joined new before front lines line more e f g = e ∙ ap (λ (t : List ℕ). t ++ line) f ∙ append_assoc front lines line ∙ ap (λ (t : List ℕ). front ++ t) (sym g)
+
+-- what was appended where all went well
+pub on_ok : {A E : Type 0} (r : Result A E) (x a b : List ℕ) → x ≡ (if is_ok r then a else b) → OnOk r (x ≡ a)
+on_ok (Ok v) x a b e = e
+on_ok (Err v) x a b e = tt

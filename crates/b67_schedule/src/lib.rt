@@ -70,6 +70,7 @@ impl Schedule {
     }
 
     /// Adds an action of this process after the others. Takes no memory.
+    #[inline]
     pub fn push(&mut self, process: u32, letter: Letter)
         requires room { length self.old.letters < self.old.room }
         requires least { 1 ≤ process }
@@ -156,6 +157,7 @@ impl Schedule {
 }
 
 /// Adds so many actions of this process after those of the runs. Takes no memory.
+#[inline(always)]
 fn add(runs: &mut Vec<Run>, process: u32, times: u32)
     requires room { length runs.old.items < vec_capacity runs.old }
     requires are { AreRuns runs.old.items }
@@ -187,10 +189,21 @@ fn is_last(runs: &[Run], process: u32) -> bool
 fn push_line(text: &mut Vec<u8>, process: u32, letters: &[Letter]) -> Result<(), AllocError>
     ensures { OnOk result (text.new.items ≡ text.old.items ++ letter_line process letters.now) }
 {
+    if process < 10 && letters.len() == 1 {
+        return push_short_line(text, process, letters[0]);
+    }
     push_number(text, b"", process)?;
     text.extend_from_slice(b" ")?;
     push_letters(text, letters)?;
     text.extend_from_slice(b"\n")
+}
+
+/// Appends the line of one action of a process whose number has one digit, at once, or on `Err` nothing.
+fn push_short_line(text: &mut Vec<u8>, process: u32, letter: Letter) -> Result<(), AllocError>
+    requires { process < 10 }
+    ensures { OnOk result (text.new.items ≡ text.old.items ++ letter_line process (letter ∷ [])) }
+{
+    text.extend_from_slice(&[b'0' + process as u8, b' ', letter.byte(), b'\n'])
 }
 
 /// Appends the bytes of letters, or on `Err` nothing.

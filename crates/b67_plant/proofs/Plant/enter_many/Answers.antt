@@ -16,7 +16,7 @@ use Rattle.b67_stands.specs.Turns.{StandsOut, ActsMany}
 use Rattle.b67_stands.proofs.Ends.{goes_on}
 use Rattle.b67_stands.proofs.Acting.{Given, stands_after}
 use Rattle.b67_stands.proofs.Turns.{turned, Grown}
-use Rattle.b67_plant.proofs.Lacking.{lacked_after}
+use Rattle.b67_plant.proofs.Lacking.{lacked_after, went_on}
 use Rattle.b67_plant.proofs.Entered.{budget_is, counted_spent, letters_entries, once, given, entered, entered_once, entered_is, queue_fits}
 use Rattle.b67_plant.proofs.Many.{one_picked, same_queue, counts_none, counts_one, number, less, operators_few, entries_few, started_same, spent_few, acts_on, stands_then, last_performs, entries_then, grown_by, letter_noted, first_few, first_within}
 use Rattle.b67_plant.proofs.Plant.enter_many.Goals as goal
@@ -265,6 +265,7 @@ invariant_of-self g c =
       omega (arith, ap length whole, c.perform_most-entered.ensures.size, ap length c.deref_mut.ensures.value, i.7),
       c.lacks-self-inside.ensures ∙ sym (lacked_after mid.machine c.perform_most-entered.new.machine c.args.process (c.self.inside.budget - mid.spent) c.perform_most-entered.result.last (goes_on g.N.Named.budget mid st.going).lacked performs),
       i.9,
+      λ on. went_on mid.machine c.perform_most-entered.new.machine c.args.process (c.self.inside.budget - mid.spent) c.perform_most-entered.result.last (goes_on g.N.Named.budget mid st.going).lacked performs (goes_on g.N.Named.budget mid st.going).end (c.went-self-inside.ensures on),
     )
 
 pub returns-then-not-is_action-clause-acts : goal.returns-then-not-is_action-clause-acts
@@ -687,6 +688,7 @@ invariant_of-self-2 g c =
       omega (arith, ap length whole, c.perform_most-entered.ensures.size, ap length c.deref_mut.ensures.value, i.7),
       c.lacks-self-inside.ensures ∙ sym (lacked_after mid.machine c.perform_most-entered.new.machine c.args.process (c.self.inside.budget - mid.spent) c.perform_most-entered.result.last (goes_on g.N.Named.budget mid st.going).lacked performs),
       i.9,
+      λ on. went_on mid.machine c.perform_most-entered.new.machine c.args.process (c.self.inside.budget - mid.spent) c.perform_most-entered.result.last (goes_on g.N.Named.budget mid st.going).lacked performs (goes_on g.N.Named.budget mid st.going).end (c.went-self-inside.ensures on),
     )
 
 pub returns-clause-acts : goal.returns-clause-acts

@@ -27,6 +27,7 @@ invariant_of-self g c =
       i.7,
       i.8,
       omega (arith, c.audit.ensures.total, i.9),
+      i.10,
     )
 
 pub invariant_of-self-2 : goal.invariant_of-self-2
@@ -52,4 +53,5 @@ invariant_of-self-2 g c =
       i.7,
       i.8,
       omega (arith, c.add.ensures.total, c.audit.ensures.total, i.9),
+      i.10,
     )

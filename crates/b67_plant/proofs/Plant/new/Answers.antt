@@ -45,4 +45,5 @@ invariant_of-plant g c =
       is.notes,
       sym c.requires.fresh.lacked,
       sym c.open-leaves.ensures.total,
+      λ e. cc,
     )

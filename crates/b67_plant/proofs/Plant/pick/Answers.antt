@@ -76,6 +76,7 @@ invariant_of-self-2 g c =
       i.7,
       i.8,
       i.9,
+      i.10,
     )
 
 pub returns-clause-picked : goal.returns-clause-picked

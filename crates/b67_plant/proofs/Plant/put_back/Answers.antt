@@ -66,6 +66,7 @@ invariant_of-self g c =
       i.7,
       i.8,
       i.9,
+      i.10,
     )
 
 pub returns : goal.returns

@@ -1,5 +1,6 @@
 use Rattle.std.proofs.Common.{◌≡◌, ◌+◌, ◌≤◌, ℕ, sym, subst, ◌∙◌, None, arith}
 use Rattle.b67_limits.specs.declared.TheConstants.{MOST_STRETCH}
+use Rattle.b67_machine.proofs.Going.{still_goes}
 use Rattle.b67_stands.specs.Running.{Running, answer_of}
 use Rattle.b67_stands.specs.Placing.{holder_of}
 use Rattle.b67_stands.proofs.Ends.{goes_on}
@@ -133,6 +134,7 @@ invariant_of-self g c =
       i.7,
       i.8 ∙ sym (still_lacks g.N.Named.code g.N.Named.budget old p i.0 going held m c.count-count.result few c.put_private.ensures.goes),
       i.9,
+      λ on. still_goes c.self.inside.machine m p c.count-count.result (goes_on g.N.Named.budget old going).end c.put_private.ensures.goes,
     )
 
 pub returns-clause-lands : goal.returns-clause-lands

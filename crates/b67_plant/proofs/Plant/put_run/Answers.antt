@@ -17,7 +17,7 @@ use Rattle.b67_limits.specs.declared.TheConstants.{MOST_RUN}
 use Rattle.b67_parcel.specs.Parcels.{Stretch, IsRun, StartsAs}
 use Rattle.b67_plant.specs.Calls.{PutsRun}
 use Rattle.b67_plant.proofs.Entered.{budget_is, held_number}
-use Rattle.b67_plant.proofs.Putting.{able, count_fits, has_run, has_run_as, runs_as, keeps_as, added_as, letters_as, letters_are, entries_noted, letters_fit, acts_fit, run_put, puts, stands_put, lacks_put}
+use Rattle.b67_plant.proofs.Putting.{able, count_fits, has_run, has_run_as, runs_as, keeps_as, added_as, letters_as, letters_are, entries_noted, letters_fit, acts_fit, run_put, puts, stands_put, lacks_put, ends_put}
 use Rattle.b67_plant.proofs.Plant.put_run.Goals as goal
 
 pub put_run-requires-clause-able : goal.put_run-requires-clause-able
@@ -406,6 +406,7 @@ invariant_of-self g c =
       i.7,
       i.8 ∙ sym (lacks_put code budget old s i.0 going held c.requires.room starts is less i.1 m runs t added letters),
       i.9,
+      λ on. ends_put code budget old s i.0 going held c.requires.room starts is less i.1 m runs t added letters,
     )
 
 pub returns-clause-puts : goal.returns-clause-puts
