@@ -1,6 +1,6 @@
 -- What the making of arrays leaves: the rows, which of them belong to each array, and its descriptor.
 use Rattle.std.proofs.Common.{◌≡◌, refl, sym, ap, ◌∙◌, ℕ, zero, suc, ◌+◌, List, [], ◌∷◌, ◌++◌, Some, None, true, false, append-nil, append_assoc}
-use Rattle.b67_frames.proofs.Prelude.{Word, least_free, Rows, with_row_word, zero_row, Image, with_rows, Change, changed, Extents, one, two, array_word, arrays_made, Allotted}
+use Rattle.b67_frames.proofs.Prelude.{Word, least_free, Rows, with_row_word, zero_row, Extents, one, two, array_word, arrays_made, Image, with_rows, Change, changed, Allotted}
 use Rattle.b67_table.specs.Arrays.{rows_made, array_made}
 use Rattle.b67_frames.proofs.OpenRows.{row_opened}
 

@@ -1,6 +1,6 @@
 -- The sizes of arrays: when the machine finds them wrong, or has no room for them.
 use Rattle.std.proofs.Common.{◌≡◌, refl, sym, ap, ◌∙◌, ℕ, ◌+◌, ◌*◌, ◌≤◌, List, [], ◌∷◌, length, Bool, true, false, ℤ, arith}
-use Rattle.b67_frames.proofs.Prelude.{if◌then◌else◌, nat_le, nat_lt, int_le, int_lt, nat_abs, pos, negsuc, ◌-ℤ◌, map, nat_tests, ints, Named, PPair, MOST_ELEMENTS, Value, Bounds, size_of, elements_of, live_elements, bounds_of, has_wrong_size, has_no_room, World, lows_of, ArraySize, CoreFull, counted_words, faults, Image, Test, answer, fault, asked, ◌>>=◌, Extents, one, two, if_held, extents, AreDimensions, AreSized, rows_of_bounds}
+use Rattle.b67_frames.proofs.Prelude.{nat_tests, ints, if◌then◌else◌, nat_le, nat_lt, int_le, int_lt, nat_abs, pos, negsuc, ◌-ℤ◌, map, ArraySize, CoreFull, PPair, Named, size_of, elements_of, live_elements, bounds_of, has_wrong_size, has_no_room, Value, Bounds, World, MOST_ELEMENTS, lows_of, counted_words, Extents, one, two, if_held, faults, Image, extents, Test, answer, fault, asked, ◌>>=◌, AreDimensions, AreSized, rows_of_bounds}
 use Rattle.std.specs.Prelude.{◌||◌}
 use Rattle.b67_store.specs.Store.{count_limit}
 use Rattle.b67_table.specs.Arrays.{elements, extent_in, extent, if_small}

@@ -1,6 +1,6 @@
 -- How many elements and rows the arrays of the instances have that stand, before and after some are made.
 use Rattle.std.proofs.Common.{◌≡◌, refl, ap, ℕ, zero, suc, ◌+◌, ◌*◌, ◌≤◌, List, [], ◌∷◌, ◌++◌, length, set, Some, Bool, true, false, arith}
-use Rattle.b67_frames.proofs.Prelude.{slice_get, nat_tests, numbered, set_numbered, Kind, Named, MOST_ELEMENTS, Bounds, elements_of, size_of_cells, size_unless, live_elements, new_arrays, has_no_room, NamedCell, Instance, World, row_limit, some_same, none_some, rows_of_bounds, rows_of_cells, live_rows}
+use Rattle.b67_frames.proofs.Prelude.{nat_tests, slice_get, numbered, set_numbered, Kind, Named, elements_of, size_of_cells, size_unless, live_elements, new_arrays, has_no_room, Bounds, NamedCell, Instance, World, MOST_ELEMENTS, row_limit, some_same, none_some, rows_of_bounds, rows_of_cells, live_rows}
 
 -- ---- of cells
 

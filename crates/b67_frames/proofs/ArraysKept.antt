@@ -1,6 +1,6 @@
 -- The rows of an image hold the arrays of a later world as well, where what changes has no array.
 use Rattle.std.proofs.Common.{◌≡◌, ◌≢◌, ◌⊎◌, inl, inr, refl, sym, ap, ◌∙◌, subst, ℕ, zero, suc, ◌+◌, ◌*◌, ◌≤◌, List, [], ◌∷◌, ◌++◌, length, Some, Bool, true, false, arith}
-use Rattle.b67_frames.proofs.Prelude.{if◌then◌else◌, ◌==◌, slice_get, slice_set, nat_tests, numbered, set_numbered, block_numbered, Scopes, same_name, Value, ArrayCell, Cell, simple, event, array, named, reference, size_of_cell, size_of_cells, size_unless, live_elements, NamedCell, Instance, World, cell_in, cells_with, DeclaredArray, Word, Rows, Simple, simple_cells, Wanted, made_of, some_same, none_some, numbered_last, same_or_not, numbered_set, numbered_other, Allotted, Layout, rows_of_cell, rows_of_cells, live_rows, HasArray, ArrayHasRow, ArraysAre, CellIs, CellsAre}
+use Rattle.b67_frames.proofs.Prelude.{nat_tests, if◌then◌else◌, ◌==◌, slice_get, slice_set, numbered, set_numbered, block_numbered, Scopes, same_name, size_of_cell, size_of_cells, size_unless, live_elements, Value, ArrayCell, Cell, simple, event, array, named, reference, NamedCell, Instance, World, cell_in, cells_with, DeclaredArray, Word, Rows, Simple, simple_cells, Wanted, made_of, some_same, none_some, numbered_last, same_or_not, numbered_set, numbered_other, Allotted, Layout, rows_of_cell, rows_of_cells, live_rows, HasArray, ArrayHasRow, ArraysAre, CellIs, CellsAre}
 use Rattle.b67_templates.specs.Cells as wants
 use Rattle.b67_rows.proofs.Displays.{same_is}
 

@@ -1,6 +1,6 @@
 -- The rows of an image hold the arrays of a world in which an instance has made more of them.
 use Rattle.std.proofs.Common.{◌≡◌, ◌≢◌, ◌⊎◌, inl, inr, refl, sym, ap, ◌∙◌, ℕ, zero, suc, ◌+◌, ◌-◌, ◌*◌, ◌<◌, ◌≤◌, List, [], ◌∷◌, ◌++◌, length, Some, Bool, false, arith, length-append}
-use Rattle.b67_frames.proofs.Prelude.{map, slice_get, numbered, set_numbered, Kind, Named, PPair, block_numbered, Scopes, Bounds, ArrayCell, array, elements_of, size_of_cells, size_unless, live_elements, new_arrays, has_wrong_size, has_no_room, NamedCell, Instance, World, DeclaredArray, Made, lows_of, made_in, an_array, an_event, Word, Rows, row_limit, get_within, simple_cells, made_of, AreDimensions, some_same, none_some, same_or_not, most_or_more, numbered_set, numbered_other, Allotted, Layout, row_numbers_of, AreSized, AreMade, HoldElements, open_rows, rows_of_bounds, rows_of_cells, live_rows, HasArray, ArraysAre}
+use Rattle.b67_frames.proofs.Prelude.{map, slice_get, numbered, set_numbered, block_numbered, PPair, Scopes, Kind, Named, elements_of, size_of_cells, size_unless, live_elements, new_arrays, has_wrong_size, has_no_room, Bounds, ArrayCell, array, NamedCell, Instance, World, DeclaredArray, Made, lows_of, made_in, an_array, an_event, Word, Rows, row_limit, get_within, simple_cells, made_of, AreDimensions, some_same, none_some, same_or_not, most_or_more, numbered_set, numbered_other, Allotted, Layout, row_numbers_of, AreSized, AreMade, HoldElements, open_rows, rows_of_bounds, rows_of_cells, live_rows, HasArray, ArraysAre}
 use Rattle.std.proofs.lemmas.List.{length-map}
 use Rattle.algol_meaning.specs.Arrays.{new_array}
 use Rattle.algol_paths.specs.Arrays.{arrays_in}
@@ -92,13 +92,34 @@ module _ (sc : Scopes) (w : World) (lay : Layout) (rows : Rows) (are : ArraysAre
   abbrev grown : Instance
   grown = record m.instance { cells = m.instance.cells ++ new_arrays kind bs ns }
 
-  module _ (w' : World) (lay' : Layout) (after : w'.instances ≡ set_numbered w.instances i grown) (here : lay'.rows i ≡ lay.rows i ++ allotted_new ns bs rows) (others : (j : ℕ) → i ≢ j → lay'.rows j ≡ lay.rows j) where
+  -- A world and a layout in which the instance has the arrays.
+  pub record WithArrays : Type 0 where
+    pub world : World
+    pub layout : Layout
+    pub after : world.instances ≡ set_numbered w.instances i grown
+    pub here : layout.rows i ≡ lay.rows i ++ allotted_new ns bs rows
+    pub others : (j : ℕ) → i ≢ j → layout.rows j ≡ lay.rows j
+
+  module _ (with_arrays : WithArrays) where
+    open with_arrays use {world as w', layout as lay', after, here, others}
+
     -- an array of the world after was one before, or it is one of those that are made
     data Came (j number : ℕ) (d : DeclaredArray) (cell : ArrayCell) (a : Allotted) : Type 0 where
       before : HasArray sc w lay j number d cell a → Came j number d cell a
       fresh : (l : ℕ) → i ≡ j → number ≡ length m.declared + l → slice_get (allotted_new ns bs rows) l ≡ Some a → d.kind ≡ kind → cell ≡ new_cell kind bs → Came j number d cell a
 
-    module _ (j number : ℕ) (d : DeclaredArray) (cell : ArrayCell) (a : Allotted) (h : HasArray sc w' lay' j number d cell a) where
+    -- An array that is there then.
+    pub record OneArray : Type 0 where
+      pub instance : ℕ
+      pub number : ℕ
+      pub declared : DeclaredArray
+      pub cell : ArrayCell
+      pub allotted : Allotted
+      pub has : HasArray sc w' lay' instance number declared cell allotted
+
+    module _ (one : OneArray) where
+      open one use {instance as j, number, declared as d, cell, allotted as a, has as h}
+
       set_there : numbered (set_numbered w.instances i grown) j ≡ Some h.instance
       set_there = ap (λ (xs : List Instance). numbered xs j) (sym after) ∙ h.is
 
@@ -244,9 +265,16 @@ module _ (sc : Scopes) (w : World) (lay : Layout) (rows : Rows) (are : ArraysAre
     pub arrays_after : ArraysAre sc w' lay' (rows_after ns bs rows)
     arrays_after =
         record {
-          held = λ j number d cell a h. held_after j number d cell a (origin j number d cell a h);
+          held = λ j number d cell a h. held_after j number d cell a (origin (record { instance = j; number = number; declared = d; cell = cell; allotted = a; has = h }));
           apart = λ j j' number other k l n h g.
-              apart_after j j' number other k l n h.declared g.declared h.cell g.cell h.allotted g.allotted (origin j number h.declared h.cell h.allotted h.array) (origin j' other g.declared g.cell g.allotted g.array) h.there g.there;
+              apart_after j j' number other k l n h.declared g.declared h.cell g.cell h.allotted g.allotted (origin (record {
+                instance = j;
+                number = number;
+                declared = h.declared;
+                cell = h.cell;
+                allotted = h.allotted;
+                has = h.array;
+              })) (origin (record { instance = j'; number = other; declared = g.declared; cell = g.cell; allotted = g.allotted; has = g.array })) h.there g.there;
           counted = added.counted ∙ omega (arith, are.counted, more_elements, ap (λ (n : ℕ). n * elements_of bs) many_new);
           opened = added.opened ∙ omega (arith, are.opened, more_rows, ap (λ (n : ℕ). n * rows_of_bounds bs) many_new);
           few = few_after;

@@ -1,6 +1,6 @@
 -- What a head that asks for GO TO tells: the label is seen from the text of its part, and no arrays are still to be made there.
 use Rattle.std.proofs.Common.{◌≡◌, ap, subst, []}
-use Rattle.b67_frames.proofs.Prelude.{Named, Hole, argument, Actuals, Aim, Rest, evaluating, locating, Ask, goes_to, ask, ask_hole, ask_actuals, ask_aim, all_to_make}
+use Rattle.b67_frames.proofs.Prelude.{Named, Ask, goes_to, ask, ask_hole, ask_actuals, ask_aim, Hole, argument, Actuals, Aim, Rest, evaluating, locating, all_to_make}
 use Rattle.algol_tree.specs.Plain.{PBody}
 use Rattle.algol_meaning.specs.Rest.{going, aiming, storing, choosing, looping, checking, counting, differing, stepping, selecting, calling, preparing, writing, bounding}
 use Rattle.algol_paths.specs.Texts.{InRest}

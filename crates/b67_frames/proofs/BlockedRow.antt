@@ -1,9 +1,11 @@
 -- EXIT of a base frame on which a process depends: a fault.
 use Rattle.std.proofs.Common.{◌≡◌, ap, ◌∙◌, ℕ, ◌+◌, List, [], ◌∷◌, take, drop, Bool, true, Ok}
-use Rattle.b67_frames.proofs.Prelude.{if◌then◌else◌, nat_eq, CriticalBlockExit, Word, Registers, Code, words_of, Effect, faults, Image, caused_by, frame_left, is_critical, leave_base, leave_other, frame, Program, Change, done, does, effect_of, asked, answer, fault, registers, end_process, live_criticals, exit, raw, operator_at, Core, HasCore, raw_is}
+use Rattle.b67_frames.proofs.Prelude.{if◌then◌else◌, nat_eq, CriticalBlockExit, Word, Registers, Code, words_of, Effect, faults, Image, caused_by, frame_left, is_critical, leave_base, leave_other, frame, Program, Change, done, does, effect_of, asked, answer, fault, registers, end_process, live_criticals, exit, raw, Core, HasCore, raw_is}
+use Rattle.b67_table.specs.Table.{operator_at}
 use Rattle.b67_ops.specs.declared.Operator.TheVariants as ops
 use Rattle.b67_ops.specs.declared.PlainKind.TheVariants as kinds
 use Rattle.b67_table.specs.Rows.{row}
+use Rattle.b67_rows.proofs.AtOperator.{at_operator}
 
 module _ (code : Code) (img : Image) (p : ℕ) (core : Core) (has : HasCore img p core) (next : ℕ) where
   abbrev r : Registers
@@ -30,4 +32,4 @@ module _ (code : Code) (img : Image) (p : ℕ) (core : Core) (has : HasCore img 
 
     pub end_blocked : operator_at code core.registers ≡ Ok (ops.Plain kinds.Exit, next) → raw code img p ≡ faults CriticalBlockExit
     unfolding row
-    end_blocked at = raw_is code img p core has (ops.Plain kinds.Exit) next at ∙ base_blocked
+    end_blocked at = raw_is code (ops.Plain kinds.Exit) (at_operator has at) ∙ base_blocked

@@ -1,6 +1,6 @@
 -- Each action keeps the stacks of all processes but for the newest instances of the one that acts, and so the paths from the instances that stand on.
 use Rattle.std.proofs.Common.{◌≡◌, ◌⊎◌, inl, inr, refl, sym, ap, ◌∙◌, subst, ℕ, zero, suc, pos, List, [], ◌∷◌, ◌++◌, length, Option, Some, None, Bool, true, false}
-use Rattle.b67_frames.proofs.Prelude.{if◌then◌else◌, ◌==◌, nat_lt, numbered, set_numbered, EventDeed, Named, Block, block_numbered, Scopes, Value, Reference, ArrayCell, Cell, simple, event, array, named, reference, EventState, Instance, Part, Process, World, instance_at, or_no_instance, cells_with, followed, is_evaluation, own_instances, has_wrong_size, has_no_room, bounds_of, leave, Answer, Ask, ask, resume, IsInSkeleton, IsStanding, IsOnPath, AllPairs, numbered_forth}
+use Rattle.b67_frames.proofs.Prelude.{if◌then◌else◌, ◌==◌, nat_lt, numbered, set_numbered, EventDeed, EventState, Block, block_numbered, Scopes, Named, has_wrong_size, has_no_room, bounds_of, Ask, ask, resume, is_evaluation, own_instances, leave, Answer, Value, Reference, ArrayCell, Cell, simple, event, array, named, reference, Instance, Part, Process, World, instance_at, or_no_instance, cells_with, followed, AllPairs, numbered_forth, IsInSkeleton, IsStanding, IsOnPath}
 use Rattle.b67_num.specs.declared.FaultKind.TheVariants as fault
 use Rattle.b67_num.specs.Whole.{fault_of}
 use Rattle.b67_deeds.specs.Deeds as deeds

@@ -1,6 +1,6 @@
 -- The arrays of an instance are closed when its frame is left.
 use Rattle.std.proofs.Common.{◌≡◌, ◌≢◌, ◌⊎◌, inl, inr, refl, sym, ap, ◌∙◌, subst, ℕ, zero, suc, ◌+◌, ◌*◌, ◌<◌, ◌≤◌, List, [], ◌∷◌, ◌++◌, length, Option, Some, Bool, true, false, arith}
-use Rattle.b67_frames.proofs.Prelude.{slice_get, slice_set, numbered, set_numbered, block_numbered, Scopes, ArrayCell, Cell, array, size_of_cell, size_of_cells, size_unless, live_elements, leave, NamedCell, Instance, World, instance_at, DeclaredArray, Made, an_array, an_event, Word, Descriptor, as_descriptor, Rows, row_at, Image, with_rows, closed_by, array_closed, arrays_closed, Change, changed, Pcw, simple_cells, made_of, control_words, some_same, none_some, same_or_not, numbered_set, numbered_other, get-front, get-behind, Allotted, row_numbers_of, Layout, CellIsMade, AreMade, HoldElements, rows_of_cell, rows_of_cells, live_rows, HasArray, ArrayHasRow, ArraysAre, block_controls}
+use Rattle.b67_frames.proofs.Prelude.{slice_get, slice_set, numbered, set_numbered, block_numbered, Scopes, size_of_cell, size_of_cells, size_unless, live_elements, leave, ArrayCell, Cell, array, NamedCell, Instance, World, instance_at, DeclaredArray, Made, an_array, an_event, Word, as_descriptor, Descriptor, Pcw, Rows, row_at, Image, with_rows, closed_by, array_closed, arrays_closed, Change, changed, simple_cells, made_of, control_words, some_same, none_some, same_or_not, numbered_set, numbered_other, get-front, get-behind, Allotted, row_numbers_of, Layout, CellIsMade, AreMade, HoldElements, rows_of_cell, rows_of_cells, live_rows, HasArray, ArrayHasRow, ArraysAre, block_controls}
 use Rattle.b67_rows.proofs.Words.{event_describes_nothing}
 use Rattle.b67_frames.specs.Arrays.{IsEventMade}
 use Rattle.b67_frames.proofs.ArraysKept.{no_elements, no_rows}

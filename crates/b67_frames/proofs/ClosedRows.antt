@@ -1,6 +1,6 @@
 -- Rows that are closed one after another: what stays, and how much less there is.
 use Rattle.std.proofs.Common.{◌≡◌, ◌≢◌, refl, sym, ap, ◌∙◌, ℕ, zero, suc, ◌+◌, ◌*◌, ◌<◌, ◌≤◌, List, [], ◌∷◌, length, Option, Some, None, true, false, arith}
-use Rattle.b67_frames.proofs.Prelude.{slice_get, map, Word, Descriptor, closed_at, Row, Rows, row_at, row_limit, live_words, counted_words, changed_others, counts, array_word, Image, with_rows, closed_by, rows_closed, Change, changed, close_row, open_rows}
+use Rattle.b67_frames.proofs.Prelude.{slice_get, map, Word, Descriptor, changed_others, counts, closed_at, Row, Rows, row_at, row_limit, live_words, counted_words, array_word, Image, with_rows, closed_by, rows_closed, Change, changed, close_row, open_rows}
 use Rattle.b67_frames.proofs.ElementRows.{array_read}
 
 -- the rows after those of these numbers are closed

@@ -1,6 +1,6 @@
 -- The control words among the cells of a frame: of the procedures that its block declares, and of its actuals.
 use Rattle.std.proofs.Common.{◌≡◌, refl, ap, ◌∙◌, subst, ℕ, zero, suc, ◌+◌, ◌<◌, ◌≤◌, List, [], ◌∷◌, length, Some, arith, length-append}
-use Rattle.b67_frames.proofs.Prelude.{slice_get, MOST_BLOCK_CELLS, Named, Block, block_numbered, level_of, Scopes, segment_of, Pcw, pcw_word, simple_cells, procedures, Actual, actuals_of, made_of, Context, control_words, some_same, none_some, AreNested, get-front, get-behind, block_controls}
+use Rattle.b67_frames.proofs.Prelude.{slice_get, Block, block_numbered, level_of, Scopes, MOST_BLOCK_CELLS, Named, segment_of, pcw_word, Pcw, simple_cells, procedures, Actual, actuals_of, made_of, Context, AreNested, control_words, some_same, none_some, get-front, get-behind, block_controls}
 use Rattle.algol_tree.specs.Blocks.{number_at}
 use Rattle.b67_control.specs.Control.{Fits_pcw}
 use Rattle.b67_segment.specs.Operators.{Placed}

@@ -1,12 +1,12 @@
 -- The rows of an array: the descriptors in the row of its mother, and the words of its elements.
 use Rattle.std.proofs.Common.{◌≡◌, sym, ap, ◌∙◌, subst, ℕ, ◌+◌, ◌*◌, ◌^◌, ◌<◌, ◌≤◌, List, [], ◌∷◌, length, Option, Some, Bool, true, false, arith}
-use Rattle.b67_frames.proofs.Prelude.{slice_get, map, Kind, Scopes, Value, Bounds, ArrayCell, size_of, flat, World, Word, as_descriptor, Row, Rows, row_at, row_limit, array_word, HasKind, ValueIs, Allotted, Layout, row_length, DescriptorIs, HoldElements}
+use Rattle.b67_frames.proofs.Prelude.{slice_get, map, Scopes, Kind, size_of, flat, Value, Bounds, ArrayCell, World, Word, as_descriptor, Row, Rows, row_at, row_limit, array_word, HasKind, ValueIs, Allotted, Layout, row_length, DescriptorIs, HoldElements, ElementIsIn}
 use Rattle.algol_meaning.specs.Arrays.{or_number, element_at}
 use Rattle.algol_standing.proofs.Pairs.{map_forth}
 use Rattle.b67_control.proofs.ControlLaws.{as_descriptor-descriptor_word}
 use Rattle.b67_table.specs.Arrays.{word_in_row, indexed_in, as_indexed}
 use Rattle.b67_rows.proofs.Numbers.{get_within}
-use Rattle.b67_frames.specs.Arrays.{ElementIsIn, row_copy, element_copy}
+use Rattle.b67_frames.specs.Arrays.{row_copy, element_copy}
 
 -- ---- words
 

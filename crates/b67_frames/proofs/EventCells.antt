@@ -1,6 +1,6 @@
 -- The arrays of a world in which an instance has made an event, or in which an event has changed, are those that they were.
 use Rattle.std.proofs.Common.{◌≡◌, ◌≢◌, ◌⊎◌, inl, inr, refl, sym, ap, ◌∙◌, subst, ℕ, zero, suc, ◌+◌, ◌*◌, ◌<◌, ◌≤◌, List, [], ◌∷◌, ◌++◌, length, Some, Bool, true, false, arith}
-use Rattle.b67_frames.proofs.Prelude.{if◌then◌else◌, slice_get, slice_set, numbered, set_numbered, block_numbered, Scopes, same_name, size_of_cell, size_of_cells, size_unless, live_elements, ArrayCell, Cell, event, array, EventState, NamedCell, Instance, World, instance_at, cell_in, cells_with, by_cell, DeclaredArray, Made, an_array, an_event, Word, Rows, simple_cells, made_of, some_same, none_some, same_or_not, numbered_set, numbered_other, Allotted, Layout, IsMadeSo, AreMade, rows_of_cell, rows_of_cells, live_rows, HasArray, ArraysAre}
+use Rattle.b67_frames.proofs.Prelude.{if◌then◌else◌, slice_get, slice_set, numbered, set_numbered, EventState, block_numbered, Scopes, same_name, size_of_cell, size_of_cells, size_unless, live_elements, ArrayCell, Cell, event, array, NamedCell, Instance, World, instance_at, cell_in, cells_with, by_cell, DeclaredArray, Made, an_array, an_event, Word, Rows, simple_cells, made_of, some_same, none_some, same_or_not, numbered_set, numbered_other, Allotted, Layout, IsMadeSo, AreMade, rows_of_cell, rows_of_cells, live_rows, HasArray, ArraysAre}
 use Rattle.b67_frames.proofs.ArraysKept.{arrays_by, elements_numbered, rows_numbered}
 use Rattle.b67_frames.proofs.Knowing.{KeepsArrays, IsNoReference, changed_or_not, other_stays, names_stay}
 use Rattle.b67_frames.proofs.StoredRows.{get_other}
@@ -8,11 +8,22 @@ use Rattle.b67_frames.proofs.StoredRows.{get_other}
 -- ---- one instance changes
 
 -- It stays one of its block, with as many elements and rows, and each array among its cells was there before, with its rows.
-module _ (sc : Scopes) (w w' : World) (lay lay' : Layout) (i : ℕ) (x y : Instance) (there : numbered w.instances i ≡ Some x) (now : w'.instances ≡ set_numbered w.instances i y) (left : y.left ≡ x.left) (block : y.block ≡ x.block)
-    (elements : size_of_cells y.cells ≡ size_of_cells x.cells) (many : rows_of_cells y.cells ≡ rows_of_cells x.cells)
-    (was : (number : ℕ) (name : List ℕ) (c : ArrayCell) (a : Allotted) → slice_get y.cells (length (simple_cells sc (block_numbered sc.blocks x.block)) + number) ≡ Some (record { name = name; cell = array c }) → slice_get (lay'.rows i) number ≡ Some a →
-    (slice_get x.cells (length (simple_cells sc (block_numbered sc.blocks x.block)) + number) ≡ Some (record { name = name; cell = array c })) × (slice_get (lay.rows i) number ≡ Some a))
-    (others : (j : ℕ) → i ≢ j → lay'.rows j ≡ lay.rows j) where
+-- The cells of the instance are others, with the same arrays.
+pub record ChangesCells (sc : Scopes) (w : World) (w' : World) (lay : Layout) (lay' : Layout) (i : ℕ) : Type 0 where
+  pub x : Instance
+  pub y : Instance
+  pub there : numbered w.instances i ≡ Some x
+  pub now : w'.instances ≡ set_numbered w.instances i y
+  pub left : y.left ≡ x.left
+  pub block : y.block ≡ x.block
+  pub elements : size_of_cells y.cells ≡ size_of_cells x.cells
+  pub many : rows_of_cells y.cells ≡ rows_of_cells x.cells
+  pub was : (number : ℕ) (name : List ℕ) (c : ArrayCell) (a : Allotted) → slice_get y.cells (length (simple_cells sc (block_numbered sc.blocks x.block)) + number) ≡ Some (record { name = name; cell = array c }) → slice_get (lay'.rows i) number ≡ Some a → (slice_get x.cells (length (simple_cells sc (block_numbered sc.blocks x.block)) + number) ≡ Some (record { name = name; cell = array c })) × (slice_get (lay.rows i) number ≡ Some a)
+  pub others : (j : ℕ) → i ≢ j → lay'.rows j ≡ lay.rows j
+
+module _ (sc : Scopes) (w w' : World) (lay lay' : Layout) (i : ℕ) (changes : ChangesCells sc w w' lay lay' i) where
+  open changes use {x, y, there, now, left, block, elements, many, was, others}
+
   array_was : (j number : ℕ) (declared : DeclaredArray) (cell : ArrayCell) (a : Allotted) → HasArray sc w' lay' j number declared cell a → HasArray sc w lay j number declared cell a
   array_was j number declared cell a h = by_number (same_or_not i j)
     where

@@ -1,6 +1,6 @@
 -- ENTR on the intrinsics of events: an event is made, told, or acted on.
-use Rattle.std.proofs.Common.{◌≡◌, sym, ap, ◌∙◌, ℕ, ◌+◌, ◌-◌, List, [], ◌∷◌, ◌++◌, Option, Some, Bool, true, Ok, append-nil}
-use Rattle.b67_frames.proofs.Prelude.{reverse, reverse-reverse, numbered, Place, Word, Irw, Registers, Sirw, as_irw, as_sirw, event_word, is_open, event_opened, Intrinsic, Code, word_at, with_stack, event_of, if_chained, finished_at, place, Effect, gives, Image, with_stacks, with_registers, with_events, Look, ◌>->◌, valid, pushed, display_at, Change, Program, answer, asked, changed, effect_of, see, ◌>>=◌, done, registers, event_deed, cell_place, irw_or_sirw, enter, raw, operator_at, EventDeed, Core, HasCore, stack_of, with_core, CallsIntrinsic, entered_asked, entered, chained_asked, chained_is, cut_words, raw_is, stack-over, pushed_do}
+use Rattle.std.proofs.Common.{◌≡◌, sym, ap, ◌∙◌, ℕ, ◌+◌, ◌-◌, List, [], ◌∷◌, ◌++◌, Option, Some, Bool, true, append-nil}
+use Rattle.b67_frames.proofs.Prelude.{reverse-reverse, reverse, numbered, EventDeed, Word, Place, as_irw, as_sirw, event_word, Irw, Registers, Sirw, Intrinsic, Code, word_at, with_stack, is_open, event_opened, event_of, if_chained, finished_at, place, Effect, gives, Image, with_stacks, with_registers, with_events, Look, ◌>->◌, valid, pushed, display_at, Change, Program, answer, asked, changed, effect_of, see, ◌>>=◌, done, registers, event_deed, cell_place, irw_or_sirw, enter, raw, Core, stack_of, with_core, AtOperator, CallsIntrinsic, entered_asked, entered, chained_asked, chained_is, cut_words, raw_is, stack-over, pushed_do}
 use Rattle.b67_word.specs.Word as words
 use Rattle.b67_control.specs.declared.EventWord.{EventWord}
 use Rattle.b67_events.specs.Events.{state_at, deed_at}
@@ -25,8 +25,9 @@ use Rattle.b67_frames.proofs.MakingRow.{with_descriptors}
 
 -- ---- an event is made
 
-module _ (code : Code) (img : Image) (p : ℕ) (core : Core) (has : HasCore img p core) (next : ℕ) (there : operator_at code core.registers ≡ Ok (ops.Plain kinds.Entr, next))
-    (reference marked : Word) (below : List Word) (none : below ≡ []) (c : CallsIntrinsic img core Event [] reference marked below) where
+module _ (code : Code) (standing : AtOperator code (ops.Plain kinds.Entr)) (reference marked : Word) (below : List Word) (none : below ≡ []) (c : CallsIntrinsic standing.img standing.core Event [] reference marked below) where
+  open standing use {img, p, core, has, next}
+
   abbrev r : Registers
   r = core.registers
 
@@ -48,10 +49,10 @@ module _ (code : Code) (img : Image) (p : ℕ) (core : Core) (has : HasCore img 
   -- it is there_open at the mark's place, where its word lies in place of the call
   pub event_raw : raw code img p ≡ gives (with_core (with_events img (event_opened (place core.registers.stack core.registers.f) img.events)) p (with_descriptors core (event_word (record {}) ∷ []) c.m.df next))
   event_raw =
-      entered code img p core has next there Event [] reference marked below c
-      ∙ chained_is code img p core has next there Event [] reference marked below c (answer (write (writes.open_event here) (finished_at r c.m made next)))
+      entered code standing Event [] reference marked below c
+      ∙ chained_is code standing Event [] reference marked below c (answer (write (writes.open_event here) (finished_at r c.m made next)))
       ∙ ap (λ (ws : List Word). gives (changed p (pushed r.stack made (registers new.registers done)) (with_stacks after (with_stack img.stacks r.stack ws))))
-      (cut_words code img p core has next there Event [] reference marked below c)
+      (cut_words code standing Event [] reference marked below c)
       ∙ ap (λ (o : Image). gives o) (pushed_do p after r.stack (stack_of core) has.stack made (core.below ++ reverse below) (registers new.registers done))
       ∙ ap (λ (ws : List Word). with_words ((core.below ++ reverse ws) ++ made)) none
       ∙ ap with_words (ap (λ (ws : List Word). ws ++ made) (append-nil core.below) ∙ ap (λ (ws : List Word). core.below ++ ws) (sym (reverse-reverse made)))
@@ -97,10 +98,10 @@ module _ (code : Code) (img : Image) (p : ℕ) (r : Registers) (word : Word) whe
 
 -- ---- an event is told, or acted on
 
-module _ (code : Code) (img : Image) (p : ℕ) (core : Core) (has : HasCore img p core) (next : ℕ) (there : operator_at code core.registers ≡ Ok (ops.Plain kinds.Entr, next))
-    (name : Intrinsic) (word reference marked : Word) (below : List Word) (c : CallsIntrinsic img core name (word ∷ []) reference marked below)
-    (cell : Cell) (reaches : FindsEvent img p core.registers word cell)
-    (there_open : is_open (cell_place cell) img.events ≡ true) where
+module _ (code : Code) (here : AtOperator code (ops.Plain kinds.Entr)) (name : Intrinsic) (word reference marked : Word) (below : List Word) (c : CallsIntrinsic here.img here.core name (word ∷ []) reference marked below)
+    (cell : Cell) (reaches : FindsEvent here.img here.p here.core.registers word cell) (there_open : is_open (cell_place cell) here.img.events ≡ true) where
+  open here use {img, p, core, has, next, there}
+
   abbrev pub acted_on : EventDeed → Change
   acted_on x = event_deed x (cell_place cell) (finished_at core.registers c.m [] next)
 
@@ -108,15 +109,15 @@ module _ (code : Code) (img : Image) (p : ℕ) (core : Core) (has : HasCore img 
   pub acted_asked : (x : EventDeed) → row_of_intrinsic name ≡ on_event x →
       asked img (enter code core.registers next) ≡ gives (event_deed x (cell_place cell) (finished_at core.registers c.m [] next))
   acted_asked x is =
-      entered_asked code img p core has next there name (word ∷ []) reference marked below c
+      entered_asked code here name (word ∷ []) reference marked below c
       ∙ ap (λ (row : IntrinsicRow). asked img (row code core.registers next c.m (word ∷ []))) is
       ∙ event_reached code img p core.registers word cell reaches
       (λ (d : Cell). if_chained core.registers c.m (answer (event_deed x (cell_place d) (finished_at core.registers c.m [] next)))) there_open
-      ∙ chained_asked code img p core has next there name (word ∷ []) reference marked below c (answer (acted_on x))
+      ∙ chained_asked code here name (word ∷ []) reference marked below c (answer (acted_on x))
 
   event_acted : (x : EventDeed) → row_of_intrinsic name ≡ on_event x → raw code img p ≡ gives (changed p (acted_on x) img)
   unfolding row
-  event_acted x is = raw_is code img p core has (ops.Plain kinds.Entr) next there ∙ ap (effect_of p img) (acted_asked x is)
+  event_acted x is = raw_is code (ops.Plain kinds.Entr) here ∙ ap (effect_of p img) (acted_asked x is)
 
   -- whom it releases
   pub acted_releases : (x : EventDeed) → row_of_intrinsic name ≡ on_event x →
@@ -139,17 +140,17 @@ module _ (code : Code) (img : Image) (p : ℕ) (core : Core) (has : HasCore img 
   told_asked : (x : EventTest) → row_of_intrinsic name ≡ tell_event x →
       asked img (enter code core.registers next) ≡ gives (event_deed (tests x) (cell_place cell) (finished_at core.registers c.m (words.truth (told_there x) ∷ []) next))
   told_asked x is =
-      entered_asked code img p core has next there name (word ∷ []) reference marked below c
+      entered_asked code here name (word ∷ []) reference marked below c
       ∙ ap (λ (row : IntrinsicRow). asked img (row code core.registers next c.m (word ∷ []))) is
       ∙ event_reached code img p core.registers word cell reaches
       (λ (d : Cell). if_chained core.registers c.m (event_answer x (cell_place d)
       (λ (told : Bool). answer (event_deed (tests x) (cell_place d) (finished_at core.registers c.m (words.truth told ∷ []) next))))) there_open
-      ∙ chained_asked code img p core has next there name (word ∷ []) reference marked below c (event_answer x (cell_place cell) (told_so x))
+      ∙ chained_asked code here name (word ∷ []) reference marked below c (event_answer x (cell_place cell) (told_so x))
 
   event_told : (x : EventTest) → row_of_intrinsic name ≡ tell_event x →
       raw code img p ≡ gives (changed p (event_deed (tests x) (cell_place cell) (finished_at core.registers c.m (words.truth (told_there x) ∷ []) next)) img)
   unfolding row
-  event_told x is = raw_is code img p core has (ops.Plain kinds.Entr) next there ∙ ap (effect_of p img) (told_asked x is)
+  event_told x is = raw_is code (ops.Plain kinds.Entr) here ∙ ap (effect_of p img) (told_asked x is)
 
   -- whom that releases
   pub told_releases : (x : EventTest) → row_of_intrinsic name ≡ tell_event x →
@@ -175,7 +176,7 @@ module _ (code : Code) (img : Image) (p : ℕ) (core : Core) (has : HasCore img 
   acted_raw x is =
       event_acted x is
       ∙ ap (λ (ws : List Word). gives (with_deed (deed_at x p at img.events) at p (with_registers (with_stacks img (with_stack img.stacks r'.stack ws)) p ((without_call core below c.m.df next).registers))))
-      (cut_words code img p core has next there name (word ∷ []) reference marked below c)
+      (cut_words code here name (word ∷ []) reference marked below c)
 
   -- the core with a truth value in place of the call
   abbrev pub told_core : Bool → Core
@@ -189,6 +190,6 @@ module _ (code : Code) (img : Image) (p : ℕ) (core : Core) (has : HasCore img 
       let after : Image = with_deed (deed_at (tests x) p at img.events) at p img in
       event_told x is
       ∙ ap (λ (ws : List Word). gives (changed p (pushed r'.stack (words.truth told ∷ []) (registers ((told_core told).registers) done)) (with_stacks after (with_stack img.stacks r'.stack ws))))
-      (cut_words code img p core has next there name (word ∷ []) reference marked below c)
+      (cut_words code here name (word ∷ []) reference marked below c)
       ∙ ap (λ (i : Image). gives i) (pushed_do p after r'.stack (stack_of core) has.stack (words.truth told ∷ []) (core.below ++ reverse below) (registers ((told_core told).registers) done))
       ∙ ap (λ (ws : List Word). gives (with_registers (with_stacks after (with_stack img.stacks r'.stack ws)) p ((told_core told).registers))) (sym (stack-over core.below (words.truth told ∷ []) below))

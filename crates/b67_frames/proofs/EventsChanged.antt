@@ -1,6 +1,6 @@
 -- The events of an image are those of a later world, in which an instance has made one more, or in which one has changed.
 use Rattle.std.proofs.Common.{◌≡◌, ◌≢◌, ◌⊎◌, inl, inr, sym, ap, ◌∙◌, subst, ℕ, zero, suc, ◌+◌, ◌<◌, ◌≤◌, List, [], ◌∷◌, ◌++◌, length, Some, arith}
-use Rattle.b67_frames.proofs.Prelude.{slice_get, numbered, set_numbered, block_numbered, Scopes, event, EventState, NamedCell, Instance, World, Place, Event, event_at, event_opened, one_event, place, get_within, simple_cells, made_of, made_base, some_same, same_or_not, most_or_more, numbered_set, numbered_other, get-seam, Layout, HasEvent, EventsAre}
+use Rattle.b67_frames.proofs.Prelude.{slice_get, numbered, set_numbered, EventState, block_numbered, Scopes, event, NamedCell, Instance, World, Place, one_event, Event, event_at, event_opened, get_within, place, simple_cells, made_of, made_base, some_same, same_or_not, most_or_more, numbered_set, numbered_other, get-seam, Layout, HasEvent, EventsAre}
 use Rattle.std.specs.Option.{option_map}
 use Rattle.b67_deeds.specs.Events.{fresh_state}
 use Rattle.b67_events.specs.Events.{event_changed}
@@ -37,10 +37,21 @@ module _ (sc : Scopes) (w w' : World) (lay lay' : Layout) (i number : ℕ) (late
 -- ---- one event more
 
 -- The instance has made so much before, and now an event, which its block declares; the event's cell lies at this place, where none lay.
-module _ (sc : Scopes) (w w' : World) (lay lay' : Layout) (i : ℕ) (x : Instance) (name : List ℕ) (number : ℕ) (is : numbered w.instances i ≡ Some x)
-    (now : w'.instances ≡ set_numbered w.instances i (record x { cells = x.cells ++ record { name = name; cell = event fresh_state } ∷ [] }))
-    (many : length x.cells ≡ length (simple_cells sc (block_numbered sc.blocks x.block)) + number) (places : (j : ℕ) (f : Place) → numbered lay'.places j ≡ Some f → numbered lay.places j ≡ Some f)
-    (frame : Place) (laid : numbered lay.places i ≡ Some frame) where
+-- The instance has an event more.
+pub record MakesEvent (sc : Scopes) (w : World) (w' : World) (lay : Layout) (lay' : Layout) (i : ℕ) : Type 0 where
+  pub x : Instance
+  pub name : List ℕ
+  pub number : ℕ
+  pub is : numbered w.instances i ≡ Some x
+  pub now : w'.instances ≡ set_numbered w.instances i (record x { cells = x.cells ++ record { name = name; cell = event fresh_state } ∷ [] })
+  pub many : length x.cells ≡ length (simple_cells sc (block_numbered sc.blocks x.block)) + number
+  pub places : (j : ℕ) (f : Place) → numbered lay'.places j ≡ Some f → numbered lay.places j ≡ Some f
+  pub frame : Place
+  pub laid : numbered lay.places i ≡ Some frame
+
+module _ (sc : Scopes) (w w' : World) (lay lay' : Layout) (i : ℕ) (makes : MakesEvent sc w w' lay lay' i) where
+  open makes use {x, name, number, is, now, many, places, frame, laid}
+
   abbrev grown : Instance
   grown = record x { cells = x.cells ++ record { name = name; cell = event fresh_state } ∷ [] }
 
@@ -157,15 +168,30 @@ module _ (sc : Scopes) (w w' : World) (lay lay' : Layout) (i : ℕ) (x : Instanc
 -- ---- another event
 
 -- This event of an instance becomes another one, and each other one of that was there.
-module _ (sc : Scopes) (w w' : World) (lay : Layout) (i : ℕ) (x y : Instance) (number : ℕ) (e later : EventState) (there : Place) (has : HasEvent sc w lay i number e there) (is : numbered w.instances i ≡ Some x)
-    (now : w'.instances ≡ set_numbered w.instances i y) (left : y.left ≡ x.left) (block : y.block ≡ x.block)
-    (this_is : (c : NamedCell) → slice_get y.cells (length (simple_cells sc (block_numbered sc.blocks x.block)) + number) ≡ Some c → c.cell ≡ event later)
-    (others_are : (k : ℕ) → k ≢ length (simple_cells sc (block_numbered sc.blocks x.block)) + number → slice_get y.cells k ≡ slice_get x.cells k) where
+-- An event of the instance is another one.
+pub record ChangesEvent (sc : Scopes) (w : World) (w' : World) (lay : Layout) (i : ℕ) : Type 0 where
+  pub x : Instance
+  pub y : Instance
+  pub number : ℕ
+  pub before : EventState
+  pub later : EventState
+  pub there : Place
+  pub has : HasEvent sc w lay i number before there
+  pub is : numbered w.instances i ≡ Some x
+  pub now : w'.instances ≡ set_numbered w.instances i y
+  pub left : y.left ≡ x.left
+  pub block : y.block ≡ x.block
+  pub this_is : (c : NamedCell) → slice_get y.cells (length (simple_cells sc (block_numbered sc.blocks x.block)) + number) ≡ Some c → c.cell ≡ event later
+  pub others_are : (k : ℕ) → k ≢ length (simple_cells sc (block_numbered sc.blocks x.block)) + number → slice_get y.cells k ≡ slice_get x.cells k
+
+module _ (sc : Scopes) (w w' : World) (lay : Layout) (i : ℕ) (changes : ChangesEvent sc w w' lay i) where
+  open changes use {x, y, number, before as e, later, there as its_place, has, is, now, left, block, this_is, others_are}
+
   abbrev front_at : ℕ
   front_at = length (simple_cells sc (block_numbered sc.blocks x.block))
 
   abbrev IsChanged : (j other : ℕ) (f : EventState) (at : Place) → Type 0
-  IsChanged j other f at = Came sc w w' lay lay i number later there j other f at
+  IsChanged j other f at = Came sc w w' lay lay i number later its_place j other f at
 
   module _ (j other : ℕ) (f : EventState) (at : Place) (h : HasEvent sc w' lay j other f at) where
     changed_there : numbered (set_numbered w.instances i y) j ≡ Some h.instance
@@ -235,11 +261,11 @@ module _ (sc : Scopes) (w w' : World) (lay : Layout) (i : ℕ) (x y : Instance) 
             }) (λ same number_is. different same)
 
   -- so does the event that is open at its place
-  pub events_changed : (change : Event → Event) → StaysInPlace change → change (event_there there e) ≡ event_there there later → (events : List Event) → EventsAre sc w lay events → EventsAre sc w' lay (event_changed there change events)
+  pub events_changed : (change : Event → Event) → StaysInPlace change → change (event_there its_place e) ≡ event_there its_place later → (events : List Event) → EventsAre sc w lay events → EventsAre sc w' lay (event_changed its_place change events)
   events_changed change stays becomes events are =
-      events_came sc w w' lay lay i number later there changed_origin events (event_changed there change events)
-      (one_event.here there change stays events ∙ ap (option_map change) (are.are_open i number e there has) ∙ ap (λ (x : Event). Some x) becomes)
+      events_came sc w w' lay lay i number later its_place changed_origin events (event_changed its_place change events)
+      (one_event.here its_place change stays events ∙ ap (option_map change) (are.are_open i number e its_place has) ∙ ap (λ (x : Event). Some x) becomes)
       (λ j other f at h apart.
-      let elsewhere : at ≢ there =
-      λ (same : at ≡ there). let one = are.apart i j number other e f there has (subst (λ (z : Place). HasEvent sc w lay j other f z) same h) in apart one.0 one.1 in
-      (elsewhere, one_event.elsewhere there at change stays elsewhere events)) are
+      let elsewhere : at ≢ its_place =
+      λ (same : at ≡ its_place). let one = are.apart i j number other e f its_place has (subst (λ (z : Place). HasEvent sc w lay j other f z) same h) in apart one.0 one.1 in
+      (elsewhere, one_event.elsewhere its_place at change stays elsewhere events)) are

@@ -1,8 +1,8 @@
 -- EXIT of a base frame.
 use Rattle.b67_deeds.specs.declared.EventAct.TheVariants as event_act
 use Rattle.b67_deeds.specs.Deeds.{acts}
-use Rattle.std.proofs.Common.{◌≡◌, refl, ap, ◌∙◌, ℕ, ◌+◌, List, [], ◌∷◌, ◌++◌, length, take, drop, Option, Some, None, Bool, false, Ok}
-use Rattle.b67_frames.proofs.Prelude.{if◌then◌else◌, nat_eq, reverse, set_numbered, Cell, simple, event, array, named, reference, NamedCell, Place, Word, Pcw, Registers, as_descriptor, Code, Rows, words_of, closed_at, closed_from, Effect, gives, Image, with_rows, arrays_closed, caused_by, frame_left, is_critical, leave_base, leave_other, frame, Program, Change, done, event_deed, changed, does, effect_of, asked, answer, fault, registers, end_process, close_events, live_criticals, CriticalBlockExit, exit, raw, operator_at, Simple, Wanted, control_words, Core, HasCore, raw_is, words_are, take-seam, value_tag, CellIs, CellsAre}
+use Rattle.std.proofs.Common.{◌≡◌, refl, ap, ◌∙◌, ℕ, ◌+◌, List, [], ◌∷◌, ◌++◌, length, take, drop, Option, Some, None, Bool, false}
+use Rattle.b67_frames.proofs.Prelude.{if◌then◌else◌, nat_eq, reverse, set_numbered, CriticalBlockExit, Cell, simple, event, array, named, reference, NamedCell, Word, Place, as_descriptor, Pcw, Registers, Code, Rows, words_of, closed_at, closed_from, Effect, gives, Image, with_rows, arrays_closed, caused_by, frame_left, is_critical, leave_base, leave_other, frame, Program, Change, done, event_deed, changed, does, effect_of, asked, answer, fault, registers, end_process, close_events, live_criticals, exit, raw, Simple, Wanted, control_words, AtOperator, raw_is, words_are, take-seam, value_tag, CellIs, CellsAre}
 use Rattle.b67_deeds.specs.declared.Letter.TheVariants as act
 use Rattle.b67_ops.specs.declared.Operator.TheVariants as ops
 use Rattle.b67_ops.specs.declared.PlainKind.TheVariants as kinds
@@ -67,9 +67,11 @@ ended_at img rows p r =
       states = set_numbered img.states p Ended;
     }
 
-module _ (code : Code) (img : Image) (p : ℕ) (core : Core) (has : HasCore img p core) (next : ℕ) (at : operator_at code core.registers ≡ Ok (ops.Plain kinds.Exit, next))
-    (mark control : Word) (cells : List Word) (below : core.below ≡ mark ∷ control ∷ cells) (counted : core.registers.cells ≡ length cells) (base : frame core.registers ≡ 0)
-    (rows : Rows) (closed : (q : ℕ) (more : Change) → changed q (arrays_closed cells more) img ≡ changed q more (with_rows img rows)) (free : is_critical core.registers.stack (0 ∷ []) (live_criticals img.states img.regs) ≡ false) where
+module _ (code : Code) (here : AtOperator code (ops.Plain kinds.Exit)) (mark control : Word) (cells : List Word) (below : here.core.below ≡ mark ∷ control ∷ cells) (counted : here.core.registers.cells ≡ length cells)
+    (base : frame here.core.registers ≡ 0) (rows : Rows) (closed : (q : ℕ) (more : Change) → changed q (arrays_closed cells more) here.img ≡ changed q more (with_rows here.img rows))
+    (free : is_critical here.core.registers.stack (0 ∷ []) (live_criticals here.img.states here.img.regs) ≡ false) where
+  open here use {img, p, core, has, next}
+
   abbrev r : Registers
   r = core.registers
 
@@ -104,7 +106,7 @@ module _ (code : Code) (img : Image) (p : ℕ) (core : Core) (has : HasCore img 
 
   exit_ends : raw code img p ≡ gives (changed p (close_events r.stack 0 (registers left (caused_by core.registers.task (end_process r.stack done)))) (with_rows img rows))
   unfolding row
-  exit_ends = raw_is code img p core has (ops.Plain kinds.Exit) next at ∙ exit_does
+  exit_ends = raw_is code (ops.Plain kinds.Exit) here ∙ exit_does
 
   -- without a task
   pub exit_raw : core.registers.task ≡ None → raw code img p ≡ gives (ended_at img rows p left)
@@ -120,5 +122,5 @@ module _ (code : Code) (img : Image) (p : ℕ) (core : Core) (has : HasCore img 
 
   pub exit_action : (after : Image) → table code img p ≡ outcomes.gives after → letter code img p ≡ Some act.End
   exit_action after t =
-      action_is code img p core has (ops.Plain kinds.Exit) next at (outcomes.gives after) t
+      action_is code (ops.Plain kinds.Exit) here (outcomes.gives after) t
       ∙ ap (λ (f : ℕ). Some ((left_letter f))) base

@@ -1,5 +1,5 @@
 -- What the rest of an expression asks for, and that it stays one over each answer.
-use Rattle.b67_frames.proofs.Prelude.{Scopes, Hole, argument, Actuals, Aim, Rest, evaluating, locating, Answer, Ask, goes_to, ask_hole, ask_actuals, ask_aim, ask, resume, IsOfExpression}
+use Rattle.b67_frames.proofs.Prelude.{Scopes, Ask, goes_to, ask_hole, ask_actuals, ask_aim, ask, resume, Hole, argument, Actuals, Aim, Rest, evaluating, locating, Answer, IsOfExpression}
 use Rattle.b67_deeds.specs.Deeds as deeds
 use Rattle.algol_meaning.specs.Rest.{read, element, index, tests, broken, enter, inside, subscript, left, right, negated, inverted, condition, Half, val, busy, pass, in_value, resolve, place_index, inside_place, place_subscript, HalfPlace, at, aims, giving, giving_place, done, cell, entered}
 use Rattle.algol_meaning.specs.Settle.{answer_put, put_place}

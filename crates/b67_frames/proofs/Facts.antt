@@ -1,6 +1,6 @@
 -- What is taken of a world that is as worlds are: what stands, and that what is referred to stands.
 use Rattle.std.proofs.Common.{◌≡◌, ◌⊎◌, inl, inr, refl, sym, ap, subst, ℕ, zero, suc, List, [], ◌∷◌, Some, false, arith}
-use Rattle.b67_frames.proofs.Prelude.{slice_get, numbered, Scopes, NamedCell, Instance, World, instance_at, or_no_instance, referred_in, IsInSkeleton, here, down, IsStanding, IsOnPath, skeleton, below_in}
+use Rattle.b67_frames.proofs.Prelude.{slice_get, numbered, Scopes, referred_in, NamedCell, Instance, World, instance_at, or_no_instance, below_in, IsInSkeleton, here, down, IsStanding, IsOnPath, skeleton}
 use Rattle.algol_standing.specs.Skeleton.{Skeleton, SkeletonStands, OnPath}
 use Rattle.algol_standing.specs.Worlds.{IsWholeInstance, referred_in_cells, parent_in, home_of}
 use Rattle.algol_standing.specs.Fitting.{IsOk}

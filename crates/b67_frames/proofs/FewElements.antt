@@ -1,6 +1,6 @@
 -- Each dimension of an array has an element, and no more than there may be.
 use Rattle.std.proofs.Common.{ℕ, ◌*◌, ◌≤◌, [], ◌∷◌, arith}
-use Rattle.b67_frames.proofs.Prelude.{Bounds, size_of, AreSized}
+use Rattle.b67_frames.proofs.Prelude.{size_of, Bounds, AreSized}
 
 product : (k m n : ℕ) → m ≤ n → k * m ≤ k * n
 product k m n h = grind arith

@@ -1,6 +1,6 @@
 -- The cells of the parameters of a procedure that is entered: values, and references that stand for something else.
 use Rattle.std.proofs.Common.{◌≡◌, refl, sym, ap, ◌∙◌, subst, ℕ, zero, suc, List, [], ◌∷◌, ◌++◌, Some}
-use Rattle.b67_frames.proofs.Prelude.{slice_get, map, Kind, Named, Scopes, Parameter, Reference, NameCell, Cell, reference, simple, Given, valued, refers, names, NamedCell, Part, Process, World, DeclaredArray, Shape, shape_of, Word, as_descriptor, Couple, Context, Simple, Wanted, ShapeAgrees, IsVariable, IsDeclaredArray, IsDeclaredEvent, cell_named, actual as actual_held, passed as passed_held, Known, AreTold, some_same, none_some, InReferred, Layout, named_from, ReferenceLeadsTo, LeadsToEvent, LeadsToVariable, Denotes, IsNamed, IsActual, AreKnown, CellIs, Refers, CellsAre}
+use Rattle.b67_frames.proofs.Prelude.{slice_get, map, Scopes, Parameter, Kind, Named, Given, valued, refers, names, Reference, NameCell, Cell, reference, simple, NamedCell, Part, Process, World, DeclaredArray, Shape, shape_of, Word, as_descriptor, Couple, Simple, Wanted, ShapeAgrees, IsVariable, IsDeclaredArray, IsDeclaredEvent, Context, AreTold, cell_named, actual as actual_held, passed as passed_held, Known, some_same, none_some, InReferred, Layout, named_from, ReferenceLeadsTo, LeadsToEvent, LeadsToVariable, Denotes, IsNamed, IsActual, AreKnown, CellIs, Refers, CellsAre}
 use Rattle.algol_meaning.specs.Value as cells
 use Rattle.algol_meaning.specs.Choice.{given_cell, given_cells}
 use Rattle.algol_meaning.specs.Instances.{parameter_cells}
@@ -55,14 +55,17 @@ module _ (sc : Scopes) (w : World) (lay : Layout) (Stand : ℕ → Type 0) where
 
 -- ---- what is given
 
-module _ (sc : Scopes) (context : Context) (w : World) (lay : Layout) (p : ℕ) (q : Process) (part : Part) (outer : List Part) (level home base : ℕ) (Stand : ℕ → Type 0) (known : List Known) (are : AreKnown sc w lay Stand part.instance known)
-    (P : Named → Type 0)
-    (leads : (n : Named) → P n → (shape : Shape) (d : DeclaredArray) (c : Couple) → IsDeclaredArray sc context.level n d c → ShapeAgrees shape (shape_of d) → (x : Word) → IsNamed sc w lay Stand part.instance n x →
-    ReferenceLeadsTo sc w lay Stand shape (named_from sc w lay part.instance n) x)
-    (leads_event : (n : Named) → P n → (c : Couple) → IsDeclaredEvent sc context.level n c → (x : Word) → IsNamed sc w lay Stand part.instance n x →
-    LeadsToEvent sc w lay Stand (named_from sc w lay part.instance n) x)
-    (leads_variable : (n : Named) → P n → (kind : Kind) (c : Couple) → IsVariable sc context.level n kind c → (x : Word) → IsNamed sc w lay Stand part.instance n x →
-    LeadsToVariable sc w lay Stand kind (named_from sc w lay part.instance n) x) where
+-- What is known, and where the words of names lead.
+pub record ActualsLead (sc : Scopes) (context : Context) (w : World) (lay : Layout) (part : Part) (Stand : ℕ → Type 0) (P : Named → Type 0) : Type 0 where
+  pub known : List Known
+  pub are : AreKnown sc w lay Stand part.instance known
+  pub leads : (n : Named) → P n → (shape : Shape) (d : DeclaredArray) (c : Couple) → IsDeclaredArray sc context.level n d c → ShapeAgrees shape (shape_of d) → (x : Word) → IsNamed sc w lay Stand part.instance n x → ReferenceLeadsTo sc w lay Stand shape (named_from sc w lay part.instance n) x
+  pub leads_event : (n : Named) → P n → (c : Couple) → IsDeclaredEvent sc context.level n c → (x : Word) → IsNamed sc w lay Stand part.instance n x → LeadsToEvent sc w lay Stand (named_from sc w lay part.instance n) x
+  pub leads_variable : (n : Named) → P n → (kind : Kind) (c : Couple) → IsVariable sc context.level n kind c → (x : Word) → IsNamed sc w lay Stand part.instance n x → LeadsToVariable sc w lay Stand kind (named_from sc w lay part.instance n) x
+
+module _ (sc : Scopes) (context : Context) (w : World) (lay : Layout) (p : ℕ) (q : Process) (part : Part) (outer : List Part) (level home base : ℕ) (Stand : ℕ → Type 0) (P : Named → Type 0) (leading : ActualsLead sc context w lay part Stand P) where
+  open leading use {known, are, leads, leads_event, leads_variable}
+
   -- the cells of the parameters, which have these words
   pub record AreGivenCells (ss : List Simple) (ps : List Parameter) (gs : List Given) (words : List Word) : Type 0 where
     pub cells : CellsAre ss (parameter_cells ps (given_cells sc w p q part outer gs)) words

@@ -1,6 +1,6 @@
 -- The display of a part's frame: below its own place those of the frames down its links.
 use Rattle.std.proofs.Common.{◌≡◌, sym, ap, ◌∙◌, subst, ℕ, ◌+◌, ◌-◌, List, ◌∷◌, length, Option, Bool, arith}
-use Rattle.b67_frames.proofs.Prelude.{block_numbered, level_of, PProgram, Scopes, Instance, Part, World, or_no_instance, Place, Word, as_mscw, as_rcw, Code, Stacks, place, read_as, Texts, some_same, IsEntered, Links, shown, shown_below, Layout, IsChained, IsInReach, Frame, Owned, of_own, of_lent, run_level, level_of_part, Lent}
+use Rattle.b67_frames.proofs.Prelude.{block_numbered, level_of, PProgram, Scopes, Instance, Part, World, or_no_instance, Word, Place, as_mscw, as_rcw, Code, Stacks, place, read_as, Texts, some_same, IsEntered, Links, shown, shown_below, Layout, IsChained, IsInReach, Frame, Owned, of_own, of_lent, run_level, level_of_part, Lent}
 use Rattle.algol_tree.specs.Scopes.{scopes_of}
 use Rattle.b67_frames.specs.Frames.{Shape, names_at}
 use Rattle.b67_frames.proofs.Linked.{Linked, Begins_with, mark_there, control_there, all_linked, all_each, shown_chained}

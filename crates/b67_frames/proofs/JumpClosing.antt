@@ -1,6 +1,6 @@
 -- The frames that GO TO leaves are closed one after another: the rows that their cells describe, and their events.
 use Rattle.std.proofs.Common.{◌≡◌, refl, sym, ap, ◌∙◌, ℕ, ◌+◌, List, [], ◌∷◌, ◌++◌, length, take, drop, append_assoc, length-append}
-use Rattle.b67_frames.proofs.Prelude.{Scopes, leave, World, Word, Event, closed_from, Rows, Passed, frames_left, Image, with_rows, with_events, frame_left, Change, changed, close_events, take-seam, Layout, ArraysAre}
+use Rattle.b67_frames.proofs.Prelude.{Scopes, leave, World, Word, Rows, Event, closed_from, Passed, frames_left, Image, with_rows, with_events, frame_left, Change, changed, close_events, take-seam, Layout, ArraysAre}
 use Rattle.b67_rows.proofs.StackWords.{drop-seam}
 use Rattle.b67_frames.proofs.Closing.{IsClosed}
 

@@ -1,6 +1,6 @@
 -- GO TO: the entry of its intrinsic, which leaves all frames above that of a level and goes on in that one.
 use Rattle.std.proofs.Common.{◌≡◌, sym, ap, ◌∙◌, ℕ, ◌+◌, ◌-◌, ◌≤◌, List, [], ◌∷◌, ◌++◌, length, take, drop, Option, Some, Bool, true, false, Ok, arith, append_assoc, append-nil}
-use Rattle.b67_frames.proofs.Prelude.{if◌then◌else◌, nat_eq, reverse, pos, nat_tests, BadGoTo, CriticalBlockExit, Place, Word, Registers, GoTo, Code, Rows, words_of, with_stack, wholes_in, place, rebuilt, Effect, gives, faults, Passed, Passing, Target, passing, passed_by, frames_left, passed_frames, gone_to, Image, with_stacks, with_registers, segment_numbers, end_of_code, is_critical, if_not_critical, found, look_seen, display_at, frame, Program, Change, done, changed, effect_of, asked, answer, fault, registers, live_criticals, raw, operator_at, Core, HasCore, with_core, stack_of, see_found, CallsIntrinsic, words_are, take-seam}
+use Rattle.b67_frames.proofs.Prelude.{nat_tests, if◌then◌else◌, nat_eq, reverse, pos, BadGoTo, CriticalBlockExit, Word, Place, Registers, GoTo, Code, Rows, words_of, with_stack, wholes_in, place, rebuilt, Effect, gives, faults, Passed, Passing, Target, passing, passed_by, frames_left, passed_frames, gone_to, Image, with_stacks, with_registers, segment_numbers, end_of_code, is_critical, if_not_critical, found, look_seen, display_at, frame, Program, Change, done, changed, effect_of, asked, answer, fault, registers, live_criticals, raw, see_found, Core, with_core, stack_of, AtOperator, CallsIntrinsic, words_are, take-seam}
 use Rattle.b67_ops.specs.declared.Operator.TheVariants as ops
 use Rattle.b67_ops.specs.declared.PlainKind.TheVariants as kinds
 use Rattle.b67_table.specs.Program.{cut}
@@ -34,10 +34,25 @@ pub record Jumps (img : Image) (core : Core) (front rest : List Word) (at cells 
   pub rows : Rows
   pub closed : (m : ℕ) (next : Change) → changed m (frames_left core.registers.stack (stack_of core) passed next) img ≡ changed m next (image_left img rows core.registers.stack passed)
 
-module _ (code : Code) (img : Image) (p : ℕ) (core : Core) (has : HasCore img p core) (next : ℕ) (there : operator_at code core.registers ≡ Ok (ops.Plain kinds.Entr, next))
-    (arguments : List Word) (reference marked : Word) (below : List Word) (c : CallsIntrinsic img core GoTo arguments reference marked below)
-    (front rest : List Word) (at cells level segment pointer : ℕ) (display : List (Option Place)) (passed : List Passed) (e : Jumps img core front rest at cells level segment pointer display passed)
-    (whole : wholes_in (reverse arguments) ≡ Some (pos level ∷ pos segment ∷ pos pointer ∷ [])) where
+-- What GOTO finds in its own stack.
+pub record JumpsIn (img : Image) (core : Core) (arguments : List Word) : Type 0 where
+  pub front : List Word
+  pub rest : List Word
+  pub height : ℕ
+  pub cells : ℕ
+  pub level : ℕ
+  pub segment : ℕ
+  pub pointer : ℕ
+  pub display : List (Option Place)
+  pub passed : List Passed
+  pub jumps : Jumps img core front rest height cells level segment pointer display passed
+  pub whole : wholes_in (reverse arguments) ≡ Some (pos level ∷ pos segment ∷ pos pointer ∷ [])
+
+module _ (code : Code) (here : AtOperator code (ops.Plain kinds.Entr)) (arguments : List Word) (reference marked : Word) (below : List Word) (c : CallsIntrinsic here.img here.core GoTo arguments reference marked below)
+    (jumps : JumpsIn here.img here.core arguments) where
+  open here use {img, p, core, has}
+  open jumps use {front, rest, height as at, cells, level, segment, pointer, display, passed, jumps as e, whole}
+
   abbrev r : Registers
   r = core.registers
 
@@ -89,7 +104,18 @@ module _ (code : Code) (img : Image) (p : ℕ) (core : Core) (has : HasCore img 
 
   jump_tests : raw code img p ≡ tested (if_not_critical r.stack (passed_frames passed) (gone r target passing_it display))
   jump_tests =
-      target_named code img p core has next there arguments reference marked below c level segment pointer whole (place r.stack at) e.low e.high e.shown e.segment_small e.pointer_small
+      target_named code here arguments reference marked below c (record {
+        level = level;
+        segment = segment;
+        pointer = pointer;
+        whole = whole;
+        to = place r.stack at;
+        low = e.low;
+        high = e.high;
+        shown = e.shown;
+        segment_small = e.segment_small;
+        pointer_small = e.pointer_small;
+      })
       ∙ ap (λ (x : Effect Change). effect_of p img x) (see_found img (passed_by r (place r.stack at)) passing_it (with_passing r target) passed_there)
       ∙ ap (λ (x : Effect Change). effect_of p img x) (see_found img (rebuilt (place r.stack at) level) display (with_display r target passing_it) e.shows)
       ∙ same_stack

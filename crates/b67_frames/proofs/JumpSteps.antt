@@ -1,6 +1,6 @@
 -- GO TO step by step: its three numbers, the frames that it passes, and the display at the target.
-use Rattle.std.proofs.Common.{◌≡◌, ap, ◌∙◌, ℕ, ◌-◌, ◌≤◌, List, [], ◌∷◌, Option, Some, None, Bool, Ok, ℤ}
-use Rattle.b67_frames.proofs.Prelude.{if◌then◌else◌, ◌&&◌, nat_le, reverse, pos, Place, Word, Registers, GoTo, Code, wholes_in, place, rebuilt, Effect, Passing, Target, passed_by, passed_frames, gone_to, Image, segment_numbers, end_of_code, if_not_critical, Look, found, ◌>->◌, valid, display_at, Program, effect_of, asked, see, ◌>>=◌, answer, raw, operator_at, Core, HasCore, CallsIntrinsic, entered, most_is}
+use Rattle.std.proofs.Common.{◌≡◌, ap, ◌∙◌, ℕ, ◌-◌, ◌≤◌, List, [], ◌∷◌, Option, Some, None, Bool, ℤ}
+use Rattle.b67_frames.proofs.Prelude.{if◌then◌else◌, ◌&&◌, nat_le, reverse, pos, Word, Place, Registers, GoTo, Code, wholes_in, place, rebuilt, Effect, Passing, Target, passed_by, passed_frames, gone_to, Image, segment_numbers, end_of_code, if_not_critical, Look, found, ◌>->◌, valid, display_at, Program, effect_of, asked, see, ◌>>=◌, answer, raw, Core, AtOperator, CallsIntrinsic, entered, most_is}
 use Rattle.b67_table.specs.Arguments.{Three, three_in, argument_number_in}
 use Rattle.b67_table.specs.GoingTo.{level_in, target_of, if_same_stack}
 use Rattle.b67_table.specs.Program.{loads}
@@ -23,10 +23,24 @@ module _ (r : Registers) where
   abbrev pub with_three : Three → Program
   with_three z = see (target_of r z) >>= with_target
 
-module _ (code : Code) (img : Image) (p : ℕ) (core : Core) (has : HasCore img p core) (next : ℕ) (there : operator_at code core.registers ≡ Ok (ops.Plain kinds.Entr, next))
-    (arguments : List Word) (reference marked : Word) (below : List Word) (c : CallsIntrinsic img core GoTo arguments reference marked below)
-    (level segment pointer : ℕ) (whole : wholes_in (reverse arguments) ≡ Some (pos level ∷ pos segment ∷ pos pointer ∷ []))
-    (to : Place) (low : 2 ≤ level) (high : level ≤ core.registers.ll) (shown : display_at core.registers level ≡ Some to) (segment_small : segment ≤ segment_numbers - 1) (pointer_small : pointer ≤ end_of_code) where
+-- What GOTO is given.
+pub record JumpsTo (core : Core) (arguments : List Word) : Type 0 where
+  pub level : ℕ
+  pub segment : ℕ
+  pub pointer : ℕ
+  pub whole : wholes_in (reverse arguments) ≡ Some (pos level ∷ pos segment ∷ pos pointer ∷ [])
+  pub to : Place
+  pub low : 2 ≤ level
+  pub high : level ≤ core.registers.ll
+  pub shown : display_at core.registers level ≡ Some to
+  pub segment_small : segment ≤ segment_numbers - 1
+  pub pointer_small : pointer ≤ end_of_code
+
+module _ (code : Code) (here : AtOperator code (ops.Plain kinds.Entr)) (arguments : List Word) (reference marked : Word) (below : List Word) (c : CallsIntrinsic here.img here.core GoTo arguments reference marked below)
+    (jumps : JumpsTo here.core arguments) where
+  open here use {img, p, core}
+  open jumps use {level, segment, pointer, whole, to, low, high, shown, segment_small, pointer_small}
+
   abbrev r : Registers
   r = core.registers
 
@@ -53,7 +67,7 @@ module _ (code : Code) (img : Image) (p : ℕ) (core : Core) (has : HasCore img 
   -- its three numbers are a target
   pub target_named : raw code img p ≡ effect_of p img (asked img (with_target core.registers (record { frame = to; level = level; segment = segment; pointer = pointer })))
   target_named =
-      entered code img p core has next there GoTo arguments reference marked below c
+      entered code here GoTo arguments reference marked below c
       ∙ ap (λ (o : Option (List ℤ)). tested (see (valid o >-> three_in) >>= with_three r)) whole
       ∙ ap (λ (o : Option ℕ). tested (see (valid o >-> to_level) >>= with_target r)) level_there
       ∙ ap (λ (o : Option Place). tested (see (valid o >-> to_frame level) >>= with_target r)) shown

@@ -1,10 +1,10 @@
 -- What is known of descriptors and references on a stack holds of a later world as well, in which each instance that it is of keeps its arrays.
 use Rattle.std.proofs.Common.{◌≡◌, ◌⊎◌, inl, inr, refl, sym, ap, ◌∙◌, subst, ℕ, zero, suc, ◌+◌, List, [], ◌∷◌, Some, Bool, true, false}
-use Rattle.b67_frames.proofs.Prelude.{if◌then◌else◌, slice_get, numbered, Kind, Named, PExpr, block_numbered, Scopes, use_of, same_name, Value, Reference, Bounds, ArrayCell, NameCell, Cell, simple, event, array, named, reference, EventState, NamedCell, Instance, World, instance_at, or_no_instance, ancestor, cell_in, cells_with, by_cell, followed, referred_in, DeclaredArray, Shape, IsInSkeleton, Place, Word, cell_word, Couple, Wanted, simple_cells, found_from, made_base, made_of, made_from, HeldWord, element, variable, cell_named, actual, passed, Known, IsKnown, Allotted, Layout, IsArrayOf, ReferenceLeadsTo, LeadsToEvent, LeadsToVariable, Denotes, named_from, Names, an_array_named, an_event_named, a_variable_named, IsNamed, IsActual, HeldIs, AreKnown}
+use Rattle.b67_frames.proofs.Prelude.{if◌then◌else◌, slice_get, numbered, EventState, block_numbered, PExpr, Scopes, use_of, same_name, Kind, Named, referred_in, Value, Reference, Bounds, ArrayCell, NameCell, Cell, simple, event, array, named, reference, NamedCell, Instance, World, instance_at, or_no_instance, ancestor, cell_in, cells_with, by_cell, followed, DeclaredArray, Shape, IsInSkeleton, Word, Place, Couple, cell_word, Wanted, simple_cells, found_from, made_base, made_of, made_from, HeldWord, element, variable, cell_named, actual, passed, Known, IsKnown, Allotted, Layout, IsArrayOf, ReferenceLeadsTo, LeadsToEvent, LeadsToVariable, Denotes, named_from, Names, an_array_named, an_event_named, a_variable_named, IsNamed, IsActual, HeldIs, AreKnown, ElementIsIn}
 use Rattle.b67_templates.specs.Cells as wants
 use Rattle.b67_templates.specs.Cells.{IsOwnActual}
 use Rattle.b67_standing.specs.Stepping.{row}
-use Rattle.b67_frames.specs.Arrays.{ElementIsIn, IsRow, IsElement}
+use Rattle.b67_frames.specs.Arrays.{IsRow, IsElement}
 
 -- what is known of a word is so
 pub known_is : (sc : Scopes) (w : World) (lay : Layout) (Stand : ℕ → Type 0) (i : ℕ) (known : List Known) → AreKnown sc w lay Stand i known → (held : HeldWord) (word : Word) → IsKnown known held word →

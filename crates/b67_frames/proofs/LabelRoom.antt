@@ -1,6 +1,6 @@
 -- The statements of a block in which a label stands have room above the cells of its frame, with one word more.
 use Rattle.std.proofs.Common.{◌≡◌, ℕ, ◌+◌, ◌*◌, ◌<◌, ◌≤◌, List, length, Some, Bool, true, false, arith}
-use Rattle.b67_frames.proofs.Prelude.{if◌then◌else◌, Named, Block, block_numbered, stmt_tokens, PStmt, PStmts, PProgram, arguments_in_stmts, stmts_depth, actuals_are_few, HasNames, AreNested, decls_small, stmt_small, stmts_small, most_around}
+use Rattle.b67_frames.proofs.Prelude.{if◌then◌else◌, Block, block_numbered, stmt_tokens, PStmt, PStmts, PProgram, Named, actuals_are_few, arguments_in_stmts, stmts_depth, HasNames, AreNested, decls_small, stmt_small, stmts_small, most_around}
 use Rattle.algol_tree.specs.Counts.{stmts_tokens}
 use Rattle.algol_tree.specs.Plain as tree
 use Rattle.algol_tree.specs.Scopes.{scopes_of}

@@ -1,6 +1,6 @@
 -- The frames of instances in the stacks, and the links between them.
 use Rattle.std.proofs.Common.{◌≡◌, refl, sym, ap, ◌∙◌, subst, ℕ, zero, suc, ◌+◌, ◌-◌, ◌<◌, ◌≤◌, List, [], ◌∷◌, ◌++◌, length, Some, arith, append_assoc, length-append}
-use Rattle.b67_frames.proofs.Prelude.{slice_get, reverse, numbered, Block, block_numbered, around, level_of, PProgram, Scopes, Instance, Part, World, instance_at, or_no_instance, ancestor, IsStanding, Place, Word, as_mscw, as_rcw, place_at, Code, Texts, Stacks, words_of, word_at, place, Image, read_as, Core, HasCore, some_same, none_some, IsEntered, Links, shown, shown_below, words_are, length_around, get-seam, get-front, Layout, IsChained, home_of, FrameIsPlaced, outermost, inside, ArePlaced, Frame, Owned}
+use Rattle.b67_frames.proofs.Prelude.{slice_get, reverse, numbered, Block, block_numbered, around, level_of, PProgram, Scopes, Instance, Part, World, instance_at, or_no_instance, ancestor, IsStanding, Word, Place, as_mscw, as_rcw, place_at, Code, Stacks, words_of, word_at, place, Image, read_as, Texts, Core, HasCore, some_same, none_some, IsEntered, Links, shown, shown_below, length_around, words_are, get-seam, get-front, Layout, IsChained, home_of, FrameIsPlaced, outermost, inside, ArePlaced, Frame, Owned}
 use Rattle.algol_tree.specs.Scopes.{scopes_of}
 use Rattle.b67_rows.proofs.Displays.{root, onward, shown_top}
 use Rattle.b67_frames.proofs.Lying.{Lies}

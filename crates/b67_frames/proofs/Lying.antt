@@ -1,6 +1,6 @@
 -- Where the frames of a process's parts lie in its stack.
 use Rattle.std.proofs.Common.{◌≡◌, ◌⊎◌, inl, inr, refl, sym, ap, ◌∙◌, subst, ℕ, suc, ◌+◌, ◌<◌, ◌≤◌, List, [], ◌∷◌, ◌++◌, length, Some, true, false, arith, append_assoc, append-nil, length-append, Bool, Option}
-use Rattle.b67_frames.proofs.Prelude.{if◌then◌else◌, slice_get, reverse, numbered, block_numbered, level_of, PProgram, Scopes, NamedCell, Instance, Part, World, instance_at, or_no_instance, Rest, Answer, Ask, ask, resume, is_evaluation, segment_of, IsStanding, IsOnPath, IsOwn, newest_own, skeleton, Place, Word, Code, place, Yields, Simple, simple_cells, Texts, Core, Known, SlotsAre, tokens_around, none_some, get-front, Allotted, Layout, AreMade, Denotes, AreKnown, Refers, most_around, IsInReach, Framed, Frame, FrameStands, Waits, Around, Owned, of_own, of_lent, run_level, level_of_part, all_to_make, Fits-as_rcw, IsOfExpression, Lent}
+use Rattle.b67_frames.proofs.Prelude.{if◌then◌else◌, slice_get, reverse, numbered, block_numbered, level_of, PProgram, Scopes, Ask, ask, resume, is_evaluation, Rest, Answer, NamedCell, Instance, Part, World, instance_at, or_no_instance, all_to_make, segment_of, IsStanding, IsOnPath, IsOwn, newest_own, skeleton, Word, Place, Fits-as_rcw, Code, place, Simple, simple_cells, Yields, Texts, Core, Known, SlotsAre, none_some, tokens_around, get-front, Allotted, Layout, AreMade, Denotes, AreKnown, Refers, most_around, IsInReach, Framed, Frame, FrameStands, Waits, Around, Owned, of_own, of_lent, run_level, level_of_part, IsOfExpression, Lent}
 use Rattle.std.specs.Prelude.{◌*◌}
 use Rattle.algol_tree.specs.Scopes.{scopes_of}
 use Rattle.algol_paths.specs.Laws.{KeepsToText}

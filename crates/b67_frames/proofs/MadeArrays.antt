@@ -1,6 +1,6 @@
 -- The cells of simple variables, and the arrays and events that are made after them: which of them a name means.
 use Rattle.std.proofs.Common.{◌≡◌, refl, sym, ap, ◌∙◌, subst, ℕ, suc, ◌+◌, ◌<◌, ◌≤◌, List, [], ◌∷◌, ◌++◌, length, Some, None, Bool, true, false, arith}
-use Rattle.b67_frames.proofs.Prelude.{if◌then◌else◌, slice_get, slice_set, map, same_name, Bounds, ArrayCell, Cell, simple, event, array, named, reference, EventState, elements_of, NamedCell, cell_in, cells_with, DeclaredArray, Made, an_array, lows_of, an_event, Word, Simple, found_from, made_from, FoundMade, Wanted, some_same, none_some, Allotted, DescriptorIs, AreSized, IsMadeSo, AreMade, CellIs, CellsAre}
+use Rattle.b67_frames.proofs.Prelude.{if◌then◌else◌, slice_get, slice_set, map, EventState, same_name, elements_of, Bounds, ArrayCell, Cell, simple, event, array, named, reference, NamedCell, cell_in, cells_with, DeclaredArray, Made, an_array, lows_of, an_event, Word, Simple, found_from, made_from, FoundMade, Wanted, some_same, none_some, Allotted, DescriptorIs, AreSized, IsMadeSo, AreMade, CellIs, CellsAre}
 use Rattle.b67_templates.specs.Cells as wants
 use Rattle.b67_templates.specs.Cells.{made_name}
 

@@ -1,7 +1,7 @@
 -- ENTR on ARRAYS: rows for so many arrays, and their descriptors in place of the mark and what lies above it; or a fault, where their size
 -- is wrong, or there is no room for them.
-use Rattle.std.proofs.Common.{◌≡◌, refl, sym, ap, ◌∙◌, ℕ, ◌+◌, ◌-◌, ◌≤◌, List, [], ◌∷◌, ◌++◌, length, Option, Some, None, Bool, true, false, Ok, append-nil, ℤ}
-use Rattle.b67_frames.proofs.Prelude.{if◌then◌else◌, ◌&&◌, nat_le, reverse, pos, reverse-reverse, ArraySize, CoreFull, Named, Bounds, live_elements, has_wrong_size, has_no_room, World, Word, Registers, Code, with_stack, counted_words, wholes_in, if_chained, finished_at, Extents, if_held, arrays_made, Effect, gives, faults, Image, with_stacks, with_registers, with_rows, extents, ◌>->◌, valid, found, pushed, Test, Change, Program, answer, asked, changed, effect_of, see, ◌>>=◌, done, registers, raw, operator_at, Core, HasCore, stack_of, with_core, CallsIntrinsic, entered, chained_is, cut_words, most_is, pushed_do}
+use Rattle.std.proofs.Common.{◌≡◌, refl, sym, ap, ◌∙◌, ℕ, ◌+◌, ◌-◌, ◌≤◌, List, [], ◌∷◌, ◌++◌, length, Option, Some, None, Bool, true, false, append-nil, ℤ}
+use Rattle.b67_frames.proofs.Prelude.{reverse-reverse, if◌then◌else◌, ◌&&◌, nat_le, reverse, pos, ArraySize, CoreFull, Named, live_elements, has_wrong_size, has_no_room, Bounds, World, Word, Registers, Code, with_stack, counted_words, wholes_in, if_chained, finished_at, Extents, if_held, arrays_made, Effect, gives, faults, Image, with_stacks, with_registers, with_rows, extents, ◌>->◌, valid, found, pushed, Test, Change, Program, answer, asked, changed, effect_of, see, ◌>>=◌, done, registers, raw, Core, stack_of, with_core, AtOperator, CallsIntrinsic, entered, chained_is, cut_words, most_is, pushed_do}
 use Rattle.b67_ops.specs.declared.Operator.TheVariants as ops
 use Rattle.b67_ops.specs.declared.PlainKind.TheVariants as kinds
 use Rattle.b67_ops.specs.declared.intrinsic.Intrinsic.TheVariants.{Arrays}
@@ -33,10 +33,22 @@ with_descriptors core descriptors df pc =
       registers = record core.registers { s = core.registers.f + length descriptors; f = core.registers.f - df; place = pc };
     }
 
-module _ (code : Code) (img : Image) (p : ℕ) (core : Core) (has : HasCore img p core) (next : ℕ) (there : operator_at code core.registers ≡ Ok (ops.Plain kinds.Entr, next))
-    (arguments : List Word) (reference marked : Word) (below : List Word) (none : below ≡ []) (c : CallsIntrinsic img core Arrays arguments reference marked below)
-    (w : World) (ns : List Named) (some : 1 ≤ length ns) (few : length ns ≤ most_arrays) (bs : List Bounds) (dimensions : HasDimensions bs)
-    (whole : wholes_in (reverse arguments) ≡ Some (pos (length ns) ∷ bound_numbers bs)) (counted : counted_words img.rows ≡ live_elements w.instances) where
+-- What ARRAYS is given.
+pub record MakesArrays (img : Image) (arguments : List Word) : Type 0 where
+  pub world : World
+  pub names : List Named
+  pub some : 1 ≤ length names
+  pub few : length names ≤ most_arrays
+  pub bounds : List Bounds
+  pub dimensions : HasDimensions bounds
+  pub whole : wholes_in (reverse arguments) ≡ Some (pos (length names) ∷ bound_numbers bounds)
+  pub counted : counted_words img.rows ≡ live_elements world.instances
+
+module _ (code : Code) (here : AtOperator code (ops.Plain kinds.Entr)) (arguments : List Word) (reference marked : Word) (below : List Word) (none : below ≡ [])
+    (c : CallsIntrinsic here.img here.core Arrays arguments reference marked below) (makes : MakesArrays here.img arguments) where
+  open here use {img, p, core, has, next}
+  open makes use {world as w, names as ns, some, few, bounds as bs, dimensions, whole, counted}
+
   abbrev r : Registers
   r = core.registers
 
@@ -57,11 +69,11 @@ module _ (code : Code) (img : Image) (p : ℕ) (core : Core) (has : HasCore img 
 
   called : raw code img p ≡ does (extents (bound_numbers bs) >>= then_made n)
   called =
-      entered code img p core has next there Arrays arguments reference marked below c
+      entered code here Arrays arguments reference marked below c
       ∙ ap (λ (o : Option (List ℤ)). does (see (valid o >-> intrinsic_wanted) >>= on_wanted)) whole
       ∙ ap (λ l. does (see l >>= on_wanted)) (wanted_is n bs dimensions)
       ∙ ap (λ (o : Option ℕ). does (see (valid o >-> (λ (k : ℕ). found (record { count = k; bounds = bound_numbers bs }))) >>= on_wanted)) (counted_in n some few)
-      ∙ chained_is code img p core has next there Arrays arguments reference marked below c (extents (bound_numbers bs) >>= then_made n)
+      ∙ chained_is code here Arrays arguments reference marked below c (extents (bound_numbers bs) >>= then_made n)
 
   -- a size that is wrong
   pub size_faults : has_wrong_size bs ≡ true → raw code img p ≡ faults ArraySize
@@ -97,7 +109,7 @@ module _ (code : Code) (img : Image) (p : ℕ) (core : Core) (has : HasCore img 
         ∙ ap (effect_of p img) (held_fits img w bs dimensions ns counted on_held h)
         ∙ ap (λ (o : Image). gives o) (arrays_made_do p n (extents_of bs) [] finish img)
         ∙ ap (λ (ws : List Word). gives (changed p (pushed r.stack descriptors (registers new.registers done)) (with_stacks after (with_stack img.stacks r.stack ws))))
-        (cut_words code img p core has next there Arrays arguments reference marked below c)
+        (cut_words code here Arrays arguments reference marked below c)
         ∙ ap (λ (o : Image). gives o) (pushed_do p after r.stack (stack_of core) has.stack descriptors (core.below ++ reverse below) (registers new.registers done))
         ∙ ap (λ (ws : List Word). with_words ((core.below ++ reverse ws) ++ descriptors)) none
         ∙ ap with_words (ap (λ (ws : List Word). ws ++ descriptors) (append-nil core.below) ∙ ap (λ (ws : List Word). core.below ++ ws) (sym (reverse-reverse descriptors)))

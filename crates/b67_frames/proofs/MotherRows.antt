@@ -1,6 +1,6 @@
 -- The rows of a mother: each is opened at a free number, and the mother's row holds their descriptors.
 use Rattle.std.proofs.Common.{◌≡◌, ◌≢◌, refl, sym, ap, ◌∙◌, ℕ, zero, suc, ◌+◌, ◌*◌, ◌<◌, List, [], ◌∷◌, ◌++◌, length, set, Some, None, Bool, true, false, arith, append_assoc, length-append}
-use Rattle.b67_frames.proofs.Prelude.{map, pos, slice_get, length-replicate, Word, operand, least_free, Row, Rows, row_at, zero_row, live_words, counted_words, array_word, some_same, none_some, open_rows}
+use Rattle.b67_frames.proofs.Prelude.{length-replicate, map, pos, slice_get, Word, operand, least_free, Row, Rows, row_at, zero_row, live_words, counted_words, array_word, some_same, none_some, open_rows}
 use Rattle.std.proofs.lemmas.List.{set_at}
 use Rattle.b67_frames.proofs.OpenRows.{least_low, row_opened, opened_is, opened_keeps, least_is_free, opened_counts, opened_many, written_is, written_keeps, written_counts, written_many}
 use Rattle.b67_frames.proofs.ArrayRows.{part_rows, parts_rows, parts_of}

@@ -1,6 +1,6 @@
 -- The name of a declared array that is given to a procedure leads to the cell of an array, which its instance has made.
 use Rattle.std.proofs.Common.{◌≡◌, ◌⊎◌, inl, inr, sym, ap, ◌∙◌, ℕ, zero, suc, ◌+◌, ◌≤◌, List, [], ◌∷◌, Some, true, false, arith}
-use Rattle.b67_frames.proofs.Prelude.{Named, block_numbered, PProgram, Scopes, use_of, is_variable, is_formal, Given, valued, refers, names, Instance, Part, World, instance_at, or_no_instance, ancestor, DeclaredArray, an_array, Shape, shape_of, Made, BlockIsSeen, IsSeenAround, IsStanding, Word, Couple, cell_word, ShapeAgrees, simple_cells, made_base, found_from, IsDeclaredArray, made_of, made_from, FoundMade, some_same, InReferred, Layout, named_from, ReferenceLeadsTo, Names, an_array_named, an_event_named, a_variable_named, IsNamed, IsComplete, ArePlaced}
+use Rattle.b67_frames.proofs.Prelude.{block_numbered, PProgram, Scopes, use_of, is_variable, is_formal, Named, Given, valued, refers, names, Instance, Part, World, instance_at, or_no_instance, ancestor, DeclaredArray, an_array, Shape, shape_of, Made, BlockIsSeen, IsSeenAround, IsStanding, Word, Couple, cell_word, ShapeAgrees, simple_cells, made_base, found_from, IsDeclaredArray, made_of, made_from, FoundMade, some_same, InReferred, Layout, named_from, ReferenceLeadsTo, Names, an_array_named, an_event_named, a_variable_named, IsNamed, IsComplete, ArePlaced}
 use Rattle.algol_tree.specs.Scopes.{scopes_of}
 use Rattle.algol_meaning.specs.Rest.{passed}
 use Rattle.b67_templates.specs.Cells.{IsMadeThere}
@@ -58,8 +58,22 @@ module _ (tree : PProgram) (w : World) (lay : Layout) (placed : ArePlaced (scope
   abbrev block : ℕ
   block = (instance_at w part.instance).block
 
-  module _ (level : ℕ) (n : Named) (seen : IsSeenMade tree w lay part n) (shape : Shape) (d : DeclaredArray) (c : Couple) (v : IsDeclaredArray sc level n d c) (agrees : ShapeAgrees shape (shape_of d))
-      (x : Word) (h : IsNamed sc w lay Stand part.instance n x) where
+  -- A name of an array, and the word that it has there.
+  pub record NamesArray : Type 0 where
+    pub level : ℕ
+    pub name : Named
+    pub seen : IsSeenMade tree w lay part name
+    pub shape : Shape
+    pub declared : DeclaredArray
+    pub couple : Couple
+    pub is_declared : IsDeclaredArray sc level name declared couple
+    pub agrees : ShapeAgrees shape (shape_of declared)
+    pub word : Word
+    pub named : IsNamed sc w lay Stand part.instance name word
+
+  module _ (names_it : NamesArray) where
+    open names_it use {level, name as n, seen, shape, declared as d, couple as c, is_declared as v, agrees, word as x, named as h}
+
     abbrev up : ℕ
     up = (use_of sc n).up
 

@@ -1,6 +1,6 @@
 -- The name of a declared event that is given to a procedure leads to the cell of an event, which its instance has made.
 use Rattle.std.proofs.Common.{◌≡◌, ◌⊎◌, inl, inr, sym, ap, ◌∙◌, ℕ, ◌+◌, ◌≤◌, Some, true, false}
-use Rattle.b67_frames.proofs.Prelude.{Named, block_numbered, PProgram, Scopes, use_of, is_variable, is_formal, Instance, Part, World, instance_at, or_no_instance, ancestor, cell_in, an_event, IsSeenAround, IsStanding, Word, Couple, cell_word, simple_cells, made_base, found_from, IsDeclaredEvent, made_of, made_from, Layout, named_from, LeadsToEvent, IsNamed, IsComplete, ArePlaced}
+use Rattle.b67_frames.proofs.Prelude.{block_numbered, PProgram, Scopes, use_of, is_variable, is_formal, Named, Instance, Part, World, instance_at, or_no_instance, ancestor, cell_in, an_event, IsSeenAround, IsStanding, Word, Couple, cell_word, simple_cells, made_base, found_from, IsDeclaredEvent, made_of, made_from, Layout, named_from, LeadsToEvent, IsNamed, IsComplete, ArePlaced}
 use Rattle.algol_tree.specs.Scopes.{scopes_of}
 use Rattle.b67_frames.proofs.NamedArrays.{IsSeenMade, up_complete, made_index}
 use Rattle.b67_frames.proofs.OwnCells.{OwnCells, HasCells, none_later}
@@ -13,9 +13,20 @@ far_event sc level n c v (inl far) = far
 far_event sc level n c v (inr (inl is)) = absurd (let clash : false ≡ true = sym (ap is_variable v.sort_is) ∙ is in cc)
 far_event sc level n c v (inr (inr is)) = absurd (let clash : false ≡ true = sym (ap is_formal v.sort_is) ∙ is in cc)
 
-module _ (tree : PProgram) (w : World) (lay : Layout) (placed : ArePlaced (scopes_of tree) w lay) (each : (j : ℕ) → IsStanding w j → HasCells (scopes_of tree) w lay j)
-    (part : Part) (st : IsStanding w part.instance) (Stand : ℕ → Type 0) (level : ℕ) (n : Named) (seen : IsSeenMade tree w lay part n) (c : Couple) (v : IsDeclaredEvent (scopes_of tree) level n c)
-    (x : Word) (h : IsNamed (scopes_of tree) w lay Stand part.instance n x) where
+-- A name of an event, and the word that it has there.
+pub record NamesEvent (tree : PProgram) (w : World) (lay : Layout) (part : Part) (Stand : ℕ → Type 0) : Type 0 where
+  pub level : ℕ
+  pub name : Named
+  pub seen : IsSeenMade tree w lay part name
+  pub couple : Couple
+  pub is_declared : IsDeclaredEvent (scopes_of tree) level name couple
+  pub word : Word
+  pub named : IsNamed (scopes_of tree) w lay Stand part.instance name word
+
+module _ (tree : PProgram) (w : World) (lay : Layout) (placed : ArePlaced (scopes_of tree) w lay) (each : (j : ℕ) → IsStanding w j → HasCells (scopes_of tree) w lay j) (part : Part) (st : IsStanding w part.instance)
+    (Stand : ℕ → Type 0) (names_it : NamesEvent tree w lay part Stand) where
+  open names_it use {level, name as n, seen, couple as c, is_declared as v, word as x, named as h}
+
   abbrev sc : Scopes
   sc = scopes_of tree
 

@@ -1,6 +1,6 @@
 -- One array is closed: its rows.
 use Rattle.std.proofs.Common.{◌≡◌, refl, sym, ap, ◌∙◌, subst, ℕ, zero, suc, ◌+◌, ◌*◌, ◌<◌, ◌≤◌, List, [], ◌∷◌, length, Option, Some, None, true, false, arith}
-use Rattle.b67_frames.proofs.Prelude.{slice_get, map, Kind, Bounds, ArrayCell, Cell, array, size_of, elements_of, size_of_cell, Word, Descriptor, as_descriptor, closed_at, Row, Rows, row_at, row_limit, array_word, Image, with_rows, closed_by, rows_closed, array_closed, Change, changed, close_row, Allotted, row_numbers_of, row_length, DescriptorIs, AreSized, HoldElements, rows_of_bounds, rows_of_cell}
+use Rattle.b67_frames.proofs.Prelude.{slice_get, map, Kind, size_of, elements_of, size_of_cell, Bounds, ArrayCell, Cell, array, Word, as_descriptor, Descriptor, closed_at, Row, Rows, row_at, row_limit, array_word, Image, with_rows, closed_by, rows_closed, array_closed, Change, changed, close_row, Allotted, row_numbers_of, row_length, DescriptorIs, AreSized, HoldElements, rows_of_bounds, rows_of_cell}
 use Rattle.b67_store.specs.Store.{row_words_or}
 use Rattle.b67_frames.proofs.ClosedRows.{rows_without, without_keeps, Fewer, one_fewer, AreApart, rows_fewer, rows_close}
 use Rattle.b67_frames.proofs.ElementRows.{array_read}

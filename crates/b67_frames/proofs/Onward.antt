@@ -1,6 +1,6 @@
 -- What a change of a world leaves of the instances that stand before and after it.
 use Rattle.std.proofs.Common.{◌≡◌, inl, inr, ◌∙◌, subst, sym, ℕ, zero, suc, List, Some}
-use Rattle.b67_frames.proofs.Prelude.{numbered, Scopes, Cell, Part, World, instance_at, referred_in, IsInSkeleton, IsStanding, IsOnPath, newest_own, Place, Word, Wanted, Layout, Denotes, IsInReach, home_of}
+use Rattle.b67_frames.proofs.Prelude.{numbered, Scopes, referred_in, Cell, Part, World, instance_at, IsInSkeleton, IsStanding, IsOnPath, newest_own, Word, Place, Wanted, Layout, Denotes, IsInReach, home_of}
 use Rattle.b67_frames.proofs.Facts.{HasFacts, IsStandingOrNone}
 use Rattle.b67_frames.proofs.Knowing.{KeepsArrays, Remain, Climbs, IsInOrNone, climbs_in, denotes_lasts, denotes_so}
 

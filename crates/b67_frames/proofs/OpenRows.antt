@@ -1,6 +1,6 @@
 -- A row that is opened, and a word that is written into a row.
 use Rattle.std.proofs.Common.{◌≡◌, ◌≢◌, refl, ap, ◌∙◌, ℕ, zero, suc, ◌+◌, ◌≤◌, [], ◌∷◌, set, Option, Some, None, IsSome, arith}
-use Rattle.b67_frames.proofs.Prelude.{Word, least_free, Row, Rows, row_at, row_with, with_row_word, live_words, counted_words, changed_others, counts, open_rows}
+use Rattle.b67_frames.proofs.Prelude.{Word, changed_others, counts, least_free, Row, Rows, row_at, row_with, with_row_word, live_words, counted_words, open_rows}
 use Rattle.b67_store.specs.Store.{opened_at}
 use Rattle.b67_store.proofs.StoreLaws.{opened_here, opened_others, changed_here, free_here}
 

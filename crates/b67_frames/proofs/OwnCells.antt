@@ -1,6 +1,6 @@
 -- The cells of an instance that stands: its simple cells first, and then the arrays that it has made, with the words of all of them.
 use Rattle.std.proofs.Common.{◌≡◌, sym, ap, ◌∙◌, subst, ℕ, ◌+◌, ◌<◌, List, [], ◌++◌, length, Some, None, false, arith, append-nil, length-append}
-use Rattle.b67_frames.proofs.Prelude.{slice_get, slice_set, map, numbered, block_numbered, Scopes, Bounds, ArrayCell, Cell, array, elements_of, NamedCell, Instance, Part, World, instance_at, or_no_instance, cell_in, cells_with, DeclaredArray, Made, an_array, lows_of, Word, Pcw, simple_cells, found_from, made_of, made_from, control_words, some_same, get-front, get-behind, Allotted, Layout, DescriptorIs, AreSized, AreMade, HasArray, IsArrayOf, CellsAre, IsComplete, Framed}
+use Rattle.b67_frames.proofs.Prelude.{slice_get, slice_set, map, numbered, block_numbered, Scopes, elements_of, Bounds, ArrayCell, Cell, array, NamedCell, Instance, Part, World, instance_at, or_no_instance, cell_in, cells_with, DeclaredArray, Made, an_array, lows_of, Word, Pcw, simple_cells, found_from, made_of, made_from, control_words, some_same, get-front, get-behind, Allotted, Layout, DescriptorIs, AreSized, AreMade, HasArray, IsArrayOf, CellsAre, IsComplete, Framed}
 use Rattle.b67_frames.proofs.Completing.{made_many}
 use Rattle.b67_frames.proofs.ControlWords.{as_many_controls}
 use Rattle.b67_frames.proofs.MadeArrays.{none_left, as_many_values, IsPast, past_unfound, past_values, low_number, MadeThere, made_array, made_low}

@@ -1,6 +1,6 @@
 -- The events that an instance has made: their cells, and their words among those of its frame.
 use Rattle.std.proofs.Common.{◌≡◌, sym, ap, ◌∙◌, ℕ, ◌+◌, ◌<◌, List, [], ◌++◌, length, Some, None, arith, append-nil}
-use Rattle.b67_frames.proofs.Prelude.{slice_get, slice_set, block_numbered, Scopes, Cell, event, EventState, NamedCell, Instance, World, instance_at, or_no_instance, cell_in, cells_with, Made, an_event, Word, Pcw, event_word, simple_cells, found_from, made_of, made_from, control_words, get-front, get-behind, Layout}
+use Rattle.b67_frames.proofs.Prelude.{slice_get, slice_set, EventState, block_numbered, Scopes, Cell, event, NamedCell, Instance, World, instance_at, or_no_instance, cell_in, cells_with, Made, an_event, Word, event_word, Pcw, simple_cells, found_from, made_of, made_from, control_words, get-front, get-behind, Layout}
 use Rattle.b67_frames.specs.Arrays.{IsEventOf}
 use Rattle.b67_frames.proofs.ControlWords.{as_many_controls}
 use Rattle.b67_frames.proofs.MadeArrays.{as_many_values, IsPast, past_unfound, past_events, low_made, same_cell, FoundThere, found_there, made_low}

@@ -1,6 +1,6 @@
 -- Paths stay where each process keeps its stack but for its newest instances, and depends on the instance on which it depended.
 use Rattle.std.proofs.Common.{◌≡◌, ◌≢◌, ◌⊎◌, inl, inr, refl, sym, ap, ◌∙◌, subst, ℕ, zero, suc, List, [], ◌∷◌, ◌++◌, Option, Some, false}
-use Rattle.b67_frames.proofs.Prelude.{numbered, set_numbered, Process, World, own_instances, IsInSkeleton, here, down, IsStanding, IsOnPath, skeleton, below_in, AllPairs, numbered_forth, some_same, none_some, same_or_not, numbered_set, numbered_other, get-front}
+use Rattle.b67_frames.proofs.Prelude.{numbered, set_numbered, own_instances, Process, World, below_in, AllPairs, numbered_forth, IsInSkeleton, here, down, IsStanding, IsOnPath, skeleton, some_same, none_some, same_or_not, numbered_set, numbered_other, get-front}
 use Rattle.algol_standing.specs.Skeleton.{Stack, NextIn, SkeletonNext}
 use Rattle.algol_standing.specs.Worlds.{stack_of}
 use Rattle.algol_standing.proofs.Pairs.{stack_forth, stack_back}

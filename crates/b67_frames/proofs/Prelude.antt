@@ -50,7 +50,7 @@ pub use Rattle.b67_segment.specs.declared.code.Code.{Code}
 pub use Rattle.b67_store.proofs.StoreLaws.{changed_others, counts}
 pub use Rattle.b67_store.specs.Store.{Row, Rows, Stacks, closed_at, counted_words, least_free, live_words, row_at, row_limit, row_with, with_row_word, with_stack, word_at, words_of, zero_row}
 pub use Rattle.b67_events.proofs.EventLaws.{one_event}
-pub use Rattle.b67_events.specs.Events.{Event, closed_from, event_at, is_from, is_open, event_opened}
+pub use Rattle.b67_events.specs.Events.{Event, closed_from, event_at, event_opened, is_from, is_open}
 pub use Rattle.b67_table.proofs.Lists.{get_within}
 pub use Rattle.b67_table.specs.Arguments.{event_of, finished_at, if_chained, wholes_in}
 pub use Rattle.b67_table.specs.Arrays.{Extents, array_word, arrays_made, if_held, one, two}
@@ -62,18 +62,18 @@ pub use Rattle.b67_table.specs.Image.{Image, with_events, with_registers, with_r
 pub use Rattle.b67_table.specs.Intrinsics.{extents}
 pub use Rattle.b67_table.specs.Limits.{end_of_code, segment_numbers}
 pub use Rattle.b67_table.specs.Linkage.{array_closed, arrays_closed, caused_by, closed_by, frame_left, if_not_critical, is_critical, leave_base, leave_other, rows_closed}
-pub use Rattle.b67_table.specs.Look.{Look, found, read_as, look_seen, valid, ◌>->◌}
+pub use Rattle.b67_table.specs.Look.{Look, found, look_seen, read_as, valid, ◌>->◌}
 pub use Rattle.b67_table.specs.Moves.{pushed}
 pub use Rattle.b67_table.specs.Private.{display_at, frame}
 pub use Rattle.b67_table.specs.Program.{Change, Program, Test, answer, asked, changed, close_events, close_row, does, done, effect_of, end_process, event_deed, fault, registers, see, ◌>>=◌}
 pub use Rattle.b67_table.specs.Questions.{live_criticals}
 pub use Rattle.b67_table.specs.References.{cell_place, cell_word, irw_or_sirw}
 pub use Rattle.b67_table.specs.Rows.{enter, exit}
-pub use Rattle.b67_table.specs.Table.{operator_at, raw}
+pub use Rattle.b67_table.specs.Table.{raw}
 pub use Rattle.b67_letters.proofs.Looks.{see_found}
 pub use Rattle.b67_templates.proofs.Few.{actuals_are_few}
 pub use Rattle.b67_templates.specs.Arguments.{arguments_in_stmts}
-pub use Rattle.b67_templates.specs.Cells.{Actual, ShapeAgrees, Found, FoundMade, IsDeclaredArray, IsDeclaredEvent, IsVariable, Simple, Wanted, actuals_of, found_from, made_base, made_from, made_of, procedures, simple_cells, zero_cells}
+pub use Rattle.b67_templates.specs.Cells.{Actual, Found, FoundMade, IsDeclaredArray, IsDeclaredEvent, IsVariable, ShapeAgrees, Simple, Wanted, actuals_of, found_from, made_base, made_from, made_of, procedures, simple_cells, zero_cells}
 pub use Rattle.b67_templates.specs.Code.{AreDimensions}
 pub use Rattle.b67_templates.specs.Contexts.{Context, Yields}
 pub use Rattle.b67_templates.specs.Depths.{stmts_depth}
@@ -89,6 +89,7 @@ pub use Rattle.b67_cores.specs.Stretches.{control_words}
 pub use Rattle.b67_faithful.proofs.Contradictions.{none_some, some_same}
 pub use Rattle.b67_faithful.specs.Weight.{tokens_around}
 pub use Rattle.b67_rows.proofs.AskedEntries.{InReferred}
+pub use Rattle.b67_rows.proofs.AtOperator.{AtOperator}
 pub use Rattle.b67_rows.proofs.Displays.{IsEntered, Links, shown, shown_below}
 pub use Rattle.b67_rows.proofs.Growing.{numbered_last}
 pub use Rattle.b67_rows.proofs.IntrinsicRows.{CallsIntrinsic, chained_asked, chained_is, cut_words, entered, entered_asked}
@@ -100,7 +101,7 @@ pub use Rattle.b67_rows.proofs.StoreRow.{most_is}
 pub use Rattle.b67_rows.proofs.TopRow.{pushed_do}
 pub use Rattle.b67_rows.proofs.Weighing.{decls_small, stmt_small, stmts_small}
 pub use Rattle.b67_rows.proofs.Words.{pcw_kind, tag_zero, value_tag}
-pub use Rattle.b67_frames.specs.Arrays.{Allotted, AreKnown, AreMade, AreSized, ArraysAre, Denotes, DescriptorIs, HasArray, ArrayHasRow, HeldIs, HoldElements, IsActual, IsArrayOf, CellIsMade, IsMadeSo, IsNamed, Layout, ReferenceLeadsTo, LeadsToEvent, LeadsToVariable, Names, a_variable_named, an_array_named, an_event_named, live_rows, named_from, row_numbers_of, open_rows, row_length, rows_of_bounds, rows_of_cell, rows_of_cells}
+pub use Rattle.b67_frames.specs.Arrays.{Allotted, AreKnown, AreMade, AreSized, ArrayHasRow, ArraysAre, CellIsMade, Denotes, DescriptorIs, ElementIsIn, HasArray, HeldIs, HoldElements, IsActual, IsArrayOf, IsMadeSo, IsNamed, Layout, LeadsToEvent, LeadsToVariable, Names, ReferenceLeadsTo, a_variable_named, an_array_named, an_event_named, live_rows, named_from, open_rows, row_length, row_numbers_of, rows_of_bounds, rows_of_cell, rows_of_cells}
 pub use Rattle.b67_frames.specs.Events.{EventsAre, HasEvent}
-pub use Rattle.b67_frames.specs.Frames.{ArePlaced, Around, CellIs, CellsAre, Frame, Framed, IsChained, IsComplete, IsInReach, FrameIsPlaced, Owned, Refers, FrameStands, Waits, block_controls, home_of, inside, level_of_part, most_around, of_lent, of_own, outermost, run_level}
+pub use Rattle.b67_frames.specs.Frames.{ArePlaced, Around, CellIs, CellsAre, Frame, FrameIsPlaced, FrameStands, Framed, IsChained, IsComplete, IsInReach, Owned, Refers, Waits, block_controls, home_of, inside, level_of_part, most_around, of_lent, of_own, outermost, run_level}
 pub use Rattle.b67_frames.specs.Lent.{IsOfExpression, Lent}

@@ -1,6 +1,6 @@
 -- The frame of a part that goes on with an answer.
 use Rattle.std.proofs.Common.{◌≡◌, sym, ◌∙◌, ℕ, List, length}
-use Rattle.b67_frames.proofs.Prelude.{PProgram, Answer, Part, World, instance_at, resume, all_to_make, BlockIsSeen, Word, Code, Texts, Layout, Frame}
+use Rattle.b67_frames.proofs.Prelude.{PProgram, resume, Answer, Part, World, instance_at, all_to_make, BlockIsSeen, Word, Code, Texts, Layout, Frame}
 use Rattle.algol_tree.specs.Scopes.{scopes_of}
 use Rattle.algol_paths.specs.Arrays.{all_left_to_make}
 use Rattle.algol_paths.specs.Laws.{RestsKeepToTheirText, AllIsMadeInOrder}

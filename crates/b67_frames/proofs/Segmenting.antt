@@ -1,7 +1,7 @@
 -- The arrays and the statements of the program's outer block, and those of each procedure, need no more words than four for each token of
 -- their segment. So the code of each actual has room, also where it stands in an inner block.
 use Rattle.std.proofs.Common.{None, ◌≡◌, ◌⊎◌, inl, inr, refl, sym, ap, ◌∙◌, subst, ℕ, zero, suc, ◌+◌, ◌*◌, ◌<◌, ◌≤◌, Bool, true, false, List, [], ◌∷◌, ◌++◌, length, take, filter, Option, Some, arith, add-one, append-nil}
-use Rattle.b67_frames.proofs.Prelude.{if◌then◌else◌, slice_get, Named, Block, block_numbered, around, stmt_tokens, PExpr, PPair, PStmt, PStmts, PDecls, PProgram, arguments_in_stmts, procedures, Actual, actuals_of, stmts_depth, tokens_around, HasNames, AreNested, actuals_are_few, decls_small, stmt_small, stmts_small, most_around}
+use Rattle.b67_frames.proofs.Prelude.{if◌then◌else◌, slice_get, Block, block_numbered, around, stmt_tokens, PExpr, PPair, PStmt, PStmts, PDecls, PProgram, Named, actuals_are_few, arguments_in_stmts, procedures, Actual, actuals_of, stmts_depth, HasNames, AreNested, tokens_around, decls_small, stmt_small, stmts_small, most_around}
 use Rattle.std.specs.Prelude.{not}
 use Rattle.std.specs.List.{flat_map}
 use Rattle.std.proofs.lemmas.Grind.{flat_map-append}

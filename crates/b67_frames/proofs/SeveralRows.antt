@@ -1,6 +1,6 @@
 -- ENTR on the intrinsic that waits for several events: the process goes on with a number, or it waits.
-use Rattle.std.proofs.Common.{◌≡◌, refl, sym, ap, ◌∙◌, ℕ, suc, ◌+◌, ◌-◌, ◌≤◌, pos, List, [], ◌∷◌, ◌++◌, length, map, Option, Some, None, Ok}
-use Rattle.b67_frames.proofs.Prelude.{reverse, nat_le, if◌then◌else◌, reverse-reverse, set_numbered, Place, Word, operand, Registers, is_open, Code, with_stack, event_of, if_chained, gives, Image, with_stacks, with_registers, pushed, Test, Program, answer, fault, asked, changed, effect_of, ◌>>=◌, done, registers, cell_place, enter, raw, operator_at, Core, HasCore, stack_of, with_core, CallsIntrinsic, entered_asked, chained_asked, cut_words, raw_is, stack-over, most_is, pushed_do}
+use Rattle.std.proofs.Common.{◌≡◌, refl, sym, ap, ◌∙◌, ℕ, suc, ◌+◌, ◌-◌, ◌≤◌, pos, List, [], ◌∷◌, ◌++◌, length, map, Option, Some, None}
+use Rattle.b67_frames.proofs.Prelude.{reverse-reverse, reverse, nat_le, if◌then◌else◌, set_numbered, Word, operand, Place, Registers, Code, with_stack, is_open, event_of, if_chained, gives, Image, with_stacks, with_registers, pushed, Test, Program, answer, fault, asked, changed, effect_of, ◌>>=◌, done, registers, cell_place, enter, raw, Core, stack_of, with_core, AtOperator, CallsIntrinsic, entered_asked, chained_asked, cut_words, raw_is, stack-over, most_is, pushed_do}
 use Rattle.std.specs.Prelude.{Bool, true}
 use Rattle.algol_standing.proofs.PathOrder.{and_true}
 use Rattle.b67_events.specs.Events.{first_event_happened, joined_all, with_list}
@@ -45,9 +45,10 @@ module _ (code : Code) (img : Image) (p : ℕ) (r : Registers) where
       ∙ events_found ws cs f.2 (λ (places : List Place). goes (cell_place c ∷ places))
 
 -- the words are those of the references, in the order in which the events are named
-module _ (code : Code) (img : Image) (p : ℕ) (core : Core) (has : HasCore img p core) (next : ℕ) (there : operator_at code core.registers ≡ Ok (ops.Plain kinds.Entr, next))
-    (words : List Word) (reference marked : Word) (below : List Word) (c : CallsIntrinsic img core WaitAny (reverse words) reference marked below)
-    (cells : List Cell) (reach : AreFound img p core.registers words cells) (some : 1 ≤ length words) (few : length words ≤ most_events) where
+module _ (code : Code) (here : AtOperator code (ops.Plain kinds.Entr)) (words : List Word) (reference marked : Word) (below : List Word) (c : CallsIntrinsic here.img here.core WaitAny (reverse words) reference marked below)
+    (cells : List Cell) (reach : AreFound here.img here.p here.core.registers words cells) (some : 1 ≤ length words) (few : length words ≤ most_events) where
+  open here use {img, p, core, has, next}
+
   abbrev r : Registers
   r = core.registers
 
@@ -56,16 +57,16 @@ module _ (code : Code) (img : Image) (p : ℕ) (core : Core) (has : HasCore img 
 
   several_asked : asked img (enter code core.registers next) ≡ asked img (woken_or_not core.registers next c.m places (woken_number img.numbers core.registers.stack))
   several_asked =
-      entered_asked code img p core has next there WaitAny (reverse words) reference marked below c
+      entered_asked code here WaitAny (reverse words) reference marked below c
       ∙ ap (λ (ws : List Word). asked img (wait_for_any code r next c.m ws)) (reverse-reverse words)
       ∙ ap (λ (b : Bool). asked img (if b then events_of r words >>= (λ (ps : List Place). if_chained r c.m (woken r.stack (woken_or_not r next c.m ps))) else no_such))
       (and_true (nat_le 1 (length words)) (nat_le (length words) most_events) (most_is 1 (length words) some) (most_is (length words) most_events few))
       ∙ events_found code img p r words cells reach (λ (ps : List Place). if_chained r c.m (woken r.stack (woken_or_not r next c.m ps)))
-      ∙ chained_asked code img p core has next there WaitAny (reverse words) reference marked below c (woken r.stack (woken_or_not r next c.m places))
+      ∙ chained_asked code here WaitAny (reverse words) reference marked below c (woken r.stack (woken_or_not r next c.m places))
 
   raw_so : raw code img p ≡ effect_of p img (asked img (woken_or_not core.registers next c.m places (woken_number img.numbers core.registers.stack)))
   unfolding row
-  raw_so = raw_is code img p core has (ops.Plain kinds.Entr) next there ∙ ap (effect_of p img) several_asked
+  raw_so = raw_is code (ops.Plain kinds.Entr) here ∙ ap (effect_of p img) several_asked
 
   -- the core with a number in place of the call
   abbrev pub number_core : ℕ → Core
@@ -78,7 +79,7 @@ module _ (code : Code) (img : Image) (p : ℕ) (core : Core) (has : HasCore img 
   numbered_so : (n : ℕ) (ns : List ℕ) → changed p (gone_on core.registers next c.m n) (with_numbers ns) ≡ record (with_core img p (number_core n)) { numbers = ns }
   numbered_so n ns =
       ap (λ (ws : List Word). changed p (pushed r.stack (operand (pos n) ∷ []) (registers ((number_core n).registers) done)) (with_stacks (with_numbers ns) (with_stack img.stacks r.stack ws)))
-      (cut_words code img p core has next there WaitAny (reverse words) reference marked below c)
+      (cut_words code here WaitAny (reverse words) reference marked below c)
       ∙ pushed_do p (with_numbers ns) r.stack (stack_of core) has.stack (operand (pos n) ∷ []) (core.below ++ reverse below) (registers ((number_core n).registers) done)
       ∙ ap (λ (ws : List Word). with_registers (with_stacks (with_numbers ns) (with_stack img.stacks r.stack ws)) p ((number_core n).registers)) (sym (stack-over core.below (operand (pos n) ∷ []) below))
 

@@ -1,6 +1,6 @@
 -- Cells among which an array has another element: it keeps its bounds, and all others are as they were.
 use Rattle.std.proofs.Common.{◌≡◌, refl, sym, ap, ◌∙◌, subst, ℕ, ◌+◌, List, [], ◌∷◌, length, Bool, true, false}
-use Rattle.b67_frames.proofs.Prelude.{if◌then◌else◌, map, same_name, Bounds, ArrayCell, Cell, event, array, elements_of, size_of_cell, size_of_cells, NamedCell, cell_in, cells_with, DeclaredArray, Made, lows_of, an_array, an_event, Word, Allotted, DescriptorIs, AreSized, CellIsMade, AreMade, rows_of_bounds, rows_of_cell, rows_of_cells, IsMadeSo}
+use Rattle.b67_frames.proofs.Prelude.{if◌then◌else◌, map, same_name, elements_of, size_of_cell, size_of_cells, Bounds, ArrayCell, Cell, event, array, NamedCell, cell_in, cells_with, DeclaredArray, Made, lows_of, an_array, an_event, Word, Allotted, DescriptorIs, AreSized, CellIsMade, AreMade, rows_of_bounds, rows_of_cell, rows_of_cells, IsMadeSo}
 
 -- the same array with other elements
 pub record IsAlike (cell later : ArrayCell) : Type 0 where

@@ -1,8 +1,7 @@
 -- An element is stored, in the world and in its row.
 use Rattle.std.proofs.Common.{◌≡◌, ◌≢◌, ◌⊎◌, inl, inr, refl, sym, ap, ◌∙◌, subst, ℕ, ◌+◌, ◌*◌, ◌≤◌, List, ◌++◌, length, Option, Some, false, arith}
-use Rattle.b67_frames.proofs.Prelude.{slice_get, slice_set, numbered, set_numbered, block_numbered, Scopes, Value, ArrayCell, Cell, event, array, size_of_cells, size_unless, live_elements, flat, with_element, NamedCell, Instance, World, instance_at, or_no_instance, cell_in, cells_with, by_cell, DeclaredArray, an_array, Word, Rows, with_row_word, counts, HasKind, simple_cells, made_of, ValueIs, some_same, same_or_not, numbered_set, numbered_other, get_set, length-set, get-behind, Allotted, row_numbers_of, Layout, HoldElements, rows_of_cells, live_rows, AreMade, HasArray, ArrayHasRow, ArraysAre, IsArrayOf}
+use Rattle.b67_frames.proofs.Prelude.{slice_get, slice_set, numbered, set_numbered, block_numbered, Scopes, size_of_cells, size_unless, live_elements, flat, with_element, Value, ArrayCell, Cell, event, array, NamedCell, Instance, World, instance_at, or_no_instance, cell_in, cells_with, by_cell, DeclaredArray, an_array, Word, counts, Rows, with_row_word, simple_cells, made_of, HasKind, ValueIs, some_same, same_or_not, numbered_set, numbered_other, get_set, length-set, get-behind, Allotted, row_numbers_of, Layout, HoldElements, rows_of_cells, live_rows, AreMade, HasArray, ArrayHasRow, ArraysAre, IsArrayOf, ElementIsIn}
 use Rattle.algol_meaning.specs.World.{set_cell}
-use Rattle.b67_frames.specs.Arrays.{ElementIsIn}
 use Rattle.b67_frames.proofs.ArraysKept.{elements_numbered, rows_numbered}
 use Rattle.b67_frames.proofs.ClosedRows.{AreApart}
 use Rattle.b67_frames.proofs.Knowing.{KeepsArrays, IsNoReference, keeps_same, other_stays, names_stay}
@@ -17,10 +16,27 @@ data Before (sc : Scopes) (w : World) (lay : Layout) (i number : ℕ) (declared 
   same : HasArray sc w lay j other d c b → (i ≡ j → number ≡ other → ⊥) → Before sc w lay i number declared later a j other d c b
   stored : i ≡ j → number ≡ other → declared ≡ d → later ≡ c → a ≡ b → Before sc w lay i number declared later a j other d c b
 
-module _ (sc : Scopes) (w : World) (lay : Layout) (rows : Rows) (are : ArraysAre sc w lay rows) (i : ℕ) (x : Instance) (own : OwnCells sc w lay i x)
-    (name : List ℕ) (declared : DeclaredArray) (cell : ArrayCell) (a : Allotted) (of : IsArrayOf sc w lay i name declared cell a)
-    (ks : List ℕ) (index at number : ℕ) (within : ElementIsIn sc w lay cell.bounds ks index at) (part : slice_get a.parts index ≡ Some number)
-    (v : Value) (word : Word) (fits : HasKind declared.kind v) (is : ValueIs v word) where
+-- The array, its element, and the value that is stored into it.
+pub record StoresElement (sc : Scopes) (w : World) (lay : Layout) (i : ℕ) : Type 0 where
+  pub name : List ℕ
+  pub declared : DeclaredArray
+  pub cell : ArrayCell
+  pub allotted : Allotted
+  pub of : IsArrayOf sc w lay i name declared cell allotted
+  pub subscripts : List ℕ
+  pub index : ℕ
+  pub at : ℕ
+  pub number : ℕ
+  pub within : ElementIsIn sc w lay cell.bounds subscripts index at
+  pub part : slice_get allotted.parts index ≡ Some number
+  pub value : Value
+  pub word : Word
+  pub fits : HasKind declared.kind value
+  pub is : ValueIs value word
+
+module _ (sc : Scopes) (w : World) (lay : Layout) (rows : Rows) (are : ArraysAre sc w lay rows) (i : ℕ) (x : Instance) (own : OwnCells sc w lay i x) (stores : StoresElement sc w lay i) where
+  open stores use {name, declared, cell, allotted as a, of, subscripts as ks, index, at, number, within, part, value as v, word, fits, is}
+
   abbrev later : ArrayCell
   later = with_element cell ks v
 
@@ -199,7 +215,18 @@ module _ (sc : Scopes) (w : World) (lay : Layout) (rows : Rows) (are : ArraysAre
           subst (λ (b : Allotted). HoldElements (with_row_word rows number at word) d.kind c b) rows_is
           (subst (λ (c : ArrayCell). HoldElements (with_row_word rows number at word) d.kind c a) cell_is'
           (subst (λ (d : DeclaredArray). HoldElements (with_row_word rows number at word) d.kind later a) declared_is
-          (holds_stored sc w lay rows declared.kind cell a (are.held i of.number declared cell a has) apart ks index at number within part v word fits is)))
+          (holds_stored sc w lay rows declared.kind cell a (are.held i of.number declared cell a has) apart (record {
+            subscripts = ks;
+            index = index;
+            at = at;
+            number = number;
+            within = within;
+            part = part;
+            value = v;
+            word = word;
+            fits = fits;
+            is = is;
+          }))))
 
   few_after : (j : ℕ) (y : Instance) → numbered element_world.instances j ≡ Some y → y.left ≡ false → rows_of_cells y.cells ≤ 2 * size_of_cells y.cells
   few_after j y there_is stands = by_instance (same_or_not i j)

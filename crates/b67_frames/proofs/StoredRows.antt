@@ -1,7 +1,6 @@
 -- A word is written into a row of an array: the rows hold the array with that element.
 use Rattle.std.proofs.Common.{◌≡◌, ◌≢◌, ◌⊎◌, inl, inr, refl, sym, ap, ◌∙◌, ℕ, zero, suc, ◌+◌, ◌*◌, ◌<◌, ◌≤◌, List, [], ◌∷◌, length, Option, Some, None, true, arith}
-use Rattle.b67_frames.proofs.Prelude.{slice_get, slice_set, Kind, Scopes, Value, ArrayCell, flat, with_element, World, Word, Row, Rows, row_at, row_limit, row_with, with_row_word, changed_others, HasKind, ValueIs, some_same, none_some, same_or_not, numbered_other, most_or_more, get_set, length-set, Allotted, row_numbers_of, Layout, row_length, HoldElements, open_rows}
-use Rattle.b67_frames.specs.Arrays.{ElementIsIn}
+use Rattle.b67_frames.proofs.Prelude.{slice_get, slice_set, Scopes, Kind, flat, with_element, Value, ArrayCell, World, Word, changed_others, Row, Rows, row_at, row_limit, row_with, with_row_word, HasKind, ValueIs, some_same, none_some, same_or_not, numbered_other, most_or_more, get_set, length-set, Allotted, row_numbers_of, Layout, row_length, HoldElements, open_rows, ElementIsIn}
 use Rattle.b67_frames.proofs.ClosedRows.{AreApart}
 use Rattle.b67_frames.proofs.ElementRows.{flat_is, at_below}
 
@@ -52,9 +51,23 @@ get_other xs k j y other = numbered_other xs (suc k) (suc j) y (λ same. other (
 
 -- ---- an element
 
+-- The element, and the value that is stored into it.
+pub record StoresInRow (sc : Scopes) (w : World) (lay : Layout) (kind : Kind) (cell : ArrayCell) (a : Allotted) : Type 0 where
+  pub subscripts : List ℕ
+  pub index : ℕ
+  pub at : ℕ
+  pub number : ℕ
+  pub within : ElementIsIn sc w lay cell.bounds subscripts index at
+  pub part : slice_get a.parts index ≡ Some number
+  pub value : Value
+  pub word : Word
+  pub fits : HasKind kind value
+  pub is : ValueIs value word
+
 module _ (sc : Scopes) (w : World) (lay : Layout) (rows : Rows) (kind : Kind) (cell : ArrayCell) (a : Allotted) (holds : HoldElements rows kind cell a) (apart : AreApart (row_numbers_of a))
-    (ks : List ℕ) (index at number : ℕ) (within : ElementIsIn sc w lay cell.bounds ks index at) (part : slice_get a.parts index ≡ Some number)
-    (v : Value) (word : Word) (fits : HasKind kind v) (is : ValueIs v word) where
+    (stores : StoresInRow sc w lay kind cell a) where
+  open stores use {subscripts as ks, index, at, number, within, part, value as v, word, fits, is}
+
   abbrev rows' : Rows
   rows' = with_row_word rows number at word
 

@@ -1,6 +1,6 @@
 -- A subscript that is moved by the lower bound is the index of the place that the meaning gives it.
 use Rattle.std.proofs.Common.{◌≡◌, refl, sym, ap, ◌∙◌, subst, ℕ, ◌+◌, ◌<◌, ◌≤◌, List, [], ◌∷◌, length, Option, Some, None, Bool, true, false, ℤ, arith}
-use Rattle.b67_frames.proofs.Prelude.{map, slice_get, pos, negsuc, ◌-ℤ◌, int_lt, int_le, nat_abs, nat_lt, ◌&&◌, if◌then◌else◌, ints, nat_tests, Bounds, ArrayCell, size_of, some_same, none_some, AreSized}
+use Rattle.b67_frames.proofs.Prelude.{nat_tests, ints, map, slice_get, pos, negsuc, ◌-ℤ◌, int_lt, int_le, nat_abs, nat_lt, ◌&&◌, if◌then◌else◌, size_of, Bounds, ArrayCell, some_same, none_some, AreSized}
 use Rattle.std.specs.Prelude.{neg_ℤ, ◌+ℤ◌, ◌<ℤ◌, ◌≤ℤ◌}
 use Rattle.algol_tree.specs.Sorts.{Sort, array, formal_array}
 use Rattle.algol_meaning.specs.Arrays.{placed, placed_in, moved_to, moved, subscript_place}

@@ -1,6 +1,6 @@
 -- The entry of an intrinsic: it names the cell of its control word in the system's stack, and no other, since its arguments are operands.
 use Rattle.std.proofs.Common.{◌≡◌, refl, sym, ap, ◌∙◌, subst, ℕ, ◌+◌, ◌-◌, ◌≤◌, List, ◌∷◌, ◌++◌, Option, Some, None, true, false, arith, length, lit<, length-append}
-use Rattle.b67_frames.proofs.Prelude.{slice_get, reverse, length-reverse, Scopes, Value, Word, Irw, Pcw, Sirw, as_irw, as_sirw, place_at, Intrinsic, intrinsic_number_of, couple_of_intrinsic, word_at, system_stack, place, Image, irw_or_sirw, Slot, intrinsic, mark, Core, HasCore, Known, SlotsAre, slots_length, none_some, words_are, stack-over, get-behind, pcw_kind, tag_zero}
+use Rattle.b67_frames.proofs.Prelude.{length-reverse, slice_get, reverse, Scopes, Value, Word, as_irw, as_sirw, place_at, Irw, Pcw, Sirw, intrinsic_number_of, couple_of_intrinsic, Intrinsic, word_at, system_stack, place, Image, irw_or_sirw, Slot, intrinsic, mark, slots_length, Core, HasCore, Known, SlotsAre, none_some, words_are, stack-over, get-behind, pcw_kind, tag_zero}
 use Rattle.b67_control.proofs.ControlLaws.{as_sirw-other, irw_laws}
 use Rattle.b67_ops.specs.declared.Operator.TheVariants as ops
 use Rattle.b67_ops.specs.declared.PlainKind.TheVariants as kinds

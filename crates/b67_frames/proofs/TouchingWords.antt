@@ -1,6 +1,6 @@
 -- The marks in a process's stack lead to the frames below them that lie there, and to the system's stack.
 use Rattle.std.proofs.Common.{◌≡◌, ◌≢◌, ◌⊎◌, inl, inr, refl, sym, ap, ◌∙◌, subst, ℕ, zero, suc, ◌+◌, ◌<◌, ◌≤◌, ◌^◌, List, [], ◌∷◌, ◌++◌, length, Option, Some, Bool, true, false, arith, lit<, length-append}
-use Rattle.b67_frames.proofs.Prelude.{if◌then◌else◌, ◌==◌, slice_get, reverse, length-reverse, numbered, MOST_BLOCK_CELLS, Kind, Named, Block, block_numbered, level_of, PProgram, Scopes, use_of, same_name, Value, Bounds, Cell, simple, event, array, named, reference as refers, NamedCell, Instance, Part, World, or_no_instance, Made, an_array, an_event, IsStanding, Place, Word, Descriptor, Irw, Pcw, Sirw, as_mscw, as_rcw, event_word, pcw_word, Fits-as_rcw, Couple, Intrinsic, intrinsic_number_of, couple_of_intrinsic, Code, system_stack, place, cell_word, Yields, Simple, Found, simple_cells, found_from, procedures, IsVariable, Wanted, made_of, Texts, HeldWord, element, variable, cell_named, actual, passed, Slot, intrinsic, mark, Core, stack_of, ValueIs, Known, IsKnown, SlotsAre, control_words, slots_length, some_same, AreNested, value_tag, pcw_kind, tag_zero, Allotted, Layout, DescriptorIs, AreMade, Denotes, HeldIs, AreKnown, CellIs, Refers, CellsAre, block_controls, IsInReach, FrameIsPlaced, outermost, inside, ArePlaced, home_of, IsOnPath, Frame, FrameStands, Waits, Around, level_of_part, Owned, of_own, of_lent, run_level, is_evaluation, get_within}
+use Rattle.b67_frames.proofs.Prelude.{length-reverse, if◌then◌else◌, ◌==◌, slice_get, reverse, numbered, Block, block_numbered, level_of, PProgram, Scopes, use_of, same_name, MOST_BLOCK_CELLS, Kind, Named, is_evaluation, Value, Bounds, Cell, simple, event, array, named, reference as refers, NamedCell, Instance, Part, World, or_no_instance, Made, an_array, an_event, IsStanding, IsOnPath, Word, Place, Fits-as_rcw, as_mscw, as_rcw, event_word, pcw_word, Descriptor, Irw, Pcw, Sirw, intrinsic_number_of, couple_of_intrinsic, Couple, Intrinsic, Code, get_within, system_stack, place, cell_word, Simple, Found, simple_cells, found_from, procedures, IsVariable, Wanted, made_of, Yields, AreNested, Texts, HeldWord, element, variable, cell_named, actual, passed, Slot, intrinsic, mark, slots_length, Core, stack_of, ValueIs, Known, IsKnown, SlotsAre, control_words, some_same, value_tag, pcw_kind, tag_zero, Allotted, Layout, DescriptorIs, AreMade, Denotes, HeldIs, AreKnown, CellIs, Refers, CellsAre, block_controls, IsInReach, FrameIsPlaced, outermost, inside, ArePlaced, home_of, Frame, FrameStands, Waits, Around, level_of_part, Owned, of_own, of_lent, run_level}
 use Rattle.algol_tree.specs.Scopes.{scopes_of}
 use Rattle.b67_word.specs.Word.{field}
 use Rattle.b67_control.specs.Kind as kind

@@ -1,6 +1,6 @@
 -- The cell and the word of a variable.
 use Rattle.std.proofs.Common.{◌≡◌, refl, sym, ap, ◌∙◌, subst, ℕ, zero, suc, ◌+◌, List, [], ◌∷◌, ◌++◌, Some, Bool, true, false, arith}
-use Rattle.b67_frames.proofs.Prelude.{slice_get, slice_set, if◌then◌else◌, Kind, same_name, Value, Cell, simple, event, array, named, reference, NamedCell, cell_in, cells_with, Word, HasKind, Simple, Found, found_from, Wanted, ValueIs, some_same, CellIs, CellsAre}
+use Rattle.b67_frames.proofs.Prelude.{slice_get, slice_set, if◌then◌else◌, same_name, Kind, Value, Cell, simple, event, array, named, reference, NamedCell, cell_in, cells_with, Word, Simple, Found, found_from, Wanted, HasKind, ValueIs, some_same, CellIs, CellsAre}
 use Rattle.b67_templates.specs.Cells as wants
 
 -- the word of the first cell of a name

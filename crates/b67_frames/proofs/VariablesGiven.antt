@@ -1,12 +1,23 @@
 -- The name of a variable that is given to a parameter by name leads to the cell of that variable.
 use Rattle.std.proofs.Common.{◌≡◌, sym, ap, ◌∙◌, ℕ, ◌+◌, true, false, arith}
-use Rattle.b67_frames.proofs.Prelude.{Kind, Named, block_numbered, PProgram, Scopes, use_of, is_variable, Part, World, instance_at, BlockIsSeen, IsStanding, Word, Couple, cell_word, Found, found_from, simple_cells, IsVariable, some_same, Layout, named_from, LeadsToVariable, Names, an_array_named, an_event_named, a_variable_named, IsNamed, ArePlaced}
+use Rattle.b67_frames.proofs.Prelude.{block_numbered, PProgram, Scopes, use_of, is_variable, Kind, Named, Part, World, instance_at, BlockIsSeen, IsStanding, Word, Couple, cell_word, Found, found_from, simple_cells, IsVariable, some_same, Layout, named_from, LeadsToVariable, Names, an_array_named, an_event_named, a_variable_named, IsNamed, ArePlaced}
 use Rattle.algol_tree.specs.Scopes.{scopes_of}
 use Rattle.b67_frames.proofs.StaticParents.{IsParent, parents}
 
-module _ (tree : PProgram) (w : World) (lay : Layout) (placed : ArePlaced (scopes_of tree) w lay) (part : Part) (st : IsStanding w part.instance) (Stand : ℕ → Type 0)
-    (level : ℕ) (n : Named) (seen : BlockIsSeen (scopes_of tree) ((instance_at w part.instance).block) n)
-    (kind : Kind) (c : Couple) (v : IsVariable (scopes_of tree) level n kind c) (x : Word) (h : IsNamed (scopes_of tree) w lay Stand part.instance n x) where
+-- A name of a variable, and the word that it has there.
+pub record NamesVariable (tree : PProgram) (w : World) (lay : Layout) (part : Part) (Stand : ℕ → Type 0) : Type 0 where
+  pub level : ℕ
+  pub name : Named
+  pub seen : BlockIsSeen (scopes_of tree) ((instance_at w part.instance).block) name
+  pub kind : Kind
+  pub couple : Couple
+  pub is_variable : IsVariable (scopes_of tree) level name kind couple
+  pub word : Word
+  pub named : IsNamed (scopes_of tree) w lay Stand part.instance name word
+
+module _ (tree : PProgram) (w : World) (lay : Layout) (placed : ArePlaced (scopes_of tree) w lay) (part : Part) (st : IsStanding w part.instance) (Stand : ℕ → Type 0) (names_it : NamesVariable tree w lay part Stand) where
+  open names_it use {name as n, seen, kind, is_variable as v, word as x, named as h}
+
   abbrev sc : Scopes
   sc = scopes_of tree
 

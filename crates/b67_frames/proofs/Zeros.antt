@@ -1,6 +1,6 @@
 -- The cells of a new instance are zeros.
 use Rattle.std.proofs.Common.{◌≡◌, refl, ap, ℕ, suc, List, [], ◌∷◌, ◌++◌, length, Option, Some, None, arith}
-use Rattle.b67_frames.proofs.Prelude.{pos, replicate, Kind, Named, PDecls, Block, initial_value, NamedCell, Word, HasKind, Simple, zero_cells, ValueIs, CellsAre}
+use Rattle.b67_frames.proofs.Prelude.{pos, replicate, Block, PDecls, Kind, Named, initial_value, NamedCell, Word, Simple, zero_cells, HasKind, ValueIs, CellsAre}
 use Rattle.algol_tree.specs.declared.tree.Kind.TheVariants as types
 use Rattle.algol_tree.specs.Plain as tree
 use Rattle.algol_meaning.specs.Instances.{result_cells, initial_cells, variable_cells}

@@ -1,6 +1,7 @@
 -- What is done with one event: how it changes, who waits then, who is released, and what is told. One lemma for all deeds, by their table.
 use Rattle.std.proofs.Common.{◌≡◌, ◌≢◌, ◌⊎◌, inl, inr, refl, sym, ap, ◌∙◌, subst, ℕ, ◌≤◌, List, [], ◌∷◌, length, Option, Some, None, Bool, true, false, Ok, arith}
-use Rattle.b67_pictures.proofs.Prelude.{option_map, if◌then◌else◌, numbered, set_numbered, EventDeed, Deed, Next, deed, after_change, EventState, IsListed, Letter, PProgram, Scopes, scopes_of, Named, Ask, ask, resume, Choice, choice, choice_of, goes, wakes_or_waits, event_at, set_event, list_in, all_withdrawn, Answer, done, value, Reference, event, truth, Process, Part, State, waits_for, procures, is_able, lives, World, event_in, cell_at, cells_with, followed, process_at, with_process, set_all_able, instance_at, BlockIsSeen, RestsKeepToTheirText, AllIsMadeInOrder, InAnswer, IsStanding, WaitersAreListed, IsOwn, Word, Place, Registers, Intrinsic, Placed, Code, stack_limit, same_place-true, same_place-self, is_open, event_changed, with_state, Event, list_of, Image, woken_number, Outcome, cell_place, plain, operator_at, AwaitsAt, able_again, told_positions, ProcessState, WaitsFor, Procures, letter, registers_releases, released_by, releases, AreNested, Texts, ActsAt, ComesTo, ActsOnAt, Slot, operand, Core, size, with_core, CoreAt, FragmentsArePerformed, length_set_numbered, true_false, some_same, IsAsked, registers_now, without_call, enter_class, numbered_set, numbered_other, same_or_not, action_not_plain, action_is, makes, unmade, facts_of, HasFacts, named_from, event_there, cell_there, LivesIn, lives_waiting, operator_there, idle_list, idle_nowhere, reached_stands, AbleActor, actor_of, state_there, choice_is, gives_within, process_is, text_in, level_in, context_in, most_in, stored_world, event_stays, IsEventAt, Pictures, PicturesBy, StateIs, AreAwaiting, ListIs, MayAct, Does, gave}
+use Rattle.b67_pictures.proofs.Prelude.{option_map, if◌then◌else◌, numbered, set_numbered, EventDeed, Deed, deed, after_change, EventState, IsListed, Letter, PProgram, Scopes, scopes_of, Named, Ask, ask, resume, Choice, choice, choice_of, goes, wakes_or_waits, event_at, set_event, list_in, all_withdrawn, Answer, done, value, Reference, event, truth, Process, Part, State, waits_for, procures, is_able, lives, World, event_in, cell_at, cells_with, followed, process_at, with_process, set_all_able, instance_at, BlockIsSeen, InAnswer, IsStanding, WaitersAreListed, IsOwn, Word, Place, Registers, Intrinsic, Placed, Code, stack_limit, same_place-true, same_place-self, is_open, event_changed, with_state, Event, list_of, Image, woken_number, Outcome, cell_place, plain, operator_at, AwaitsAt, able_again, told_positions, ProcessState, WaitsFor, Procures, letter, registers_releases, released_by, releases, AreNested, Texts, ActsAt, ComesTo, ActsOnAt, Slot, operand, Core, size, with_core, CoreAt, length_set_numbered, true_false, some_same, IsAsked, at_operator, registers_now, without_call, enter_class, numbered_set, numbered_other, same_or_not, action_not_plain, action_is, makes, unmade, facts_of, HasFacts, named_from, event_there, cell_there, LivesIn, lives_waiting, operator_there, idle_list, idle_nowhere, reached_stands, AbleActor, actor_of, state_there, choice_is, gives_within, process_is, text_in, level_in, context_in, most_in, stored_world, event_stays, TheLaws, IsEventAt, Pictures, PicturesBy, StateIs, AreAwaiting, ListIs, MayAct, Does, gave}
+use Rattle.b67_deeds.specs.Deeds.{Next}
 use Rattle.b67_deeds.specs.Deeds as deeds
 use Rattle.b67_deeds.proofs.Lists.{Lists, deed_lists, waiting_frees_nobody}
 use Rattle.algol_meaning.specs.Asks as asked_for
@@ -45,15 +46,23 @@ slots_of None below = below
 slots_of (Some b) below = operand (truth b) ∷ below
 
 -- an event with which a process does something, whatever that is
-module _ (tree : PProgram) (code : Code) (texts : Texts) (nested : AreNested (scopes_of tree)) (fragments : FragmentsArePerformed) (keeps : RestsKeepToTheirText) (order : AllIsMadeInOrder)
-    (actor : AbleActor tree code texts) where
+module _ (tree : PProgram) (code : Code) (texts : Texts) (nested : AreNested (scopes_of tree)) (laws : TheLaws) (actor : AbleActor tree code texts) where
   open actor use {w, lay, img, p, q, part, outer, bound, core, s, able_is, able_p}
 
-  module _ (x : EventDeed) (one : deeds.is_of_several x ≡ false) (n : Named)
-      (asks : ask part.rest ≡ asked_for.event_deed x (n ∷ [])) (next : ℕ) (below : List Slot)
-      (acts_at : ActsOnAt (scopes_of tree) (context_in tree code texts w part s.stands.frame.gives) (text_in tree texts w part) (level_in tree w part) (most_in tree w part) x (n ∷ []) s.stands.pc next s.stands.slots below)
-      (comes_to : (told : Option Bool) → Tells x told →
-      ComesTo (scopes_of tree) (context_in tree code texts w part s.stands.frame.gives) (text_in tree texts w part) (level_in tree w part) (most_in tree w part) (resume (scopes_of tree) part.rest (answer_of told)) next (slots_of told below)) where
+  -- The head asks for a deed on one event, and what it tells leads on.
+  pub record ActsOnEvent : Type 0 where
+    pub deed_done : EventDeed
+    pub one : deeds.is_of_several deed_done ≡ false
+    pub name : Named
+    pub asks : ask part.rest ≡ asked_for.event_deed deed_done (name ∷ [])
+    pub next : ℕ
+    pub below : List Slot
+    pub acts_at : ActsOnAt (scopes_of tree) (context_in tree code texts w part s.stands.frame.gives) (text_in tree texts w part) (level_in tree w part) (most_in tree w part) deed_done (name ∷ []) s.stands.pc next s.stands.slots below
+    pub comes_to : (told : Option Bool) → Tells deed_done told → ComesTo (scopes_of tree) (context_in tree code texts w part s.stands.frame.gives) (text_in tree texts w part) (level_in tree w part) (most_in tree w part) (resume (scopes_of tree) part.rest (answer_of told)) next (slots_of told below)
+
+  module _ (acts : ActsOnEvent) where
+    open acts use {deed_done as x, one, name as n, asks, next, below, acts_at, comes_to}
+
     abbrev sc : Scopes
     sc = scopes_of tree
 
@@ -114,12 +123,12 @@ module _ (tree : PProgram) (code : Code) (texts : Texts) (nested : AreNested (sc
       above = o.call.after_at next
 
       not_plain : plain code img p ≡ false
-      not_plain = action_not_plain code img p core s.has (ops.Plain kinds.Entr) next there (enter_class code img p core s.has next there name (o.word ∷ []) o.call.reference o.call.marked o.call.others o.call.calls)
+      not_plain = action_not_plain code (ops.Plain kinds.Entr) (at_operator s.has there) (enter_class code (at_operator s.has there) name (o.word ∷ []) o.call.reference o.call.marked o.call.others o.call.calls)
 
       -- ---- the core after it, with what is told
 
       abbrev with_told : Bool → Core
-      with_told b = told_core code img p core s.has next there name o.word o.call.reference o.call.marked o.call.others o.call.calls cell (o.home.reaches o.word o.reads) there_open b
+      with_told b = told_core code (at_operator s.has there) name o.word o.call.reference o.call.marked o.call.others o.call.calls cell (o.home.reaches o.word o.reads) there_open b
 
       abbrev pub words_of : Option Bool → List Word
       words_of None = o.call.others
@@ -189,11 +198,11 @@ module _ (tree : PProgram) (code : Code) (texts : Texts) (nested : AreNested (sc
 
       row_by : (y : EventDeed) → deeds.is_of_several y ≡ false → row_of_intrinsic name ≡ row_of_intrinsic (intrinsic_of y) → IsRow y
       row_by (deeds.acts y) one_y same =
-          acted_raw code img p core s.has next there name o.word o.call.reference o.call.marked o.call.others o.call.calls cell (o.home.reaches o.word o.reads) there_open (deeds.acts y) (same ∙ deed_rows (deeds.acts y) one_y)
+          acted_raw code (at_operator s.has there) name o.word o.call.reference o.call.marked o.call.others o.call.calls cell (o.home.reaches o.word o.reads) there_open (deeds.acts y) (same ∙ deed_rows (deeds.acts y) one_y)
           ∙ ap (λ (z : EventState). effects.gives (with_deed (deed (deeds.acts y) p z) at p (with_core img p (core_of None)))) state_there_is
           ∙ ap (λ (told : Option Bool). effects.gives (with_deed (deed (deeds.acts y) p e) at p (with_core img p (core_of told)))) (sym (nothing_told (deeds.acts y) p e tt))
       row_by (deeds.tests y) one_y same =
-          told_raw code img p core s.has next there name o.word o.call.reference o.call.marked o.call.others o.call.calls cell (o.home.reaches o.word o.reads) there_open y (same ∙ deed_rows (deeds.tests y) one_y)
+          told_raw code (at_operator s.has there) name o.word o.call.reference o.call.marked o.call.others o.call.calls cell (o.home.reaches o.word o.reads) there_open y (same ∙ deed_rows (deeds.tests y) one_y)
           ∙ ap (λ (z : EventState). effects.gives (with_deed (deed (deeds.tests y) p z) at p (with_core img p (core_of (Some (deeds.answers y z)))))) state_there_is
           ∙ ap (λ (told : Option Bool). effects.gives (with_deed (deed (deeds.tests y) p e) at p (with_core img p (core_of told)))) (sym (told_by_test y p e one_y))
 
@@ -202,7 +211,7 @@ module _ (tree : PProgram) (code : Code) (texts : Texts) (nested : AreNested (sc
 
       letter_is : (after : Image) → table code img p ≡ outcomes.gives after → letter code img p ≡ Some (deeds.letter_of x)
       letter_is after t =
-          action_is code img p core s.has (ops.Plain kinds.Entr) next there (outcomes.gives after) t ∙ o.call.action
+          action_is code (ops.Plain kinds.Entr) (at_operator s.has there) (outcomes.gives after) t ∙ o.call.action
           ∙ ap (λ (l : Letter). Some l) (deed_letters (woken_number img.numbers core.registers.stack) x one)
 
       abbrev gone_on : Option Bool → State → Process
@@ -211,9 +220,9 @@ module _ (tree : PProgram) (code : Code) (texts : Texts) (nested : AreNested (sc
       -- whom it releases
       row_frees : (y : EventDeed) → deeds.is_of_several y ≡ false → row_of_intrinsic name ≡ row_of_intrinsic (intrinsic_of y) → registers_releases code img p (numbered img.regs p) ≡ (deed y p (kernel.state_at at img.events)).frees
       row_frees (deeds.acts y) one_y same =
-          acted_releases code img p core s.has next there name o.word o.call.reference o.call.marked o.call.others o.call.calls cell (o.home.reaches o.word o.reads) there_open (deeds.acts y) (same ∙ deed_rows (deeds.acts y) one_y)
+          acted_releases code (at_operator s.has there) name o.word o.call.reference o.call.marked o.call.others o.call.calls cell (o.home.reaches o.word o.reads) there_open (deeds.acts y) (same ∙ deed_rows (deeds.acts y) one_y)
       row_frees (deeds.tests y) one_y same =
-          told_releases code img p core s.has next there name o.word o.call.reference o.call.marked o.call.others o.call.calls cell (o.home.reaches o.word o.reads) there_open y (same ∙ deed_rows (deeds.tests y) one_y)
+          told_releases code (at_operator s.has there) name o.word o.call.reference o.call.marked o.call.others o.call.calls cell (o.home.reaches o.word o.reads) there_open y (same ∙ deed_rows (deeds.tests y) one_y)
 
       frees_so : (after : Image) → table code img p ≡ outcomes.gives after → releases code img p ≡ d.frees
       frees_so after table_is =
@@ -245,10 +254,23 @@ module _ (tree : PProgram) (code : Code) (texts : Texts) (nested : AreNested (sc
 
       -- ---- an event that changes
 
-      module _ (told : Option Bool) (tells : Tells x told) (change : EventState → EventState) (state : State) (lives_now : lives state ≡ true) (list_now : is_able ((process_at w p).state) ≡ true → list_in state ≡ list_in q.state)
-          (states : List ProcessState) (many_states : length states ≡ length img.states)
-          (state_is : StateIs (scopes_of tree) w lay state (numbered states p)) (states_are : (m : ℕ) → m ≢ p → numbered states m ≡ numbered img.states m)
-          (joins : is_able ((process_at w p).state) ≡ true → (k : ℕ) → IsListed (change e).waiters k → IsListed e.waiters k ⊎ ((p ≡ k) × AwaitsAt (numbered states p) (list_of p img.lists) at)) where
+      -- The event changes, and so does the state of the process.
+      pub record EventChanges : Type 0 where
+        pub told : Option Bool
+        pub tells : Tells x told
+        pub change : EventState → EventState
+        pub state : State
+        pub lives_now : lives state ≡ true
+        pub list_now : is_able ((process_at w p).state) ≡ true → list_in state ≡ list_in q.state
+        pub states : List ProcessState
+        pub many_states : length states ≡ length img.states
+        pub state_is : StateIs (scopes_of tree) w lay state (numbered states p)
+        pub states_are : (m : ℕ) → m ≢ p → numbered states m ≡ numbered img.states m
+        pub joins : is_able ((process_at w p).state) ≡ true → (k : ℕ) → IsListed (change e).waiters k → IsListed e.waiters k ⊎ ((p ≡ k) × AwaitsAt (numbered states p) (list_of p img.lists) at)
+
+      module _ (changes : EventChanges) where
+        open changes use {told, tells, change, state, lives_now, list_now, states, many_states, state_is, states_are, joins}
+
         abbrev later : EventState
         later = change e
 
@@ -286,8 +308,28 @@ module _ (tree : PProgram) (code : Code) (texts : Texts) (nested : AreNested (sc
         before_is : is_able ((process_at w p).state) ≡ true → IsAfter sc w before p → PicturesBy tree code texts before lay changed_first
         before_is able_now after_before =
             subst (λ (u : World). PicturesBy tree code texts (with_process u p (gone_on told state)) lay changed_first) (sym world_is)
-            (event_pictured tree code texts nested fragments keeps order (actor_of s) able_is (unmade part.rest (ap makes asks)) (answer_of told) (nameless told) r o.home.lies o.home.number o.home.found later (with_state change)
-            (λ z. refl) refl state lives_now states many_states state_is states_are (list_now able_now) (words_of told) (registers_of told) (core_frame told) next (slots_of told below) (few told) (core_at told) (comes_to told tells)
+            (event_pictured tree code texts nested laws (actor_of s) able_is (record {
+              unmade = unmade part.rest (ap makes asks);
+              answer = answer_of told;
+              nameless = nameless told;
+              words = words_of told;
+              registers = registers_of told;
+              frame_is = core_frame told;
+              pc = next;
+              slots = slots_of told below;
+              few = few told;
+              there = core_at told;
+              comes = comes_to told tells;
+            }) (record {
+              r = r;
+              seen = o.home.lies;
+              number = o.home.number;
+              found = o.home.found;
+              later = later;
+              change = with_state change;
+              stays = λ z. refl;
+              becomes = refl;
+            }) (record { state = state; lives_now = lives_now; states = states; many_states = many_states; state_is = state_is; states_are = states_are; list_same = list_now able_now })
             (smaller told) (awaiting able_now) (subst (λ (u : World). IsAfter sc w (with_process u p (gone_on told state)) p) world_is after_before))
           where
             world_is : set_event w r later ≡ stored_world w r.instance o.home.lies.found.lies.owned.framed.instance (instance_there tree code texts (actor_of s) r o.home.lies)
@@ -468,8 +510,21 @@ module _ (tree : PProgram) (code : Code) (texts : Texts) (nested : AreNested (sc
       same_acts told tells row_is chosen none =
           let same_row : raw code img p ≡ effects.gives (record (with_core img p (core_of told)) { output = w.output }) = row_is ∙ ap (λ (y : List (List ℕ)). effects.gives (record (with_core img p (core_of told)) { output = y })) s.by.output in
           record {
-            does = does_in_frame tree code texts fragments keeps order actor (unmade part.rest (ap makes asks)) (answer_of told) (nameless told) w.output (core_of told) refl (core_frame told) s.stands.held
-                s.stands.held_are next (slots_of told below) (core_at told) (few told) (comes_to told tells) (deeds.letter_of x) not_plain same_row chosen (λ t. letter_is (record (with_core img p (core_of told)) { output = w.output }) t);
+            does = does_in_frame tree code texts laws actor (record {
+              unmade = unmade part.rest (ap makes asks);
+              answer = answer_of told;
+              nameless = nameless told;
+              new = core_of told;
+              below = refl;
+              frame_is = core_frame told;
+              known = s.stands.held;
+              known_are = s.stands.held_are;
+              pc = next;
+              slots = slots_of told below;
+              there = core_at told;
+              few = few told;
+              comes = comes_to told tells;
+            }) w.output (deeds.letter_of x) not_plain same_row chosen (λ t. letter_is (record (with_core img p (core_of told)) { output = w.output }) t);
             frees = frees_so (record (with_core img p (core_of told)) { output = w.output })
                 (gives_within code img (record (with_core img p (core_of told)) { output = w.output }) p (core_of told).registers same_row (core_registers told) (core_short told))
                 ∙ none ∙ sym (ap (λ (c : Choice). c.released) chosen);
@@ -543,8 +598,19 @@ module _ (tree : PProgram) (code : Code) (texts : Texts) (nested : AreNested (sc
           (chosen_parts None deeds.goes told [] [] plain_parts ∙ ap (λ (z : Answer). goes sc w p q part outer (deeds.letter_of x) w z) (told_same told)) same.1
       by_parts (Some change) deeds.goes told fs ws parts =
           let chosen = chosen_parts (Some change) deeds.goes told fs ws parts in
-          by_frees told (tells_parts (Some change) deeds.goes told fs ws parts) change q.state able_is (λ able_now. refl) img.states refl able_p (λ k other. refl)
-          (λ able_now k l. goes_joins k (joins_parts (Some change) deeds.goes told fs ws parts change refl able_now k l)) deeds.goes fs ws (frees_parts (Some change) deeds.goes told fs ws parts)
+          by_frees (record {
+            told = told;
+            tells = tells_parts (Some change) deeds.goes told fs ws parts;
+            change = change;
+            state = q.state;
+            lives_now = able_is;
+            list_now = λ able_now. refl;
+            states = img.states;
+            many_states = refl;
+            state_is = able_p;
+            states_are = λ k other. refl;
+            joins = λ able_now k l. goes_joins k (joins_parts (Some change) deeds.goes told fs ws parts change refl able_now k l);
+          }) deeds.goes fs ws (frees_parts (Some change) deeds.goes told fs ws parts)
           (row_parts (Some change) deeds.goes told fs ws parts)
           (ap (λ (k : Choice). k.world) chosen
           ∙ ap (λ (z : Answer). with_process (set_all_able (all_withdrawn (set_event w r (change (event_at w r))) r ws) fs) p (record q { todo = record part { rest = resume sc part.rest z } ∷ outer })) (told_same told)
@@ -558,9 +624,19 @@ module _ (tree : PProgram) (code : Code) (texts : Texts) (nested : AreNested (sc
           let quiet : told ≡ None = sym (ap (λ (z : Deed). z.answer) parts) ∙ waiting_tells x p e (λ f. let no : deeds.waits ≡ deeds.goes = sym (ap (λ (z : Deed). z.next) parts) ∙ f in cc) in
           let so : d ≡ of_parts (Some change) deeds.waits None fs ws = parts ∙ ap (λ (b : Option Bool). of_parts (Some change) deeds.waits b fs ws) quiet in
           let chosen = chosen_parts (Some change) deeds.waits None fs ws so in
-          by_frees None (tells_parts (Some change) deeds.waits None fs ws so) change (waits_for r) refl (λ able_now. sym (idle_state able_now)) (own_state (WaitsFor at)) (length_set_numbered img.states p (WaitsFor at))
-          (subst (λ (y : Option ProcessState). StateIs sc w lay (waits_for r) y) (sym (own_there (WaitsFor at))) o.home.lies_at) (own_only (WaitsFor at))
-          (λ able_now k l. waits_joins k (joins_parts (Some change) deeds.waits None fs ws so change refl able_now k l)) deeds.waits fs ws (frees_parts (Some change) deeds.waits None fs ws so)
+          by_frees (record {
+            told = None;
+            tells = tells_parts (Some change) deeds.waits None fs ws so;
+            change = change;
+            state = waits_for r;
+            lives_now = refl;
+            list_now = λ able_now. sym (idle_state able_now);
+            states = own_state (WaitsFor at);
+            many_states = length_set_numbered img.states p (WaitsFor at);
+            state_is = subst (λ (y : Option ProcessState). StateIs sc w lay (waits_for r) y) (sym (own_there (WaitsFor at))) o.home.lies_at;
+            states_are = own_only (WaitsFor at);
+            joins = λ able_now k l. waits_joins k (joins_parts (Some change) deeds.waits None fs ws so change refl able_now k l);
+          }) deeds.waits fs ws (frees_parts (Some change) deeds.waits None fs ws so)
           (row_parts (Some change) deeds.waits None fs ws so)
           (ap (λ (k : Choice). k.world) chosen ∙ ap (λ (z : EventState). with_process (set_all_able (all_withdrawn (set_event w r (change z)) r ws) fs) p (gone_on None (waits_for r))) event_is)
           (ap (λ (k : Choice). k.action) chosen) (ap (λ (k : Choice). k.released) chosen ∙ nobody (Some change) deeds.waits None fs ws so (λ f. cc))
@@ -572,9 +648,19 @@ module _ (tree : PProgram) (code : Code) (texts : Texts) (nested : AreNested (sc
           let quiet : told ≡ None = sym (ap (λ (z : Deed). z.answer) parts) ∙ waiting_tells x p e (λ f. let no : deeds.procures ≡ deeds.goes = sym (ap (λ (z : Deed). z.next) parts) ∙ f in cc) in
           let so : d ≡ of_parts (Some change) deeds.procures None fs ws = parts ∙ ap (λ (b : Option Bool). of_parts (Some change) deeds.procures b fs ws) quiet in
           let chosen = chosen_parts (Some change) deeds.procures None fs ws so in
-          by_frees None (tells_parts (Some change) deeds.procures None fs ws so) change (procures r) refl (λ able_now. sym (idle_state able_now)) (own_state (Procures at)) (length_set_numbered img.states p (Procures at))
-          (subst (λ (y : Option ProcessState). StateIs sc w lay (procures r) y) (sym (own_there (Procures at))) o.home.lies_at) (own_only (Procures at))
-          (λ able_now k l. procures_joins k (joins_parts (Some change) deeds.procures None fs ws so change refl able_now k l)) deeds.procures fs ws (frees_parts (Some change) deeds.procures None fs ws so)
+          by_frees (record {
+            told = None;
+            tells = tells_parts (Some change) deeds.procures None fs ws so;
+            change = change;
+            state = procures r;
+            lives_now = refl;
+            list_now = λ able_now. sym (idle_state able_now);
+            states = own_state (Procures at);
+            many_states = length_set_numbered img.states p (Procures at);
+            state_is = subst (λ (y : Option ProcessState). StateIs sc w lay (procures r) y) (sym (own_there (Procures at))) o.home.lies_at;
+            states_are = own_only (Procures at);
+            joins = λ able_now k l. procures_joins k (joins_parts (Some change) deeds.procures None fs ws so change refl able_now k l);
+          }) deeds.procures fs ws (frees_parts (Some change) deeds.procures None fs ws so)
           (row_parts (Some change) deeds.procures None fs ws so)
           (ap (λ (k : Choice). k.world) chosen ∙ ap (λ (z : EventState). with_process (set_all_able (all_withdrawn (set_event w r (change z)) r ws) fs) p (gone_on None (procures r))) event_is)
           (ap (λ (k : Choice). k.action) chosen) (ap (λ (k : Choice). k.released) chosen ∙ nobody (Some change) deeds.procures None fs ws so (λ f. cc))

@@ -1,6 +1,6 @@
 -- The making of arrays: ENTR on ARRAYS, after which PUSH makes cells of the descriptors; or a fault.
 use Rattle.std.proofs.Common.{◌≡◌, refl, sym, ap, ◌∙◌, subst, ℕ, ◌≤◌, List, [], ◌∷◌, ◌++◌, length, Option, Some, None, Ok, Bool, true, false, arith}
-use Rattle.b67_pictures.proofs.Prelude.{if◌then◌else◌, FaultKind, block_numbered, PProgram, PPair, Scopes, scopes_of, Kind, Named, Ask, makes_arrays, ask, resume, Choice, choice, choice_of, goes, fails, is_evaluation, Answer, done, Value, Bounds, Instance, World, or_no_instance, with_instance, with_process, NamedCell, Made, an_array, all_to_make, all_left_to_make, RestsKeepToTheirText, AllIsMadeInOrder, Word, Arrays, Placed, Code, failed, frame, plain, operator_at, simple_cells, AreNested, Texts, ActionAt, Acted, ComesTo, operands, Slot, intrinsic, mark, FragmentsArePerformed, CellsAreMade, enter_class, action_not_plain, action_is, fault_not_plain, length_mapped, events_replaced, asks_as_own, cells_length, Layout, Allotted, AreMade, ArraysAre, EventsAre, Framed, arrays_given, given_lie, IsCall, call, IsEntered, operator_there, AbleActor, actor_of, faults_so, choice_is, faulted, text_in, level_in, context_in, most_in, Pictures, Does, failed_by}
+use Rattle.b67_pictures.proofs.Prelude.{if◌then◌else◌, FaultKind, block_numbered, PProgram, PPair, Scopes, scopes_of, Kind, Named, Ask, makes_arrays, resume, Choice, choice, choice_of, goes, fails, is_evaluation, done, Value, Bounds, Instance, World, or_no_instance, with_instance, with_process, NamedCell, Made, an_array, all_to_make, all_left_to_make, Word, Arrays, Placed, Code, failed, frame, plain, operator_at, simple_cells, AreNested, Texts, operands, intrinsic, mark, CellsAreMade, at_operator, enter_class, action_not_plain, action_is, fault_not_plain, length_mapped, events_replaced, asks_as_own, cells_length, Layout, Allotted, AreMade, ArraysAre, EventsAre, Framed, arrays_given, given_lie, IsCall, call, IsEntered, operator_there, AbleActor, actor_of, faults_so, choice_is, faulted, text_in, level_in, TheLaws, Pictures, Does, failed_by}
 use Rattle.b67_num.specs.declared.FaultKind.TheVariants.{ArraySize, CoreFull}
 use Rattle.algol_meaning.specs.Arrays.{new_arrays, has_wrong_size, has_no_room, bounds_of}
 use Rattle.algol_meaning.specs.World.{add_cells}
@@ -13,7 +13,7 @@ use Rattle.b67_table.specs.Outcome as outcomes
 use Rattle.b67_table.specs.Table.{table, raw}
 use Rattle.b67_frames.proofs.ArraySizes.{HasDimensions, has_dimensions, bounds_lows}
 use Rattle.b67_frames.proofs.ArraysMade.{rows_after, Makes, allotted_new, descriptors_new, new_made, arrays_after}
-use Rattle.b67_frames.proofs.MakingRow.{size_faults, room_faults, arrays_raw}
+use Rattle.b67_frames.proofs.MakingRow.{size_faults, room_faults, arrays_raw, MakesArrays}
 use Rattle.b67_scenes.proofs.ArraysGiven.{given_fit, given_whole}
 use Rattle.b67_scenes.proofs.MakingFrame as frames
 use Rattle.b67_pictures.proofs.Dispatching.{IsDone}
@@ -21,6 +21,7 @@ use Rattle.algol_paths.specs.Arrays.{made_in, arrays_in}
 use Rattle.b67_rows.proofs.MakingAsked.{makes_first}
 use Rattle.b67_frames.proofs.EventsKept.{HaveNoEvent, event_in_front}
 use Rattle.b67_pictures.proofs.MakingCells.{none_left, cells_are_made}
+use Rattle.b67_pictures.proofs.Head.{Head}
 
 -- there are as many arrays as names
 made_arrays_many : (kind : Kind) (ns : List Named) (pairs : List PPair) → length (made_in kind ns pairs) ≡ length ns
@@ -31,14 +32,13 @@ arrays_are_no_events : (kind : Kind) (bs : List Bounds) (ns : List Named) → Ha
 arrays_are_no_events kind bs [] = tt
 arrays_are_no_events kind bs (n ∷ ns) = (tt, arrays_are_no_events kind bs ns)
 
-module _ (tree : PProgram) (code : Code) (texts : Texts) (nested : AreNested (scopes_of tree)) (fragments : FragmentsArePerformed) (cells_made : CellsAreMade) (keeps : RestsKeepToTheirText) (order : AllIsMadeInOrder)
-    (actor : AbleActor tree code texts) where
+module _ (tree : PProgram) (code : Code) (texts : Texts) (nested : AreNested (scopes_of tree)) (laws : TheLaws) (cells_made : CellsAreMade) (actor : AbleActor tree code texts) where
+  open laws use {keeps, order}
   open actor use {w, lay, img, p, q, part, outer, core, s}
 
-  module _ (kind : Kind) (ns : List Named) (pairs : List PPair) (vs : List Value) (asks : ask part.rest ≡ makes_arrays kind ns pairs vs)
-      (a : ActionAt (scopes_of tree) (context_in tree code texts w part s.stands.frame.gives) (text_in tree texts w part) (level_in tree w part) (most_in tree w part) (makes_arrays kind ns pairs vs) s.stands.pc s.stands.slots)
-      (answered : (r : Answer) (at : ℕ) (left : List Slot) → Acted (scopes_of tree) (context_in tree code texts w part s.stands.frame.gives) (text_in tree texts w part) (level_in tree w part) (most_in tree w part) (makes_arrays kind ns pairs vs) s.stands.pc s.stands.slots a r at left →
-      ComesTo (scopes_of tree) (context_in tree code texts w part s.stands.frame.gives) (text_in tree texts w part) (level_in tree w part) (most_in tree w part) (resume (scopes_of tree) part.rest r) at left) where
+  module _ (kind : Kind) (ns : List Named) (pairs : List PPair) (vs : List Value) (head : Head tree code texts actor (makes_arrays kind ns pairs vs)) where
+    open head use {asks, action as a, answered}
+
     abbrev sc : Scopes
     sc = scopes_of tree
 
@@ -90,7 +90,7 @@ module _ (tree : PProgram) (code : Code) (texts : Texts) (nested : AreNested (sc
 
     module _ (c : Called) where
       not_plain : plain code img p ≡ false
-      not_plain = action_not_plain code img p core s.has (ops.Plain kinds.Entr) made there (enter_class code img p core s.has made there Arrays c.arguments c.reference c.marked c.others c.calls)
+      not_plain = action_not_plain code (ops.Plain kinds.Entr) (at_operator s.has there) (enter_class code (at_operator s.has there) Arrays c.arguments c.reference c.marked c.others c.calls)
 
       none : c.others ≡ []
       none = none_left sc s.stands.held level (frame core.registers) (length core.below) c.others (c.after_at made).words_are
@@ -100,20 +100,32 @@ module _ (tree : PProgram) (code : Code) (texts : Texts) (nested : AreNested (sc
       fails_so : (fault : FaultKind) → raw code img p ≡ effects.faults fault → choice sc w p ≡ fails sc w p q part outer fault → Does tree code texts w img p
       fails_so fault row_is chosen =
           let table_is : table code img p ≡ outcomes.faults fault = faults_so code img p fault row_is in
-          failed_by fault (fault_not_plain code img p core s.has (ops.Plain kinds.Entr) made there fault table_is) table_is
-          (action_is code img p core s.has (ops.Plain kinds.Entr) made there (outcomes.faults fault) table_is ∙ ap (λ (o : Choice). Some o.action) (sym chosen))
+          failed_by fault (fault_not_plain code (ops.Plain kinds.Entr) (at_operator s.has there) fault table_is) table_is
+          (action_is code (ops.Plain kinds.Entr) (at_operator s.has there) (outcomes.faults fault) table_is ∙ ap (λ (o : Choice). Some o.action) (sym chosen))
           (subst (λ (o : Choice). Pictures tree code texts o.world (failed img p fault)) (sym chosen) (lay, faulted tree code texts w lay img s.by p q s.at s.ok fault))
+
+      abbrev given_so : MakesArrays img c.arguments
+      given_so = record {
+        world = w;
+        names = ns;
+        some = a.1.some;
+        few = few_arrays;
+        bounds = bs;
+        dimensions = dimensional;
+        whole = c.wholes ∙ ap (λ zs. Some zs) (given_whole n pairs vs);
+        counted = s.by.arrays.counted;
+      }
 
       wrong_size : has_wrong_size bs ≡ true → Does tree code texts w img p
       wrong_size wrong =
           fails_so ArraySize
-          (size_faults code img p core s.has made there c.arguments c.reference c.marked c.others none c.calls w ns a.1.some few_arrays bs dimensional (c.wholes ∙ ap (λ zs. Some zs) (given_whole n pairs vs)) s.by.arrays.counted wrong)
+          (size_faults code (at_operator s.has there) c.arguments c.reference c.marked c.others none c.calls given_so wrong)
           (chosen_by ∙ ap (λ (b : Bool). sized b (has_no_room w bs ns)) wrong)
 
       no_room : has_wrong_size bs ≡ false → has_no_room w bs ns ≡ true → Does tree code texts w img p
       no_room right full =
           fails_so CoreFull
-          (room_faults code img p core s.has made there c.arguments c.reference c.marked c.others none c.calls w ns a.1.some few_arrays bs dimensional (c.wholes ∙ ap (λ zs. Some zs) (given_whole n pairs vs)) s.by.arrays.counted right full)
+          (room_faults code (at_operator s.has there) c.arguments c.reference c.marked c.others none c.calls given_so right full)
           (chosen_by ∙ ap (λ (b : Bool). sized b (has_no_room w bs ns)) right ∙ ap (sized false) full)
 
       -- ---- arrays
@@ -179,9 +191,13 @@ module _ (tree : PProgram) (code : Code) (texts : Texts) (nested : AreNested (sc
 
         arrays_now : ArraysAre sc w' lay' (rows_after ns bs img.rows)
         arrays_now =
-            arrays_after sc w lay img.rows s.by.arrays part.instance kind ns pairs bs making_so w' lay' refl
-            (frames.rows_here tree code texts nested keeps order (actor_of s) owns ms made_first new_cells allotted descriptors added)
-            (λ j other. frames.rows_elsewhere tree code texts nested keeps order (actor_of s) owns ms made_first new_cells allotted descriptors added j (λ same. other (sym same)))
+            arrays_after sc w lay img.rows s.by.arrays part.instance kind ns pairs bs making_so (record {
+              world = w';
+              layout = lay';
+              after = refl;
+              here = frames.rows_here tree code texts nested keeps order (actor_of s) owns ms made_first new_cells allotted descriptors added;
+              others = λ j other. frames.rows_elsewhere tree code texts nested keeps order (actor_of s) owns ms made_first new_cells allotted descriptors added j (λ same. other (sym same));
+            })
 
         events_now : EventsAre sc w' lay' img.events
         events_now =
@@ -191,11 +207,37 @@ module _ (tree : PProgram) (code : Code) (texts : Texts) (nested : AreNested (sc
         are_made : Does tree code texts w img p
         unfolding entered
         are_made =
-            cells_are_made tree code texts nested fragments cells_made keeps order actor owns ms made_first new_cells allotted descriptors added Arrays
-            (operands (arrays_given n pairs vs) (intrinsic Arrays ∷ mark ∷ [])) (a.1.lies ∙ given_lie n pairs vs) c.arguments entered made a.0 a.1.stands a.1.push (answered done a.0 [] (refl, refl))
-            (omega (arith, a.1.some, made_arrays_many kind ns pairs)) (omega (arith, a.1.room, made_arrays_many kind ns pairs)) (rows_after ns bs img.rows) img.events arrays_now events_now (λ m there listed. listed) MakeArrays refl
-            (arrays_raw code img p core s.has made there c.arguments c.reference c.marked c.others none c.calls w ns a.1.some few_arrays bs dimensional (c.wholes ∙ ap (λ zs. Some zs) (given_whole n pairs vs)) s.by.arrays.counted right room)
-            chosen
+            cells_are_made tree code texts nested laws cells_made actor (record {
+              owns = owns;
+              declared = ms;
+              makes = made_first;
+              new_cells = new_cells;
+              allotted = allotted;
+              descriptors = descriptors;
+              added = added;
+              name = Arrays;
+              slots = operands (arrays_given n pairs vs) (intrinsic Arrays ∷ mark ∷ []);
+              lies = a.1.lies ∙ given_lie n pairs vs;
+              arguments = c.arguments;
+              entered = entered;
+              made = made;
+              next = a.0;
+              stands = a.1.stands;
+              push = a.1.push;
+              comes = answered done a.0 [] (refl, refl);
+              some = omega (arith, a.1.some, made_arrays_many kind ns pairs);
+              some_room = omega (arith, a.1.room, made_arrays_many kind ns pairs);
+              rows = rows_after ns bs img.rows;
+              events = img.events;
+            }) (record {
+              arrays_now = arrays_now;
+              events_now = events_now;
+              fewer = λ m there listed. listed;
+              action = MakeArrays;
+              acts = refl;
+              raw_is = arrays_raw code (at_operator s.has there) c.arguments c.reference c.marked c.others none c.calls given_so right room;
+              chosen = chosen;
+            })
 
       by_sizes : (wrong full : Bool) → has_wrong_size bs ≡ wrong → has_no_room w bs ns ≡ full → Does tree code texts w img p
       by_sizes true full wrong fits = wrong_size wrong
@@ -209,7 +251,7 @@ module _ (tree : PProgram) (code : Code) (texts : Texts) (nested : AreNested (sc
         (has_wrong_size bs) (has_no_room w bs ns) refl refl
 
 -- in each scene whose head asks for arrays
-pub making_done : (tree : PProgram) (code : Code) (texts : Texts) → AreNested (scopes_of tree) → FragmentsArePerformed → CellsAreMade → RestsKeepToTheirText → AllIsMadeInOrder →
+pub making_done : (tree : PProgram) (code : Code) (texts : Texts) → AreNested (scopes_of tree) → TheLaws → CellsAreMade →
     (kind : Kind) (ns : List Named) (pairs : List PPair) (vs : List Value) → IsDone tree code texts (makes_arrays kind ns pairs vs)
-making_done tree code texts nested fragments cells_made keeps order kind ns pairs vs actor h =
-    making tree code texts nested fragments cells_made keeps order actor kind ns pairs vs h.asks h.action h.answered
+making_done tree code texts nested laws cells_made kind ns pairs vs actor h =
+    making tree code texts nested laws cells_made actor kind ns pairs vs h

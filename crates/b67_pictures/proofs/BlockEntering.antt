@@ -1,6 +1,6 @@
 -- A block of a statement is entered.
 use Rattle.std.proofs.Common.{◌≡◌, refl, sym, ap, ◌∙◌, subst, ℕ, ◌+◌, ◌-◌, ◌*◌, ◌≤◌, List, [], ◌∷◌, ◌++◌, length, Option, Some, None, Bool, false, not, arith, Ok}
-use Rattle.b67_pictures.proofs.Prelude.{if◌then◌else◌, slice_get, Block, block_numbered, number_at, around, level_of, PProgram, PDecls, PStmts, Scopes, scopes_of, same_name, Spot, Kind, Ask, nothing, enters_block, ask, resume, choice_of, is_evaluation, Answer, settle_items, items_of, Cell, instance_at, BlockIsSeen, IsSeenAround, IsInner, RestsKeepToTheirText, AllIsMadeInOrder, segment_of, IsStanding, Word, Place, irw_laws, as_sirw-other, as_pcw-pcw_word, kind_of-pcw_word, as_irw, as_sirw, as_pcw, Pcw, Placed, Spells, Code, place, look_seen, frame, display_at, cell_of, level_below, actuals_are_few, parameter_cells, result_cells_of, variables, zero_cells, procedures, actuals_of, CellsAt, Yields, yields_of, Context, decls_depth, stmts_depth, Has, code_at, LiesNested, Texts, context_of, ActionAt, Entered, Gives, pushed, ComesTo, Slot, control, mark, SlotIs, BlocksBegin, FragmentsArePerformed, some_same, IsShortSegment, tokens_around, none_wanted, ActualsAre, most_is, makes, unmade, complete_of, controls_fit, Linked, level_around, owned_frame, asks_as_own, runs_at, IsInReach, block_controls, controls_count, most_around, IsComplete, Owned, run_level, Calls, part_there, shown_frame, AbleActor, actor_of, choice_is, text_in, level_in, context_in, most_in, names_in, Does}
+use Rattle.b67_pictures.proofs.Prelude.{if◌then◌else◌, slice_get, Block, block_numbered, number_at, around, level_of, PProgram, PDecls, PStmts, Scopes, scopes_of, same_name, Spot, Kind, Ask, enters_block, resume, choice_of, is_evaluation, Answer, settle_items, items_of, Cell, instance_at, BlockIsSeen, IsSeenAround, IsInner, segment_of, IsStanding, Word, Place, irw_laws, as_sirw-other, as_pcw-pcw_word, kind_of-pcw_word, as_irw, as_sirw, as_pcw, Pcw, Placed, Spells, Code, place, look_seen, frame, display_at, cell_of, level_below, actuals_are_few, parameter_cells, result_cells_of, variables, zero_cells, procedures, actuals_of, CellsAt, Yields, yields_of, Context, decls_depth, stmts_depth, Has, code_at, LiesNested, Texts, context_of, Gives, pushed, ComesTo, control, mark, SlotIs, BlocksBegin, some_same, IsShortSegment, tokens_around, none_wanted, ActualsAre, most_is, makes, unmade, complete_of, controls_fit, Linked, level_around, owned_frame, asks_as_own, runs_at, IsInReach, block_controls, controls_count, most_around, IsComplete, Owned, run_level, Calls, part_there, shown_frame, AbleActor, actor_of, choice_is, text_in, level_in, context_in, most_in, names_in, TheLaws, Does}
 use Rattle.algol_tree.specs.Plain.{body}
 use Rattle.algol_meaning.specs.Rest.{Item, entered}
 use Rattle.algol_meaning.specs.World.{block}
@@ -26,21 +26,15 @@ use Rattle.b67_frames.proofs.FreshCells.{none_given, none_are, none_lead}
 use Rattle.b67_pictures.proofs.FrameEntering.{AreCells, Body, GoesOnBehind, entering}
 use Rattle.b67_scenes.proofs.Paths.{part_in_reach}
 use Rattle.b67_pictures.proofs.ParentPlaces.{standing_linked, linked_few, linked_low}
+use Rattle.b67_pictures.proofs.Head.{Head}
 
-module _ (tree : PProgram) (code : Code) (texts : Texts) (nested : LiesNested tree) (short : IsShortSegment tree code)
-    (fragments : FragmentsArePerformed) (begins_so : BlocksBegin) (starts : InnerBlocksStart) (follow : InnerBlocksFollow) (keeps : RestsKeepToTheirText) (order : AllIsMadeInOrder)
+module _ (tree : PProgram) (code : Code) (texts : Texts) (nested : LiesNested tree) (short : IsShortSegment tree code) (laws : TheLaws) (begins_so : BlocksBegin) (starts : InnerBlocksStart) (follow : InnerBlocksFollow)
     (actor : AbleActor tree code texts) where
   open actor use {w, lay, img, p, q, part, outer, core, s}
 
-  module _ (spot : Spot) (ds : PDecls) (ss : PStmts) (asks : ask part.rest ≡ enters_block (body spot ds ss))
-      (a : ActionAt (scopes_of tree) (context_in tree code texts w part s.stands.frame.gives) (text_in tree texts w part) (level_in tree w part) (most_in tree w part) (enters_block (body spot ds ss)) s.stands.pc s.stands.slots)
-      (waits : (to : ℕ) (after : List Slot) (wanted : Yields) →
-      Entered (scopes_of tree) (context_in tree code texts w part s.stands.frame.gives) (text_in tree texts w part) (level_in tree w part) (most_in tree w part) (enters_block (body spot ds ss)) s.stands.pc s.stands.slots a to after wanted →
-      ask (resume (scopes_of tree) part.rest entered) ≡ nothing)
-      (returns : (to : ℕ) (after : List Slot) (wanted : Yields) →
-      Entered (scopes_of tree) (context_in tree code texts w part s.stands.frame.gives) (text_in tree texts w part) (level_in tree w part) (most_in tree w part) (enters_block (body spot ds ss)) s.stands.pc s.stands.slots a to after wanted →
-      (r : Answer) → Gives wanted r →
-      ComesTo (scopes_of tree) (context_in tree code texts w part s.stands.frame.gives) (text_in tree texts w part) (level_in tree w part) (most_in tree w part) (resume (scopes_of tree) (resume (scopes_of tree) part.rest entered) r) to (pushed wanted r after)) where
+  module _ (spot : Spot) (ds : PDecls) (ss : PStmts) (head : Head tree code texts actor (enters_block (body spot ds ss))) where
+    open head use {asks, action as a, waits, returns}
+
     abbrev sc : Scopes
     sc = scopes_of tree
 
@@ -215,7 +209,7 @@ module _ (tree : PProgram) (code : Code) (texts : Texts) (nested : LiesNested tr
         ∙ ap (λ (x : PDecls). decls_items x ++ items b.stmts []) is_inner.decls_are
         ∙ ap (λ (x : PStmts). decls_items ds ++ items x []) is_inner.stmts_are
 
-    abbrev block_body : Body tree code texts nested short fragments begins_so keeps order actor j at.begin
+    abbrev block_body : Body tree code texts nested short laws begins_so actor j at.begin
     block_body =
         record {
           ready = at.begin;
@@ -241,7 +235,7 @@ module _ (tree : PProgram) (code : Code) (texts : Texts) (nested : LiesNested tr
           small = omega (arith, room);
         }
 
-    abbrev behind : GoesOnBehind tree code texts nested short fragments begins_so keeps order actor a.0 a.1 j
+    abbrev behind : GoesOnBehind tree code texts nested short laws begins_so actor a.0 a.1 j
     behind =
         record {
           unmade = unmade part.rest (ap makes asks);
@@ -256,7 +250,7 @@ module _ (tree : PProgram) (code : Code) (texts : Texts) (nested : LiesNested tr
     no_cells = none_given sc b (nested.nested.each j is_inner.known).parameters is_inner.parameters
 
     abbrev AreCellsThere : List Cell → List Word → Type 0
-    AreCellsThere given ws = AreCells tree code texts nested short fragments begins_so keeps order actor j given ws
+    AreCellsThere given ws = AreCells tree code texts nested short laws begins_so actor j given ws
 
     none_there : (ws : List Word) → ActualsAre sc s.stands.held (level_in tree w part) (frame core.registers) (length core.below) [] [] ws → AreCellsThere [] ws
     none_there [] are = record { cells = none_are sc b no_cells is_inner.parameters; lead = none_lead sc w lay (IsInReach w (part ∷ outer)) b no_cells is_inner.parameters }
@@ -264,5 +258,13 @@ module _ (tree : PProgram) (code : Code) (texts : Texts) (nested : LiesNested tr
 
     pub entering_block : Does tree code texts w img p
     entering_block =
-        entering tree code texts nested short fragments begins_so keeps order actor [] [] (control c) a.0 a.1 part.instance j at.begin calls block refl block_body behind [] none_there
+        entering tree code texts nested short laws begins_so actor (record {
+          called = record { wanted = []; gs = []; slot = control c; next = a.0; waiting = a.1; parent = part.instance; block = j; begin = at.begin; calls = calls };
+          purpose = block;
+          owns = refl;
+          body = block_body;
+          behind = behind;
+          given = [];
+          fit = none_there;
+        })
         (choice_is sc w p q part outer s.at s.todo ∙ ap (λ (k : Ask). choice_of sc w p q part outer k) asks)

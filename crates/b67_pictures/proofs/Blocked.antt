@@ -1,6 +1,6 @@
 -- A block or a procedure on whose instance a process depends is left: a fault, in the source and on the machine.
 use Rattle.std.proofs.Common.{◌≡◌, inl, refl, sym, ap, ◌∙◌, subst, ℕ, [], ◌∷◌, length, Some, None, Bool, true, false, Ok}
-use Rattle.b67_pictures.proofs.Prelude.{list_any, if◌then◌else◌, ◌||◌, FaultKind, Fault, PProgram, Scopes, scopes_of, Ask, leaves, ask, Choice, choice, choice_of, left_with, left_or_ended, fails, some_depends, is_evaluation, Answer, done, Operator, Code, same_place, place, failed, is_critical, frame, live_criticals, operator_at, Texts, ActionAt, fault_not_plain, action_is, owned_frame, operator_there, frame_is, Actor, actor_of, OutmostActor, faults_so, choice_is, faulted, text_in, level_in, context_in, most_in, Pictures, Does, failed_by}
+use Rattle.b67_pictures.proofs.Prelude.{list_any, if◌then◌else◌, ◌||◌, FaultKind, Fault, PProgram, Scopes, scopes_of, Ask, leaves, ask, Choice, choice, choice_of, left_with, left_or_ended, fails, some_depends, is_evaluation, Answer, done, Operator, Code, same_place, place, failed, is_critical, frame, live_criticals, operator_at, Texts, ActionAt, at_operator, fault_not_plain, action_is, owned_frame, operator_there, frame_is, Actor, actor_of, OutmostActor, faults_so, choice_is, faulted, text_in, level_in, context_in, most_in, Pictures, Does, failed_by}
 use Rattle.b67_num.specs.declared.FaultKind.TheVariants as fault
 use Rattle.b67_ops.specs.declared.Operator.TheVariants as ops
 use Rattle.b67_ops.specs.declared.PlainKind.TheVariants as kinds
@@ -22,8 +22,8 @@ module _ (tree : PProgram) (code : Code) (texts : Texts) (actor : Actor tree cod
       (chosen : choice (scopes_of tree) w p ≡ record { action = Fault; world = record w { fault = Some (record { kind = kind; process = p }) }; released = []; started = None }) where
     pub faulting : (op : Operator) (next : ℕ) → operator_at code core.registers ≡ Ok (op, next) → raw code img p ≡ effects.faults kind → Does tree code texts w img p
     faulting op next there raw_is =
-        failed_by kind (fault_not_plain code img p core s.has op next there kind table_is) table_is
-        (action_is code img p core s.has op next there (outcomes.faults kind) table_is ∙ ap (λ (c : Choice). Some c.action) (sym chosen))
+        failed_by kind (fault_not_plain code op (at_operator s.has there) kind table_is) table_is
+        (action_is code op (at_operator s.has there) (outcomes.faults kind) table_is ∙ ap (λ (c : Choice). Some c.action) (sym chosen))
         (subst (λ (c : Choice). Pictures tree code texts c.world (failed img p kind)) (sym chosen) (lay, faulted tree code texts w lay img s.by p q s.at s.ok kind))
       where
         table_is : table code img p ≡ outcomes.faults kind

@@ -1,13 +1,12 @@
 -- An action changes a cell of an instance whose frame lies in the stack of whatever process: the image after it pictures the world after it.
 use Rattle.std.proofs.Common.{◌≡◌, ◌≢◌, ◌⊎◌, inl, inr, refl, sym, ap, ◌∙◌, subst, ℕ, ◌+◌, ◌<◌, ◌≤◌, List, ◌∷◌, ◌++◌, length, Option, Some, Bool, false, arith, true, []}
-use Rattle.b67_pictures.proofs.Prelude.{if◌then◌else◌, slice_get, numbered, IsListed, block_numbered, PProgram, Scopes, scopes_of, same_name, resume, referred_in, list_in, Answer, Cell, NamedCell, Instance, Process, Part, State, lives, World, or_no_instance, with_process, cells_with, instance_at, Made, all_to_make, all_left_to_make, BlockIsSeen, RestsKeepToTheirText, AllIsMadeInOrder, InAnswer, in_either, IsInSkeleton, referred_in_cells, IsStanding, IsOwn, Word, Registers, Code, stack_at, word_at, stack_limit, Event, waiters_at, place, Image, woken_number, floor, ProcessState, simple_cells, Texts, ComesTo, Slot, Core, size, over, HasCore, with_core, CoreAt, FragmentsArePerformed, length_set_numbered, some_same, none_some, has_now, others_have, system_stays, same_or_not, numbered_set, HasFacts, facts_of, KeepsArrays, keeps_same, begins_core, StandOn, AreMade, ArraysAre, EventsAre, CellsAre, all_laid, Found, found_laid, LeavesAlone, alike_but, Actor, found_own, comes_to, text_in, level_in, context_in, most_in, IsStored, put, length_put, stored_world, others_at, ChangedCells, EventsStay, state_stays, events_kept, events_beside, events_same, still_awaiting, waits_kept, waits_still, Living, living, PicturesBy, StateIs, AreAwaiting, WaitsAre}
+use Rattle.b67_pictures.proofs.Prelude.{if◌then◌else◌, slice_get, numbered, IsListed, block_numbered, PProgram, Scopes, scopes_of, same_name, resume, referred_in, list_in, Cell, NamedCell, Instance, Process, Part, State, lives, World, or_no_instance, with_process, cells_with, Made, in_either, IsInSkeleton, referred_in_cells, IsStanding, IsOwn, Word, Registers, Code, stack_at, word_at, stack_limit, Event, waiters_at, place, Image, woken_number, floor, ProcessState, simple_cells, Texts, Core, size, over, HasCore, with_core, length_set_numbered, some_same, none_some, has_now, others_have, system_stays, same_or_not, numbered_set, HasFacts, facts_of, KeepsArrays, keeps_same, begins_core, StandOn, AreMade, ArraysAre, EventsAre, CellsAre, all_laid, Found, found_laid, LeavesAlone, alike_but, Actor, found_own, comes_to, IsStored, put, length_put, stored_world, others_at, ChangedCells, changed, EventsStay, state_stays, events_kept, events_beside, events_same, TheLaws, still_awaiting, waits_kept, waits_still, Living, living, PicturesBy, StateIs, AreAwaiting, WaitsAre}
 use Rattle.algol_standing.proofs.Seen.{in_front, in_back}
 use Rattle.b67_rows.proofs.Numbers.{get_within}
-use Rattle.b67_scenes.proofs.StoringFrames.{changed}
 use Rattle.b67_scenes.proofs.StoringOthers.{stored_pictured}
 use Rattle.b67_pictures.proofs.Alone.{IsAfter, dependent_but, stands_on, leaves_alone}
 use Rattle.b67_pictures.proofs.GoingOn.{goes_along}
-use Rattle.b67_pictures.proofs.InFrame.{SameFrame}
+use Rattle.b67_pictures.proofs.InFrame.{GoesOnAbove}
 use Rattle.b67_pictures.proofs.OwnStored.{own_goes_along}
 use Rattle.b67_pictures.proofs.WordPut.{put_word, IsOnlyStored, put_only, stacks_beside, core_beside, core_put}
 
@@ -36,20 +35,30 @@ refers_fewer (d ∷ cells) name c none r inside = by_name (same_name d.name name
     by_name true later m = in_back (referred_in d.cell) (referred_in_cells cells) r (subst (λ (is : List ℕ). IsInSkeleton (is ++ referred_in_cells cells) r) none m)
     by_name false later m = further later (in_either (referred_in d.cell) (referred_in_cells (cells_with cells name c)) r m)
 
-module _ (tree : PProgram) (code : Code) (texts : Texts) (fragments : FragmentsArePerformed) (kept : RestsKeepToTheirText) (order : AllIsMadeInOrder) (actor : Actor tree code texts) where
+module _ (tree : PProgram) (code : Code) (texts : Texts) (laws : TheLaws) (actor : Actor tree code texts) where
   open actor use {w, lay, img, p, q, part, outer, core, s}
 
-  module _ (unmade : all_left_to_make part.rest ≡ all_to_make part.rest) (answer : Answer) (nameless : InAnswer (BlockIsSeen (scopes_of tree) ((instance_at w part.instance).block)) answer)
-      (i : ℕ) (f : Found tree code texts w lay img i) (x : Instance) (at : numbered w.instances i ≡ Some x) (with_cells : List NamedCell) (far : ℕ) (word : Option Word) (many : length with_cells ≡ length x.cells)
-      (short : IsStored word → far < length (simple_cells (scopes_of tree) (block_numbered (scopes_of tree).blocks x.block))) (low : IsStored word → length f.lies.frame.lower + 2 + far < length f.core.below)
-      (keeps : KeepsArrays (scopes_of tree) w (stored_world w i x at with_cells) lay lay i) (fewer : (r : ℕ) → IsInSkeleton (referred_in_cells with_cells) r → IsInSkeleton (referred_in_cells x.cells) r)
-      (changes : (simple : List NamedCell) (values : List Word) (arrays : List NamedCell) (declared : List Made) (descriptors : List Word) →
-      CellsAre (simple_cells (scopes_of tree) (block_numbered (scopes_of tree).blocks x.block)) simple values → AreMade declared arrays (lay.rows i) descriptors → x.cells ≡ simple ++ arrays →
-      ChangedCells (simple_cells (scopes_of tree) (block_numbered (scopes_of tree).blocks x.block)) (lay.rows i) with_cells simple values (put word values far) declared descriptors)
-      (words : List Word) (registers : Registers) (frame_is : SameFrame core.registers registers) (pc : ℕ) (slots : List Slot)
-      (there : CoreAt (scopes_of tree) s.stands.held code (text_in tree texts w part) (level_in tree w part) pc slots (record { below = core.below; words = words; registers = registers })) (few : length slots ≤ most_in tree w part)
-      (comes : ComesTo (scopes_of tree) (context_in tree code texts w part s.stands.frame.gives) (text_in tree texts w part) (level_in tree w part) (most_in tree w part) (resume (scopes_of tree) part.rest answer) pc slots)
-      (small : size (record { below = core.below; words = words; registers = registers }) ≤ stack_limit) (able_is : lives q.state ≡ true) (state : State) where
+  -- What is stored: the instance, whose frame lies in the stack of whatever process, has these cells after it.
+  pub record CellChange : Type 0 where
+    pub i : ℕ
+    pub found : Found tree code texts w lay img i
+    pub x : Instance
+    pub at : numbered w.instances i ≡ Some x
+    pub with_cells : List NamedCell
+    pub far : ℕ
+    pub word : Option Word
+    pub many : length with_cells ≡ length x.cells
+    pub short : IsStored word → far < length (simple_cells (scopes_of tree) (block_numbered (scopes_of tree).blocks x.block))
+    pub low : IsStored word → length found.lies.frame.lower + 2 + far < length found.core.below
+    pub keeps : KeepsArrays (scopes_of tree) w (stored_world w i x at with_cells) lay lay i
+    pub fewer : (r : ℕ) → IsInSkeleton (referred_in_cells with_cells) r → IsInSkeleton (referred_in_cells x.cells) r
+    pub changes : (simple : List NamedCell) (values : List Word) (arrays : List NamedCell) (declared : List Made) (descriptors : List Word) → CellsAre (simple_cells (scopes_of tree) (block_numbered (scopes_of tree).blocks x.block)) simple values → AreMade declared arrays (lay.rows i) descriptors → x.cells ≡ simple ++ arrays → ChangedCells (simple_cells (scopes_of tree) (block_numbered (scopes_of tree).blocks x.block)) (lay.rows i) with_cells simple values (put word values far) declared descriptors
+
+  module _ (onward : GoesOnAbove tree code texts actor) (change : CellChange) (small : size (record { below = core.below; words = onward.words; registers = onward.registers }) ≤ stack_limit) (able_is : lives q.state ≡ true)
+      (state : State) where
+    open onward use {unmade, answer, nameless, words, registers, frame_is, pc, slots, there, few, comes}
+    open change use {i, found as f, x, at, with_cells, far, word, many, short, low, keeps, fewer, changes}
+
     abbrev sc : Scopes
     sc = scopes_of tree
 
@@ -134,12 +143,30 @@ module _ (tree : PProgram) (code : Code) (texts : Texts) (fragments : FragmentsA
 
     -- ---- the image after it: all is there but the word and the core
 
-    module _ (base : Image) (same : (m : ℕ) (other : Core) → HasCore img m other → HasCore base m other) (stacks : base.stacks ≡ img.stacks)
-        (after : IsAfter (scopes_of tree) w (with_process (stored_world w i x at with_cells) p (record q { todo = record part { rest = resume (scopes_of tree) part.rest answer } ∷ outer; state = state })) p)
-        (arrays : ArraysAre (scopes_of tree) (with_process (stored_world w i x at with_cells) p (record q { todo = record part { rest = resume (scopes_of tree) part.rest answer } ∷ outer; state = state })) lay base.rows)
-        (events : EventsAre (scopes_of tree) (with_process (stored_world w i x at with_cells) p (record q { todo = record part { rest = resume (scopes_of tree) part.rest answer } ∷ outer; state = state })) lay base.events)
-        (list_same : list_in state ≡ list_in q.state) (lists : base.lists ≡ img.lists) (numbers : base.numbers ≡ img.numbers) (awaiting : AreAwaiting base) (output : base.output ≡ img.output) (fault : base.fault ≡ img.fault) (started : base.started ≡ img.started) (regs : length base.regs ≡ length img.regs) (many_states : length base.states ≡ length img.states)
-        (states : (m : ℕ) → m ≢ p → numbered base.states m ≡ numbered img.states m) (lives_so : lives state ≡ true) (state_is : StateIs (scopes_of tree) w lay state (numbered base.states p)) where
+    -- An image that has all of the world after it but the word and the core.
+    pub record PicturesElse : Type 0 where
+      pub base : Image
+      pub same : (m : ℕ) (other : Core) → HasCore img m other → HasCore base m other
+      pub stacks : base.stacks ≡ img.stacks
+      pub after : IsAfter (scopes_of tree) w (with_process (stored_world w i x at with_cells) p (record q { todo = record part { rest = resume (scopes_of tree) part.rest answer } ∷ outer; state = state })) p
+      pub arrays : ArraysAre (scopes_of tree) (with_process (stored_world w i x at with_cells) p (record q { todo = record part { rest = resume (scopes_of tree) part.rest answer } ∷ outer; state = state })) lay base.rows
+      pub events : EventsAre (scopes_of tree) (with_process (stored_world w i x at with_cells) p (record q { todo = record part { rest = resume (scopes_of tree) part.rest answer } ∷ outer; state = state })) lay base.events
+      pub list_same : list_in state ≡ list_in q.state
+      pub lists : base.lists ≡ img.lists
+      pub numbers : base.numbers ≡ img.numbers
+      pub awaiting : AreAwaiting base
+      pub output : base.output ≡ img.output
+      pub fault : base.fault ≡ img.fault
+      pub started : base.started ≡ img.started
+      pub regs : length base.regs ≡ length img.regs
+      pub many_states : length base.states ≡ length img.states
+      pub states : (m : ℕ) → m ≢ p → numbered base.states m ≡ numbered img.states m
+      pub lives_so : lives state ≡ true
+      pub state_is : StateIs (scopes_of tree) w lay state (numbered base.states p)
+
+    module _ (rest_so : PicturesElse) where
+      open rest_so use {base, same, stacks, after, arrays, events, list_same, lists, numbers, awaiting, output, fault, started, regs, many_states, states, lives_so, state_is}
+
       has : HasCore base p core
       has = same p core s.has
 
@@ -167,13 +194,35 @@ module _ (tree : PProgram) (code : Code) (texts : Texts) (fragments : FragmentsA
 
         living_own : Living tree code texts changed_world lay (with_core base p own_core) p q'
         living_own =
-            own_goes_along tree code texts fragments kept order actor unmade answer nameless i x at with_cells high own_laid far k refl word many short keeps facts fewer changes own words registers frame_is pc slots there few comes
+            own_goes_along tree code texts laws actor onward (record {
+              i = i;
+              x = x;
+              at = at;
+              with_cells = with_cells;
+              high = high;
+              laid = own_laid;
+              far = far;
+              up = k;
+              place_is = refl;
+              word = word;
+              many = many;
+              short = short;
+              keeps = keeps;
+              facts = facts;
+              fewer = fewer;
+              changes = changes;
+            }) own
             state (on after) (with_core base p own_core) has_own small after.climb (all_laid changed_world lay after.climb.facts (s.by.laid ∙ as_many)) events_stay
 
         pub own_pictured : PicturesBy tree code texts (with_process (stored_world w i x at with_cells) p (record q { todo = record part { rest = resume (scopes_of tree) part.rest answer } ∷ outer; state = state })) lay
             (with_core base p (over (put word core.below (length f.lies.frame.lower + 2 + far)) (record { below = core.below; words = words; registers = registers })))
         own_pictured =
-            comes_to tree code texts w lay img s.by p q s.at changed_world lay (with_core base p own_core) q' refl (s.by.laid ∙ as_many) arrays events (record { numbers = waits_then.numbers; woken = waits_then.woken; lists = waits_then.lists; awaiting = waits_then.awaiting })
+            comes_to tree code texts w lay img s.by p q s.at changed_world lay (with_core base p own_core) q' refl (s.by.laid ∙ as_many) arrays events (record {
+              numbers = waits_then.numbers;
+              woken = waits_then.woken;
+              lists = waits_then.lists;
+              awaiting = waits_then.awaiting;
+            })
             (λ r other. alike_but sc w changed_world lay r i x (changed w i x at with_cells) (alone after r other) at (λ (e : r ≡ x.process). other (e ∙ mine ∙ here)) refl events_stay)
             (output ∙ s.by.output) refl fault started (length_set_numbered base.regs p own_core.registers ∙ regs) many_states states (system_stays base p core own_core has same_stack q w s.at ∙ system)
             (λ r other_core apart had. others_have base p core own_core has same_stack r other_core apart (same r other_core had)) (living lives_so state_then living_own)
@@ -199,8 +248,31 @@ module _ (tree : PProgram) (code : Code) (texts : Texts) (fragments : FragmentsA
 
         living_here : Living tree code texts changed_world lay result p q'
         living_here =
-            goes_along tree code texts fragments kept order actor unmade answer nameless before refl frame_is s.stands.held s.stands.held_are pc slots there few comes changed_world lay state (on after) same_own
-            (λ j y is of_it. refl) events_stay (s.by.laid ∙ as_many) at_later result has_here small after.climb
+            goes_along tree code texts laws actor (record {
+              unmade = unmade;
+              answer = answer;
+              nameless = nameless;
+              new = before;
+              below = refl;
+              frame_is = frame_is;
+              known = s.stands.held;
+              known_are = s.stands.held_are;
+              pc = pc;
+              slots = slots;
+              there = there;
+              few = few;
+              comes = comes;
+            }) (record {
+              world = changed_world;
+              layout = lay;
+              state = state;
+              on = on after;
+              own = same_own;
+              rows = λ j y is of_it. refl;
+              events = events_stay;
+              laid_later = s.by.laid ∙ as_many;
+              at_later = at_later;
+            }) result has_here small after.climb
 
         -- its process has the word below its floor
         low_there : (c : Core) → HasCore img f.number c → IsStored word → k < length c.below
@@ -222,7 +294,24 @@ module _ (tree : PProgram) (code : Code) (texts : Texts) (fragments : FragmentsA
         pub other_pictured : PicturesBy tree code texts (with_process (stored_world w i x at with_cells) p (record q { todo = record part { rest = resume (scopes_of tree) part.rest answer } ∷ outer; state = state })) lay
             (with_core (put_word word base (place f.number (length f.lies.frame.lower + 2 + far))) p (record { below = core.below; words = words; registers = registers }))
         other_pictured =
-            stored_pictured tree code texts w lay f.number i x at with_cells high laid far k refl word many short keeps facts fewer changes p q' (alone after) img result mine
+            stored_pictured tree code texts w lay f.number (record {
+              i = i;
+              x = x;
+              at = at;
+              with_cells = with_cells;
+              high = high;
+              laid = laid;
+              far = far;
+              up = k;
+              place_is = refl;
+              word = word;
+              many = many;
+              short = short;
+              keeps = keeps;
+              facts = facts;
+              fewer = fewer;
+              changes = changes;
+            }) p q' (alone after) img result mine
             (λ o is. subst (λ (r : Process). IsOwn r.todo i) (some_same (sym f.is ∙ is)) (subst (λ (ps : List Part). IsOwn ps i) (sym f.todo) f.own)) low_there
             (λ c had. others_have with_it p core before has_so same_stack f.number (over (put word c.below k) c) other (core_put base f.number k word c (low_there c had) (same f.number c had)))
             (λ r c apart elsewhere had. others_have with_it p core before has_so same_stack r c apart (core_beside base f.number k word r c elsewhere (same r c had)))

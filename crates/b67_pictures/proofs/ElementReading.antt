@@ -1,6 +1,6 @@
 -- The reading of an element.
 use Rattle.std.proofs.Common.{◌≡◌, refl, sym, ap, ◌∙◌, subst, ℕ, List, [], ◌∷◌, ◌++◌, Option, Some, None, true, false, Ok}
-use Rattle.b67_pictures.proofs.Prelude.{InvalidIndex, Fault, PProgram, Scopes, scopes_of, use_of, Kind, Named, subscript_place, Ask, reads_element, ask, resume, Choice, choice, choice_of, here, Answer, value, Value, whole_of, Reference, Cell, cell_at, followed, array_in, RestsKeepToTheirText, AllIsMadeInOrder, Descriptor, Placed, Code, Row, row_at, index_in, failed, operator_at, HasKind, AreNested, Texts, ActionAt, Acted, ComesTo, ElementReadAt, Slot, operand, Core, with_core, FragmentsArePerformed, array_asked, whole_array, with_one, action_not_plain, fault_not_plain, action_is, makes, unmade, value_tag, ElementFound, element_found, index_below, HoldElements, MeantArray, array_home, operator_there, in_place, has_room, LastIndex, last_index, AbleActor, actor_of, choice_is, faults_so, faulted, text_in, level_in, context_in, most_in, Pictures, Does, failed_by}
+use Rattle.b67_pictures.proofs.Prelude.{InvalidIndex, Fault, PProgram, Scopes, scopes_of, use_of, Kind, Named, subscript_place, Ask, reads_element, Choice, choice, choice_of, here, value, Value, whole_of, Reference, Cell, cell_at, followed, array_in, Descriptor, Placed, Code, Row, row_at, index_in, failed, operator_at, HasKind, AreNested, Texts, ElementReadAt, Slot, operand, Core, with_core, array_asked, at_operator, whole_array, with_one, action_not_plain, fault_not_plain, action_is, makes, unmade, value_tag, ElementFound, element_found, index_below, HoldElements, MeantArray, array_home, operator_there, in_place, has_room, LastIndex, last_index, AbleActor, actor_of, choice_is, faults_so, faulted, text_in, level_in, context_in, most_in, TheLaws, Pictures, Does, failed_by}
 use Rattle.algol_meaning.specs.Arrays.{element_at}
 use Rattle.b67_deeds.specs.declared.Letter.TheVariants.{ElementRead}
 use Rattle.algol_meaning.specs.Choice.{element_read, element_read_at}
@@ -11,16 +11,14 @@ use Rattle.b67_table.specs.Outcome as outcomes
 use Rattle.b67_table.specs.Table.{table}
 use Rattle.b67_rows.proofs.IndexRows.{load_gives, load_faults, load_raw, load_class}
 use Rattle.b67_pictures.proofs.InFrame.{does_in_frame}
+use Rattle.b67_pictures.proofs.Head.{Head}
 
-module _ (tree : PProgram) (code : Code) (texts : Texts) (nested : AreNested (scopes_of tree)) (fragments : FragmentsArePerformed) (keeps : RestsKeepToTheirText) (order : AllIsMadeInOrder)
-    (actor : AbleActor tree code texts) where
+module _ (tree : PProgram) (code : Code) (texts : Texts) (nested : AreNested (scopes_of tree)) (laws : TheLaws) (actor : AbleActor tree code texts) where
   open actor use {w, lay, img, p, q, part, outer, core, s}
 
-  module _ (n : Named) (ks : List ℕ) (v : Value) (asks : ask part.rest ≡ reads_element n ks v)
-      (a : ActionAt (scopes_of tree) (context_in tree code texts w part s.stands.frame.gives) (text_in tree texts w part) (level_in tree w part) (most_in tree w part) (reads_element n ks v) s.stands.pc s.stands.slots)
-      (answered : (r : Answer) (at : ℕ) (after : List Slot) →
-      Acted (scopes_of tree) (context_in tree code texts w part s.stands.frame.gives) (text_in tree texts w part) (level_in tree w part) (most_in tree w part) (reads_element n ks v) s.stands.pc s.stands.slots a r at after →
-      ComesTo (scopes_of tree) (context_in tree code texts w part s.stands.frame.gives) (text_in tree texts w part) (level_in tree w part) (most_in tree w part) (resume (scopes_of tree) part.rest r) at after) where
+  module _ (n : Named) (ks : List ℕ) (v : Value) (head : Head tree code texts actor (reads_element n ks v)) where
+    open head use {asks, action as a, answered}
+
     abbrev sc : Scopes
     sc = scopes_of tree
 
@@ -75,8 +73,8 @@ module _ (tree : PProgram) (code : Code) (texts : Texts) (nested : AreNested (sc
       -- a subscript outside the bounds
       outside : index_in l.moved_subscript l.size ≡ None → Does tree code texts w img p
       outside e =
-          failed_by InvalidIndex (fault_not_plain code img p core s.has (ops.Plain kinds.Nxlv) next there InvalidIndex table_is) table_is
-          (action_is code img p core s.has (ops.Plain kinds.Nxlv) next there (outcomes.faults InvalidIndex) table_is ∙ ap (λ (c : Choice). Some c.action) (sym fails_so))
+          failed_by InvalidIndex (fault_not_plain code (ops.Plain kinds.Nxlv) (at_operator s.has there) InvalidIndex table_is) table_is
+          (action_is code (ops.Plain kinds.Nxlv) (at_operator s.has there) (outcomes.faults InvalidIndex) table_is ∙ ap (λ (c : Choice). Some c.action) (sym fails_so))
           (subst (λ (c : Choice). Pictures tree code texts c.world (failed img p InvalidIndex)) (sym fails_so) (lay, faulted tree code texts w lay img s.by p q s.at s.ok InvalidIndex))
         where
           table_is : table code img p ≡ outcomes.faults InvalidIndex
@@ -91,17 +89,27 @@ module _ (tree : PProgram) (code : Code) (texts : Texts) (nested : AreNested (sc
       -- one within them
       within : (k : ℕ) → index_in l.moved_subscript l.size ≡ Some k → Does tree code texts w img p
       within k e =
-          does_in_frame tree code texts fragments keeps order actor (unmade part.rest (ap makes asks)) (value read) tt w.output new refl (record { is = refl })
-          s.stands.held s.stands.held_are next (operand read ∷ below)
-          (in_place tree code texts nested (actor_of s) false l.moved_subscript d below l.finds s.stands.held (operand read) f.word next (f.value_is, l.finds.left_are) refl)
-          (has_room tree code texts nested (actor_of s) false l.moved_subscript d below l.finds (operand read))
-          (answered (value read) next (operand read ∷ below) (refl, refl, subst (λ (k : Kind). HasKind k read) h.kind_is f.kind_is)) ElementRead
-          (action_not_plain code img p core s.has (ops.Plain kinds.Nxlv) next there (load_class core.registers.place))
+          does_in_frame tree code texts laws actor (record {
+            unmade = unmade part.rest (ap makes asks);
+            answer = value read;
+            nameless = tt;
+            new = new;
+            below = refl;
+            frame_is = record { is = refl };
+            known = s.stands.held;
+            known_are = s.stands.held_are;
+            pc = next;
+            slots = operand read ∷ below;
+            there = in_place tree code texts nested (actor_of s) false l.moved_subscript d below l.finds s.stands.held (operand read) f.word next (f.value_is, l.finds.left_are) refl;
+            few = has_room tree code texts nested (actor_of s) false l.moved_subscript d below l.finds (operand read);
+            comes = answered (value read) next (operand read ∷ below) (refl, refl, subst (λ (k : Kind). HasKind k read) h.kind_is f.kind_is);
+          }) w.output ElementRead
+          (action_not_plain code (ops.Plain kinds.Nxlv) (at_operator s.has there) (load_class core.registers.place))
           (load_raw code img p core s.has next there
           ∙ load_gives img p core s.has l.finds.first l.finds.second l.finds.words l.finds.top l.moved_subscript d l.finds.is_whole l.finds.array_is elements is_open next k f.word e f.lies (value_tag read f.word f.value_is)
           ∙ ap (λ (o : List (List ℕ)). effects.gives (record (with_core img p new) { output = o })) s.by.output)
           (chosen ∙ ap (λ (o : Option ℕ). element_read_at sc w p q part outer h.cell ks o) (sym l.place_is ∙ e))
-          (λ t. action_is code img p core s.has (ops.Plain kinds.Nxlv) next there (outcomes.gives (record (with_core img p new) { output = w.output })) t)
+          (λ t. action_is code (ops.Plain kinds.Nxlv) (at_operator s.has there) (outcomes.gives (record (with_core img p new) { output = w.output })) t)
         where
           read : Value
           read = element_at h.cell (ks ++ k ∷ [])

@@ -1,6 +1,6 @@
 -- A store to an element.
 use Rattle.std.proofs.Common.{◌≡◌, ◌≢◌, ◌⊎◌, inl, inr, refl, sym, ap, ◌∙◌, subst, ℕ, ◌+◌, ◌≤◌, List, [], ◌∷◌, ◌++◌, length, Option, Some, None, Ok, arith}
-use Rattle.b67_pictures.proofs.Prelude.{numbered, ElementStore, block_numbered, level_of, PProgram, Scopes, scopes_of, Kind, Ask, stores, ask, resume, Choice, choice, choice_of, goes, is_evaluation, Answer, done, element_of, Value, Reference, ArrayCell, Cell, array, NamedCell, Instance, Process, Part, World, instance_at, or_no_instance, with_instance, with_process, set_cell, cell_in, cells_with, array_in, Made, RestsKeepToTheirText, AllIsMadeInOrder, segment_of, Word, Placed, Code, Rows, stack_limit, Image, with_rows, frame, operator_at, told_by, element_or_not, stored_letter, operator_letter, Simple, simple_cells, HasKind, Texts, ActionAt, Acted, ComesTo, Slot, element, operand, descriptor, Core, size, HasCore, IsCore, with_core, ValueIs, newest, SlotsAre, CoreAt, FragmentsArePerformed, registers_now, without_two, same_or_not, action_not_plain, action_is, Top, top_slot, makes, unmade, value_tag, arrays_unchanged, ElementFound, element_found, event_before, events_replaced, facts_of, KeepsArrays, known_is, OwnCells, framed_cells, AreMade, HoldElements, ArraysAre, IsElement, EventsAre, IsInReach, CellsAre, FrameStands, run_level, at_element, ElementHome, element_home, Found, operator_there, AbleActor, actor_of, gives_within, choice_is, text_in, level_in, context_in, most_in, length_cells, stored_world, ChangedCells, PicturesBy, MayAct, Does, gave}
+use Rattle.b67_pictures.proofs.Prelude.{numbered, ElementStore, block_numbered, level_of, PProgram, Scopes, scopes_of, Kind, Ask, stores, resume, Choice, choice, choice_of, goes, is_evaluation, done, element_of, Value, Reference, ArrayCell, Cell, array, NamedCell, Instance, Process, Part, World, instance_at, or_no_instance, with_instance, with_process, set_cell, cell_in, cells_with, array_in, Made, segment_of, Word, Placed, Code, Rows, stack_limit, Image, with_rows, frame, operator_at, told_by, element_or_not, stored_letter, operator_letter, Simple, simple_cells, HasKind, Texts, Slot, element, operand, descriptor, Core, size, HasCore, IsCore, with_core, ValueIs, newest, SlotsAre, CoreAt, at_operator, registers_now, without_two, same_or_not, action_not_plain, action_is, Top, top_slot, makes, unmade, value_tag, arrays_unchanged, ElementFound, element_found, event_before, events_replaced, facts_of, KeepsArrays, known_is, OwnCells, framed_cells, AreMade, HoldElements, ArraysAre, IsElement, EventsAre, IsInReach, CellsAre, FrameStands, run_level, at_element, ElementHome, element_home, Found, operator_there, AbleActor, actor_of, gives_within, choice_is, most_in, length_cells, stored_world, ChangedCells, changed, TheLaws, PicturesBy, MayAct, Does, gave}
 use Rattle.algol_meaning.specs.Arrays.{with_element, flat}
 use Rattle.b67_ops.specs.declared.Operator.TheVariants as ops
 use Rattle.b67_ops.specs.declared.PlainKind.TheVariants as kinds
@@ -12,20 +12,19 @@ use Rattle.b67_deeds.specs.declared.Letter.TheVariants as letters
 use Rattle.b67_rows.proofs.IndexRows.{two_seen, stored_gives, stored_raw, stored_class}
 use Rattle.b67_frames.proofs.MadeArrays.{IsPast, past_values}
 use Rattle.b67_pictures.proofs.Alone.{IsAfter, after_choice}
-use Rattle.b67_pictures.proofs.Changing.{refers_fewer, own_pictured, other_pictured}
+use Rattle.b67_pictures.proofs.Changing.{refers_fewer, own_pictured, other_pictured, CellChange, PicturesElse}
 use Rattle.b67_rows.proofs.StackWords.{length-set}
 use Rattle.b67_frames.proofs.StoredCells.{made_stays}
-use Rattle.b67_frames.proofs.StoredElement.{element_stored, element_keeps}
-use Rattle.b67_scenes.proofs.StoringFrames.{changed}
+use Rattle.b67_frames.proofs.StoredElement.{element_stored, element_keeps, StoresElement}
+use Rattle.b67_pictures.proofs.Head.{Head}
+use Rattle.b67_pictures.proofs.InFrame.{GoesOnAbove}
 
-module _ (tree : PProgram) (code : Code) (texts : Texts) (fragments : FragmentsArePerformed) (kept : RestsKeepToTheirText) (order : AllIsMadeInOrder) (actor : AbleActor tree code texts) where
+module _ (tree : PProgram) (code : Code) (texts : Texts) (laws : TheLaws) (actor : AbleActor tree code texts) where
   open actor use {w, lay, img, p, q, part, outer, core, s, able_is, able_p}
 
-  module _ (r : Reference) (ks : List ℕ) (v : Value) (asks : ask part.rest ≡ stores (element_of r ks) v)
-      (a : ActionAt (scopes_of tree) (context_in tree code texts w part s.stands.frame.gives) (text_in tree texts w part) (level_in tree w part) (most_in tree w part) (stores (element_of r ks) v) s.stands.pc s.stands.slots)
-      (answered : (x : Answer) (at : ℕ) (left : List Slot) →
-      Acted (scopes_of tree) (context_in tree code texts w part s.stands.frame.gives) (text_in tree texts w part) (level_in tree w part) (most_in tree w part) (stores (element_of r ks) v) s.stands.pc s.stands.slots a x at left →
-      ComesTo (scopes_of tree) (context_in tree code texts w part s.stands.frame.gives) (text_in tree texts w part) (level_in tree w part) (most_in tree w part) (resume (scopes_of tree) part.rest x) at left) where
+  module _ (r : Reference) (ks : List ℕ) (v : Value) (head : Head tree code texts actor (stores (element_of r ks) v)) where
+    open head use {asks, action as a, answered}
+
     abbrev sc : Scopes
     sc = scopes_of tree
 
@@ -50,8 +49,20 @@ module _ (tree : PProgram) (code : Code) (texts : Texts) (fragments : FragmentsA
     there : operator_at code core.registers ≡ Ok (ops.Plain kinds.Stod, next)
     there = operator_there sc st.held code text level st.pc st.slots core (ops.Plain kinds.Stod) next st.there a.2.stands
 
-    module _ (x y : Word) (words : List Word) (top : core.words ≡ x ∷ y ∷ words) (x_is : ValueIs v x) (e : IsElement sc w lay (IsInReach w (part ∷ outer)) r ks a.2.kind y)
-        (left_are : SlotsAre sc st.held level (frame core.registers) (length core.below) below words) (h : ElementHome tree code texts (actor_of s) r ks a.2.kind y e) where
+    -- The value is on top of the stack, and the word below it names the element.
+    pub record ElementOnTop : Type 0 where
+      pub x : Word
+      pub y : Word
+      pub words : List Word
+      pub top : core.words ≡ x ∷ y ∷ words
+      pub x_is : ValueIs v x
+      pub element : IsElement sc w lay (IsInReach w (part ∷ outer)) r ks a.2.kind y
+      pub left_are : SlotsAre sc st.held level (frame core.registers) (length core.below) below words
+      pub home : ElementHome tree code texts (actor_of s) r ks a.2.kind y element
+
+    module _ (on_top : ElementOnTop) where
+      open on_top use {x, y, words, top, x_is, element as e, left_are, home as h}
+
       -- the instance of the array, whose frame lies in the stack
       abbrev i : ℕ
       i = h.lies.lies.part.instance
@@ -157,10 +168,29 @@ module _ (tree : PProgram) (code : Code) (texts : Texts) (fragments : FragmentsA
           past : IsPast first r.name
           past = past_values ss first values arrays r.name e.cell are means_all
 
+      abbrev stored_element : StoresElement sc w lay i
+      stored_element = record {
+        name = r.name;
+        declared = e.declared;
+        cell = e.cell;
+        allotted = e.allotted;
+        of = h.of;
+        subscripts = ks;
+        index = e.index;
+        at = e.at;
+        number = e.number;
+        within = e.within;
+        part = e.part;
+        value = v;
+        word = x;
+        fits = fits;
+        is = x_is;
+      }
+
       keeps : KeepsArrays sc w stored lay lay i
       keeps =
           subst (λ (u : World). KeepsArrays sc w u lay lay i) stored_is
-          (element_keeps sc w lay img.rows s.by.arrays i instance own r.name e.declared e.cell e.allotted h.of ks e.index e.at e.number e.within e.part v x fits x_is i)
+          (element_keeps sc w lay img.rows s.by.arrays i instance own stored_element i)
 
       -- ---- the core after it
 
@@ -211,7 +241,7 @@ module _ (tree : PProgram) (code : Code) (texts : Texts) (fragments : FragmentsA
       arrays_after =
           arrays_unchanged sc stored w' lay rows' refl
           (subst (λ (u : World). ArraysAre sc u lay rows') stored_is
-          (element_stored sc w lay img.rows s.by.arrays i instance own r.name e.declared e.cell e.allotted h.of ks e.index e.at e.number e.within e.part v x fits x_is))
+          (element_stored sc w lay img.rows s.by.arrays i instance own stored_element))
 
       events_after : EventsAre sc w' lay img.events
       events_after =
@@ -220,26 +250,76 @@ module _ (tree : PProgram) (code : Code) (texts : Texts) (fragments : FragmentsA
       after_so : MayAct sc w p → IsAfter sc w w' p
       after_so may = after_choice sc w w' p q (facts_of sc w s.ok) may s.at (ap (λ (c : Choice). c.world) chosen)
 
+      abbrev onward : GoesOnAbove tree code texts (actor_of s)
+      onward = record {
+        unmade = unmade part.rest (ap makes asks);
+        answer = done;
+        nameless = tt;
+        words = words;
+        registers = new.registers;
+        frame_is = record { is = refl };
+        pc = next;
+        slots = below;
+        there = core_at;
+        few = held;
+        comes = answered done next below (refl, refl);
+      }
+
+      abbrev change : CellChange tree code texts laws (actor_of s)
+      change = record {
+        i = i;
+        found = found;
+        x = instance;
+        at = instance_there;
+        with_cells = cells';
+        far = 0;
+        word = None;
+        many = many;
+        short = λ set. absurd set;
+        low = λ set. absurd set;
+        keeps = keeps;
+        fewer = refers_fewer instance.cells r.name (array later) refl;
+        changes = changes;
+      }
+
+      abbrev elsewhere : (may : MayAct sc w p) → PicturesElse tree code texts laws (actor_of s) onward change smaller able_is q.state
+      elsewhere may = record {
+        base = img';
+        same = with_other_rows;
+        stacks = refl;
+        after = after_so may;
+        arrays = arrays_after;
+        events = events_after;
+        list_same = refl;
+        lists = refl;
+        numbers = refl;
+        awaiting = s.by.waits.awaiting;
+        output = refl;
+        fault = refl;
+        started = refl;
+        regs = refl;
+        many_states = refl;
+        states = λ m other. refl;
+        lives_so = able_is;
+        state_is = able_p;
+      }
+
       -- in the process's own stack, or in another's
       pictured : MayAct sc w p → PicturesBy tree code texts w' lay after
       pictured may = by_number (same_or_not found.number p)
         where
           by_number : (found.number ≡ p) ⊎ (found.number ≢ p) → PicturesBy tree code texts w' lay after
           by_number (inl here) =
-              own_pictured tree code texts fragments kept order (actor_of s) (unmade part.rest (ap makes asks)) done tt i found instance instance_there cells' 0 None many (λ set. absurd set) (λ set. absurd set) keeps
-              (refers_fewer instance.cells r.name (array later) refl) changes words new.registers (record { is = refl }) next below core_at held (answered done next below (refl, refl)) smaller able_is q.state img' with_other_rows refl (after_so may)
-              arrays_after events_after refl refl refl s.by.waits.awaiting refl refl refl refl refl (λ m other. refl) able_is able_p here
+              own_pictured tree code texts laws (actor_of s) onward change smaller able_is q.state (elsewhere may) here
           by_number (inr other) =
-              other_pictured tree code texts fragments kept order (actor_of s) (unmade part.rest (ap makes asks)) done tt i found instance instance_there cells' 0 None many (λ set. absurd set) (λ set. absurd set) keeps
-              (refers_fewer instance.cells r.name (array later) refl) changes words new.registers (record { is = refl }) next below core_at held (answered done next below (refl, refl)) smaller able_is q.state img' with_other_rows refl (after_so may)
-              arrays_after events_after refl refl refl s.by.waits.awaiting refl refl refl refl refl (λ m other. refl) able_is able_p other
+              other_pictured tree code texts laws (actor_of s) onward change smaller able_is q.state (elsewhere may) other
 
       does : Does tree code texts w img p
       does =
           let is : table code img p ≡ outcomes.gives after =
           gives_within code img after p new.registers raw_is (registers_now img' p core new has' refl) (omega (arith, smaller, is_new.top)) in
-          gave after (action_not_plain code img p core s.has (ops.Plain kinds.Stod) next there (stored_class core.registers.place)) is
-          (action_is code img p core s.has (ops.Plain kinds.Stod) next there (outcomes.gives after) is ∙ stored_here ∙ ap (λ (c : Choice). Some c.action) (sym chosen))
+          gave after (action_not_plain code (ops.Plain kinds.Stod) (at_operator s.has there) (stored_class core.registers.place)) is
+          (action_is code (ops.Plain kinds.Stod) (at_operator s.has there) (outcomes.gives after) is ∙ stored_here ∙ ap (λ (c : Choice). Some c.action) (sym chosen))
           (λ may. (lay, subst (λ (c : Choice). PicturesBy tree code texts c.world lay after) (sym chosen) (pictured may)))
 
     pub element_storing : Does tree code texts w img p
@@ -250,5 +330,13 @@ module _ (tree : PProgram) (code : Code) (texts : Texts) (fragments : FragmentsA
         top_slot sc st.held level (frame core.registers) (length core.below) (descriptor (element r ks a.2.kind) ∷ below) (descriptor (element r ks a.2.kind)) below first.words_below first.are refl in
         let e : IsElement sc w lay (IsInReach w (part ∷ outer)) r ks a.2.kind second.word =
         known_is sc w lay (IsInReach w (part ∷ outer)) part.instance st.held st.held_are (element r ks a.2.kind) second.word second.slot_is in
-        does first.word second.word second.words_below (first.is ∙ ap (λ (ws : List Word). first.word ∷ ws) second.is) first.slot_is e second.are
-        (element_home tree code texts (actor_of s) r ks a.2.kind second.word e)
+        does (record {
+          x = first.word;
+          y = second.word;
+          words = second.words_below;
+          top = first.is ∙ ap (λ (ws : List Word). first.word ∷ ws) second.is;
+          x_is = first.slot_is;
+          element = e;
+          left_are = second.are;
+          home = element_home tree code texts (actor_of s) r ks a.2.kind second.word e;
+        })

@@ -26,7 +26,7 @@ module _ (tree : PProgram) (code : Code) (texts : Texts) (closing : FramesClose)
         by_task free None none = ending_alone tree code texts closing actor owns asks a free none
         by_task free (Some r) has =
             let told : (there : Place) × (core.registers.task ≡ Some there) × IsEventAt (scopes_of tree) w lay r there = task_of (Some r) has in
-            ending_with_task tree code texts closing actor owns alive free r has told.0 told.1 told.2 asks a
+            ending_with_task tree code texts closing actor (record { owns = owns; alive = alive; free = free; reference = r; has_task = has; task = told.0; tasked = told.1; event_there = told.2; asks = asks; action = a })
 
         by_case : (b : Bool) → some_depends w.processes part.instance ≡ b → Does tree code texts w img p
         by_case true depends = blocks depends
@@ -42,4 +42,4 @@ module _ (tree : PProgram) (code : Code) (texts : Texts) (closing : FramesClose)
             (subst (λ (c : Choice). ReleasesNone q.task c) (sym (blocked_choice tree code texts (actor_of s) owns depends done asks)) (record { none = refl; calm = refl; idle = tt })) (blocks depends)
         by_case false free =
             let told : (there : Place) × (core.registers.task ≡ Some there) × IsEventAt (scopes_of tree) w lay r there = task_of (Some r) has in
-            λ no_limit. end_frees tree code texts closing actor owns alive free r has told.0 told.1 told.2 asks a
+            λ no_limit. end_frees tree code texts closing actor (record { owns = owns; alive = alive; free = free; reference = r; has_task = has; task = told.0; tasked = told.1; event_there = told.2; asks = asks; action = a })

@@ -1,6 +1,6 @@
 -- EXIT of the base frame of a process with a task: what it comes to, and whom it releases.
-use Rattle.std.proofs.Common.{◌≡◌, refl, ap, ◌∙◌, ℕ, ◌+◌, List, [], ◌∷◌, ◌++◌, length, take, drop, Option, Some, Bool, false, Ok, append-nil}
-use Rattle.b67_pictures.proofs.Prelude.{if◌then◌else◌, reverse, numbered, set_numbered, caused, Word, Place, Registers, Code, Rows, words_of, Event, closed_from, waiters_at, event_changed, with_state, unlisted, gives, Image, with_rows, arrays_closed, is_critical, frame, Program, Change, asked, answer, live_criticals, operator_at, able_again, told_positions, Ended, registers_releases, Core, HasCore, words_are, ended_at}
+use Rattle.std.proofs.Common.{◌≡◌, refl, ap, ◌∙◌, ℕ, ◌+◌, List, [], ◌∷◌, ◌++◌, length, take, drop, Option, Some, Bool, false, append-nil}
+use Rattle.b67_pictures.proofs.Prelude.{if◌then◌else◌, reverse, numbered, set_numbered, caused, Word, Place, Registers, Code, Rows, words_of, Event, closed_from, waiters_at, event_changed, with_state, unlisted, gives, Image, with_rows, arrays_closed, is_critical, frame, Program, Change, asked, answer, live_criticals, able_again, told_positions, Ended, registers_releases, Core, AtOperator, words_are, ended_at}
 use Rattle.std.specs.Prelude.{nat_eq}
 use Rattle.b67_num.specs.declared.FaultKind.TheVariants.{CriticalBlockExit}
 use Rattle.b67_ops.specs.declared.Operator.TheVariants as ops
@@ -19,10 +19,24 @@ use Rattle.b67_letters.specs.Releases.{change_releases, effect_releases, fetched
 use Rattle.b67_rows.proofs.StackWords.{take-seam}
 use Rattle.b67_frames.proofs.ExitRow.{exit_causes}
 
-module _ (code : Code) (img : Image) (p : ℕ) (core : Core) (has : HasCore img p core) (next : ℕ) (at : operator_at code core.registers ≡ Ok (ops.Plain kinds.Exit, next))
-    (mark control : Word) (cells : List Word) (below : core.below ≡ mark ∷ control ∷ cells) (counted : core.registers.cells ≡ length cells) (base : frame core.registers ≡ 0)
-    (rows : Rows) (closed : (q : ℕ) (more : Change) → changed q (arrays_closed cells more) img ≡ changed q more (with_rows img rows)) (free : is_critical core.registers.stack (0 ∷ []) (live_criticals img.states img.regs) ≡ false)
-    (task : Place) (tasked : core.registers.task ≡ Some task) where
+-- What EXIT finds at the last frame of a process that has a task.
+pub record ExitsLast (img : Image) (core : Core) : Type 0 where
+  pub mark : Word
+  pub control : Word
+  pub cells : List Word
+  pub below : core.below ≡ mark ∷ control ∷ cells
+  pub counted : core.registers.cells ≡ length cells
+  pub base : frame core.registers ≡ 0
+  pub rows : Rows
+  pub closed : (q : ℕ) (more : Change) → changed q (arrays_closed cells more) img ≡ changed q more (with_rows img rows)
+  pub free : is_critical core.registers.stack (0 ∷ []) (live_criticals img.states img.regs) ≡ false
+  pub task : Place
+  pub tasked : core.registers.task ≡ Some task
+
+module _ (code : Code) (here : AtOperator code (ops.Plain kinds.Exit)) (exits : ExitsLast here.img here.core) where
+  open here use {img, p, core, has, next, there as at}
+  open exits use {mark, control, cells, below, counted, base, rows, closed, free, task, tasked}
+
   abbrev r : Registers
   r = core.registers
 
@@ -40,7 +54,7 @@ module _ (code : Code) (img : Image) (p : ℕ) (core : Core) (has : HasCore img 
       }
 
   pub caused_raw : raw code img p ≡ gives caused_at
-  caused_raw = exit_causes code img p core has next at mark control cells below counted base rows closed free task tasked
+  caused_raw = exit_causes code here mark control cells below counted base rows closed free task tasked
 
   -- ---- whom it releases
 

@@ -1,6 +1,6 @@
 -- The end of a process: its last part is left; where it has no task, nothing else changes.
 use Rattle.std.proofs.Common.{◌≡◌, ◌≢◌, refl, sym, ap, ◌∙◌, subst, ℕ, zero, suc, ◌≤◌, List, [], ◌∷◌, ◌++◌, length, Option, Some, None, Bool, true, Ok, arith, false, ◌⊎◌, inl, inr}
-use Rattle.b67_pictures.proofs.Prelude.{if◌then◌else◌, numbered, IsListed, End, PProgram, Scopes, scopes_of, Ask, leaves, ask, Choice, choice, choice_of, left_with, left_or_ended, ended_releasing, fails, some_depends, is_evaluation, caused_by_end, list_in, leave, done, Reference, Instance, Process, Part, ended, World, instance_at, with_instance, with_process, is_able, process_at, IsOwn, Word, Place, Registers, OUTER_LEVEL, Code, Stacks, stack_at, stack_limit, is_from, closed_from, waiters_at, Image, is_live, is_critical, frame, live_criticals, operator_at, ProcessState, Ended, Texts, ActionAt, Core, HasCore, length_set_numbered, none_some, numbered_set, numbered_other, IsSameBut, same_but, action_not_plain, arrays_unchanged, IsClosed, FramesClose, events_left, events_unchanged, IsElsewhere, event_outside, ended_at, exit_class, exit_action, HasFacts, facts_of, owned_frame, ArraysAre, EventsAre, Owned, AreLaid, all_laid, operator_there, idle_list, idle_nowhere, LeavesAlone, AreAlike, alike_but, frame_is, actor_of, OutmostActor, state_there, choice_is, comes_to, gives_within, process_is, text_in, level_in, context_in, most_in, EventsStay, awaiting_beside, fewer_closed, waits_still, held_of, TaskIs, Pictures, dead, PicturesBy, WaitsAre, Does, gave}
+use Rattle.b67_pictures.proofs.Prelude.{if◌then◌else◌, numbered, IsListed, End, PProgram, Scopes, scopes_of, Ask, leaves, ask, Choice, choice, choice_of, left_with, left_or_ended, ended_releasing, fails, some_depends, is_evaluation, caused_by_end, list_in, leave, done, Reference, Instance, Process, Part, ended, World, instance_at, with_instance, with_process, is_able, process_at, IsOwn, Word, Place, Registers, OUTER_LEVEL, Code, Stacks, stack_at, stack_limit, is_from, closed_from, waiters_at, Image, is_live, is_critical, frame, live_criticals, operator_at, ProcessState, Ended, Texts, ActionAt, Core, HasCore, length_set_numbered, none_some, at_operator, numbered_set, numbered_other, IsSameBut, same_but, action_not_plain, arrays_unchanged, IsClosed, FramesClose, events_left, events_unchanged, IsElsewhere, event_outside, ended_at, exit_class, exit_action, HasFacts, facts_of, owned_frame, ArraysAre, EventsAre, Owned, AreLaid, all_laid, operator_there, idle_list, idle_nowhere, LeavesAlone, AreAlike, alike_but, frame_is, actor_of, OutmostActor, state_there, choice_is, comes_to, gives_within, process_is, text_in, level_in, context_in, most_in, EventsStay, awaiting_beside, fewer_closed, waits_still, held_of, TaskIs, Pictures, dead, PicturesBy, WaitsAre, Does, gave}
 use Rattle.b67_num.specs.declared.FaultKind.TheVariants as fault
 use Rattle.b67_ops.specs.declared.Operator.TheVariants as ops
 use Rattle.b67_ops.specs.declared.PlainKind.TheVariants as kinds
@@ -198,15 +198,15 @@ module _ (tree : PProgram) (code : Code) (texts : Texts) (closing : FramesClose)
           table_is : table code img p ≡ outcomes.gives after
           table_is =
               gives_within code img after p left
-              (exit_raw code img p core s.has a.0 there s.stands.frame.mark s.stands.frame.control s.stands.frame.cells below_is s.stands.counted base shut.rows shut.changes critical_free idle)
+              (exit_raw code (at_operator s.has there) s.stands.frame.mark s.stands.frame.control s.stands.frame.cells below_is s.stands.counted base shut.rows shut.changes critical_free idle)
               (numbered_set img.regs p core.registers left s.has.registers) fits
 
           pub ending_alone : Does tree code texts w img p
           ending_alone =
               gave after
-              (action_not_plain code img p core s.has (ops.Plain kinds.Exit) a.0 there
-              (exit_class code img p core s.has a.0 there s.stands.frame.mark s.stands.frame.control s.stands.frame.cells below_is s.stands.counted base shut.rows shut.changes critical_free))
+              (action_not_plain code (ops.Plain kinds.Exit) (at_operator s.has there)
+              (exit_class code (at_operator s.has there) s.stands.frame.mark s.stands.frame.control s.stands.frame.cells below_is s.stands.counted base shut.rows shut.changes critical_free))
               table_is
-              (exit_action code img p core s.has a.0 there s.stands.frame.mark s.stands.frame.control s.stands.frame.cells below_is s.stands.counted base shut.rows shut.changes critical_free after table_is
+              (exit_action code (at_operator s.has there) s.stands.frame.mark s.stands.frame.control s.stands.frame.cells below_is s.stands.counted base shut.rows shut.changes critical_free after table_is
               ∙ ap (λ (c : Choice). Some c.action) (sym chosen))
               (λ may. subst (λ (c : Choice). Pictures tree code texts c.world after) (sym chosen) (lay, pictured may.able (after_choice sc w w' p q facts may s.at (ap (λ (c : Choice). c.world) chosen))))

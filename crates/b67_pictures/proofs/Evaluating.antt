@@ -1,8 +1,8 @@
 -- Accidental entry: VALC or EVAL enters the code of the actual that a parameter's cell names, and the part waits for its value or its place.
 use Rattle.std.proofs.Common.{◌≡◌, refl, sym, ap, ◌∙◌, subst, ℕ, ◌+◌, ◌<◌, ◌≤◌, List, [], ◌∷◌, length, Option, Some, Ok, Bool, true, false, arith}
-use Rattle.b67_pictures.proofs.Prelude.{if◌then◌else◌, numbered, NotAVariable, block_numbered, level_of, PProgram, Scopes, scopes_of, Kind, Named, Ask, nothing, reads, resolves, ask, resume, located_of, choice_of, read_of, resolved_of, is_subscripted, opens, fails, Answer, settle_actual_place, Cell, Instance, name_place, instance_at, or_no_instance, BlockIsSeen, RestsKeepToTheirText, AllIsMadeInOrder, segment_of, Word, Place, as_pcw-pcw_word, as_sirw, as_pcw, pcw_word, Irw, Pcw, Couple, Code, place, frame, irw_or_sirw, cell_of, couple_cell, operator_at, has_place, in_routine, Yields, depth, LiesNested, Texts, context_of, Acted, ActionAt, Entered, Gives, pushed, selected, ComesTo, Slot, newest, FragmentsArePerformed, IsShortSegment, place_reached_class, Reaches, reached_through, value_reached_class, action_not_plain, action_is, HaveTexts, makes, unmade, pcw_refers_nothing, most_around, Takes, routine_of, Found, operator_there, ActualNamed, AbleActor, Actor, actor_of, choice_is, text_in, level_in, context_in, most_in, Does}
+use Rattle.b67_pictures.proofs.Prelude.{if◌then◌else◌, numbered, NotAVariable, block_numbered, level_of, PProgram, Scopes, scopes_of, Kind, Named, Ask, reads, resolves, located_of, choice_of, read_of, resolved_of, is_subscripted, opens, fails, settle_actual_place, Cell, Instance, name_place, instance_at, or_no_instance, BlockIsSeen, segment_of, Word, Place, as_pcw-pcw_word, as_sirw, as_pcw, pcw_word, Irw, Pcw, Couple, Code, place, frame, irw_or_sirw, cell_of, couple_cell, operator_at, has_place, in_routine, Yields, depth, LiesNested, Texts, context_of, selected, ComesTo, Slot, newest, IsShortSegment, at_operator, place_reached_class, Reaches, reached_through, value_reached_class, action_not_plain, action_is, HaveTexts, makes, unmade, pcw_refers_nothing, most_around, routine_of, Found, operator_there, ActualNamed, AbleActor, Actor, actor_of, choice_is, text_in, level_in, TheLaws, Does}
+use Rattle.b67_scenes.proofs.ActualEntries.{Takes}
 use Rattle.algol_meaning.specs.Asks.{evaluated_of}
-use Rattle.algol_meaning.specs.Rest.{entered}
 use Rattle.algol_meaning.specs.Settle.{settle}
 use Rattle.algol_meaning.specs.World.{name_read}
 use Rattle.algol_paths.specs.Texts.{InExpr}
@@ -20,6 +20,7 @@ use Rattle.b67_scenes.proofs.ActualEntries as entries
 use Rattle.b67_scenes.proofs.ActualHomes.{same_place}
 use Rattle.b67_pictures.proofs.EvaluationEntering.{Evaluation, Awaits, entering_evaluation}
 use Rattle.b67_pictures.proofs.Resolving.{FindsName, finds_name}
+use Rattle.b67_pictures.proofs.Head.{At, WaitsAfter, ReturnsAfter, Head}
 
 -- what the entry of an actual's code needs of the code of the program: it is short, and stands in its segments; from the start of the code of
 -- an actual the machine comes to where it stands for its value and for its place, and has room for that; and a frame may be lent
@@ -29,34 +30,6 @@ pub record ActualsAreEntered (tree : PProgram) (code : Code) (texts : Texts) : T
   pub values : RoutinesGiveValues
   pub places : RoutinesGivePlaces
   pub have_room : ActualsHaveRoom tree
-
--- ---- what waits
-
-module _ (tree : PProgram) (code : Code) (texts : Texts) (actor : Actor tree code texts) where
-  open actor use {w, part, s}
-
-  abbrev pub At : Ask → Type 0
-  At k = ActionAt (scopes_of tree) (context_in tree code texts w part s.stands.frame.gives) (text_in tree texts w part) (level_in tree w part) (most_in tree w part) k s.stands.pc s.stands.slots
-
-  abbrev pub EntersAt : (k : Ask) → At k → ℕ → List Slot → Yields → Type 0
-  EntersAt k a at after wanted = Entered (scopes_of tree) (context_in tree code texts w part s.stands.frame.gives) (text_in tree texts w part) (level_in tree w part) (most_in tree w part) k s.stands.pc s.stands.slots a at after wanted
-
-  -- where each answer leads, the machine stands for what is left
-  abbrev pub AnswersAfter : (k : Ask) → At k → Type 0
-  AnswersAfter k a =
-      (r : Answer) (at : ℕ) (left : List Slot) →
-      Acted (scopes_of tree) (context_in tree code texts w part s.stands.frame.gives) (text_in tree texts w part) (level_in tree w part) (most_in tree w part) k s.stands.pc s.stands.slots a r at left →
-      ComesTo (scopes_of tree) (context_in tree code texts w part s.stands.frame.gives) (text_in tree texts w part) (level_in tree w part) (most_in tree w part) (resume (scopes_of tree) part.rest r) at left
-
-  -- the part waits after the entry, and goes on with what is wanted
-  abbrev pub WaitsAfter : (k : Ask) → At k → Type 0
-  WaitsAfter k a = (at : ℕ) (after : List Slot) (wanted : Yields) → EntersAt k a at after wanted → ask (resume (scopes_of tree) part.rest entered) ≡ nothing
-
-  abbrev pub ReturnsAfter : (k : Ask) → At k → Type 0
-  ReturnsAfter k a =
-      (at : ℕ) (after : List Slot) (wanted : Yields) → EntersAt k a at after wanted → (r : Answer) → Gives wanted r →
-      ComesTo (scopes_of tree) (context_in tree code texts w part s.stands.frame.gives) (text_in tree texts w part) (level_in tree w part) (most_in tree w part) (resume (scopes_of tree) (resume (scopes_of tree) part.rest entered) r) at
-      (pushed wanted r after)
 
 -- ---- the actual
 
@@ -135,8 +108,7 @@ module _ (tree : PProgram) (code : Code) (texts : Texts) (nested : LiesNested tr
 
 -- ---- the entry
 
-module _ (tree : PProgram) (code : Code) (texts : Texts) (nested : LiesNested tree) (actuals : ActualsAreEntered tree code texts) (fragments : FragmentsArePerformed) (keeps : RestsKeepToTheirText) (order : AllIsMadeInOrder)
-    (actor : AbleActor tree code texts) where
+module _ (tree : PProgram) (code : Code) (texts : Texts) (nested : LiesNested tree) (actuals : ActualsAreEntered tree code texts) (laws : TheLaws) (actor : AbleActor tree code texts) where
   open actor use {w, img, p, q, part, outer, core, s}
 
   module _ (n : Named) where
@@ -153,11 +125,13 @@ module _ (tree : PProgram) (code : Code) (texts : Texts) (nested : LiesNested tr
     TakesHere next taken more waiting = Takes tree code texts nested actuals.short actuals.stand (actor_of s) next taken more waiting
 
     abbrev AwaitsHere : ℕ → List Slot → Yields → Type 0
-    AwaitsHere next waiting gives = Awaits tree code texts nested actuals.short actuals.stand fragments keeps order actor next waiting gives
+    AwaitsHere next waiting gives = Awaits tree code texts nested actuals.short actuals.stand laws actor next waiting gives
 
     -- VALC
 
-    module _ (asks : ask part.rest ≡ reads n) (a : At tree code texts (actor_of s) (reads n)) (waits : WaitsHere (reads n) a) (returns : ReturnsHere (reads n) a) (h : IsNamed a.0 a.2.0) where
+    module _ (head : Head tree code texts actor (reads n)) (h : IsNamed head.action.0 head.action.2.0) where
+      open head use {asks, action as a, waits, returns}
+
       valc_there : operator_at code core.registers ≡ Ok (ops.Valc a.2.0, a.1)
       valc_there = operator_there (scopes_of tree) s.stands.held code (text_in tree texts w part) (level_in tree w part) s.stands.pc s.stands.slots core (ops.Valc a.2.0) a.1 s.stands.there a.2.2
 
@@ -186,6 +160,21 @@ module _ (tree : PProgram) (code : Code) (texts : Texts) (nested : LiesNested tr
           (to tree code texts nested actuals (actor_of s) n a.0 a.2.0 h)
       value_reached = control_reached tree code texts nested actuals (actor_of s) n a.0 a.2.0 h
 
+      abbrev value_entry : entries.ActualEntry tree code texts nested actuals.short actuals.stand (actor_of s)
+      value_entry = record {
+        next = a.1;
+        taken = [];
+        more = core.words;
+        waiting = s.stands.slots;
+        takes = none_taken;
+        instance = h.a.instance;
+        actual = h.a.actual;
+        kind = a.0;
+        word = h.home.word;
+        denotes = h.denotes;
+        home = h.actual;
+      }
+
       pub evaluating_value : Does tree code texts w img p
       evaluating_value =
           let x : Word = pcw_word (control tree code texts nested actuals (actor_of s) n a.0 a.2.0 h) in
@@ -193,19 +182,27 @@ module _ (tree : PProgram) (code : Code) (texts : Texts) (nested : LiesNested tr
           let first : cells.Cell = from tree code texts nested actuals (actor_of s) n a.0 a.2.0 h in
           let second : cells.Cell = to tree code texts nested actuals (actor_of s) n a.0 a.2.0 h in
           let read : as_pcw x ≡ Some c = control_read tree code texts nested actuals (actor_of s) n a.0 a.2.0 h in
-          let row = entries.evaluates tree code texts nested actuals.short actuals.stand (actor_of s) a.1 [] core.words s.stands.slots none_taken h.a.instance h.a.actual a.0 h.home.word h.denotes h.actual in
-          entering_evaluation tree code texts nested actuals.short actuals.stand fragments keeps order actor a.1 [] core.words s.stands.slots none_taken h.a.instance h.a.actual a.0
-          h.home.word h.denotes h.actual name_read (value a.0) false (evaluated_of (settle (scopes_of tree) h.a.actual)) (value_evaluation tree code texts nested actuals (actor_of s) n a.0 a.2.0 h) value_awaited
-          (action_not_plain code img p core s.has (ops.Valc a.2.0) a.1 valc_there (value_reached_class code img p core s.has a.2.0 a.1 valc_there first second cell_shown x value_reached))
-          (value_entered_raw code img p core s.has a.2.0 a.1 valc_there first second cell_shown x value_reached c read refl _ row)
+          let row = entries.evaluates tree code texts nested actuals.short actuals.stand (actor_of s) value_entry in
+          entering_evaluation tree code texts nested actuals.short actuals.stand laws actor (record {
+            entry = value_entry;
+            purpose = name_read;
+            gives = value a.0;
+            selector = false;
+            rest = evaluated_of (settle (scopes_of tree) h.a.actual);
+            evaluation = value_evaluation tree code texts nested actuals (actor_of s) n a.0 a.2.0 h;
+            behind = value_awaited;
+          })
+          (action_not_plain code (ops.Valc a.2.0) (at_operator s.has valc_there) (value_reached_class code a.2.0 (at_operator s.has valc_there) first second cell_shown x value_reached))
+          (value_entered_raw code a.2.0 (at_operator s.has valc_there) first second cell_shown x value_reached c read refl _ row)
           (choice_is (scopes_of tree) w p q part outer s.at s.todo ∙ ap (λ (k : Ask). choice_of (scopes_of tree) w p q part outer k) asks ∙ ap (λ (k : Cell). read_of (scopes_of tree) w p q part outer k) h.cell_is)
-          (λ t. action_is code img p core s.has (ops.Valc a.2.0) a.1 valc_there _ t
-          ∙ (value_entered_letter code img p core s.has a.2.0 a.1 valc_there first second cell_shown x value_reached c read refl _ row))
+          (λ t. action_is code (ops.Valc a.2.0) (at_operator s.has valc_there) _ t
+          ∙ (value_entered_letter code a.2.0 (at_operator s.has valc_there) first second cell_shown x value_reached c read refl _ row))
 
     -- EVAL, of an actual that is subscripted
 
-    module _ (asks : ask part.rest ≡ resolves n) (a : At tree code texts (actor_of s) (resolves n)) (waits : WaitsHere (resolves n) a) (returns : ReturnsHere (resolves n) a) (h : IsNamed a.0 a.3.couple)
-        (is : is_subscripted h.a.actual ≡ true) where
+    module _ (head : Head tree code texts actor (resolves n)) (h : IsNamed head.action.0 head.action.3.couple) (is : is_subscripted h.a.actual ≡ true) where
+      open head use {asks, action as a, waits, returns}
+
       eval_there : operator_at code core.registers ≡ Ok (ops.Plain kinds.Eval, a.1)
       eval_there = operator_there (scopes_of tree) s.stands.held code (text_in tree texts w part) (level_in tree w part) s.stands.pc s.stands.slots core (ops.Plain kinds.Eval) a.1 s.stands.there a.3.stands
 
@@ -242,6 +239,21 @@ module _ (tree : PProgram) (code : Code) (texts : Texts) (nested : LiesNested tr
           (to tree code texts nested actuals (actor_of s) n a.0 a.3.couple h)
       place_reached = control_reached tree code texts nested actuals (actor_of s) n a.0 a.3.couple h
 
+      abbrev place_entry : entries.ActualEntry tree code texts nested actuals.short actuals.stand (actor_of s)
+      place_entry = record {
+        next = a.1;
+        taken = finds.top.word ∷ [];
+        more = finds.top.words_below;
+        waiting = a.2;
+        takes = one_taken;
+        instance = h.a.instance;
+        actual = h.a.actual;
+        kind = a.0;
+        word = h.home.word;
+        denotes = h.denotes;
+        home = h.actual;
+      }
+
       pub evaluating_place : Does tree code texts w img p
       evaluating_place =
           let x : Word = pcw_word (control tree code texts nested actuals (actor_of s) n a.0 a.3.couple h) in
@@ -250,18 +262,24 @@ module _ (tree : PProgram) (code : Code) (texts : Texts) (nested : LiesNested tr
           let second : cells.Cell = to tree code texts nested actuals (actor_of s) n a.0 a.3.couple h in
           let read : as_pcw x ≡ Some c = control_read tree code texts nested actuals (actor_of s) n a.0 a.3.couple h in
           let row =
-          entries.evaluates tree code texts nested actuals.short actuals.stand (actor_of s) a.1 (finds.top.word ∷ []) finds.top.words_below a.2 one_taken h.a.instance h.a.actual a.0 h.home.word h.denotes h.actual in
-          entering_evaluation tree code texts nested actuals.short actuals.stand fragments keeps order actor a.1 (finds.top.word ∷ []) finds.top.words_below a.2 one_taken
-          h.a.instance h.a.actual a.0 h.home.word h.denotes h.actual name_place (element a.0) true (located_of (settle_actual_place (scopes_of tree) h.a.actual))
-          (place_evaluation tree code texts nested actuals (actor_of s) n a.0 a.3.couple h has_a_place) place_awaited
-          (action_not_plain code img p core s.has (ops.Plain kinds.Eval) a.1 eval_there
-          (place_reached_class code img p core s.has a.1 eval_there finds.top.word finds.top.words_below finds.top.is first second name_on_top x place_reached))
-          (place_entered_raw code img p core s.has a.1 eval_there finds.top.word finds.top.words_below finds.top.is first second name_on_top x place_reached c read has_a_place _ row)
+          entries.evaluates tree code texts nested actuals.short actuals.stand (actor_of s) place_entry in
+          entering_evaluation tree code texts nested actuals.short actuals.stand laws actor (record {
+            entry = place_entry;
+            purpose = name_place;
+            gives = element a.0;
+            selector = true;
+            rest = located_of (settle_actual_place (scopes_of tree) h.a.actual);
+            evaluation = place_evaluation tree code texts nested actuals (actor_of s) n a.0 a.3.couple h has_a_place;
+            behind = place_awaited;
+          })
+          (action_not_plain code (ops.Plain kinds.Eval) (at_operator s.has eval_there)
+          (place_reached_class code (at_operator s.has eval_there) finds.top.word finds.top.words_below finds.top.is first second name_on_top x place_reached))
+          (place_entered_raw code (at_operator s.has eval_there) finds.top.word finds.top.words_below finds.top.is first second name_on_top x place_reached c read has_a_place _ row)
           (choice_is (scopes_of tree) w p q part outer s.at s.todo
           ∙ ap (λ (k : Ask). choice_of (scopes_of tree) w p q part outer k) asks
           ∙ ap (λ (k : Cell). resolved_of (scopes_of tree) w p q part outer n k) h.cell_is
           ∙ ap
           (λ (b : Bool). if b then opens (scopes_of tree) w p q part outer w (record { instance = h.a.instance; purpose = name_place; rest = located_of (settle_actual_place (scopes_of tree) h.a.actual) })
           else fails (scopes_of tree) w p q part outer NotAVariable) is)
-          (λ t. action_is code img p core s.has (ops.Plain kinds.Eval) a.1 eval_there _ t
-          ∙ (place_entered_letter code img p core s.has a.1 eval_there finds.top.word finds.top.words_below finds.top.is first second name_on_top x place_reached c read has_a_place _ row))
+          (λ t. action_is code (ops.Plain kinds.Eval) (at_operator s.has eval_there) _ t
+          ∙ (place_entered_letter code (at_operator s.has eval_there) finds.top.word finds.top.words_below finds.top.is first second name_on_top x place_reached c read has_a_place _ row))

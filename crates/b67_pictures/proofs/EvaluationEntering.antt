@@ -1,6 +1,6 @@
 -- An evaluation is entered: a part that evaluates an actual has a frame without cells above the words of the part around, which waits. No instance is made.
 use Rattle.std.proofs.Common.{◌≡◌, ◌⊎◌, inl, inr, refl, sym, ap, ◌∙◌, subst, ℕ, zero, suc, ◌+◌, ◌-◌, ◌*◌, ◌≤◌, ◌<◌, List, [], ◌∷◌, length, Some, Bool, true, false, arith, None}
-use Rattle.b67_pictures.proofs.Prelude.{if◌then◌else◌, slice_get, numbered, Enter, block_numbered, level_of, PProgram, Scopes, scopes_of, Kind, nothing, ask, resume, Choice, choice, is_evaluation, Rest, Answer, Instance, Process, Part, Purpose, World, instance_at, or_no_instance, ancestor, with_process, all_to_make, all_left_to_make, KeepsToText, RestsKeepToTheirText, AllIsMadeInOrder, segment_of, newest_own, Word, Place, place_at, Placed, Code, stack_limit, place, entered_mark, control_word, frame, plain, letter, has_place, in_routine, Yields, depth, LiesNested, Texts, context_of, Gives, pushed, selected, ComesTo, Slot, slots_length, Core, size, IsCore, HasCore, with_core, newest, SlotsAre, CoreAt, FragmentsArePerformed, length_set_numbered, IsShortSegment, tokens_around, part_weight, weight, parts_weight, has_now, others_have, system_stays, shown, lower_of, numbered_set, most_or_more, HaveTexts, arrays_unchanged, events_unchanged, HasFacts, facts_of, keeps_same, Linked, StayBelow, top_still, StandOn, frame_resumed, AreKnown, IsInReach, most_around, run_level, IsChained, Frame, Waits, Around, of_lent, Lent, Takes, AreLaid, all_laid, Found, found_laid, alike_by, steps_none, living_of, AbleActor, actor_of, gives_within, limit_beyond, goes_on, weight_of, text_in, level_in, context_in, most_in, FrameStill, frame_still, still_low, parts_weigh, known_stays, task_stays, state_stays, events_same, Living, Pictures, PicturesBy, Does, gave, stopped}
+use Rattle.b67_pictures.proofs.Prelude.{if◌then◌else◌, slice_get, numbered, Enter, block_numbered, level_of, PProgram, Scopes, scopes_of, nothing, ask, resume, Choice, choice, is_evaluation, Rest, Answer, Instance, Process, Part, Purpose, World, instance_at, or_no_instance, ancestor, with_process, all_to_make, all_left_to_make, KeepsToText, segment_of, newest_own, Word, Place, place_at, Placed, Code, stack_limit, place, entered_mark, control_word, frame, plain, letter, has_place, in_routine, Yields, depth, LiesNested, Texts, context_of, Gives, pushed, selected, ComesTo, Slot, slots_length, Core, size, IsCore, HasCore, with_core, newest, SlotsAre, CoreAt, length_set_numbered, IsShortSegment, tokens_around, part_weight, weight, parts_weight, has_now, others_have, system_stays, shown, lower_of, numbered_set, most_or_more, HaveTexts, arrays_unchanged, events_unchanged, HasFacts, facts_of, keeps_same, Linked, StayBelow, top_still, StandOn, frame_resumed, AreKnown, IsInReach, most_around, run_level, IsChained, Frame, Waits, Around, of_lent, Lent, AreLaid, all_laid, Found, found_laid, alike_by, steps_none, living_of, AbleActor, actor_of, gives_within, limit_beyond, goes_on, weight_of, text_in, level_in, context_in, most_in, FrameStill, frame_still, still_low, parts_weigh, known_stays, task_stays, state_stays, events_same, TheLaws, Living, Pictures, PicturesBy, Does, gave, stopped}
 use Rattle.algol_tree.specs.Plain as forms
 use Rattle.algol_tree.specs.Plain.{PExpr}
 use Rattle.algol_meaning.specs.Rest.{entered}
@@ -10,15 +10,14 @@ use Rattle.b67_table.specs.Effect as effects
 use Rattle.b67_table.specs.Outcome as outcomes
 use Rattle.b67_table.specs.Table.{table, raw}
 use Rattle.b67_rows.proofs.Displays.{shown_below}
-use Rattle.b67_frames.specs.Arrays.{IsActual}
 use Rattle.b67_frames.specs.Lent.{IsAsked, IsOfExpression}
 use Rattle.b67_frames.proofs.Onward.{StandsStill, path_still}
 use Rattle.b67_scenes.specs.Reaches as reaching
 use Rattle.b67_scenes.proofs.ActualEntries as entries
-use Rattle.b67_scenes.proofs.ActualHomes.{ActualHome}
 use Rattle.b67_scenes.proofs.Ancestors.{same_place}
 use Rattle.b67_pictures.proofs.Alone.{IsAfter, after_choice, dependent_but, stands_on, leaves_alone}
 use Rattle.b67_pictures.proofs.FrameEntering.{around_of}
+use Rattle.b67_scenes.proofs.ActualEntries.{ActualEntry}
 
 -- a selector is one word, or none
 one_selector : (b selector : Bool) → length (selected b selector) ≤ 1
@@ -59,9 +58,8 @@ module _ (tree : PProgram) (code : Code) (texts : Texts) (w : World) where
     pub comes : ComesTo (scopes_of tree) (in_routine gives (context_of code texts (scopes_of tree) ((instance_at w i).block))) (texts.placed (segment_of (scopes_of tree).blocks ((instance_at w i).block)))
         (level_of (block_numbered (scopes_of tree).blocks ((instance_at w i).block)) + 1) (most_around tree ((instance_at w i).block)) rest at (selected (has_place e) selector)
 
-module _ (tree : PProgram) (code : Code) (texts : Texts) (nested : LiesNested tree) (short : IsShortSegment tree code) (stand : HaveTexts tree code texts)
-    (fragments : FragmentsArePerformed) (keeps : RestsKeepToTheirText) (order : AllIsMadeInOrder)
-    (actor : AbleActor tree code texts) where
+module _ (tree : PProgram) (code : Code) (texts : Texts) (nested : LiesNested tree) (short : IsShortSegment tree code) (stand : HaveTexts tree code texts) (laws : TheLaws) (actor : AbleActor tree code texts) where
+  open laws use {fragments, keeps, order}
   open actor use {w, lay, img, p, q, part, outer, core, s, able_is, able_p}
 
   abbrev sc : Scopes
@@ -75,10 +73,20 @@ module _ (tree : PProgram) (code : Code) (texts : Texts) (nested : LiesNested tr
         ComesTo sc (context_in tree code texts w part s.stands.frame.gives) (text_in tree texts w part) (level_in tree w part) (most_in tree w part) (resume sc (resume sc part.rest entered) a) next (pushed gives a waiting)
     pub few : length waiting + 1 ≤ most_in tree w part
 
-  module _ (next : ℕ) (taken more : List Word) (waiting : List Slot) (t : Takes tree code texts nested short stand (actor_of s) next taken more waiting)
-      (i : ℕ) (e : PExpr) (kind : Kind) (word : Word) (is : IsActual sc w lay (IsInReach w (part ∷ outer)) i e kind word)
-      (h : ActualHome tree code texts nested.nested (actor_of s) i e kind word is)
-      (purpose : Purpose) (gives : Yields) (selector : Bool) (rest : Rest) (evaluation : Evaluation tree code texts w i e h.at purpose gives selector rest) (behind : Awaits next waiting gives) where
+  -- The actual that is entered, what it has to do, and where the part around goes on after it.
+  pub record EntersActual : Type 0 where
+    pub entry : ActualEntry tree code texts nested short stand (actor_of s)
+    pub purpose : Purpose
+    pub gives : Yields
+    pub selector : Bool
+    pub rest : Rest
+    pub evaluation : Evaluation tree code texts w entry.instance entry.actual entry.home.at purpose gives selector rest
+    pub behind : Awaits entry.next entry.waiting gives
+
+  module _ (enters : EntersActual) where
+    open enters use {entry, purpose, gives, selector, rest, evaluation, behind}
+    open entry use {next, more, waiting, takes as t, instance as i, actual as e, denotes as is, home as h}
+
     -- the block in whose text the actual stands, the level of its names, and that at which its code runs
     abbrev block : ℕ
     block = (instance_at w i).block
@@ -107,7 +115,7 @@ module _ (tree : PProgram) (code : Code) (texts : Texts) (nested : LiesNested tr
     w' = evaluating_world sc w p q part outer inner
 
     own_low : length s.stands.frame.lower + 2 + length s.stands.frame.cells ≡ length core.below
-    own_low = entries.own_low tree code texts nested short stand (actor_of s) next taken more waiting t i e kind word is h
+    own_low = entries.own_low tree code texts nested short stand (actor_of s) entry
 
     -- where the instance's frame lies
     abbrev found_there : Found tree code texts w lay img i
@@ -128,7 +136,7 @@ module _ (tree : PProgram) (code : Code) (texts : Texts) (nested : LiesNested tr
     home = place h.seen_there.found.number (length h.seen_there.found.lies.frame.lower)
 
     abbrev l : Linked sc w lay img.stacks i
-    l = entries.l tree code texts nested short stand (actor_of s) next taken more waiting t i e kind word is h
+    l = entries.l tree code texts nested short stand (actor_of s) entry
 
     abbrev frames : List Place
     frames = home ∷ l.more
@@ -143,27 +151,27 @@ module _ (tree : PProgram) (code : Code) (texts : Texts) (nested : LiesNested tr
     control = control_word core.registers next inner_level
 
     abbrev pub new : Core
-    new = entries.new tree code texts nested short stand (actor_of s) next taken more waiting t i e kind word is h selector
+    new = entries.new tree code texts nested short stand (actor_of s) entry selector
 
     new_core : IsCore new
-    new_core = entries.new_core tree code texts nested short stand (actor_of s) next taken more waiting t i e kind word is h selector
+    new_core = entries.new_core tree code texts nested short stand (actor_of s) entry selector
 
     core_at : CoreAt sc [] code ps inner_level h.at (selected (has_place e) selector) new
-    core_at = entries.core_at tree code texts nested short stand (actor_of s) next taken more waiting t i e kind word is h selector
+    core_at = entries.core_at tree code texts nested short stand (actor_of s) entry selector
 
     new_long : length new.below ≡ at + 2
-    new_long = entries.new_long tree code texts nested short stand (actor_of s) next taken more waiting t i e kind word is h selector
+    new_long = entries.new_long tree code texts nested short stand (actor_of s) entry selector
 
     at_is : at ≡ length core.below + length waiting
     at_is =
         omega (
           arith,
-          entries.at_is tree code texts nested short stand (actor_of s) next taken more waiting t i e kind word is h,
-          entries.as_many tree code texts nested short stand (actor_of s) next taken more waiting t i e kind word is h,
+          entries.at_is tree code texts nested short stand (actor_of s) entry,
+          entries.as_many tree code texts nested short stand (actor_of s) entry,
         )
 
     level_is : inner_level ≡ length frames + 2
-    level_is = entries.level_is tree code texts nested short stand (actor_of s) next taken more waiting t i e kind word is h
+    level_is = entries.level_is tree code texts nested short stand (actor_of s) entry
 
     abbrev bound' : ℕ
     bound' = at + 2 + most_around tree block
@@ -275,13 +283,13 @@ module _ (tree : PProgram) (code : Code) (texts : Texts) (nested : LiesNested tr
             subst (λ (x : Instance). x.block < length sc.blocks) (sym (ap or_no_instance here)) found_there.lies.owned.framed.known
 
         mark_reads : as_mscw mark ≡ Some (record { entered = true; stack = found_there.number; displacement = length found_there.lies.frame.lower; df = df })
-        mark_reads = entries.mark_reads tree code texts nested short stand (actor_of s) next taken more waiting t i e kind word is h low_at
+        mark_reads = entries.mark_reads tree code texts nested short stand (actor_of s) entry low_at
 
         abbrev back : Rcw
-        back = entries.back tree code texts nested short stand (actor_of s) next taken more waiting t i e kind word is h
+        back = entries.back tree code texts nested short stand (actor_of s) entry
 
         control_reads : as_rcw control ≡ Some back
-        control_reads = entries.control_reads tree code texts nested short stand (actor_of s) next taken more waiting t i e kind word is h
+        control_reads = entries.control_reads tree code texts nested short stand (actor_of s) entry
 
         lent : Lent lay (IsInReach w' (part' ∷ outer)) inner [] home gives
         lent =
@@ -330,7 +338,7 @@ module _ (tree : PProgram) (code : Code) (texts : Texts) (nested : LiesNested tr
         words_now : SlotsAre sc s.stands.held (level_in tree w' part') (length still.frame.lower) (length core.below) waiting more
         words_now =
             subst (λ (k : ℕ). SlotsAre sc s.stands.held (level_in tree w part) k (length core.below) waiting more)
-            (entries.own_is tree code texts nested short stand (actor_of s) next taken more waiting t i e kind word is h ∙ same_lower) t.are
+            (entries.own_is tree code texts nested short stand (actor_of s) entry ∙ same_lower) t.are
 
         known_now : AreKnown sc w' lay (IsInReach w' (part' ∷ outer)) part.instance s.stands.held
         known_now = known_stays tree code texts w w' lay lay p limit stay laid_all part outer core s.stands s.around all_low s.stands.held s.stands.held_are
@@ -353,7 +361,7 @@ module _ (tree : PProgram) (code : Code) (texts : Texts) (nested : LiesNested tr
               home = home;
               df = df;
               mark_is = mark_reads;
-              far = ap (λ (k : ℕ). df + newest k (length core.below) waiting) (sym same_lower) ∙ entries.far tree code texts nested short stand (actor_of s) next taken more waiting t i e kind word is h;
+              far = ap (λ (k : ℕ). df + newest k (length core.below) waiting) (sym same_lower) ∙ entries.far tree code texts nested short stand (actor_of s) entry;
               back = back;
               control_is = control_reads;
               segment_is = s.stands.segment_is;
@@ -384,7 +392,7 @@ module _ (tree : PProgram) (code : Code) (texts : Texts) (nested : LiesNested tr
               counted = refl;
               chained = chained_now;
               top = ap (λ (x : Bool). place_at (shown (place p at) frames) (run_level x names)) evaluation.evaluates
-                  ∙ entries.shown_here tree code texts nested short stand (actor_of s) next taken more waiting t i e kind word is h;
+                  ∙ entries.shown_here tree code texts nested short stand (actor_of s) entry;
               segment_is = refl;
               pc = h.at;
               slots = selected (has_place e) selector;

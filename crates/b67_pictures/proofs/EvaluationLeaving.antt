@@ -1,6 +1,6 @@
 -- The frame of an evaluation is left: no instance is left, no row is closed, and the part around goes on with the value, or with the place.
 use Rattle.std.proofs.Common.{◌≡◌, ◌≢◌, inl, inr, refl, sym, ap, ◌∙◌, subst, ℕ, zero, suc, List, [], ◌∷◌, length, Option, Some, None, Bool, true, false, Ok, arith, ◌⊎◌, ◌++◌}
-use Rattle.b67_pictures.proofs.Prelude.{list_any, if◌then◌else◌, is_some, ◌||◌, ◌==◌, reverse, numbered, EventState, Leave, PProgram, Scopes, scopes_of, Kind, Ask, leaves, ask, Choice, choice, choice_of, left_with, left_or_ended, fails, some_depends, Answer, value, Value, Process, Part, lives, World, with_process, instance_at, ancestor, RestsKeepToTheirText, AllIsMadeInOrder, IsStanding, IsOnPath, IsOwn, newest_own, Word, Place, as_sirw, Descriptor, Sirw, Code, Rows, one_event, same_place, is_from, as_indexed, place, gives, Image, with_rows, arrays_closed, is_critical, frame, Change, live_criticals, is_result, plain, operator_at, Below, letter, Yields, AreNested, Texts, ActionAt, Gives, PlaceIsFound, held_at, operand, descriptor, Core, IsCore, HasCore, Known, FragmentsArePerformed, length_set_numbered, true_false, system_stays, Leaves, after, outer_is, left_has, left_others, numbered_set, operand_given, return_raw, return_class, return_action, action_not_plain, Top, top_slot, HaveTexts, value_tag, arrays_unchanged, IsElsewhere, event_outside, HasFacts, facts_of, KeepsArrays, known_is, keeps_same, StayBelow, Layout, ArraysAre, AreKnown, HeldIs, EventsAre, HasEvent, IsInReach, Waits, Lent, all_laid, element_home, operator_there, AreAlike, alike_by, names_variable, Actor, actor_of, InnerActor, choice_is, gives_within, goes_on, text_in, level_in, context_in, most_in, state_stays, events_same, fewer_closed, held_of, Living, Pictures, PicturesBy, StateIs, Does, gave}
+use Rattle.b67_pictures.proofs.Prelude.{list_any, if◌then◌else◌, is_some, ◌||◌, ◌==◌, reverse, numbered, EventState, Leave, PProgram, Scopes, scopes_of, Kind, Ask, leaves, ask, Choice, choice, choice_of, left_with, left_or_ended, fails, some_depends, Answer, value, Value, Process, Part, lives, World, with_process, instance_at, ancestor, IsStanding, IsOnPath, IsOwn, newest_own, Word, Place, as_sirw, Descriptor, Sirw, Code, Rows, one_event, same_place, is_from, as_indexed, place, gives, Image, with_rows, arrays_closed, is_critical, frame, Change, live_criticals, is_result, plain, operator_at, Below, letter, Yields, AreNested, Texts, ActionAt, Gives, PlaceIsFound, held_at, operand, descriptor, Core, IsCore, HasCore, Known, length_set_numbered, true_false, at_operator, system_stays, Leaves, after, outer_is, left_has, left_others, numbered_set, operand_given, return_raw, return_class, return_action, action_not_plain, Top, top_slot, HaveTexts, value_tag, arrays_unchanged, IsElsewhere, event_outside, HasFacts, facts_of, KeepsArrays, known_is, keeps_same, StayBelow, Layout, ArraysAre, AreKnown, HeldIs, EventsAre, HasEvent, IsInReach, Waits, Lent, all_laid, element_home, operator_there, AreAlike, alike_by, names_variable, Actor, actor_of, InnerActor, choice_is, gives_within, goes_on, text_in, level_in, context_in, most_in, state_stays, events_same, TheLaws, fewer_closed, held_of, Living, Pictures, PicturesBy, StateIs, Does, gave, leaves_here}
 use Rattle.b67_num.specs.declared.FaultKind.TheVariants as fault
 use Rattle.algol_meaning.specs.Rest as rests
 use Rattle.b67_ops.specs.declared.Operator.TheVariants as ops
@@ -15,7 +15,7 @@ use Rattle.b67_pictures.proofs.Alone.{IsAfter, dependent_but, after_choice, stan
 use Rattle.b67_pictures.proofs.LeavingWords as leaving
 use Rattle.b67_pictures.proofs.LeavingWords.{IsGiven, value_given, place_given, known_given, leaves_so, rows_are, low, shown_home}
 use Rattle.b67_pictures.proofs.PartAround as around
-use Rattle.b67_pictures.proofs.PartAround.{smaller, living_now}
+use Rattle.b67_pictures.proofs.PartAround.{smaller, living_now, GivesBack}
 use Rattle.b67_events.specs.Events.{event_at}
 use Rattle.b67_frames.proofs.EventsKept.{events_by}
 
@@ -55,8 +55,7 @@ place_moved sc w lay Stand i j (rests.element_of r ks) kind word found h = h
 
 -- ---- the frame is left
 
-module _ (tree : PProgram) (code : Code) (texts : Texts) (stand : HaveTexts tree code texts) (fragments : FragmentsArePerformed) (keeps : RestsKeepToTheirText) (order : AllIsMadeInOrder)
-    (actor : InnerActor tree code texts) where
+module _ (tree : PProgram) (code : Code) (texts : Texts) (stand : HaveTexts tree code texts) (laws : TheLaws) (actor : InnerActor tree code texts) where
   open actor use {w, lay, img, p, q, part, next, parts, core, s}
 
   module _ (able_is : lives q.state ≡ true) (able_p : StateIs (scopes_of tree) w lay q.state (numbered img.states p))
@@ -91,13 +90,14 @@ module _ (tree : PProgram) (code : Code) (texts : Texts) (stand : HaveTexts tree
     abbrev pub e : Leaves img core u.below u.words s.stands.frame.mark s.stands.frame.control s.stands.frame.cells b display
     e = leaves_so tree code texts actor img.rows none_closed
 
-    module _ (r : Answer) (given : Option Word) (g : IsGiven s.stands.frame.gives r given) (gives_it : Gives s.stands.frame.gives r)
-        (known_there : AreKnown (scopes_of tree) w lay (IsInReach w (next ∷ parts)) next.instance (known_given s.stands.frame.gives r given)) where
+    module _ (given_back : GivesBack tree code texts actor) where
+      open given_back use {answer as r, given}
+
       abbrev q' : Process
-      q' = around.q' tree code texts stand fragments keeps order actor r given g gives_it known_there
+      q' = around.q' tree code texts stand laws actor given_back
 
       abbrev new : Core
-      new = around.new tree code texts stand fragments keeps order actor r given g gives_it known_there
+      new = around.new tree code texts stand laws actor given_back
 
       -- the world but for the parts
       abbrev w' : World
@@ -131,23 +131,32 @@ module _ (tree : PProgram) (code : Code) (texts : Texts) (stand : HaveTexts tree
       module _ (over : ℕ) where
         is_core : IsCore new
         is_core =
-            outer_is code img p core s.has over u.below u.words s.stands.frame.mark s.stands.frame.control s.stands.frame.cells b display e given
+            outer_is code img p core s.has over (leaves_here e) given
             (shown_home tree code texts actor ∙ ap (λ (n : ℕ). Some (place n (length u.frame.lower))) (sym s.has.own))
             (omega (arith, low tree code texts actor, u.cells_are))
 
         abbrev pub now : Image
-        now = after code img p core s.has over u.below u.words s.stands.frame.mark s.stands.frame.control s.stands.frame.cells b display e given
+        now = after code img p core s.has over (leaves_here e) given
 
         has_here : HasCore now p new
-        has_here = left_has code img p core s.has over u.below u.words s.stands.frame.mark s.stands.frame.control s.stands.frame.cells b display e given is_core
+        has_here = left_has code img p core s.has over (leaves_here e) given is_core
 
         others : (m : ℕ) (other : Core) → m ≢ p → HasCore img m other → HasCore now m other
-        others = left_others code img p core s.has over u.below u.words s.stands.frame.mark s.stands.frame.control s.stands.frame.cells b display e given
+        others = left_others code img p core s.has over (leaves_here e) given
 
         here : IsLater → Living tree code texts w' lay now p q'
         here after_it =
-            living_now tree code texts stand fragments keeps order actor r given g gives_it known_there w' after_it.climb s.by.laid (numbered_set w.processes p q q' s.at)
-            (stay after_it) (λ j. record { block = refl; parent = refl; cells = refl }) same_up now has_here
+            living_now tree code texts stand laws actor given_back (record {
+              world = w';
+              climb = after_it.climb;
+              as_many = s.by.laid;
+              at_now = numbered_set w.processes p q q' s.at;
+              stay = stay after_it;
+              same_now = λ j. record { block = refl; parent = refl; cells = refl };
+              same_up = same_up;
+              now = now;
+              has_here = has_here;
+            })
 
         -- the frame has no cells, so no event lies there
         events_now : EventsAre sc w' lay now.events
@@ -211,7 +220,7 @@ module _ (tree : PProgram) (code : Code) (texts : Texts) (stand : HaveTexts tree
             table_is : table code img p ≡ outcomes.gives now
             table_is =
                 gives_within code img now p new.registers raw_is has_here.registers
-                (omega (arith, has_here.is.top, smaller tree code texts stand fragments keeps order actor r given g gives_it known_there))
+                (omega (arith, has_here.is.top, smaller tree code texts stand laws actor given_back))
 
     -- ---- by RETN
 
@@ -220,12 +229,12 @@ module _ (tree : PProgram) (code : Code) (texts : Texts) (stand : HaveTexts tree
         (known_there : AreKnown (scopes_of tree) w lay (IsInReach w (next ∷ parts)) next.instance (known_given s.stands.frame.gives r (Some x))) where
       returned : Does tree code texts w img p
       returned =
-          leaving_evaluation r (Some x) g gives_it known_there over asks
-          (return_raw code img p core s.has over returns u.below u.words s.stands.frame.mark s.stands.frame.control s.stands.frame.cells b display e x rest on_top result
+          leaving_evaluation (record { answer = r; given = Some x; is_given = g; gives_it = gives_it; known_there = known_there }) over asks
+          (return_raw code (at_operator s.has returns) (leaves_here e) x rest on_top result
           frame_free)
-          (action_not_plain code img p core s.has (ops.Plain kinds.Retn) over returns
-          (return_class code img p core s.has over returns u.below u.words s.stands.frame.mark s.stands.frame.control s.stands.frame.cells b display e x rest on_top result))
-          (return_action code img p core s.has over returns u.below u.words s.stands.frame.mark s.stands.frame.control s.stands.frame.cells b display e x rest on_top result)
+          (action_not_plain code (ops.Plain kinds.Retn) (at_operator s.has returns)
+          (return_class code (at_operator s.has returns) (leaves_here e) x rest on_top result))
+          (return_action code (at_operator s.has returns) (leaves_here e) x rest on_top result)
 
     -- with a value
     module _ (v : Value) (asks : ask part.rest ≡ leaves (value v))

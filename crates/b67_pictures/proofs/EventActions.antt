@@ -1,21 +1,21 @@
 -- What is done with events keeps the picture, in each scene whose head asks for it.
 use Rattle.std.proofs.Common.{◌≡◌, refl, pos, [], ◌∷◌, List, Option, Some, None, Bool, false}
-use Rattle.b67_pictures.proofs.Prelude.{EventDeed, is_of_several, EventAct, EventTest, PProgram, scopes_of, Named, makes_event, event_deed, ask, resume, choice, done, value, number, truth, RestsKeepToTheirText, AllIsMadeInOrder, Code, releases, HasKind, AreNested, Texts, ComesTo, operand, FragmentsArePerformed, CellsAreMade, AbleActor, actor_of, text_in, level_in, context_in, most_in, Does}
+use Rattle.b67_pictures.proofs.Prelude.{EventDeed, is_of_several, EventAct, EventTest, PProgram, scopes_of, Named, makes_event, event_deed, ask, resume, choice, done, value, number, truth, Code, releases, HasKind, AreNested, Texts, ComesTo, operand, CellsAreMade, AbleActor, actor_of, text_in, level_in, context_in, most_in, TheLaws, Does}
 use Rattle.b67_deeds.specs.declared.EventTest.TheVariants as test
 use Rattle.b67_deeds.specs.Deeds as deeds
 use Rattle.algol_tree.specs.Types as types
 use Rattle.b67_standing.proofs.OnEvents.{nobody_named, one_named}
 use Rattle.b67_pictures.proofs.ActingEvents.{acting_event, answer_of, slots_of}
-use Rattle.b67_pictures.proofs.Dispatching.{IsDone, Head}
+use Rattle.b67_pictures.proofs.Dispatching.{IsDone}
 use Rattle.b67_pictures.proofs.MakingEvents.{making_event}
 use Rattle.b67_pictures.proofs.SeveralActions.{waiting_for_any, few_whole}
 use Rattle.b67_pictures.proofs.Settling.{AreFreed}
 use Rattle.b67_pictures.proofs.Deeds.{Tells}
-use Rattle.b67_pictures.proofs.Evaluating.{At, AnswersAfter}
+use Rattle.b67_pictures.proofs.Head.{At, AnswersAfter, Head}
 
-module _ (tree : PProgram) (code : Code) (texts : Texts) (nested : AreNested (scopes_of tree)) (fragments : FragmentsArePerformed) (keeps : RestsKeepToTheirText) (order : AllIsMadeInOrder) where
+module _ (tree : PProgram) (code : Code) (texts : Texts) (nested : AreNested (scopes_of tree)) (laws : TheLaws) where
   pub event_made_done : CellsAreMade → (n : Named) → IsDone tree code texts (makes_event n)
-  event_made_done cells_made n actor h = making_event tree code texts nested fragments cells_made keeps order actor n h.asks h.action h.answered
+  event_made_done cells_made n actor h = making_event tree code texts nested laws cells_made actor n h
 
   -- what a test of one event leaves is a truth value
   one_kind : (x : EventTest) → is_of_several (deeds.tests x) ≡ false → (b : Bool) → HasKind (types.told_by x) (truth b)
@@ -33,7 +33,7 @@ module _ (tree : PProgram) (code : Code) (texts : Texts) (nested : AreNested (sc
     tested_done x one (n ∷ m ∷ ns) h =
         absurd (one_named (scopes_of tree) (context_in tree code texts w part s.stands.frame.gives) (text_in tree texts w part) (level_in tree w part) (most_in tree w part) (deeds.tests x) n m ns s.stands.pc h.action.0 s.stands.slots h.action.1 one h.action.2)
     tested_done x one (n ∷ []) h =
-        (acting_event tree code texts nested fragments keeps order actor (deeds.tests x) one n h.asks h.action.0 h.action.1 h.action.2 comes).does
+        (acting_event tree code texts nested laws actor (record { deed_done = deeds.tests x; one = one; name = n; asks = h.asks; next = h.action.0; below = h.action.1; acts_at = h.action.2; comes_to = comes })).does
       where
         comes : (told : Option Bool) → Tells (deeds.tests x) told →
             ComesTo (scopes_of tree) (context_in tree code texts w part s.stands.frame.gives) (text_in tree texts w part) (level_in tree w part) (most_in tree w part) (resume (scopes_of tree) part.rest (answer_of told)) h.action.0 (slots_of told h.action.1)
@@ -48,7 +48,7 @@ module _ (tree : PProgram) (code : Code) (texts : Texts) (nested : AreNested (sc
     acted x (n ∷ m ∷ ns) asks a answered =
         absurd (one_named (scopes_of tree) (context_in tree code texts w part s.stands.frame.gives) (text_in tree texts w part) (level_in tree w part) (most_in tree w part) (deeds.acts x) n m ns s.stands.pc a.0 s.stands.slots a.1 refl a.2)
     acted x (n ∷ []) asks a answered =
-        let d = acting_event tree code texts nested fragments keeps order actor (deeds.acts x) refl n asks a.0 a.1 a.2 comes in
+        let d = acting_event tree code texts nested laws actor (record { deed_done = deeds.acts x; one = refl; name = n; asks = asks; next = a.0; below = a.1; acts_at = a.2; comes_to = comes }) in
         (d.does, d.frees)
       where
         comes : (told : Option Bool) → Tells (deeds.acts x) told →
@@ -62,7 +62,7 @@ module _ (tree : PProgram) (code : Code) (texts : Texts) (nested : AreNested (sc
   event_deed_done (deeds.tests test.Available) ns actor h = tested_done actor test.Available refl ns h
   event_deed_done (deeds.tests test.Fix) ns actor h = tested_done actor test.Fix refl ns h
   event_deed_done (deeds.tests test.WaitAny) ns actor h =
-      waiting_for_any tree code texts nested fragments keeps order actor ns h.asks h.action.0 h.action.1 h.action.2
+      waiting_for_any tree code texts nested laws actor ns h.asks h.action.0 h.action.1 h.action.2
       (λ n few. h.answered (value (number (pos n))) h.action.0 (operand (number (pos n)) ∷ h.action.1) (refl, refl, few_whole n few))
 
   pub event_freed_done : AreFreed tree code texts

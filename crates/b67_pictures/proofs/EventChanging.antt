@@ -1,14 +1,14 @@
 -- An event changes, and with it the state of the process that acts on it: the image pictures the world after it.
 use Rattle.std.proofs.Common.{◌≡◌, ◌≢◌, ◌⊎◌, inl, inr, refl, sym, ap, ◌∙◌, subst, ℕ, ◌≤◌, List, ◌∷◌, length, Option, Some, None, true}
-use Rattle.b67_pictures.proofs.Prelude.{numbered, EventState, PProgram, Scopes, scopes_of, resume, set_event, list_in, Answer, Reference, event, NamedCell, Instance, State, lives, World, instance_at, or_no_instance, with_instance, with_process, cells_with, all_to_make, all_left_to_make, BlockIsSeen, RestsKeepToTheirText, AllIsMadeInOrder, InAnswer, Word, Place, Registers, Code, stack_limit, Event, event_changed, place, Image, is_live, cell_place, ProcessState, AreNested, Texts, ComesTo, Slot, Core, size, HasCore, with_core, CoreAt, FragmentsArePerformed, same_or_not, arrays_unchanged, events_unchanged, OwnCells, OwnEvent, Layout, ArraysAre, event_there, EventsAre, cell_there, found_laid, Actor, Seen, text_in, level_in, context_in, most_in, stored_world, PicturesBy, StateIs, AreAwaiting}
+use Rattle.b67_pictures.proofs.Prelude.{numbered, EventState, PProgram, Scopes, scopes_of, resume, set_event, list_in, Reference, event, NamedCell, Instance, State, lives, World, or_no_instance, with_instance, with_process, cells_with, Place, Code, stack_limit, Event, event_changed, place, Image, is_live, cell_place, ProcessState, AreNested, Texts, Core, size, HasCore, with_core, same_or_not, arrays_unchanged, events_unchanged, OwnCells, OwnEvent, Layout, ArraysAre, event_there, EventsAre, cell_there, found_laid, Actor, Seen, stored_world, TheLaws, PicturesBy, StateIs, AreAwaiting}
 use Rattle.algol_meaning.specs.World as meant
 use Rattle.b67_events.specs.Laws.{StaysInPlace}
 use Rattle.b67_table.specs.declared.ProcessState.TheVariants as image_states
 use Rattle.b67_scenes.proofs.EventHomes.{own_there}
 use Rattle.b67_scenes.proofs.EventThere.{as_many, cells_changed, event_keeps, arrays_after, events_after}
 use Rattle.b67_pictures.proofs.Alone.{IsAfter}
-use Rattle.b67_pictures.proofs.Changing.{refers_fewer, own_pictured, other_pictured}
-use Rattle.b67_pictures.proofs.InFrame.{SameFrame}
+use Rattle.b67_pictures.proofs.Changing.{refers_fewer, own_pictured, other_pictured, CellChange, PicturesElse}
+use Rattle.b67_pictures.proofs.InFrame.{GoesOnAbove}
 
 -- who lives in a world lives in its image
 lives_there : (sc : Scopes) (w : World) (lay : Layout) (x : State) (o : Option ProcessState) → StateIs sc w lay x o → lives x ≡ true → is_live o ≡ true
@@ -36,30 +36,38 @@ module _ (tree : PProgram) (code : Code) (texts : Texts) (actor : Actor tree cod
 
 -- The event with this number of an instance whose frame is seen becomes another one; the process comes to this state, with these words above
 -- the floor.
-module _ (tree : PProgram) (code : Code) (texts : Texts) (nested : AreNested (scopes_of tree)) (fragments : FragmentsArePerformed) (kept : RestsKeepToTheirText) (order : AllIsMadeInOrder) (actor : Actor tree code texts) where
+module _ (tree : PProgram) (code : Code) (texts : Texts) (nested : AreNested (scopes_of tree)) (laws : TheLaws) (actor : Actor tree code texts) where
   open actor use {w, lay, img, p, q, part, outer, core, s}
 
-  module _ (able_is : lives q.state ≡ true) (unmade : all_left_to_make part.rest ≡ all_to_make part.rest)
-      (answer : Answer) (nameless : InAnswer (BlockIsSeen (scopes_of tree) ((instance_at w part.instance).block)) answer)
-      (r : Reference) (l : Seen tree code texts actor r.instance) (number : ℕ)
-      (found : OwnEvent (scopes_of tree) w lay l.found.lies.part.instance l.found.lies.owned.framed.instance (own_there tree code texts nested actor l) r.name number)
-      (later : EventState) (change : Event → Event) (stays : StaysInPlace change)
-      (becomes : change (event_there (cell_place (cell_there tree code texts nested actor l number)) found.cell)
-      ≡ event_there (cell_place (cell_there tree code texts nested actor l number)) later)
-      (state : State) (lives_now : lives state ≡ true) (states : List ProcessState) (many_states : length states ≡ length img.states) (state_is : StateIs (scopes_of tree) w lay state (numbered states p)) (states_are : (m : ℕ) → m ≢ p → numbered states m ≡ numbered img.states m)
-      (list_same : list_in state ≡ list_in q.state)
-      (words : List Word) (registers : Registers) (frame_is : SameFrame core.registers registers) (next : ℕ) (below : List Slot) (held : length below ≤ most_in tree w part)
-      (there : CoreAt (scopes_of tree) s.stands.held code (text_in tree texts w part) (level_in tree w part) next below (record { below = core.below; words = words; registers = registers }))
-      (comes : ComesTo (scopes_of tree) (context_in tree code texts w part s.stands.frame.gives) (text_in tree texts w part) (level_in tree w part) (most_in tree w part) (resume (scopes_of tree) part.rest answer) next below)
-      (smaller : size (record { below = core.below; words = words; registers = registers }) ≤ stack_limit)
-      (awaiting : AreAwaiting (record img {
-        events = event_changed (cell_place (cell_there tree code texts nested actor l number)) change img.events;
-        states = states;
-      }))
-      (after : IsAfter (scopes_of tree) w
-      (with_process
-      (stored_world w r.instance l.found.lies.owned.framed.instance (instance_there tree code texts actor r l) (cells_with l.found.lies.owned.framed.instance.cells r.name (event later))) p
-      (record q { todo = record part { rest = resume (scopes_of tree) part.rest answer } ∷ outer; state = state })) p) where
+  -- How the event changes, in the world and in the image.
+  pub record EventStore : Type 0 where
+    pub r : Reference
+    pub seen : Seen tree code texts actor r.instance
+    pub number : ℕ
+    pub found : OwnEvent (scopes_of tree) w lay seen.found.lies.part.instance seen.found.lies.owned.framed.instance (own_there tree code texts nested actor seen) r.name number
+    pub later : EventState
+    pub change : Event → Event
+    pub stays : StaysInPlace change
+    pub becomes : change (event_there (cell_place (cell_there tree code texts nested actor seen number)) found.cell) ≡ event_there (cell_place (cell_there tree code texts nested actor seen number)) later
+
+  -- The state of the process after it, and those of the image.
+  pub record StateAfter : Type 0 where
+    pub state : State
+    pub lives_now : lives state ≡ true
+    pub states : List ProcessState
+    pub many_states : length states ≡ length img.states
+    pub state_is : StateIs (scopes_of tree) w lay state (numbered states p)
+    pub states_are : (m : ℕ) → m ≢ p → numbered states m ≡ numbered img.states m
+    pub list_same : list_in state ≡ list_in q.state
+
+  module _ (able_is : lives q.state ≡ true) (onward : GoesOnAbove tree code texts actor) (becoming : EventStore) (then : StateAfter)
+      (smaller : size (record { below = core.below; words = onward.words; registers = onward.registers }) ≤ stack_limit)
+      (awaiting : AreAwaiting (record img { events = event_changed (cell_place (cell_there tree code texts nested actor becoming.seen becoming.number)) becoming.change img.events; states = then.states }))
+      (after : IsAfter (scopes_of tree) w (with_process (stored_world w becoming.r.instance becoming.seen.found.lies.owned.framed.instance (instance_there tree code texts actor becoming.r becoming.seen) (cells_with becoming.seen.found.lies.owned.framed.instance.cells becoming.r.name (event becoming.later))) p (record q { todo = record part { rest = resume (scopes_of tree) part.rest onward.answer } ∷ outer; state = then.state })) p) where
+    open then use {state, lives_now, states, many_states, state_is, states_are, list_same}
+    open onward use {answer, words, registers, slots as below}
+    open becoming use {r, seen as l, number, found, later, change, stays, becomes}
+
     abbrev sc : Scopes
     sc = scopes_of tree
 
@@ -109,6 +117,45 @@ module _ (tree : PProgram) (code : Code) (texts : Texts) (nested : AreNested (sc
         (events_after sc w lay i instance has_it.0 r.name number has_it.1 later (place l.found.number (length l.found.lies.frame.lower)) (found_laid tree code texts w lay img i l.found) change stays
         (ap (λ c. change (event_there at c)) has_it.2 ∙ becomes) img.events s.by.events)
 
+    abbrev cell_change : CellChange tree code texts laws actor
+    cell_change = record {
+      i = i;
+      found = l.found;
+      x = instance;
+      at = instance_there tree code texts actor r l;
+      with_cells = cells';
+      far = 0;
+      word = None;
+      many = as_many sc w lay i instance has_it.0 r.name number has_it.1 later;
+      short = λ set. absurd set;
+      low = λ set. absurd set;
+      keeps = event_keeps sc w lay i instance has_it.0 r.name number has_it.1 later;
+      fewer = refers_fewer instance.cells r.name (event later) refl;
+      changes = cells_changed sc w lay i instance has_it.0 r.name number has_it.1 later;
+    }
+
+    abbrev elsewhere : PicturesElse tree code texts laws actor onward cell_change smaller able_is state
+    elsewhere = record {
+      base = base;
+      same = same;
+      stacks = refl;
+      after = after;
+      arrays = arrays_now;
+      events = events_now;
+      list_same = list_same;
+      lists = refl;
+      numbers = refl;
+      awaiting = awaiting;
+      output = refl;
+      fault = refl;
+      started = refl;
+      regs = refl;
+      many_states = many_states;
+      states = states_are;
+      lives_so = lives_now;
+      state_is = state_is;
+    }
+
     pub event_pictured :
         PicturesBy tree code texts
         (with_process
@@ -122,12 +169,8 @@ module _ (tree : PProgram) (code : Code) (texts : Texts) (nested : AreNested (sc
       where
         by_number : (l.found.number ≡ p) ⊎ (l.found.number ≢ p) → PicturesBy tree code texts w' lay (with_core base p (record { below = core.below; words = words; registers = registers }))
         by_number (inl here) =
-            own_pictured tree code texts fragments kept order actor unmade answer nameless i l.found instance (instance_there tree code texts actor r l) cells' 0 None
-            (as_many sc w lay i instance has_it.0 r.name number has_it.1 later) (λ set. absurd set) (λ set. absurd set) (event_keeps sc w lay i instance has_it.0 r.name number has_it.1 later)
-            (refers_fewer instance.cells r.name (event later) refl) (cells_changed sc w lay i instance has_it.0 r.name number has_it.1 later) words registers frame_is next below there held comes
-            smaller able_is state base same refl after arrays_now events_now list_same refl refl awaiting refl refl refl refl many_states states_are lives_now state_is here
+            own_pictured tree code texts laws actor onward cell_change
+            smaller able_is state elsewhere here
         by_number (inr other) =
-            other_pictured tree code texts fragments kept order actor unmade answer nameless i l.found instance (instance_there tree code texts actor r l) cells' 0 None
-            (as_many sc w lay i instance has_it.0 r.name number has_it.1 later) (λ set. absurd set) (λ set. absurd set) (event_keeps sc w lay i instance has_it.0 r.name number has_it.1 later)
-            (refers_fewer instance.cells r.name (event later) refl) (cells_changed sc w lay i instance has_it.0 r.name number has_it.1 later) words registers frame_is next below there held comes
-            smaller able_is state base same refl after arrays_now events_now list_same refl refl awaiting refl refl refl refl many_states states_are lives_now state_is other
+            other_pictured tree code texts laws actor onward cell_change
+            smaller able_is state elsewhere other

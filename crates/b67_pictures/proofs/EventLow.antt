@@ -1,7 +1,6 @@
 -- Where an event of an instance becomes another one, others come to no more of what is made in an instance, and to no less.
 use Rattle.std.proofs.Common.{◌≡◌, ◌≢◌, ◌⊎◌, inl, inr, refl, sym, ap, ◌∙◌, subst, ℕ, List, [], ◌∷◌, Some, Bool, true, false}
-use Rattle.b67_pictures.proofs.Prelude.{if◌then◌else◌, numbered, EventState, Scopes, same_name, Cell, event, NamedCell, Instance, World, instance_at, cell_in, cells_with, CellLow, CellsLow, InstanceLow, WorldLow, IsLow, some_same, same_or_not, stored_world, changed_at, others_at, same_of}
-use Rattle.b67_scenes.proofs.StoringFrames.{changed}
+use Rattle.b67_pictures.proofs.Prelude.{if◌then◌else◌, numbered, EventState, Scopes, same_name, Cell, event, NamedCell, Instance, World, instance_at, cell_in, cells_with, CellLow, CellsLow, InstanceLow, WorldLow, IsLow, some_same, same_or_not, stored_world, changed_at, others_at, same_of, changed}
 
 cells_low : (sc : Scopes) (b i : ℕ) (cells : List NamedCell) (name : List ℕ) (e : EventState) → CellsLow sc b i cells → CellsLow sc b i (cells_with cells name (event e))
 cells_low sc b i [] name e low = low

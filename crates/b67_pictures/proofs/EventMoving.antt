@@ -1,11 +1,10 @@
 -- One event of a world becomes another one, and nobody acts: the image in which it has changed pictures the world after it.
 use Rattle.std.proofs.Common.{◌≡◌, refl, sym, ap, ◌∙◌, subst, ℕ, ◌+◌, List, ◌++◌, length, Some, None, true}
-use Rattle.b67_pictures.proofs.Prelude.{slice_get, numbered, EventState, block_numbered, PProgram, Scopes, scopes_of, set_event, change_event, Reference, event, NamedCell, Instance, Process, lives, World, instance_at, or_no_instance, event_in, cell_in, cell_at, cells_with, Made, an_event, IsInSkeleton, IsOwn, referred_in_cells, Word, Place, Code, event_changed, with_state, place, Image, simple_cells, made_base, made_of, Texts, Core, HasCore, length_set_numbered, some_same, none_some, true_false, HasFacts, KeepsArrays, StandOn, OwnCells, framed_cells, OwnEvent, known_event, Layout, AreMade, event_there, HasEvent, EventsAre, CellsAre, all_laid, LeavesAlone, put, stored_world, others_at, stored_on, ChangedCells, others_stored, EventsStay, events_kept, events_beside, waits_kept, IsEventAt, Living, Pictured, living, dead, PicturesBy, AreAwaiting}
+use Rattle.b67_pictures.proofs.Prelude.{slice_get, numbered, EventState, block_numbered, PProgram, Scopes, scopes_of, set_event, change_event, Reference, event, NamedCell, Instance, Process, lives, World, instance_at, or_no_instance, event_in, cell_in, cell_at, cells_with, Made, an_event, IsInSkeleton, IsOwn, referred_in_cells, Word, Place, Code, event_changed, with_state, place, Image, simple_cells, made_base, made_of, Texts, Core, HasCore, length_set_numbered, some_same, none_some, true_false, HasFacts, KeepsArrays, StandOn, OwnCells, framed_cells, OwnEvent, known_event, Layout, AreMade, event_there, HasEvent, EventsAre, CellsAre, all_laid, LeavesAlone, put, stored_world, others_at, stored_on, ChangedCells, changed, CellStore, others_stored, EventsStay, events_kept, events_beside, waits_kept, IsEventAt, Living, Pictured, living, dead, PicturesBy, AreAwaiting}
 use Rattle.algol_meaning.specs.World.{no_process}
 use Rattle.b67_events.specs.Events as kernel
 use Rattle.b67_scenes.proofs.EventThere as there
 use Rattle.b67_scenes.proofs.EventThere.{FramedThere, framed_there}
-use Rattle.b67_scenes.proofs.StoringFrames.{changed}
 use Rattle.b67_pictures.proofs.Changing.{refers_fewer}
 use Rattle.b67_pictures.proofs.EventLow.{event_low}
 
@@ -114,8 +113,28 @@ module _ (tree : PProgram) (code : Code) (texts : Texts) (w : World) (lay : Layo
         AreMade declared arrays (lay.rows i) descriptors → x.cells ≡ simple ++ arrays → ChangedCells (simple_cells sc (block_numbered sc.blocks x.block)) (lay.rows i) cells' simple values (put None values 0) declared descriptors
     changes = there.cells_changed sc w lay i x own_cells r.name number found later
 
+    abbrev store : CellStore tree w lay o.number
+    store = record {
+      i = i;
+      x = x;
+      at = is;
+      with_cells = cells';
+      high = high;
+      laid = laid;
+      far = 0;
+      up = high + 2 + 0;
+      place_is = refl;
+      word = None;
+      many = many;
+      short = λ set. absurd set;
+      keeps = keeps;
+      facts = facts;
+      fewer = fewer;
+      changes = changes;
+    }
+
     on : StandOn sc w w' lay lay
-    on = stored_on tree code texts w lay o.number i x is cells' high laid 0 (high + 2 + 0) refl None many (λ set. absurd set) keeps facts fewer changes
+    on = stored_on tree code texts w lay o.number store
 
     pub moved_facts : HasFacts moved_world
     moved_facts = on.after
@@ -140,7 +159,7 @@ module _ (tree : PProgram) (code : Code) (texts : Texts) (w : World) (lay : Layo
 
     each : (m : ℕ) (q : Process) → numbered w.processes m ≡ Some q → Pictured tree code texts w' lay moved_image m q
     each m q there_is =
-        others_stored tree code texts w lay o.number i x is cells' high laid 0 (high + 2 + 0) refl None many (λ set. absurd set) keeps facts fewer changes 0 no_process (λ k other. alone k) img moved_image framed.framed.own
+        others_stored tree code texts w lay o.number store 0 no_process (λ k other. alone k) img moved_image framed.framed.own
         (λ z there_z. subst (λ (y : Process). IsOwn y.todo i) (some_same (sym o.is ∙ there_z)) o.own) (λ core has set. absurd set) (λ core has. same_core o.number core has) (λ k core a b has. same_core k core has) (λ k other. refl)
         m q (λ (none : m ≡ 0). none_some (ap (λ (n : ℕ). numbered w.processes n) (sym none) ∙ there_is)) there_is there_is (by.each m q there_is)
 

@@ -1,6 +1,6 @@
 -- The action of an operator without a result: the fault.
 use Rattle.std.proofs.Common.{◌≡◌, refl, sym, ap, ◌∙◌, subst, List, [], ◌∷◌, length, Some, None, Ok, Err}
-use Rattle.b67_pictures.proofs.Prelude.{Fault, PProgram, scopes_of, Ask, ask, Choice, choice, choice_of, Value, Word, Code, failed, frame, operator_at, operator_for, Texts, ActionAt, operand, ValueIs, fault_not_plain, action_is, Top, top_slot, operator_there, Actor, faults_so, choice_is, faulted, text_in, level_in, context_in, most_in, Pictures, Does, failed_by}
+use Rattle.b67_pictures.proofs.Prelude.{Fault, PProgram, scopes_of, Ask, ask, Choice, choice, choice_of, Value, Word, Code, failed, frame, operator_at, operator_for, Texts, ActionAt, operand, ValueIs, at_operator, fault_not_plain, action_is, Top, top_slot, operator_there, Actor, faults_so, choice_is, faulted, text_in, level_in, context_in, most_in, Pictures, Does, failed_by}
 use Rattle.algol_tree.specs.declared.tree.Op.{Op}
 use Rattle.algol_tree.specs.declared.tree.Op.TheVariants as operators
 use Rattle.algol_meaning.specs.Operators.{result_of}
@@ -46,14 +46,26 @@ module _ (tree : PProgram) (code : Code) (texts : Texts) (actor : Actor tree cod
         let first : Top (scopes_of tree) s.stands.held (level_in tree w part) (frame core.registers) (length core.below) (operand (ready a.0 a.1)) a.4 second.words_below =
         top_slot (scopes_of tree) s.stands.held (level_in tree w part) (frame core.registers) (length core.below) (operand (ready a.0 a.1) ∷ a.4) (operand (ready a.0 a.1)) a.4 second.words_below second.are refl in
         faults_so code img p (fault_of fault)
-        (break_raw code img p core s.has a.0 a.3 there a.1 a.2 first.word second.word first.words_below (second.is ∙ ap (λ (ws : List Word). second.word ∷ ws) first.is) a.5.first_fits a.5.second_fits
-        (subst (λ (v : Value). ValueIs v first.word) (ready_same a.0 a.1 a.2 fault a.5.breaks) first.slot_is) second.slot_is fault a.5.breaks)
+        (break_raw code a.0 (at_operator s.has there) (record {
+          x = a.1;
+          y = a.2;
+          v = first.word;
+          w = second.word;
+          below = first.words_below;
+          words = second.is ∙ ap (λ (ws : List Word). second.word ∷ ws) first.is;
+          first_kind = a.5.first_fits;
+          second_kind = a.5.second_fits;
+          first_is = subst (λ (v : Value). ValueIs v first.word) (ready_same a.0 a.1 a.2 fault a.5.breaks) first.slot_is;
+          second_is = second.slot_is;
+          f = fault;
+          breaks = a.5.breaks;
+        }))
 
     chosen : choice (scopes_of tree) w p ≡ record { action = Fault; world = record w { fault = Some (record { kind = fault_of fault; process = p }) }; released = []; started = None }
     chosen = choice_is (scopes_of tree) w p q part outer s.at s.todo ∙ ap (λ (k : Ask). choice_of (scopes_of tree) w p q part outer k) asks
 
     pub failing : Does tree code texts w img p
     failing =
-        failed_by (fault_of fault) (fault_not_plain code img p core s.has (ops.Plain (operator_for a.0)) a.3 there (fault_of fault) table_is) table_is
-        (action_is code img p core s.has (ops.Plain (operator_for a.0)) a.3 there (outcomes.faults (fault_of fault)) table_is ∙ ap (λ (c : Choice). Some c.action) (sym chosen))
+        failed_by (fault_of fault) (fault_not_plain code (ops.Plain (operator_for a.0)) (at_operator s.has there) (fault_of fault) table_is) table_is
+        (action_is code (ops.Plain (operator_for a.0)) (at_operator s.has there) (outcomes.faults (fault_of fault)) table_is ∙ ap (λ (c : Choice). Some c.action) (sym chosen))
         (subst (λ (c : Choice). Pictures tree code texts c.world (failed img p (fault_of fault))) (sym chosen) (lay, faulted tree code texts w lay img s.by p q s.at s.ok (fault_of fault)))

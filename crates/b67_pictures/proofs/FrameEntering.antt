@@ -1,6 +1,6 @@
 -- A frame is entered: the instance of a block or a procedure has it above the words of the part around, which waits.
 use Rattle.std.proofs.Common.{◌≡◌, ◌≢◌, refl, sym, ap, ◌∙◌, subst, ℕ, zero, suc, ◌+◌, ◌*◌, ◌≤◌, ◌<◌, List, [], ◌∷◌, ◌++◌, length, Option, Some, None, Bool, false, arith, append_assoc, append-nil, length-append, true}
-use Rattle.b67_pictures.proofs.Prelude.{nat_tests, length-reverse, if◌then◌else◌, ◌&&◌, ◌||◌, ◌==◌, replicate, reverse, slice_get, numbered, Enter, Block, block_numbered, level_of, PProgram, Scopes, scopes_of, nothing, ask, resume, Choice, choice, is_this, is_evaluation, some_depends, fresh_cells, Answer, Given, settle_items, items_of, Cell, Instance, Process, Purpose, Part, lives, World, instance_at, or_no_instance, ancestor, with_process, all_to_make, all_left_to_make, KeepsToText, RestsKeepToTheirText, AllIsMadeInOrder, segment_of, IsStanding, newest_own, Word, Place, pcw_word, place_at, Pcw, Registers, Placed, Code, stack_limit, numbered_within, place, entered_mark, control_word, frame, Wanted, parameter_cells, zero_cells, simple_cells, actuals_of, made_of, CellsAt, in_routine, yields_of, Yields, LiesNested, Texts, context_of, Gives, pushed, ComesTo, Slot, Core, size, IsCore, HasCore, with_core, newest, SlotsAre, CoreAt, BlocksBegin, FragmentsArePerformed, control_words, length_set_numbered, none_some, IsShortSegment, tokens_around, part_weight, weight, parts_weight, has_now, others_have, system_stays, lower_of, ActualsAre, numbered_last, numbered_before, numbered_earlier, numbered_set, length_mapped, rows_there, no_elements, no_rows, arrays_joined, block_few, events_joined, HasFacts, facts_of, LeadAll, fresh_are, simple_many, KeepsArrays, Remain, denotes_lasts, keeps_same, all_each, StayBelow, runs_at, top_still, as_many_values, StandOn, frame_resumed, zero_word, cells_length, Allotted, Layout, AreMade, AreKnown, IsInReach, block_controls, controls_count, most_around, CellsAre, IsChained, home_of, Framed, ItemsStand, Frame, Waits, Around, of_own, run_level, AreLaid, all_laid, Calls, AreAlike, living_of, reached_stands, AbleActor, actor_of, gives_within, goes_on, weight_of, text_in, level_in, context_in, most_in, FrameStill, frame_still, still_low, known_stays, parts_weigh, names_in, EventsStay, critical_stays, task_stays, state_stays, events_before, Living, Pictures, PicturesBy, Does, gave}
+use Rattle.b67_pictures.proofs.Prelude.{nat_tests, length-reverse, if◌then◌else◌, ◌&&◌, ◌||◌, ◌==◌, replicate, reverse, slice_get, numbered, Enter, Block, block_numbered, level_of, PProgram, Scopes, scopes_of, nothing, ask, resume, Choice, choice, is_this, is_evaluation, some_depends, fresh_cells, Answer, Given, settle_items, items_of, Cell, Instance, Process, Purpose, Part, lives, World, instance_at, or_no_instance, ancestor, with_process, all_to_make, all_left_to_make, KeepsToText, segment_of, IsStanding, newest_own, Word, Place, pcw_word, place_at, Pcw, Registers, Placed, Code, stack_limit, numbered_within, place, entered_mark, control_word, frame, Wanted, parameter_cells, zero_cells, simple_cells, actuals_of, made_of, CellsAt, in_routine, yields_of, Yields, LiesNested, Texts, context_of, Gives, pushed, ComesTo, Slot, Core, size, IsCore, HasCore, with_core, newest, SlotsAre, CoreAt, BlocksBegin, control_words, length_set_numbered, none_some, IsShortSegment, tokens_around, part_weight, weight, parts_weight, has_now, others_have, system_stays, lower_of, ActualsAre, numbered_last, numbered_before, numbered_earlier, numbered_set, length_mapped, rows_there, no_elements, no_rows, arrays_joined, block_few, events_joined, HasFacts, facts_of, LeadAll, fresh_are, simple_many, KeepsArrays, Remain, denotes_lasts, keeps_same, all_each, StayBelow, runs_at, top_still, as_many_values, StandOn, frame_resumed, zero_word, cells_length, Allotted, Layout, AreMade, AreKnown, IsInReach, block_controls, controls_count, most_around, CellsAre, IsChained, home_of, Framed, ItemsStand, Frame, Waits, Around, of_own, run_level, AreLaid, all_laid, Calls, AreAlike, living_of, reached_stands, AbleActor, actor_of, gives_within, goes_on, weight_of, text_in, level_in, context_in, most_in, FrameStill, frame_still, still_low, known_stays, parts_weigh, names_in, EventsStay, critical_stays, task_stays, state_stays, events_before, TheLaws, Living, Pictures, PicturesBy, Does, gave}
 use Rattle.algol_meaning.specs.Rest.{entered}
 use Rattle.algol_meaning.specs.Instances as instances
 use Rattle.b67_table.specs.Outcome as outcomes
@@ -22,6 +22,7 @@ use Rattle.b67_scenes.proofs.Ancestors.{same_place}
 use Rattle.b67_scenes.proofs.Entries as entries
 use Rattle.b67_scenes.proofs.Tasks.{PlacesStay}
 use Rattle.b67_pictures.proofs.Alone.{IsAfter, AreAsDependent, dependent_but, free_still, after_choice, stands_on, leaves_alone}
+use Rattle.b67_scenes.proofs.Entries.{Entry}
 
 -- the new instance of a block or a procedure, and its part
 abbrev pub new_instance : Scopes → ℕ → ℕ → ℕ → List Cell → Instance
@@ -57,9 +58,8 @@ abbrev pub entered_world : Scopes → World → ℕ → Process → Part → Lis
 entered_world sc w p q part outer h j given purpose =
     with_process (record w { instances = w.instances ++ new_instance sc p h j given ∷ [] }) p (record q { todo = inner_of sc w j purpose ∷ around_of sc part ∷ outer })
 
-module _ (tree : PProgram) (code : Code) (texts : Texts) (nested : LiesNested tree) (short : IsShortSegment tree code)
-    (fragments : FragmentsArePerformed) (begins : BlocksBegin) (keeps : RestsKeepToTheirText) (order : AllIsMadeInOrder)
-    (actor : AbleActor tree code texts) where
+module _ (tree : PProgram) (code : Code) (texts : Texts) (nested : LiesNested tree) (short : IsShortSegment tree code) (laws : TheLaws) (begins : BlocksBegin) (actor : AbleActor tree code texts) where
+  open laws use {fragments, keeps, order}
   open actor use {w, lay, img, p, q, part, outer, core, s, able_is, able_p}
 
   abbrev sc : Scopes
@@ -93,9 +93,20 @@ module _ (tree : PProgram) (code : Code) (texts : Texts) (nested : LiesNested tr
     pub returns : (a : Answer) → Gives (yields_of (block_numbered sc.blocks j).result) a →
         ComesTo sc (context_in tree code texts w part s.stands.frame.gives) (text_in tree texts w part) (level_in tree w part) (most_in tree w part) (resume sc (resume sc part.rest entered) a) next (pushed (yields_of (block_numbered sc.blocks j).result) a waiting)
 
-  module _ (wanted : List Wanted) (gs : List Given) (slot : Slot) (next : ℕ) (waiting : List Slot) (h j begin : ℕ) (e : CallsThere wanted gs slot next waiting h j begin) (purpose : Purpose) (owns : is_evaluation purpose ≡ false) (body : Body j begin)
-      (behind : GoesOnBehind next waiting j) (given : List Cell)
-      (fit : (ws : List Word) → ActualsAre sc s.stands.held (level_in tree w part) (frame core.registers) (length core.below) wanted gs ws → AreCells j given ws) where
+  -- What is entered, for which purpose, what its code has to do, and where the part around goes on after it.
+  pub record Enters : Type 0 where
+    pub called : Entry tree code texts nested short (actor_of s)
+    pub purpose : Purpose
+    pub owns : is_evaluation purpose ≡ false
+    pub body : Body called.block called.begin
+    pub behind : GoesOnBehind called.next called.waiting called.block
+    pub given : List Cell
+    pub fit : (ws : List Word) → ActualsAre sc s.stands.held (level_in tree w part) (frame core.registers) (length core.below) called.wanted called.gs ws → AreCells called.block given ws
+
+  module _ (enters : Enters) where
+    open enters use {called, purpose, owns, body, behind, given, fit}
+    open called use {next, waiting, parent as h, block as j, begin, calls as e}
+
     abbrev i : ℕ
     i = part.instance
 
@@ -124,7 +135,7 @@ module _ (tree : PProgram) (code : Code) (texts : Texts) (nested : LiesNested tr
 
     -- what was given, and after it zeros
     abbrev arguments : List Word
-    arguments = entries.arguments tree code texts nested short (actor_of s) wanted gs slot next waiting h j begin e
+    arguments = entries.arguments tree code texts nested short (actor_of s) called
 
     abbrev taken : List Word
     taken = reverse arguments
@@ -136,7 +147,7 @@ module _ (tree : PProgram) (code : Code) (texts : Texts) (nested : LiesNested tr
     cells = (taken ++ zeros) ++ control_words controls
 
     given_there : AreCells j given taken
-    given_there = fit taken (entries.given tree code texts nested short (actor_of s) wanted gs slot next waiting h j begin e).actuals
+    given_there = fit taken (entries.given tree code texts nested short (actor_of s) called).actuals
 
     taken_many : length taken ≡ length (parameter_cells sc b)
     taken_many = as_many_values (parameter_cells sc b) (instances.parameter_cells b.parameters given) taken given_there.cells
@@ -193,7 +204,7 @@ module _ (tree : PProgram) (code : Code) (texts : Texts) (nested : LiesNested tr
     w' = entered_world sc w p q part outer h j given purpose
 
     abbrev at : ℕ
-    at = entries.at tree code texts nested short (actor_of s) wanted gs slot next waiting h j begin e
+    at = entries.at tree code texts nested short (actor_of s) called
 
     abbrev lay' : Layout
     lay' = record { places = lay.places ++ place p at ∷ []; rows = rows_but lay.rows n [] }
@@ -254,10 +265,10 @@ module _ (tree : PProgram) (code : Code) (texts : Texts) (nested : LiesNested tr
     -- ---- the core in the frame
 
     abbrev more : List Word
-    more = entries.more tree code texts nested short (actor_of s) wanted gs slot next waiting h j begin e
+    more = entries.more tree code texts nested short (actor_of s) called
 
     abbrev df : ℕ
-    df = entries.df tree code texts nested short (actor_of s) wanted gs slot next waiting h j begin e
+    df = entries.df tree code texts nested short (actor_of s) called
 
     abbrev home : Place
     home = e.linked.at
@@ -275,13 +286,13 @@ module _ (tree : PProgram) (code : Code) (texts : Texts) (nested : LiesNested tr
     control = control_word core.registers next inner_level
 
     abbrev new : Core
-    new = entries.new tree code texts nested short (actor_of s) wanted gs slot next waiting h j begin e
+    new = entries.new tree code texts nested short (actor_of s) called
 
     level_is : inner_level ≡ length frames + 2
-    level_is = omega (arith, entries.level_is tree code texts nested short (actor_of s) wanted gs slot next waiting h j begin e)
+    level_is = omega (arith, entries.level_is tree code texts nested short (actor_of s) called)
 
     new_core : IsCore new
-    new_core = entries.new_core tree code texts nested short (actor_of s) wanted gs slot next waiting h j begin e
+    new_core = entries.new_core tree code texts nested short (actor_of s) called
 
     new_long : length new.below ≡ at + 2 + length taken
     new_long = length-append lower (mark ∷ control ∷ taken) ∙ omega arith
@@ -295,7 +306,7 @@ module _ (tree : PProgram) (code : Code) (texts : Texts) (nested : LiesNested tr
     g : CoreBegins sc [] code ps inner_level bound' many controls body.start new
     g =
         begins sc [] (context_of code texts sc j) code ps inner_level bound' many controls begin body.ready body.start new body.over body.cells_at
-        (entries.core_at tree code texts nested short (actor_of s) wanted gs slot next waiting h j begin e) (omega (arith, few_cells, as_given)) (omega (arith, new_long))
+        (entries.core_at tree code texts nested short (actor_of s) called) (omega (arith, few_cells, as_given)) (omega (arith, new_long))
 
     has_here : HasCore (with_core img p new) p new
     has_here = has_now img p core new s.has refl new_core
@@ -329,7 +340,7 @@ module _ (tree : PProgram) (code : Code) (texts : Texts) (nested : LiesNested tr
       still : FrameStill tree code texts w w' lay lay' p limit stay part outer core.below s.stands.frame.cells s.stands.frame.gives
       still =
           frame_still tree code texts w w' lay lay' p limit stay part outer core.below s.stands.frame s.around
-          (omega (arith, entries.own_low tree code texts nested short (actor_of s) wanted gs slot next waiting h j begin e))
+          (omega (arith, entries.own_low tree code texts nested short (actor_of s) called))
 
       same_lower : length s.stands.frame.lower ≡ length still.frame.lower
       same_lower = sym (still_low tree code texts w w' lay lay' p limit stay part outer core.below s.stands.frame still)
@@ -344,7 +355,7 @@ module _ (tree : PProgram) (code : Code) (texts : Texts) (nested : LiesNested tr
           by_number (suc k) e = e
 
       frame_lies : length s.stands.frame.lower < limit
-      frame_lies = omega (arith, entries.own_low tree code texts nested short (actor_of s) wanted gs slot next waiting h j begin e)
+      frame_lies = omega (arith, entries.own_low tree code texts nested short (actor_of s) called)
 
       -- what is in reach stands after it
       reached_later : (k : ℕ) → IsInReach w (part ∷ outer) k → IsStanding w' k
@@ -385,9 +396,9 @@ module _ (tree : PProgram) (code : Code) (texts : Texts) (nested : LiesNested tr
             home = home;
             linked = home_there;
             df = df;
-            mark_is = entries.mark_reads tree code texts nested short (actor_of s) wanted gs slot next waiting h j begin e;
-            back = entries.back tree code texts nested short (actor_of s) wanted gs slot next waiting h j begin e;
-            control_is = entries.control_reads tree code texts nested short (actor_of s) wanted gs slot next waiting h j begin e;
+            mark_is = entries.mark_reads tree code texts nested short (actor_of s) called;
+            back = entries.back tree code texts nested short (actor_of s) called;
+            control_is = entries.control_reads tree code texts nested short (actor_of s) called;
             level_is = refl;
           }
 
@@ -435,8 +446,8 @@ module _ (tree : PProgram) (code : Code) (texts : Texts) (nested : LiesNested tr
       words_now =
           subst (λ (x : Instance). SlotsAre sc s.stands.held (run_level (is_evaluation part.purpose) (level_of (block_numbered sc.blocks x.block))) (length still.frame.lower) (length core.below) waiting more) here
           (subst (λ (k : ℕ). SlotsAre sc s.stands.held level k (length core.below) waiting more)
-          (entries.own_is tree code texts nested short (actor_of s) wanted gs slot next waiting h j begin e ∙ same_lower)
-          (entries.second tree code texts nested short (actor_of s) wanted gs slot next waiting h j begin e).are)
+          (entries.own_is tree code texts nested short (actor_of s) called ∙ same_lower)
+          (entries.second tree code texts nested short (actor_of s) called).are)
 
       known_now : AreKnown sc w' lay' (IsInReach w' (part' ∷ outer)) i s.stands.held
       known_now = known_stays tree code texts w w' lay lay' p limit stay laid_before part outer core s.stands s.around all_low s.stands.held s.stands.held_are
@@ -448,7 +459,7 @@ module _ (tree : PProgram) (code : Code) (texts : Texts) (nested : LiesNested tr
 
       few_waiting : length waiting + 2 ≤ most_in tree w part
       few_waiting =
-          omega (arith, ap length e.lies, (entries.given tree code texts nested short (actor_of s) wanted gs slot next waiting h j begin e).slots_many, s.stands.few)
+          omega (arith, ap length e.lies, (entries.given tree code texts nested short (actor_of s) called).slots_many, s.stands.few)
 
       abbrev waits_now : Waits tree code texts w' lay' p part' outer lower mark control (yields_of b.result)
       waits_now =
@@ -467,10 +478,10 @@ module _ (tree : PProgram) (code : Code) (texts : Texts) (nested : LiesNested tr
             words_are = words_now;
             home = home;
             df = df;
-            mark_is = entries.mark_reads tree code texts nested short (actor_of s) wanted gs slot next waiting h j begin e;
-            far = ap (λ (k : ℕ). df + newest k (length core.below) waiting) (sym same_lower) ∙ entries.far tree code texts nested short (actor_of s) wanted gs slot next waiting h j begin e;
-            back = entries.back tree code texts nested short (actor_of s) wanted gs slot next waiting h j begin e;
-            control_is = entries.control_reads tree code texts nested short (actor_of s) wanted gs slot next waiting h j begin e;
+            mark_is = entries.mark_reads tree code texts nested short (actor_of s) called;
+            far = ap (λ (k : ℕ). df + newest k (length core.below) waiting) (sym same_lower) ∙ entries.far tree code texts nested short (actor_of s) called;
+            back = entries.back tree code texts nested short (actor_of s) called;
+            control_is = entries.control_reads tree code texts nested short (actor_of s) called;
             segment_is = s.stands.segment_is ∙ ap (λ (x : Instance). segment_of sc.blocks x.block) here;
             place_is = omega arith;
             level_is = s.stands.there.level_is ∙ ap (λ (x : Instance). run_level (is_evaluation part.purpose) (level_of (block_numbered sc.blocks x.block))) here;
@@ -490,7 +501,7 @@ module _ (tree : PProgram) (code : Code) (texts : Texts) (nested : LiesNested tr
           ∙ all_many
 
       more_few : length more + 2 ≤ most_in tree w part
-      more_few = omega (arith, entries.as_many tree code texts nested short (actor_of s) wanted gs slot next waiting h j begin e, few_waiting)
+      more_few = omega (arith, entries.as_many tree code texts nested short (actor_of s) called, few_waiting)
 
       inner_weight : part_weight tree w' inner ≡ 8 + (length taken + many) + 4 * tokens_around tree j
       inner_weight =
@@ -524,7 +535,7 @@ module _ (tree : PProgram) (code : Code) (texts : Texts) (nested : LiesNested tr
           ∙ ap (λ (o : Option Instance). numbered lay'.places (ancestor w' up ((or_no_instance o).parent))) (sym made_there)
 
       new_small : size new ≤ stack_limit
-      new_small = omega (arith, new_long, entries.room tree code texts nested short (actor_of s) wanted gs slot next waiting h j begin e, more_long, as_given)
+      new_small = omega (arith, new_long, entries.room tree code texts nested short (actor_of s) called, more_long, as_given)
 
       cells_counted : length arguments + (many + length controls) ≡ length cells
       cells_counted = omega (arith, cells_many, as_given)
@@ -547,7 +558,7 @@ module _ (tree : PProgram) (code : Code) (texts : Texts) (nested : LiesNested tr
                 (shown_chained sc w' lay' n (names_in tree w' inner) (place p at) frames made_laid (ap (λ (k : ℕ). level_of (block_numbered sc.blocks k)) block_in ∙ level_is) each_now);
             top = ap (λ (r : Registers). place_at r.display (level_in tree w' inner)) g.registers
                 ∙ ap (place_at new.registers.display) (sym (runs_at inner (names_in tree w' inner) owns) ∙ ap (λ (k : ℕ). level_of (block_numbered sc.blocks k)) block_in)
-                ∙ entries.shown_here tree code texts nested short (actor_of s) wanted gs slot next waiting h j begin e;
+                ∙ entries.shown_here tree code texts nested short (actor_of s) called;
             segment_is = ap (λ (r : Registers). r.segment) g.registers ∙ ap (segment_of sc.blocks) (sym block_in);
             pc = body.start;
             slots = [];
@@ -574,13 +585,13 @@ module _ (tree : PProgram) (code : Code) (texts : Texts) (nested : LiesNested tr
 
     table_is : table code img p ≡ outcomes.gives (with_core img p new)
     table_is =
-        gives_within code img (with_core img p new) p new.registers (entries.entry_raw tree code texts nested short (actor_of s) wanted gs slot next waiting h j begin e) has_here.registers
+        gives_within code img (with_core img p new) p new.registers (entries.entry_raw tree code texts nested short (actor_of s) called) has_here.registers
         (omega (arith, s.has.is.top, s.small))
 
     -- where the choice is the entry, the operator does it
     pub entering : choice sc w p ≡ record { action = Enter; world = w'; released = []; started = None } → Does tree code texts w img p
     entering chosen =
-        gave (with_core img p new) (entries.entry_not_plain tree code texts nested short (actor_of s) wanted gs slot next waiting h j begin e) table_is
-        (entries.entry_action tree code texts nested short (actor_of s) wanted gs slot next waiting h j begin e table_is ∙ ap (λ (x : Choice). Some x.action) (sym chosen))
+        gave (with_core img p new) (entries.entry_not_plain tree code texts nested short (actor_of s) called) table_is
+        (entries.entry_action tree code texts nested short (actor_of s) called table_is ∙ ap (λ (x : Choice). Some x.action) (sym chosen))
         (λ may. subst (λ (x : Choice). Pictures tree code texts x.world (with_core img p new)) (sym chosen)
         (lay', pictured (after_choice sc w w' p q facts may s.at (ap (λ (x : Choice). x.world) chosen))))

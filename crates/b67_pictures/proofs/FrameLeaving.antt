@@ -1,6 +1,6 @@
 -- The frame of a block or of a procedure is left: it goes, and the part around goes on, with what is given.
 use Rattle.std.proofs.Common.{◌≡◌, ◌≢◌, refl, sym, ap, ◌∙◌, subst, ℕ, ◌<◌, List, [], ◌∷◌, length, Option, Some, None, Bool, false, arith, true, ◌⊎◌, inl, inr, ◌++◌}
-use Rattle.b67_pictures.proofs.Prelude.{if◌then◌else◌, reverse, numbered, Leave, PProgram, Scopes, scopes_of, Ask, leaves, ask, Choice, choice, choice_of, left_with, left_or_ended, fails, some_depends, is_evaluation, leave, Answer, Process, Part, lives, World, instance_at, RestsKeepToTheirText, AllIsMadeInOrder, IsStanding, IsOwn, Word, Place, Code, Rows, is_from, place, gives, Image, plain, Below, letter, Texts, Gives, Core, IsCore, HasCore, FragmentsArePerformed, length_set_numbered, some_same, system_stays, Leaves, after, outer_is, left_has, left_others, numbered_set, IsSameBut, same_but, HaveTexts, arrays_unchanged, IsClosed, FramesClose, events_left, IsElsewhere, event_outside, HasFacts, facts_of, KeepsArrays, StayBelow, owned_frame, ArraysAre, AreKnown, EventsAre, IsInReach, Waits, Owned, all_laid, AreAlike, alike_but, InnerActor, choice_is, gives_within, goes_on, fewer_closed, held_of, Living, Pictures, PicturesBy, StateIs, Does, gave}
+use Rattle.b67_pictures.proofs.Prelude.{if◌then◌else◌, reverse, numbered, Leave, PProgram, Scopes, scopes_of, Ask, leaves, ask, Choice, choice, choice_of, left_with, left_or_ended, fails, some_depends, is_evaluation, leave, Process, Part, lives, World, instance_at, IsStanding, IsOwn, Word, Place, Code, Rows, is_from, place, gives, Image, plain, Below, letter, Texts, Core, IsCore, HasCore, length_set_numbered, some_same, system_stays, Leaves, after, outer_is, left_has, left_others, numbered_set, IsSameBut, same_but, HaveTexts, arrays_unchanged, IsClosed, FramesClose, events_left, IsElsewhere, event_outside, HasFacts, facts_of, KeepsArrays, StayBelow, owned_frame, ArraysAre, EventsAre, Waits, Owned, all_laid, AreAlike, alike_but, InnerActor, choice_is, gives_within, goes_on, TheLaws, fewer_closed, held_of, Living, Pictures, PicturesBy, StateIs, Does, gave, leaves_here}
 use Rattle.b67_num.specs.declared.FaultKind.TheVariants as fault
 use Rattle.b67_table.specs.Outcome as outcomes
 use Rattle.b67_table.specs.Table.{raw, table}
@@ -9,12 +9,11 @@ use Rattle.b67_scenes.proofs.Tasks as tasks
 use Rattle.b67_pictures.proofs.Alone.{IsAfter, dependent_but, after_choice, stands_on, leaves_alone}
 use Rattle.b67_pictures.proofs.LeftInstances.{keeps_left}
 use Rattle.b67_pictures.proofs.LeavingWords as leaving
-use Rattle.b67_pictures.proofs.LeavingWords.{IsGiven, known_given, leaves_so, rows_are, low, shown_home}
+use Rattle.b67_pictures.proofs.LeavingWords.{leaves_so, rows_are, low, shown_home}
 use Rattle.b67_pictures.proofs.PartAround as around
-use Rattle.b67_pictures.proofs.PartAround.{smaller, living_now}
+use Rattle.b67_pictures.proofs.PartAround.{smaller, living_now, GivesBack}
 
-module _ (tree : PProgram) (code : Code) (texts : Texts) (stand : HaveTexts tree code texts) (fragments : FragmentsArePerformed) (keeps : RestsKeepToTheirText) (order : AllIsMadeInOrder) (closing : FramesClose)
-    (actor : InnerActor tree code texts) where
+module _ (tree : PProgram) (code : Code) (texts : Texts) (stand : HaveTexts tree code texts) (laws : TheLaws) (closing : FramesClose) (actor : InnerActor tree code texts) where
   open actor use {w, lay, img, p, q, part, next, parts, core, s}
 
   module _ (able_is : lives q.state ≡ true) (able_p : StateIs (scopes_of tree) w lay q.state (numbered img.states p)) (owns : is_evaluation part.purpose ≡ false) where
@@ -50,13 +49,14 @@ module _ (tree : PProgram) (code : Code) (texts : Texts) (stand : HaveTexts tree
     own_is : numbered w.instances i ≡ Some own_frame.framed.instance
     own_is = own_frame.framed.is
 
-    module _ (r : Answer) (given : Option Word) (g : IsGiven s.stands.frame.gives r given) (gives_it : Gives s.stands.frame.gives r)
-        (known_there : AreKnown (scopes_of tree) w lay (IsInReach w (next ∷ parts)) next.instance (known_given s.stands.frame.gives r given)) where
+    module _ (given_back : GivesBack tree code texts actor) where
+      open given_back use {answer as r, given}
+
       abbrev q' : Process
-      q' = around.q' tree code texts stand fragments keeps order actor r given g gives_it known_there
+      q' = around.q' tree code texts stand laws actor given_back
 
       abbrev new : Core
-      new = around.new tree code texts stand fragments keeps order actor r given g gives_it known_there
+      new = around.new tree code texts stand laws actor given_back
 
       -- ---- the world
 
@@ -102,23 +102,32 @@ module _ (tree : PProgram) (code : Code) (texts : Texts) (stand : HaveTexts tree
       module _ (over : ℕ) where
         is_core : IsCore new
         is_core =
-            outer_is code img p core s.has over u.below u.words s.stands.frame.mark s.stands.frame.control s.stands.frame.cells b display e given
+            outer_is code img p core s.has over (leaves_here e) given
             (shown_home tree code texts actor ∙ ap (λ (n : ℕ). Some (place n (length u.frame.lower))) (sym s.has.own))
             (omega (arith, low tree code texts actor, u.cells_are))
 
         abbrev pub now : Image
-        now = after code img p core s.has over u.below u.words s.stands.frame.mark s.stands.frame.control s.stands.frame.cells b display e given
+        now = after code img p core s.has over (leaves_here e) given
 
         has_here : HasCore now p new
-        has_here = left_has code img p core s.has over u.below u.words s.stands.frame.mark s.stands.frame.control s.stands.frame.cells b display e given is_core
+        has_here = left_has code img p core s.has over (leaves_here e) given is_core
 
         others : (m : ℕ) (other : Core) → m ≢ p → HasCore img m other → HasCore now m other
-        others = left_others code img p core s.has over u.below u.words s.stands.frame.mark s.stands.frame.control s.stands.frame.cells b display e given
+        others = left_others code img p core s.has over (leaves_here e) given
 
         here : IsLater → Living tree code texts w' lay now p q'
         here after_it =
-            living_now tree code texts stand fragments keeps order actor r given g gives_it known_there w' after_it.climb as_many (numbered_set w.processes p q q' s.at) (stay after_it)
-            same_now (λ up j. same_ancestors w p q' i own_frame.framed.instance own_is up j) now has_here
+            living_now tree code texts stand laws actor given_back (record {
+              world = w';
+              climb = after_it.climb;
+              as_many = as_many;
+              at_now = numbered_set w.processes p q q' s.at;
+              stay = stay after_it;
+              same_now = same_now;
+              same_up = λ up j. same_ancestors w p q' i own_frame.framed.instance own_is up j;
+              now = now;
+              has_here = has_here;
+            })
 
         -- the events of the instance are closed, and no others
         events_now : EventsAre sc w' lay now.events
@@ -164,4 +173,4 @@ module _ (tree : PProgram) (code : Code) (texts : Texts) (stand : HaveTexts tree
             table_is : table code img p ≡ outcomes.gives now
             table_is =
                 gives_within code img now p new.registers raw_is has_here.registers
-                (omega (arith, has_here.is.top, smaller tree code texts stand fragments keeps order actor r given g gives_it known_there))
+                (omega (arith, has_here.is.top, smaller tree code texts stand laws actor given_back))

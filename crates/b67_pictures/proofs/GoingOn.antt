@@ -1,20 +1,30 @@
 -- A process goes on in its innermost part, in a world in which its own instances, and the rows of their arrays, are what they were.
-use Rattle.std.proofs.Common.{◌≡◌, refl, sym, ap, ◌∙◌, subst, ℕ, ◌+◌, ◌<◌, ◌≤◌, List, ◌∷◌, length, Some, arith}
-use Rattle.b67_pictures.proofs.Prelude.{numbered, block_numbered, level_of, PProgram, scopes_of, resume, is_evaluation, Answer, Instance, Process, Part, State, World, instance_at, all_to_make, all_left_to_make, BlockIsSeen, RestsKeepToTheirText, AllIsMadeInOrder, segment_of, InAnswer, place_at, Registers, Code, stack_limit, Image, in_routine, Yields, Texts, context_of, ComesTo, Slot, Core, size, HasCore, Known, CoreAt, FragmentsArePerformed, weight, facts_of, StayBelow, StandOn, frame_resumed, Layout, AreKnown, IsInReach, most_around, IsChained, Frame, run_level, AreLaid, all_laid, steps_none, living_of, CanClimb, Actor, weight_of, text_in, level_in, context_in, most_in, names_in, FrameStill, frame_still, frame_low, chained_stays, top_stays, parts_weigh, known_stays, EventsStay, critical_stays, task_stays, CriticalIs, TaskIs, Living}
+use Rattle.std.proofs.Common.{◌≡◌, refl, sym, ap, ◌∙◌, subst, ℕ, ◌+◌, ◌<◌, ◌≤◌, ◌∷◌, length, Some, arith}
+use Rattle.b67_pictures.proofs.Prelude.{numbered, block_numbered, level_of, PProgram, scopes_of, resume, is_evaluation, Instance, Process, Part, State, World, instance_at, BlockIsSeen, segment_of, InAnswer, place_at, Registers, Code, stack_limit, Image, in_routine, Yields, Texts, context_of, ComesTo, size, HasCore, CoreAt, weight, facts_of, StayBelow, StandOn, frame_resumed, Layout, most_around, IsChained, Frame, run_level, AreLaid, all_laid, steps_none, living_of, CanClimb, Actor, weight_of, text_in, level_in, most_in, names_in, FrameStill, frame_still, frame_low, chained_stays, top_stays, parts_weigh, known_stays, EventsStay, critical_stays, task_stays, TheLaws, CriticalIs, TaskIs, Living}
 use Rattle.b67_scenes.specs.Reaches as reaching
 use Rattle.b67_scenes.proofs.Staying.{block_stays}
-use Rattle.b67_pictures.proofs.InFrame.{SameFrame}
+use Rattle.b67_pictures.proofs.InFrame.{GoesOn}
 
-module _ (tree : PProgram) (code : Code) (texts : Texts) (fragments : FragmentsArePerformed) (keeps : RestsKeepToTheirText) (order : AllIsMadeInOrder) (actor : Actor tree code texts) where
+module _ (tree : PProgram) (code : Code) (texts : Texts) (laws : TheLaws) (actor : Actor tree code texts) where
+  open laws use {fragments, keeps, order}
   open actor use {w, lay, p, q, part, outer, bound, core, s}
 
-  module _ (unmade : all_left_to_make part.rest ≡ all_to_make part.rest)
-      (a : Answer) (nameless : InAnswer (BlockIsSeen (scopes_of tree) ((instance_at w part.instance).block)) a) (new : Core) (below : new.below ≡ core.below) (frame_is : SameFrame core.registers new.registers)
-      (known : List Known) (known_are : AreKnown (scopes_of tree) w lay (IsInReach w (part ∷ outer)) part.instance known)
-      (pc : ℕ) (slots : List Slot) (there : CoreAt (scopes_of tree) known code (text_in tree texts w part) (level_in tree w part) pc slots new) (few : length slots ≤ most_in tree w part)
-      (comes : ComesTo (scopes_of tree) (context_in tree code texts w part s.stands.frame.gives) (text_in tree texts w part) (level_in tree w part) (most_in tree w part) (resume (scopes_of tree) part.rest a) pc slots)
-      (w' : World) (lay' : Layout) (state : State) (on : StandOn (scopes_of tree) w w' lay lay') (own : (i : ℕ) (x : Instance) → numbered w.instances i ≡ Some x → x.process ≡ p → numbered w'.instances i ≡ Some x)
-      (rows : (i : ℕ) (x : Instance) → numbered w.instances i ≡ Some x → x.process ≡ p → lay'.rows i ≡ lay.rows i) (events : EventsStay w w') (laid_later : length lay'.places ≡ length w'.instances) (at_later : numbered w'.processes p ≡ Some (record q { todo = record part { rest = resume (scopes_of tree) part.rest a } ∷ outer; state = state })) where
+  -- The world after it, and its layout, in which its own instances and their rows are what they were.
+  pub record WorldThen (onward : GoesOn tree code texts actor) : Type 0 where
+    pub world : World
+    pub layout : Layout
+    pub state : State
+    pub on : StandOn (scopes_of tree) w world lay layout
+    pub own : (i : ℕ) (x : Instance) → numbered w.instances i ≡ Some x → x.process ≡ p → numbered world.instances i ≡ Some x
+    pub rows : (i : ℕ) (x : Instance) → numbered w.instances i ≡ Some x → x.process ≡ p → layout.rows i ≡ lay.rows i
+    pub events : EventsStay w world
+    pub laid_later : length layout.places ≡ length world.instances
+    pub at_later : numbered world.processes p ≡ Some (record q { todo = record part { rest = resume (scopes_of tree) part.rest onward.answer } ∷ outer; state = state })
+
+  module _ (onward : GoesOn tree code texts actor) (then : WorldThen onward) where
+    open then use {world as w', layout as lay', state, on, own, rows, events, laid_later, at_later}
+    open onward use {unmade, answer as a, nameless, new, below, frame_is, known, known_are, pc, slots, there, few, comes}
+
     abbrev part' : Part
     part' = record part { rest = resume (scopes_of tree) part.rest a }
 

@@ -1,6 +1,6 @@
 -- Actions that change nothing but what lies above the cells of the process's own frame, and the output.
 use Rattle.std.proofs.Common.{◌≡◌, ◌≢◌, ◌⊎◌, inl, inr, refl, sym, ap, ◌∙◌, subst, ℕ, ◌+◌, ◌<◌, ◌≤◌, List, [], ◌∷◌, length, Some, None, false, arith}
-use Rattle.b67_pictures.proofs.Prelude.{numbered, Letter, PProgram, scopes_of, resume, Choice, choice, Answer, Process, Part, World, instance_at, with_process, all_to_make, all_left_to_make, BlockIsSeen, RestsKeepToTheirText, AllIsMadeInOrder, InAnswer, place_at, Registers, Code, stack_limit, Image, woken_number, frame, plain, letter, Yields, Texts, ComesTo, Slot, slots_length, Core, size, HasCore, with_core, Known, CoreAt, FragmentsArePerformed, length_set_numbered, weight, has_now, others_have, system_stays, numbered_set, most_or_more, arrays_unchanged, events_unchanged, HasFacts, facts_of, keeps_same, StayBelow, StandOn, frame_resumed, AreKnown, IsInReach, IsChained, Frame, AreLaid, all_laid, alike_by, steps_none, living_of, AbleActor, gives_within, limit_beyond, weight_of, process_is, text_in, level_in, context_in, most_in, FrameStill, frame_still, frame_low, chained_stays, top_stays, parts_weigh, known_stays, names_in, task_stays, state_stays, events_same, CriticalIs, TaskIs, Pictures, PicturesBy, WaitsAre, MayAct, Does, gave, stopped}
+use Rattle.b67_pictures.proofs.Prelude.{numbered, Letter, PProgram, scopes_of, resume, Choice, choice, Answer, Process, Part, World, instance_at, with_process, all_to_make, all_left_to_make, BlockIsSeen, InAnswer, Word, place_at, Registers, Code, stack_limit, Image, woken_number, frame, plain, letter, Yields, Texts, ComesTo, Slot, slots_length, Core, size, HasCore, with_core, Known, CoreAt, length_set_numbered, weight, has_now, others_have, system_stays, numbered_set, most_or_more, arrays_unchanged, events_unchanged, HasFacts, facts_of, keeps_same, StayBelow, StandOn, frame_resumed, AreKnown, IsInReach, IsChained, Frame, AreLaid, all_laid, alike_by, steps_none, living_of, Actor, actor_of, AbleActor, gives_within, limit_beyond, weight_of, process_is, text_in, level_in, context_in, most_in, FrameStill, frame_still, frame_low, chained_stays, top_stays, parts_weigh, known_stays, names_in, task_stays, state_stays, events_same, TheLaws, CriticalIs, TaskIs, Pictures, PicturesBy, WaitsAre, MayAct, Does, gave, stopped}
 use Rattle.b67_table.specs.Effect as effects
 use Rattle.b67_table.specs.Outcome as outcomes
 use Rattle.b67_table.specs.Table.{table, raw}
@@ -13,15 +13,47 @@ use Rattle.b67_pictures.proofs.Alone.{IsAfter, after_choice, dependent_but, stan
 pub record SameFrame (a b : Registers) : Type 0 where
   pub is : b ≡ record a { s = b.s; f = b.f; place = b.place }
 
-module _ (tree : PProgram) (code : Code) (texts : Texts) (fragments : FragmentsArePerformed) (keeps : RestsKeepToTheirText) (order : AllIsMadeInOrder) (actor : AbleActor tree code texts) where
+-- How a process goes on in its innermost part, after an action in which it makes nothing: the answer, and where its core stands for what is left.
+module _ (tree : PProgram) (code : Code) (texts : Texts) (actor : Actor tree code texts) where
+  open actor use {w, lay, part, outer, core, s}
+
+  pub record GoesOn : Type 0 where
+    pub unmade : all_left_to_make part.rest ≡ all_to_make part.rest
+    pub answer : Answer
+    pub nameless : InAnswer (BlockIsSeen (scopes_of tree) ((instance_at w part.instance).block)) answer
+    pub new : Core
+    pub below : new.below ≡ core.below
+    pub frame_is : SameFrame core.registers new.registers
+    pub known : List Known
+    pub known_are : AreKnown (scopes_of tree) w lay (IsInReach w (part ∷ outer)) part.instance known
+    pub pc : ℕ
+    pub slots : List Slot
+    pub there : CoreAt (scopes_of tree) known code (text_in tree texts w part) (level_in tree w part) pc slots new
+    pub few : length slots ≤ most_in tree w part
+    pub comes : ComesTo (scopes_of tree) (context_in tree code texts w part s.stands.frame.gives) (text_in tree texts w part) (level_in tree w part) (most_in tree w part) (resume (scopes_of tree) part.rest answer) pc slots
+
+  -- .. with these words above its floor, and these registers, where nothing more is known of descriptors and references
+  pub record GoesOnAbove : Type 0 where
+    pub unmade : all_left_to_make part.rest ≡ all_to_make part.rest
+    pub answer : Answer
+    pub nameless : InAnswer (BlockIsSeen (scopes_of tree) ((instance_at w part.instance).block)) answer
+    pub words : List Word
+    pub registers : Registers
+    pub frame_is : SameFrame core.registers registers
+    pub pc : ℕ
+    pub slots : List Slot
+    pub there : CoreAt (scopes_of tree) s.stands.held code (text_in tree texts w part) (level_in tree w part) pc slots (record { below = core.below; words = words; registers = registers })
+    pub few : length slots ≤ most_in tree w part
+    pub comes : ComesTo (scopes_of tree) (context_in tree code texts w part s.stands.frame.gives) (text_in tree texts w part) (level_in tree w part) (most_in tree w part) (resume (scopes_of tree) part.rest answer) pc slots
+
+module _ (tree : PProgram) (code : Code) (texts : Texts) (laws : TheLaws) (actor : AbleActor tree code texts) where
+  open laws use {fragments, keeps, order}
   open actor use {w, lay, img, p, q, part, outer, bound, core, s, able_is, able_p}
 
-  module _ (unmade : all_left_to_make part.rest ≡ all_to_make part.rest)
-      (a : Answer) (nameless : InAnswer (BlockIsSeen (scopes_of tree) ((instance_at w part.instance).block)) a) (out : List (List ℕ)) (new : Core) (below : new.below ≡ core.below) (frame_is : SameFrame core.registers new.registers)
-      (known : List Known) (known_are : AreKnown (scopes_of tree) w lay (IsInReach w (part ∷ outer)) part.instance known)
-      (pc : ℕ) (slots : List Slot) (there : CoreAt (scopes_of tree) known code (text_in tree texts w part) (level_in tree w part) pc slots new) (few : length slots ≤ most_in tree w part)
-      (comes : ComesTo (scopes_of tree) (context_in tree code texts w part s.stands.frame.gives) (text_in tree texts w part) (level_in tree w part) (most_in tree w part) (resume (scopes_of tree) part.rest a) pc slots)
-      (woken : ℕ) (numbers : List ℕ) (many_numbers : length numbers ≡ length img.numbers) (numbered_so : woken_number numbers p ≡ woken) (numbered_others : (r : ℕ) → r ≢ p → woken_number numbers r ≡ woken_number img.numbers r) where
+  module _ (onward : GoesOn tree code texts (actor_of s)) (out : List (List ℕ)) (woken : ℕ) (numbers : List ℕ) (many_numbers : length numbers ≡ length img.numbers) (numbered_so : woken_number numbers p ≡ woken)
+      (numbered_others : (r : ℕ) → r ≢ p → woken_number numbers r ≡ woken_number img.numbers r) where
+    open onward use {unmade, answer as a, nameless, new, below, frame_is, known, known_are, pc, slots, there, few, comes}
+
     abbrev pub part' : Part
     part' = record part { rest = resume (scopes_of tree) part.rest a }
 
@@ -142,14 +174,12 @@ module _ (tree : PProgram) (code : Code) (texts : Texts) (fragments : FragmentsA
             stopped not_plain (limit_beyond code img after p new.registers raw_is has_here.registers long) (omega (arith, long, top_is, few, room', s.light))
 
 -- .. with the woken number that it had
-module _ (tree : PProgram) (code : Code) (texts : Texts) (fragments : FragmentsArePerformed) (keeps : RestsKeepToTheirText) (order : AllIsMadeInOrder) (actor : AbleActor tree code texts) where
+module _ (tree : PProgram) (code : Code) (texts : Texts) (laws : TheLaws) (actor : AbleActor tree code texts) where
   open actor use {w, lay, img, p, q, part, outer, core, s}
 
-  module _ (unmade : all_left_to_make part.rest ≡ all_to_make part.rest)
-      (a : Answer) (nameless : InAnswer (BlockIsSeen (scopes_of tree) ((instance_at w part.instance).block)) a) (out : List (List ℕ)) (new : Core) (below : new.below ≡ core.below) (frame_is : SameFrame core.registers new.registers)
-      (known : List Known) (known_are : AreKnown (scopes_of tree) w lay (IsInReach w (part ∷ outer)) part.instance known)
-      (pc : ℕ) (slots : List Slot) (there : CoreAt (scopes_of tree) known code (text_in tree texts w part) (level_in tree w part) pc slots new) (few : length slots ≤ most_in tree w part)
-      (comes : ComesTo (scopes_of tree) (context_in tree code texts w part s.stands.frame.gives) (text_in tree texts w part) (level_in tree w part) (most_in tree w part) (resume (scopes_of tree) part.rest a) pc slots) where
+  module _ (onward : GoesOn tree code texts (actor_of s)) (out : List (List ℕ)) where
+    open onward use {answer as a, new}
+
     pub does_in_frame : (action : Letter) → plain code img p ≡ false → raw code img p ≡ effects.gives (record (with_core img p new) { output = out }) →
         choice (scopes_of tree) w p ≡ record {
           action = action;
@@ -159,5 +189,5 @@ module _ (tree : PProgram) (code : Code) (texts : Texts) (fragments : FragmentsA
         } →
         (table code img p ≡ outcomes.gives (record (with_core img p new) { output = out }) → letter code img p ≡ Some action) → Does tree code texts w img p
     does_in_frame =
-        does_numbered tree code texts fragments keeps order actor unmade a nameless out new below frame_is known known_are pc slots there few comes
+        does_numbered tree code texts laws actor onward out
         q.woken img.numbers refl (s.by.waits.woken p ∙ ap (λ (x : Process). x.woken) (process_is w p q s.at)) (λ r other. refl)

@@ -1,6 +1,6 @@
 -- An index, to a row or to an element.
 use Rattle.std.proofs.Common.{◌≡◌, inl, inr, refl, sym, ap, ◌∙◌, subst, ℕ, ◌<◌, List, [], ◌∷◌, ◌++◌, length, Option, Some, None, Bool, true, false, Ok, ℤ}
-use Rattle.b67_pictures.proofs.Prelude.{map, InvalidIndex, Fault, PProgram, Scopes, scopes_of, use_of, Kind, Named, subscript_place, Ask, indexes, ask, resume, Choice, choice, choice_of, here, Answer, element_of, Value, number, whole_of, Reference, Cell, followed, array_in, Shape, RestsKeepToTheirText, AllIsMadeInOrder, Word, Descriptor, Couple, Operator, Placed, Code, Row, row_at, index_in, failed, Image, frame, operator_at, operator_letter, AreNested, Texts, ActionAt, Acted, ComesTo, of_row, of_element, element, Slot, operand, reference, intrinsic, control, descriptor, mark, Core, with_core, Known, SlotIs, SlotsAre, FragmentsArePerformed, array_asked, whole_array, with_one, action_not_plain, fault_not_plain, action_is, makes, unmade, index_below, HoldElements, IsElement, HeldIs, IsInReach, MeantArray, array_home, operator_there, Finds, in_place, has_room, LastIndex, last_index, FirstIndex, first_of_two, AbleActor, actor_of, choice_is, faults_so, faulted, text_in, level_in, context_in, most_in, Pictures, Does, failed_by}
+use Rattle.b67_pictures.proofs.Prelude.{map, InvalidIndex, Fault, PProgram, Scopes, scopes_of, use_of, Kind, Named, subscript_place, Ask, indexes, ask, resume, Choice, choice, choice_of, here, Answer, element_of, Value, number, whole_of, Reference, Cell, followed, array_in, Shape, Word, Descriptor, Couple, Operator, Placed, Code, Row, row_at, index_in, failed, Image, frame, operator_at, operator_letter, AreNested, Texts, ActionAt, Acted, ComesTo, of_row, of_element, element, Slot, operand, reference, intrinsic, control, descriptor, mark, Core, with_core, Known, SlotIs, SlotsAre, array_asked, at_operator, whole_array, with_one, action_not_plain, fault_not_plain, action_is, makes, unmade, index_below, HoldElements, IsElement, HeldIs, IsInReach, MeantArray, array_home, operator_there, Finds, in_place, has_room, LastIndex, last_index, FirstIndex, first_of_two, AbleActor, actor_of, choice_is, faults_so, faulted, text_in, level_in, context_in, most_in, TheLaws, Pictures, Does, failed_by}
 use Rattle.algol_meaning.specs.Arrays.{size_of}
 use Rattle.algol_meaning.specs.Rest.{place}
 use Rattle.b67_deeds.specs.declared.Letter.TheVariants.{Index}
@@ -35,8 +35,7 @@ more_known known one sc level home base (slot ∷ slots) (w ∷ words) are = (of
     of_slot (descriptor h) is = inr is
     of_slot mark is = is
 
-module _ (tree : PProgram) (code : Code) (texts : Texts) (nested : AreNested (scopes_of tree)) (fragments : FragmentsArePerformed) (keeps : RestsKeepToTheirText) (order : AllIsMadeInOrder)
-    (actor : AbleActor tree code texts) where
+module _ (tree : PProgram) (code : Code) (texts : Texts) (nested : AreNested (scopes_of tree)) (laws : TheLaws) (actor : AbleActor tree code texts) where
   open actor use {w, lay, img, p, q, part, outer, core, s}
 
   module _ (n : Named) (ks : List ℕ) (v : Value) (asks : ask part.rest ≡ indexes n ks v) where
@@ -68,8 +67,8 @@ module _ (tree : PProgram) (code : Code) (texts : Texts) (nested : AreNested (sc
       -- a subscript outside the bounds
       index_fails : subscript_place ((use_of sc n).sort) h.cell ks z ≡ None → raw code img p ≡ effects.faults InvalidIndex → Does tree code texts w img p
       index_fails e raw_is =
-          failed_by InvalidIndex (fault_not_plain code img p core s.has op next there InvalidIndex table_is) table_is
-          (action_is code img p core s.has op next there (outcomes.faults InvalidIndex) table_is ∙ ap (λ (c : Choice). Some c.action) (sym fails_so))
+          failed_by InvalidIndex (fault_not_plain code op (at_operator s.has there) InvalidIndex table_is) table_is
+          (action_is code op (at_operator s.has there) (outcomes.faults InvalidIndex) table_is ∙ ap (λ (c : Choice). Some c.action) (sym fails_so))
           (subst (λ (c : Choice). Pictures tree code texts c.world (failed img p InvalidIndex)) (sym fails_so) (lay, faulted tree code texts w lay img s.by p q s.at s.ok InvalidIndex))
         where
           table_is : table code img p ≡ outcomes.faults InvalidIndex
@@ -92,15 +91,25 @@ module _ (tree : PProgram) (code : Code) (texts : Texts) (nested : AreNested (sc
 
         index_does : Does tree code texts w img p
         index_does =
-            does_in_frame tree code texts fragments keeps order actor (unmade part.rest (ap makes asks))
-            (place (element_of home (ks ++ k ∷ []))) tt w.output new refl (record { is = refl }) (one ∷ s.stands.held) (held_is, s.stands.held_are) next (descriptor held ∷ below)
-            (in_place tree code texts nested (actor_of s) mother moved_subscript d below f (one ∷ s.stands.held) (descriptor held) word next
-            (inl (refl, refl), more_known s.stands.held one sc level (frame core.registers) (length core.below) below f.words f.left_are) refl)
-            (has_room tree code texts nested (actor_of s) mother moved_subscript d below f (descriptor held)) comes Index
-            (action_not_plain code img p core s.has op next there class_is)
+            does_in_frame tree code texts laws actor (record {
+              unmade = unmade part.rest (ap makes asks);
+              answer = place (element_of home (ks ++ k ∷ []));
+              nameless = tt;
+              new = new;
+              below = refl;
+              frame_is = record { is = refl };
+              known = one ∷ s.stands.held;
+              known_are = (held_is, s.stands.held_are);
+              pc = next;
+              slots = descriptor held ∷ below;
+              there = in_place tree code texts nested (actor_of s) mother moved_subscript d below f (one ∷ s.stands.held) (descriptor held) word next (inl (refl, refl), more_known s.stands.held one sc level (frame core.registers) (length core.below) below f.words f.left_are) refl;
+              few = has_room tree code texts nested (actor_of s) mother moved_subscript d below f (descriptor held);
+              comes = comes;
+            }) w.output Index
+            (action_not_plain code op (at_operator s.has there) class_is)
             (raw_is ∙ ap (λ (o : List (List ℕ)). effects.gives (record (with_core img p new) { output = o })) s.by.output)
             (chosen ∙ ap (λ (o : Option ℕ). indexed_at sc w p q part outer home ks o) e)
-            (λ t. action_is code img p core s.has op next there (outcomes.gives (record (with_core img p new) { output = w.output })) t ∙ acts (record (with_core img p new) { output = w.output }))
+            (λ t. action_is code op (at_operator s.has there) (outcomes.gives (record (with_core img p new) { output = w.output })) t ∙ acts (record (with_core img p new) { output = w.output }))
 
     -- ---- by what stands there
 

@@ -1,6 +1,7 @@
 -- A code in which a program stands whose blocks lie in one another, and which is short and can be listed, is faithful to it.
 use Rattle.std.proofs.Common.{◌≡◌, sym, ◌∙◌, ℕ, ◌≤◌, List, [], ◌∷◌, length, Option, None}
-use Rattle.b67_pictures.proofs.Prelude.{All, EventDeed, block_numbered, PProgram, PPair, PBody, scopes_of, Kind, Named, reads_element, indexes, leaves, enters, passes, stores, goes_to, enters_block, starts, makes_arrays, makes_event, event_deed, ask, element_of, Given, done, value, cell, Value, Reference, World, instance_at, Part, RestsKeepToTheirText, AllIsMadeInOrder, JumpsKeepToTheirText, first_world_stands, IsOk, IsWholeInstance, Code, Segment, segment_limit, HasNames, AreNested, LiesNested, Texts, ProgramAt, blocks_start, RestsGoOn, blocks_begin, fragments_are_performed, HasFormats, IsShortSegment, Faithful, FramesClose, asks_as_own, frame_gives, block_small, of_own, of_lent, scene_of, Scene, actor_of, narrow_of, Does, NestedProgramsAreFaithful, IsListable, outmost_actor}
+use Rattle.b67_pictures.proofs.Prelude.{All, EventDeed, block_numbered, PProgram, PPair, PBody, scopes_of, Kind, Named, reads_element, indexes, leaves, enters, passes, stores, goes_to, enters_block, starts, makes_arrays, makes_event, event_deed, ask, element_of, Given, done, value, cell, Value, Reference, World, instance_at, Part, RestsKeepToTheirText, JumpsKeepToTheirText, first_world_stands, IsOk, IsWholeInstance, Code, Segment, segment_limit, HasNames, AreNested, LiesNested, Texts, ProgramAt, blocks_start, RestsGoOn, blocks_begin, fragments_are_performed, HasFormats, IsShortSegment, Faithful, FramesClose, asks_as_own, frame_gives, block_small, of_own, of_lent, scene_of, Scene, actor_of, outmost_actor, TheLaws, the_laws, narrow_of, Does, NestedProgramsAreFaithful, NestedStacksStayOwn, IsListable, StacksStayOwn}
+use Rattle.algol_paths.specs.Laws.{AllIsMadeInOrder}
 use Rattle.b67_scenes.proofs.Scene.{able_actor}
 use Rattle.algol_tree.specs.Plain as plain
 use Rattle.algol_meaning.specs.Rest.{Place, place, entered}
@@ -19,7 +20,7 @@ use Rattle.b67_scenes.proofs.Scene.{inner_actor}
 use Rattle.b67_scenes.proofs.Starting.{first_pictured}
 use Rattle.b67_pictures.proofs.Dispatching.{IsDone, OthersAreDone}
 use Rattle.b67_pictures.proofs.Settling.{AreFreed, EndsAreFreed, scene_settled}
-use Rattle.b67_pictures.proofs.Evaluating.{ActualsAreEntered, At}
+use Rattle.b67_pictures.proofs.Evaluating.{ActualsAreEntered}
 use Rattle.b67_pictures.proofs.Writing.{writing}
 use Rattle.b67_pictures.proofs.Selecting.{selecting}
 use Rattle.b67_pictures.proofs.EndOfProcess.{ending, ending_frees}
@@ -31,9 +32,8 @@ use Rattle.b67_pictures.proofs.Leaving.{leaving, leaving_with}
 use Rattle.b67_pictures.proofs.Quiet.{SettledAct}
 use Rattle.b67_pictures.proofs.Simulating as simulating
 use Rattle.b67_pictures.proofs.Simulating.{StandApart, StacksApart}
-use Rattle.b67_settling.specs.Local.{StacksStayOwn}
-use Rattle.b67_pictures.specs.Programs.{NestedStacksStayOwn}
 use Rattle.b67_pictures.proofs.Counting.{operators_are_few}
+use Rattle.b67_pictures.proofs.Head.{At}
 
 -- what is done with arrays: an element is read, indexed, or stored, a parameter is passed on, and arrays are made
 pub record ArraysAreDone (tree : PProgram) (code : Code) (texts : Texts) : Type 0 where
@@ -53,9 +53,20 @@ pub record EventsAreDone (tree : PProgram) (code : Code) (texts : Texts) : Type 
 abbrev pub ProcessesAreDone : PProgram → Code → Texts → Type 0
 ProcessesAreDone tree code texts = (n : Named) (gs : List Given) (task : Option Named) → IsDone tree code texts (starts n gs task)
 
-module _ (keeps : RestsKeepToTheirText) (order : AllIsMadeInOrder) (jumps_keep : JumpsKeepToTheirText) (closing : FramesClose) (tree : PProgram) (code : Code) (names : HasNames tree) (lies : LiesNested tree) (fit : HasTexts tree) (short : IsShortSegment tree code)
-    (segments : All (λ (segment : Segment). length segment.words ≤ segment_limit) code.segments) (at : ProgramAt code tree) (apart : StandApart tree code at.texts)
-    (arrays : ArraysAreDone tree code at.texts) (events : EventsAreDone tree code at.texts) (processes : ProcessesAreDone tree code at.texts) where
+-- What is done with arrays, with events and with processes.
+pub record AreAllDone (tree : PProgram) (code : Code) (at : ProgramAt code tree) : Type 0 where
+  pub arrays : ArraysAreDone tree code at.texts
+  pub events : EventsAreDone tree code at.texts
+  pub processes : ProcessesAreDone tree code at.texts
+
+module _ (keeps : RestsKeepToTheirText) (order : AllIsMadeInOrder) (jumps_keep : JumpsKeepToTheirText) (closing : FramesClose) (tree : PProgram) (code : Code) (names : HasNames tree) (lies : LiesNested tree) (fit : HasTexts tree)
+    (short : IsShortSegment tree code) (segments : All (λ (segment : Segment). length segment.words ≤ segment_limit) code.segments) (at : ProgramAt code tree) (apart : StandApart tree code at.texts)
+    (done_there : AreAllDone tree code at) where
+  open done_there use {arrays, events, processes}
+
+  abbrev laws : TheLaws
+  laws = the_laws fragments_are_performed keeps order
+
   abbrev texts : Texts
   texts = at.texts
 
@@ -68,7 +79,7 @@ module _ (keeps : RestsKeepToTheirText) (order : AllIsMadeInOrder) (jumps_keep :
       by [] s asks a =
           ending tree code texts closing (outmost_actor s) (asks_as_own tree code texts actor.w actor.lay actor.p actor.part [] actor.core.below s.stands.frame (leaves done) asks (λ e. e)) actor.able_is asks a
       by (next ∷ parts) s asks a =
-          leaving tree code texts (have_texts tree code at) fragments_are_performed keeps order closing (inner_actor s) actor.able_is actor.able_p
+          leaving tree code texts (have_texts tree code at) laws closing (inner_actor s) actor.able_is actor.able_p
           (asks_as_own tree code texts actor.w actor.lay actor.p actor.part (next ∷ parts) actor.core.below s.stands.frame (leaves done) asks (λ e. e)) asks a
 
   -- of the outermost part no value is wanted
@@ -83,8 +94,8 @@ module _ (keeps : RestsKeepToTheirText) (order : AllIsMadeInOrder) (jumps_keep :
           by_shape : Shape tree code texts actor.w actor.lay actor.p actor.part (next ∷ parts) (length s.stands.frame.lower) s.stands.frame.mark s.stands.frame.control s.stands.frame.cells s.stands.frame.home s.stands.frame.gives →
               Does tree code texts actor.w actor.img actor.p
           by_shape (of_own o is) =
-              leaving_with tree code texts (have_texts tree code at) fragments_are_performed keeps order closing (inner_actor s) actor.able_is actor.able_p o.owns v asks a
-          by_shape (of_lent l) = left_value tree code texts (have_texts tree code at) fragments_are_performed keeps order (inner_actor s) actor.able_is actor.able_p l v asks a
+              leaving_with tree code texts (have_texts tree code at) laws closing (inner_actor s) actor.able_is actor.able_p o.owns v asks a
+          by_shape (of_lent l) = left_value tree code texts (have_texts tree code at) laws (inner_actor s) actor.able_is actor.able_p l v asks a
 
   -- no block gives a place, but an evaluation does
   gives_place : (x : Place) → IsDone tree code texts (leaves (place x))
@@ -100,7 +111,7 @@ module _ (keeps : RestsKeepToTheirText) (order : AllIsMadeInOrder) (jumps_keep :
           by_shape (of_own o is) =
               no_element (block_numbered (scopes_of tree).blocks ((instance_at actor.w actor.part.instance).block)).result a.0
               (sym (frame_gives tree code texts actor.w actor.lay actor.p actor.part (next ∷ parts) actor.core.below s.stands.frame o.owns) ∙ a.2)
-          by_shape (of_lent l) = left_place tree code texts (have_texts tree code at) fragments_are_performed keeps order (inner_actor s) actor.able_is actor.able_p l lies.nested x asks a
+          by_shape (of_lent l) = left_place tree code texts (have_texts tree code at) laws (inner_actor s) actor.able_is actor.able_p l lies.nested x asks a
 
   -- the end of a process that has a task
   ends_freed : EndsAreFreed tree code texts
@@ -113,23 +124,31 @@ module _ (keeps : RestsKeepToTheirText) (order : AllIsMadeInOrder) (jumps_keep :
 
   enters_done : (b : PBody) → IsDone tree code texts (enters_block b)
   enters_done (plain.body spot ds ss) actor h =
-      entering_block tree code texts lies short fragments_are_performed blocks_begin inner_blocks_start inner_blocks_follow keeps order actor spot ds ss h.asks h.action h.waits h.returns
+      entering_block tree code texts lies short laws blocks_begin inner_blocks_start inner_blocks_follow actor spot ds ss h
 
   calls_done : (n : Named) (gs : List Given) → IsDone tree code texts (enters n gs)
   calls_done n gs actor h =
-      entering_procedure tree code at lies short (block_small tree names) fragments_are_performed blocks_begin blocks_start keeps order actor n gs h.asks h.action h.waits h.returns
+      entering_procedure tree code at lies short (block_small tree names) laws blocks_begin blocks_start actor n gs h
 
   goes_done : (n : Named) → IsDone tree code texts (goes_to n)
   goes_done n actor h =
-      jumping tree code texts lies names (have_texts tree code at) at.labels segments fragments_are_performed keeps jumps_keep jumps_stand closing actor n h.asks h.action
+      jumping tree code texts (record {
+        lies = lies;
+        named = names;
+        stand = have_texts tree code at;
+        labels = at.labels;
+        short = segments;
+        jump = jumps_stand;
+        closing = closing;
+      }) fragments_are_performed keeps jumps_keep actor n h.asks h.action
 
   others : OthersAreDone tree code texts
   others =
       record {
         writing = λ ts vs actor h.
-            writing tree code texts fragments_are_performed keeps order actor ts vs h.asks h.action h.answered;
+            writing tree code texts laws actor ts vs h;
         selecting = λ v ss actor h.
-            selecting tree code texts fragments_are_performed keeps order segments actor v ss h.asks h.action h.answered;
+            selecting tree code texts laws segments actor v ss h;
         entering = enters_done;
         calling = calls_done;
         reading = arrays.reading;
@@ -160,19 +179,19 @@ module _ (keeps : RestsKeepToTheirText) (order : AllIsMadeInOrder) (jumps_keep :
   settled_act : (w : World) → IsOk (scopes_of tree) IsWholeInstance w → SettledAct tree code texts w
   settled_act w ok lay img p q by at_p able_is able_p l has =
       let s = scene_of tree code texts w lay img p q (narrow_of tree code texts w lay img by ok p q at_p) ok by at_p l has in
-      scene_settled tree code texts lies actuals_are_entered fragments_are_performed keeps order rests_go_on others events.freeing ends_freed (able_actor s.2 able_is able_p)
+      scene_settled tree code texts lies actuals_are_entered laws rests_go_on others events.freeing ends_freed (able_actor s.2 able_is able_p)
 
   program_is_faithful : HasFormats tree code → IsListable code → Faithful tree code
   program_is_faithful formats =
       simulating.code_is_faithful tree code texts steps_are_performed steps_come_to_limit fit.texts settled_act fit.outer apart
       (λ w lay a by b p n plains. operators_are_few tree code texts w lay a by b p n plains)
-      (first_pictured tree code names lies.nested at fragments_are_performed blocks_begin blocks_start keeps order (first_world_stands (scopes_of tree) fit.outer)) at.many formats short
+      (first_pictured tree code names lies.nested at laws blocks_begin blocks_start (first_world_stands (scopes_of tree) fit.outer)) at.many formats short
 
   program_stacks_stay : StacksApart tree code at.texts → StacksStayOwn code
   program_stacks_stay stacks =
       simulating.stacks_stay tree code texts steps_are_performed steps_come_to_limit fit.texts settled_act fit.outer apart
       (λ w lay a by b p n plains. operators_are_few tree code texts w lay a by b p n plains)
-      (first_pictured tree code names lies.nested at fragments_are_performed blocks_begin blocks_start keeps order (first_world_stands (scopes_of tree) fit.outer)) stacks
+      (first_pictured tree code names lies.nested at laws blocks_begin blocks_start (first_world_stands (scopes_of tree) fit.outer)) stacks
 
 -- segments that can be listed have no more words than a segment may have
 within_limit : (segments : List Segment) → All HasOperators segments → All (λ (segment : Segment). length segment.words ≤ segment_limit) segments
@@ -188,7 +207,11 @@ pub nested_programs_follow : RestsKeepToTheirText → AllIsMadeInOrder → Jumps
     ((tree : PProgram) (code : Code) (at : ProgramAt code tree) → LiesNested tree → EventsAreDone tree code at.texts) →
     ((tree : PProgram) (code : Code) (at : ProgramAt code tree) → LiesNested tree → HasNames tree → IsShortSegment tree code → ProcessesAreDone tree code at.texts) → NestedProgramsAreFaithful
 nested_programs_follow keeps in_order jumps_keep closing apart arrays events processes tree code lies names fit at formats short listable =
-    program_is_faithful keeps in_order jumps_keep closing tree code names lies fit short (within_limit code.segments listable.segments) at (apart tree code at.texts lies.nested rests_go_on) (arrays tree code at lies short) (events tree code at lies) (processes tree code at lies names short) formats listable
+    program_is_faithful keeps in_order jumps_keep closing tree code names lies fit short (within_limit code.segments listable.segments) at (apart tree code at.texts lies.nested rests_go_on) (record {
+      arrays = arrays tree code at lies short;
+      events = events tree code at lies;
+      processes = processes tree code at lies names short;
+    }) formats listable
 
 -- .. and its stacks stay own
 pub nested_stacks_stay : RestsKeepToTheirText → AllIsMadeInOrder → JumpsKeepToTheirText → FramesClose → ProcessesStandApart →
@@ -197,5 +220,9 @@ pub nested_stacks_stay : RestsKeepToTheirText → AllIsMadeInOrder → JumpsKeep
     ((tree : PProgram) (code : Code) (at : ProgramAt code tree) → LiesNested tree → EventsAreDone tree code at.texts) →
     ((tree : PProgram) (code : Code) (at : ProgramAt code tree) → LiesNested tree → HasNames tree → IsShortSegment tree code → ProcessesAreDone tree code at.texts) → NestedStacksStayOwn
 nested_stacks_stay keeps in_order jumps_keep closing apart stacks arrays events processes tree code lies names fit at formats short listable =
-    program_stacks_stay keeps in_order jumps_keep closing tree code names lies fit short (within_limit code.segments listable.segments) at (apart tree code at.texts lies.nested rests_go_on) (arrays tree code at lies short) (events tree code at lies) (processes tree code at lies names short)
+    program_stacks_stay keeps in_order jumps_keep closing tree code names lies fit short (within_limit code.segments listable.segments) at (apart tree code at.texts lies.nested rests_go_on) (record {
+      arrays = arrays tree code at lies short;
+      events = events tree code at lies;
+      processes = processes tree code at lies names short;
+    })
     (stacks tree code at.texts lies.nested rests_go_on)

@@ -5,7 +5,7 @@ use Rattle.algol_meaning.specs.Events as meant
 use Rattle.algol_meaning.specs.Events.{joined_all}
 use Rattle.b67_events.specs.Events as kernel
 use Rattle.b67_events.specs.Events.{with_list}
-use Rattle.b67_scenes.proofs.Freeing.{state_facts, state_pictured}
+use Rattle.b67_scenes.proofs.Freeing.{state_facts, state_pictured, StateChanges}
 use Rattle.b67_scenes.proofs.Waiting.{list_there}
 use Rattle.b67_pictures.proofs.EventMoving.{IsOwned, moved_is, moved_world, moved_facts, moved_stay, moved_pictured}
 use Rattle.b67_pictures.proofs.LettingGo.{events_swapped, owned_same, all_owned}
@@ -77,8 +77,27 @@ module _ (tree : PProgram) (code : Code) (texts : Texts) (lay : Layout) where
       by_test false false e same moved = moved
 
   -- A process that no event lists waits for these.
-  module _ (w : World) (img : Image) (by : PicturesBy tree code texts w lay img) (facts : HasFacts w) (p : ℕ) (q : Process) (is : numbered w.processes p ≡ Some q) (alive : lives q.state ≡ true)
-      (nowhere : (to : Place) → IsListed (waiters_at to img.events) p → ⊥) (machine_state : ProcessState) (there : numbered img.states p ≡ Some machine_state) (rs : List Reference) (ats : List Place) (list : ListIs (scopes_of tree) w lay rs ats) (owned : AllOwned w rs) where
+  -- A process that no event lists is to wait for these.
+  pub record WaitsForThese : Type 0 where
+    pub w : World
+    pub img : Image
+    pub by : PicturesBy tree code texts w lay img
+    pub facts : HasFacts w
+    pub p : ℕ
+    pub q : Process
+    pub is : numbered w.processes p ≡ Some q
+    pub alive : lives q.state ≡ true
+    pub nowhere : (to : Place) → IsListed (waiters_at to img.events) p → ⊥
+    pub machine_state : ProcessState
+    pub there : numbered img.states p ≡ Some machine_state
+    pub events_named : List Reference
+    pub places : List Place
+    pub list : ListIs (scopes_of tree) w lay events_named places
+    pub owned : AllOwned w events_named
+
+  module _ (waits : WaitsForThese) where
+    open waits use {w, img, by, facts, p, q, is, alive, nowhere, machine_state, there, events_named as rs, places as ats, list, owned}
+
     some : p ≢ 0
     some none = none_some (ap (λ (n : ℕ). numbered w.processes n) (sym none) ∙ is)
 
@@ -106,14 +125,33 @@ module _ (tree : PProgram) (code : Code) (texts : Texts) (lay : Layout) where
             record { number = p; process = q'; is = numbered_set w.processes p q q' is; alive = refl; own = subst (λ (z : Process). IsOwn z.todo i) (sym is_q) o.own }
         by_number (inr other) = record { number = o.number; process = o.process; is = numbered_other w.processes p o.number q' other ∙ o.is; alive = o.alive; own = o.own }
 
+    abbrev changes : StateChanges tree code texts lay
+    changes = record {
+      w = w;
+      img = img;
+      by = by;
+      process = p;
+      old = q;
+      at = is;
+      alive = alive;
+      facts = facts;
+      state = waits_any rs;
+      stays = refl;
+      machine_state = WaitsAny;
+      live = refl;
+      woken = q.woken;
+      lists = lists;
+      numbers = img.numbers;
+    }
+
     first_is : PicturesBy tree code texts waiting lay first
     first_is =
-        state_pictured tree code texts lay w img by p q is alive facts (waits_any rs) refl WaitsAny refl q.woken lists img.numbers tt (λ to listed. absurd (nowhere to listed))
+        state_pictured tree code texts lay changes tt (λ to listed. absurd (nowhere to listed))
         (subst (λ (places : List Place). ListIs sc waiting lay rs places) (sym (list_there img.lists p ats some)) (stay rs ats list)) (λ r other. list_other img.lists p r ats other) refl
         (by.waits.woken p ∙ ap (λ (z : Process). z.woken) (process_is w p q is)) (λ r other. refl)
 
     first_facts : HasFacts waiting
-    first_facts = state_facts tree code texts lay w img by p q is alive facts (waits_any rs) refl WaitsAny refl q.woken lists img.numbers
+    first_facts = state_facts tree code texts lay changes
 
     list_now : list_of p lists ≡ ats
     list_now = list_there img.lists p ats some

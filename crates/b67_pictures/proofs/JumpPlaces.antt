@@ -1,6 +1,7 @@
 -- Where GO TO leads: the frame of the label's instance, and from the branch for the label on where the machine stands for the statements after it.
 use Rattle.std.proofs.Common.{◌≡◌, refl, sym, ap, ◌∙◌, subst, ℕ, ◌+◌, ◌-◌, ◌<◌, ◌≤◌, false, inl, List, [], ◌∷◌, length, Some, arith}
-use Rattle.b67_pictures.proofs.Prelude.{recursion_from_All, All, reverse, numbered, Block, block_numbered, around, level_of, PProgram, Scopes, scopes_of, use_of, Named, goes_to, ask, is_evaluation, settle_items, items_from, Instance, instance_at, or_no_instance, ancestor, BlockIsSeen, IsSeenAround, IsInner, segment_of, IsStanding, IsOwn, OUTER_LEVEL, Code, Segment, place, segment_limit, end_of_code, display_at, stmts_depth, HasNames, LiesNested, Texts, context_of, JumpsStand, ActionAt, ComesTo, segment_low, HasText, HaveTexts, FramesClose, complete_of, begins_core, owned_frame, asks_as_own, up_complete, IsParent, most_around, IsComplete, ItemsStand, Owned, Found, Way, named_parent, named_seen, named_shown, scene_placed, part_there, Actor, Seen, weight_of, text_in, level_in, context_in, most_in, names_in}
+use Rattle.b67_pictures.proofs.Prelude.{recursion_from_All, All, reverse, numbered, Block, block_numbered, around, level_of, PProgram, Scopes, scopes_of, use_of, Named, goes_to, ask, is_evaluation, settle_items, items_from, Instance, instance_at, or_no_instance, ancestor, BlockIsSeen, IsSeenAround, IsInner, segment_of, IsStanding, IsOwn, OUTER_LEVEL, Code, Segment, place, segment_limit, end_of_code, display_at, stmts_depth, HasNames, LiesNested, Texts, context_of, ActionAt, ComesTo, segment_low, HasText, HaveTexts, FramesClose, complete_of, begins_core, owned_frame, asks_as_own, up_complete, IsParent, most_around, IsComplete, ItemsStand, Owned, Found, Way, named_parent, named_seen, named_shown, scene_placed, part_there, Actor, Seen, weight_of, text_in, level_in, context_in, most_in, names_in}
+use Rattle.b67_standing.specs.Laws.{JumpsStand}
 use Rattle.b67_table.specs.Limits.{segment_numbers}
 use Rattle.b67_templates.specs.Labels.{label_number, table_place, LabelAt}
 use Rattle.b67_templates.specs.Programs.{text_of}
@@ -19,9 +20,19 @@ LabelsStand tree code texts =
     LabelAt (scopes_of tree) (context_of code texts (scopes_of tree) j) (text_of texts (scopes_of tree) j) (level_of (block_numbered (scopes_of tree).blocks j)) (block_numbered (scopes_of tree).blocks j)
     name number
 
-module _ (tree : PProgram) (code : Code) (texts : Texts) (lies : LiesNested tree) (named : HasNames tree) (stand : HaveTexts tree code texts) (labels : LabelsStand tree code texts)
-    (short : All (λ (segment : Segment). length segment.words ≤ segment_limit) code.segments) (jump : JumpsStand) (closing : FramesClose)
-    (actor : Actor tree code texts) where
+-- What a jump needs of the program: its blocks lie in one another, its names are told apart, its texts and labels stand in its code,
+-- whose segments are short; and what is known of jumps and of the frames that are closed.
+pub record LeadsJumps (tree : PProgram) (code : Code) (texts : Texts) : Type 0 where
+  pub lies : LiesNested tree
+  pub named : HasNames tree
+  pub stand : HaveTexts tree code texts
+  pub labels : LabelsStand tree code texts
+  pub short : All (λ (segment : Segment). length segment.words ≤ segment_limit) code.segments
+  pub jump : JumpsStand
+  pub closing : FramesClose
+
+module _ (tree : PProgram) (code : Code) (texts : Texts) (needs : LeadsJumps tree code texts) (actor : Actor tree code texts) where
+  open needs use {lies, named, stand, labels, short, jump, closing}
   open actor use {w, lay, img, p, q, part, outer, core, s}
 
   module _ (n : Named) (asks : ask part.rest ≡ goes_to n)

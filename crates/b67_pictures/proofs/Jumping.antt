@@ -1,6 +1,6 @@
 -- GO TO a label, to the frame of its instance in whatever stack: in that of another process it is the source's fault.
-use Rattle.std.proofs.Common.{◌≡◌, ◌≢◌, ◌⊎◌, inl, inr, sym, ap, ◌∙◌, subst, ℕ, ◌+◌, ◌≤◌, Bool, false, List, [], ◌∷◌, length, Option, Some, arith, Ok}
-use Rattle.b67_pictures.proofs.Prelude.{nat_tests, if◌then◌else◌, ◌==◌, All, pos, PProgram, Scopes, scopes_of, Named, Ask, goes_to, ask, choice, choice_of, gone_to, fails, cut_at, Value, number, Instance, instance_at, or_no_instance, RestsKeepToTheirText, JumpsKeepToTheirText, Place, GoTo, Code, Segment, place, segment_limit, operator_at, HasNames, LiesNested, Texts, JumpsStand, ActionAt, AreNumbers, FragmentsArePerformed, shown, rebuilt_seen, same_or_not, HaveTexts, FramesClose, Linked, runs_at, IsCall, call, Found, operator_there, AbleActor, actor_of, found_own, choice_is, text_in, level_in, context_in, most_in, names_in, Does}
+use Rattle.std.proofs.Common.{◌≡◌, ◌≢◌, ◌⊎◌, inl, inr, sym, ap, ◌∙◌, subst, ℕ, ◌+◌, Bool, false, List, [], ◌∷◌, length, Option, Some, arith, Ok}
+use Rattle.b67_pictures.proofs.Prelude.{nat_tests, if◌then◌else◌, ◌==◌, pos, PProgram, Scopes, scopes_of, Named, Ask, goes_to, ask, choice, choice_of, gone_to, fails, cut_at, Value, number, Instance, instance_at, or_no_instance, RestsKeepToTheirText, JumpsKeepToTheirText, Place, GoTo, Code, place, operator_at, Texts, ActionAt, AreNumbers, FragmentsArePerformed, at_operator, shown, rebuilt_seen, same_or_not, Linked, runs_at, IsCall, call, Found, operator_there, AbleActor, actor_of, found_own, choice_is, text_in, level_in, context_in, most_in, names_in, Does}
 use Rattle.b67_num.specs.declared.FaultKind.TheVariants as fault
 use Rattle.b67_ops.specs.declared.Operator.TheVariants as ops
 use Rattle.b67_ops.specs.declared.PlainKind.TheVariants as kinds
@@ -9,12 +9,11 @@ use Rattle.b67_frames.proofs.BadJumpRow.{JumpsAway, jump_bad}
 use Rattle.b67_pictures.proofs.ParentPlaces.{standing_linked, found_linked}
 use Rattle.b67_pictures.proofs.Blocked.{faulting}
 use Rattle.b67_pictures.proofs.JumpPlaces as places
-use Rattle.b67_pictures.proofs.JumpPlaces.{LabelsStand}
+use Rattle.b67_pictures.proofs.JumpPlaces.{LeadsJumps}
 use Rattle.b67_pictures.proofs.JumpingHere.{jumping_here}
 
-module _ (tree : PProgram) (code : Code) (texts : Texts) (lies : LiesNested tree) (named : HasNames tree) (stand : HaveTexts tree code texts) (labels : LabelsStand tree code texts)
-    (short : All (λ (segment : Segment). length segment.words ≤ segment_limit) code.segments) (fragments : FragmentsArePerformed) (keeps : RestsKeepToTheirText) (jumps_keep : JumpsKeepToTheirText)
-    (jump : JumpsStand) (closing : FramesClose) (actor : AbleActor tree code texts) where
+module _ (tree : PProgram) (code : Code) (texts : Texts) (needs : LeadsJumps tree code texts) (fragments : FragmentsArePerformed) (keeps : RestsKeepToTheirText) (jumps_keep : JumpsKeepToTheirText)
+    (actor : AbleActor tree code texts) where
   open actor use {w, lay, img, p, q, part, outer, core, s}
 
   module _ (n : Named) (asks : ask part.rest ≡ goes_to n)
@@ -24,13 +23,13 @@ module _ (tree : PProgram) (code : Code) (texts : Texts) (lies : LiesNested tree
 
     -- the label's instance, and where its frame lies
     abbrev i : ℕ
-    i = places.i tree code texts lies named stand labels short jump closing (actor_of s) n asks a
+    i = places.i tree code texts needs (actor_of s) n asks a
 
     abbrev found : Found tree code texts w lay img i
-    found = (places.label_seen tree code texts lies named stand labels short jump closing (actor_of s) n asks a).found
+    found = (places.label_seen tree code texts needs (actor_of s) n asks a).found
 
     linked_there : Linked sc w lay img.stacks i
-    linked_there = standing_linked tree code texts w lay img s.by s.ok i (places.label_stands tree code texts lies named stand labels short jump closing (actor_of s) n asks a)
+    linked_there = standing_linked tree code texts w lay img s.by s.ok i (places.label_stands tree code texts needs (actor_of s) n asks a)
 
     -- of another process
     module _ (other : found.number ≢ p) where
@@ -47,10 +46,10 @@ module _ (tree : PProgram) (code : Code) (texts : Texts) (lies : LiesNested tree
       c = call tree code texts (actor_of s) GoTo given a.1 given_fit a.2.lies
 
       deep : a.2.target ≡ length linked_there.more + 2
-      deep = places.level_there tree code texts lies named stand labels short jump closing (actor_of s) n asks a ∙ linked_there.level_is
+      deep = places.level_there tree code texts needs (actor_of s) n asks a ∙ linked_there.level_is
 
       linked_at : linked_there.at ≡ place found.number (length found.lies.frame.lower)
-      linked_at = found_linked tree code texts w lay img s.by s.ok i (places.label_stands tree code texts lies named stand labels short jump closing (actor_of s) n asks a) linked_there found
+      linked_at = found_linked tree code texts w lay img s.by s.ok i (places.label_stands tree code texts needs (actor_of s) n asks a) linked_there found
 
       abbrev display : List (Option Place)
       display = shown linked_there.at linked_there.more
@@ -62,13 +61,13 @@ module _ (tree : PProgram) (code : Code) (texts : Texts) (lies : LiesNested tree
             high = omega (
               arith,
               s.stands.there.level_is,
-              runs_at part (names_in tree w part) (places.own_part tree code texts lies named stand labels short jump closing (actor_of s) n asks a),
-              places.level_told tree code texts lies named stand labels short jump closing (actor_of s) n asks a,
+              runs_at part (names_in tree w part) (places.own_part tree code texts needs (actor_of s) n asks a),
+              places.level_told tree code texts needs (actor_of s) n asks a,
             );
-            shown = places.shown_at tree code texts lies named stand labels short jump closing (actor_of s) n asks a ∙ ap (λ (g : Place). Some g) (sym linked_at);
+            shown = places.shown_at tree code texts needs (actor_of s) n asks a ∙ ap (λ (g : Place). Some g) (sym linked_at);
             away = λ (e : (linked_there.at).stack ≡ core.registers.stack). other (sym (ap (λ (g : Place). g.stack) linked_at) ∙ e ∙ s.has.own);
-            segment_small = places.segment_small tree code texts lies named stand labels short jump closing (actor_of s) n asks a;
-            pointer_small = places.pointer_small tree code texts lies named stand labels short jump closing (actor_of s) n asks a;
+            segment_small = places.segment_small tree code texts needs (actor_of s) n asks a;
+            pointer_small = places.pointer_small tree code texts needs (actor_of s) n asks a;
             shows = rebuilt_seen linked_there.at linked_there.home linked_there.more a.2.target (subst (λ (l : ℕ). IsEntered img.stacks linked_there.at linked_there.home l) (sym deep) linked_there.entered) linked_there.links deep;
           }
 
@@ -89,13 +88,13 @@ module _ (tree : PProgram) (code : Code) (texts : Texts) (lies : LiesNested tree
       jumping_away : Does tree code texts w img p
       jumping_away =
           faulting tree code texts (actor_of s) fault.BadGoTo chosen (ops.Plain kinds.Entr) a.0 enters
-          (jump_bad code img p core s.has a.0 enters c.arguments c.reference c.marked c.others c.calls linked_there.at a.2.target a.2.segment a.2.entry display away c.wholes)
+          (jump_bad code (at_operator s.has enters) c.arguments c.reference c.marked c.others c.calls linked_there.at a.2.target a.2.segment a.2.entry display away c.wholes)
 
     pub jumping : Does tree code texts w img p
     jumping = by_number (same_or_not found.number p)
       where
         by_number : (found.number ≡ p) ⊎ (found.number ≢ p) → Does tree code texts w img p
         by_number (inl here) =
-            jumping_here tree code texts lies named stand labels short fragments keeps jumps_keep jump closing actor n asks a
+            jumping_here tree code texts needs fragments keeps jumps_keep actor n asks a
             (found_own tree code texts (actor_of s) i found here)
         by_number (inr other) = jumping_away other

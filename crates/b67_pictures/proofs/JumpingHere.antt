@@ -1,6 +1,6 @@
 -- GO TO: all frames above that of the label's instance are left, and its part goes on with the statements from the label on.
 use Rattle.std.proofs.Common.{◌≡◌, ◌≢◌, ◌⊎◌, refl, sym, ap, ◌∙◌, subst, ℕ, ◌+◌, ◌≤◌, Bool, true, false, List, [], ◌∷◌, length, length-append, Option, Some, None, arith, Ok, ◌<◌}
-use Rattle.b67_pictures.proofs.Prelude.{if◌then◌else◌, ◌==◌, All, pos, slice_get, numbered, set_numbered, block_numbered, level_of, PProgram, Scopes, scopes_of, use_of, Named, Ask, goes_to, ask, Choice, choice, choice_of, gone_to, fails, is_evaluation, own_instances, leave, cut_at, settle_items, items_from, Value, number, Instance, Process, Part, World, instance_at, or_no_instance, with_process, ancestor, KeepsToText, RestsKeepToTheirText, JumpsKeepToTheirText, segment_of, IsStanding, IsOwn, Place, place_at, GoTo, Code, Segment, stack_limit, place, rebuilt, Image, segment_limit, is_critical, look_seen, frame, display_at, at_or, Change, live_criticals, operator_at, simple_cells, made_of, in_routine, Yields, yields_of, HasNames, LiesNested, Texts, context_of, JumpsStand, ActionAt, AreNumbers, ComesTo, Core, size, IsCore, HasCore, with_core, CoreAt, FragmentsArePerformed, length_set_numbered, weight, has_now, others_have, system_stays, shown, shown_top, rebuilt_seen, enter_class, numbered_set, IsSameBut, action_not_plain, action_is, HasText, HaveTexts, arrays_unchanged, FramesClose, IsElsewhere, HasFacts, facts_of, Hangs, hangs, KeepsArrays, Linked, Begins_with, begins_core, begins_front, StayBelow, part_stands, owned_frame, frame_gives, runs_at, StandOn, framed_cells, EventsAre, IsChained, most_around, IsComplete, Frame, Owned, of_own, run_level, all_laid, IsCall, call, operator_there, Way, AreAlike, steps_none, living_of, frame_is, AbleActor, actor_of, choice_is, gives_within, goes_on, weight_of, text_in, level_in, context_in, most_in, names_in, frame_low, FrameStill, frame_still, still_low, same_weight, task_stays, state_stays, held_of, Living, Pictures, PicturesBy, Does, gave}
+use Rattle.b67_pictures.proofs.Prelude.{if◌then◌else◌, ◌==◌, pos, slice_get, numbered, set_numbered, block_numbered, level_of, PProgram, Scopes, scopes_of, use_of, Named, Ask, goes_to, ask, Choice, choice, choice_of, gone_to, fails, is_evaluation, own_instances, leave, cut_at, settle_items, items_from, Value, number, Instance, Process, Part, World, instance_at, or_no_instance, with_process, ancestor, KeepsToText, RestsKeepToTheirText, JumpsKeepToTheirText, segment_of, IsStanding, IsOwn, Place, place_at, GoTo, Code, stack_limit, place, rebuilt, Image, is_critical, look_seen, frame, display_at, at_or, Change, live_criticals, operator_at, simple_cells, made_of, in_routine, Yields, yields_of, Texts, context_of, ActionAt, AreNumbers, ComesTo, Core, size, IsCore, HasCore, with_core, CoreAt, FragmentsArePerformed, length_set_numbered, weight, at_operator, has_now, others_have, system_stays, shown, shown_top, rebuilt_seen, enter_class, numbered_set, IsSameBut, action_not_plain, action_is, HasText, arrays_unchanged, IsElsewhere, HasFacts, facts_of, Hangs, hangs, KeepsArrays, Linked, Begins_with, begins_core, begins_front, StayBelow, part_stands, owned_frame, frame_gives, runs_at, StandOn, framed_cells, EventsAre, IsChained, most_around, IsComplete, Frame, Owned, of_own, run_level, all_laid, IsCall, call, operator_there, Way, AreAlike, steps_none, living_of, frame_is, AbleActor, actor_of, choice_is, gives_within, goes_on, weight_of, text_in, level_in, context_in, most_in, names_in, frame_low, FrameStill, frame_still, still_low, same_weight, task_stays, state_stays, held_of, Living, Pictures, PicturesBy, Does, gave}
 use Rattle.b67_num.specs.declared.FaultKind.TheVariants as fault
 use Rattle.b67_deeds.specs.declared.Letter.TheVariants as act
 use Rattle.algol_meaning.specs.Choice.{gone}
@@ -15,7 +15,7 @@ use Rattle.b67_table.specs.Table.{table}
 use Rattle.b67_cores.specs.Cores.{stack_of}
 use Rattle.b67_rows.proofs.Displays.{same_is, IsEntered}
 use Rattle.b67_frames.proofs.JumpClosing.{events_left, AreClosed, image_left}
-use Rattle.b67_frames.proofs.JumpRow.{jumped, Jumps, after_jump, jump_raw, jump_blocked}
+use Rattle.b67_frames.proofs.JumpRow.{jumped, Jumps, after_jump, jump_raw, jump_blocked, JumpsIn}
 use Rattle.b67_frames.proofs.OwnCells.{none_later}
 use Rattle.b67_scenes.specs.Reaches as reaching
 use Rattle.b67_scenes.proofs.JumpCut.{LieStill}
@@ -27,11 +27,11 @@ use Rattle.b67_pictures.proofs.LeftInstances.{keeps_left}
 use Rattle.b67_pictures.proofs.ParentPlaces.{standing_linked}
 use Rattle.b67_pictures.proofs.Blocked.{faulting}
 use Rattle.b67_pictures.proofs.JumpPlaces as places
-use Rattle.b67_pictures.proofs.JumpPlaces.{LabelsStand, way_there, comes_there}
+use Rattle.b67_pictures.proofs.JumpPlaces.{way_there, comes_there, LeadsJumps}
 
-module _ (tree : PProgram) (code : Code) (texts : Texts) (lies : LiesNested tree) (named : HasNames tree) (stand : HaveTexts tree code texts) (labels : LabelsStand tree code texts)
-    (short : All (λ (segment : Segment). length segment.words ≤ segment_limit) code.segments) (fragments : FragmentsArePerformed) (keeps : RestsKeepToTheirText) (jumps_keep : JumpsKeepToTheirText)
-    (jump : JumpsStand) (closing : FramesClose) (actor : AbleActor tree code texts) where
+module _ (tree : PProgram) (code : Code) (texts : Texts) (needs : LeadsJumps tree code texts) (fragments : FragmentsArePerformed) (keeps : RestsKeepToTheirText) (jumps_keep : JumpsKeepToTheirText)
+    (actor : AbleActor tree code texts) where
+  open needs use {lies, stand, closing}
   open actor use {w, lay, img, p, q, part, outer, core, s, able_is, able_p}
 
   module _ (n : Named) (asks : ask part.rest ≡ goes_to n)
@@ -42,7 +42,7 @@ module _ (tree : PProgram) (code : Code) (texts : Texts) (lies : LiesNested tree
 
     -- the label's instance, and its block
     abbrev i : ℕ
-    i = places.i tree code texts lies named stand labels short jump closing (actor_of s) n asks a
+    i = places.i tree code texts needs (actor_of s) n asks a
 
     abbrev j : ℕ
     j = (instance_at w i).block
@@ -50,7 +50,7 @@ module _ (tree : PProgram) (code : Code) (texts : Texts) (lies : LiesNested tree
     -- ---- the way down
 
     abbrev down : Way tree code texts closing w lay p i img.stacks (stack_of core) part outer core.below s.stands.frame
-    down = way_there tree code texts lies named stand labels short jump closing (actor_of s) n asks a own
+    down = way_there tree code texts needs (actor_of s) n asks a own
 
     abbrev target : Part
     target = down.target
@@ -100,7 +100,7 @@ module _ (tree : PProgram) (code : Code) (texts : Texts) (lies : LiesNested tree
     told_level = a.2.target
 
     level_there : told_level ≡ level_of (block_numbered sc.blocks j)
-    level_there = places.level_there tree code texts lies named stand labels short jump closing (actor_of s) n asks a
+    level_there = places.level_there tree code texts needs (actor_of s) n asks a
 
     names_there : names_in tree w target ≡ level_of (block_numbered sc.blocks j)
     names_there = ap (λ (k : ℕ). level_of (block_numbered sc.blocks ((instance_at w k).block))) down.instance_is
@@ -138,8 +138,8 @@ module _ (tree : PProgram) (code : Code) (texts : Texts) (lies : LiesNested tree
         omega (
           arith,
           s.stands.there.level_is,
-          runs_at part (names_in tree w part) (places.own_part tree code texts lies named stand labels short jump closing (actor_of s) n asks a),
-          places.level_told tree code texts lies named stand labels short jump closing (actor_of s) n asks a,
+          runs_at part (names_in tree w part) (places.own_part tree code texts needs (actor_of s) n asks a),
+          places.level_told tree code texts needs (actor_of s) n asks a,
         )
 
     -- the process's own stack has its number
@@ -160,9 +160,9 @@ module _ (tree : PProgram) (code : Code) (texts : Texts) (lies : LiesNested tree
           low = low_level;
           high = high_level;
           shown = here (λ (k : ℕ). display_at core.registers told_level ≡ Some (place k at))
-              (places.shown_there tree code texts lies named stand labels short jump closing (actor_of s) n asks a own);
-          segment_small = places.segment_small tree code texts lies named stand labels short jump closing (actor_of s) n asks a;
-          pointer_small = places.pointer_small tree code texts lies named stand labels short jump closing (actor_of s) n asks a;
+              (places.shown_there tree code texts needs (actor_of s) n asks a own);
+          segment_small = places.segment_small tree code texts needs (actor_of s) n asks a;
+          pointer_small = places.pointer_small tree code texts needs (actor_of s) n asks a;
           passes = here
               (λ (k : ℕ). look_seen img.stacks (passing (frame core.registers + 1) k at (record { frame = frame core.registers; cells = core.registers.cells })) ≡ Ok (record { frames = down.passed; cells = length down.frame.cells }))
               passes_there;
@@ -203,9 +203,24 @@ module _ (tree : PProgram) (code : Code) (texts : Texts) (lies : LiesNested tree
     new_is : IsCore new
     new_is = record { bottom = omega (arith, frame_now, low); top = omega (arith, low) }
 
+    abbrev jump_found : JumpsIn img core c.arguments
+    jump_found = record {
+      front = down.front;
+      rest = down.rest;
+      height = at;
+      cells = length down.frame.cells;
+      level = a.2.target;
+      segment = a.2.segment;
+      pointer = a.2.entry;
+      display = display;
+      passed = down.passed;
+      jumps = jumps;
+      whole = c.wholes;
+    }
+
     abbrev now : Image
     now =
-        after_jump code img p core s.has a.0 enters c.arguments c.reference c.marked c.others c.calls down.front down.rest at (length down.frame.cells) a.2.target a.2.segment a.2.entry display down.passed jumps c.wholes
+        after_jump code (at_operator s.has enters) c.arguments c.reference c.marked c.others c.calls jump_found
 
     has_here : HasCore now p new
     has_here =
@@ -221,7 +236,7 @@ module _ (tree : PProgram) (code : Code) (texts : Texts) (lies : LiesNested tree
     text = stand j
 
     segment_there : a.2.segment ≡ segment_of sc.blocks j
-    segment_there = places.segment_there tree code texts lies named stand labels short jump closing (actor_of s) n asks a
+    segment_there = places.segment_there tree code texts needs (actor_of s) n asks a
 
     core_at : CoreAt sc [] code (texts.placed (segment_of sc.blocks j)) (level_of (block_numbered sc.blocks j)) a.2.entry [] new
     core_at =
@@ -271,14 +286,14 @@ module _ (tree : PProgram) (code : Code) (texts : Texts) (lies : LiesNested tree
       complete : IsComplete sc w' lay target.instance
       complete =
           ap length (same_there target.instance).cells
-          ∙ subst (λ (k : ℕ). IsComplete sc w lay k) (sym down.instance_is) (places.complete tree code texts lies named stand labels short jump closing (actor_of s) n asks a)
+          ∙ subst (λ (k : ℕ). IsComplete sc w lay k) (sym down.instance_is) (places.complete tree code texts needs (actor_of s) n asks a)
           ∙ ap (λ (k : ℕ). length (simple_cells sc (block_numbered sc.blocks k)) + length (made_of (block_numbered sc.blocks k).decls)) (sym (same_there target.instance).block)
 
       none_made : owned.framed.later ≡ []
       none_made = none_later sc w' lay target.instance owned.framed.instance (framed_cells sc w' lay owned.framed) complete
 
       known : j < length sc.blocks
-      known = places.known tree code texts lies named stand labels short jump closing (actor_of s) n asks a
+      known = places.known tree code texts needs (actor_of s) n asks a
 
       gives_there : still.frame.gives ≡ yields_of (block_numbered sc.blocks ((instance_at w' target.instance).block)).result
       gives_there = frame_gives tree code texts w' lay p target down.parts down.front still.frame down.owns
@@ -346,7 +361,7 @@ module _ (tree : PProgram) (code : Code) (texts : Texts) (lies : LiesNested tree
           subst (λ (y : Yields). ComesAt y ((instance_at w' target.instance).block) (is_evaluation target.purpose)) (sym gives_there)
           (subst (λ (k : ℕ). ComesAt (yields_of (block_numbered sc.blocks k).result) k (is_evaluation target.purpose)) block_now
           (subst (λ (t : Bool). ComesAt (yields_of (block_numbered sc.blocks j).result) j t) (sym down.owns)
-          (comes_there tree code texts lies named stand labels short jump closing (actor_of s) n asks a own)))
+          (comes_there tree code texts needs (actor_of s) n asks a own)))
 
       light' : bound' + 3 ≤ weight tree w' p
       light' =
@@ -407,8 +422,8 @@ module _ (tree : PProgram) (code : Code) (texts : Texts) (lies : LiesNested tree
     own_there : ((instance_at w i).process == p) ≡ true
     own_there =
         same_is ((instance_at w i).process) p
-        (ap (λ (x : Instance). x.process) (sym (places.instance_there tree code texts lies named stand labels short jump closing (actor_of s) n asks a own))
-        ∙ (places.owned tree code texts lies named stand labels short jump closing (actor_of s) n asks a own).framed.own)
+        (ap (λ (x : Instance). x.process) (sym (places.instance_there tree code texts needs (actor_of s) n asks a own))
+        ∙ (places.owned tree code texts needs (actor_of s) n asks a own).framed.own)
 
     -- whether a process depends on an instance that is left
     abbrev tested : Bool → Choice
@@ -431,16 +446,16 @@ module _ (tree : PProgram) (code : Code) (texts : Texts) (lies : LiesNested tree
     blocked : some_depends_on_any w.processes left ≡ true → Does tree code texts w img p
     blocked depends =
         faulting tree code texts (actor_of s) fault.CriticalBlockExit (chosen ∙ ap tested depends) (ops.Plain kinds.Entr) a.0 enters
-        (jump_blocked code img p core s.has a.0 enters c.arguments c.reference c.marked c.others c.calls down.front down.rest at (length down.frame.cells) a.2.target a.2.segment a.2.entry display down.passed jumps c.wholes
+        (jump_blocked code (at_operator s.has enters) c.arguments c.reference c.marked c.others c.calls jump_found
         (critical_there ∙ depends))
 
     -- none does
     jumps_there : some_depends_on_any w.processes left ≡ false → Does tree code texts w img p
     jumps_there free =
         gave now
-        (action_not_plain code img p core s.has (ops.Plain kinds.Entr) a.0 enters (enter_class code img p core s.has a.0 enters GoTo c.arguments c.reference c.marked c.others c.calls))
+        (action_not_plain code (ops.Plain kinds.Entr) (at_operator s.has enters) (enter_class code (at_operator s.has enters) GoTo c.arguments c.reference c.marked c.others c.calls))
         table_is
-        (action_is code img p core s.has (ops.Plain kinds.Entr) a.0 enters (outcomes.gives now) table_is ∙ c.action ∙ ap (λ (k : Choice). Some k.action) (sym chosen_so))
+        (action_is code (ops.Plain kinds.Entr) (at_operator s.has enters) (outcomes.gives now) table_is ∙ c.action ∙ ap (λ (k : Choice). Some k.action) (sym chosen_so))
         (λ may. subst (λ (k : Choice). Pictures tree code texts k.world now) (sym chosen_so) (lay, pictured (after_choice sc w w' p q facts may s.at (ap (λ (k : Choice). k.world) chosen_so))))
       where
         chosen_so : choice sc w p ≡ record { action = act.GoTo; world = w'; released = []; started = None }
@@ -449,7 +464,7 @@ module _ (tree : PProgram) (code : Code) (texts : Texts) (lies : LiesNested tree
         table_is : table code img p ≡ outcomes.gives now
         table_is =
             gives_within code img now p new.registers
-            (jump_raw code img p core s.has a.0 enters c.arguments c.reference c.marked c.others c.calls down.front down.rest at (length down.frame.cells) a.2.target a.2.segment a.2.entry display down.passed jumps c.wholes
+            (jump_raw code (at_operator s.has enters) c.arguments c.reference c.marked c.others c.calls jump_found
             (critical_there ∙ free))
             has_here.registers (omega (arith, low, smaller))
 

@@ -11,6 +11,7 @@ use Rattle.b67_rows.proofs.LeaveRow.{given_words}
 use Rattle.b67_pictures.proofs.ParentPlaces.{standing_linked}
 use Rattle.b67_scenes.proofs.FrameBelow as under
 use Rattle.b67_pictures.proofs.Indexing.{more_known}
+use Rattle.b67_scenes.proofs.FrameBelow.{InnerFrame}
 
 -- what a part gives, and the word of it
 pub data IsGiven : Yields → Answer → Option Word → Type 0 where
@@ -57,20 +58,23 @@ module _ (tree : PProgram) (code : Code) (texts : Texts) (actor : InnerActor tre
   core_small : length core.below ≤ stack_limit
   core_small = omega (arith, s.small)
 
+  abbrev inner : InnerFrame tree code texts w lay p img.stacks
+  inner = record { part = part; next = next; parts = parts; words = core.below; frame = s.stands.frame; around = s.around; begins = begins; small = core_small }
+
   pub low : home + 2 + length u.frame.cells ≡ length u.below
-  low = under.low tree code texts w lay p img.stacks part next parts core.below s.stands.frame s.around begins core_small
+  low = under.low tree code texts w lay p img.stacks inner
 
   pub many : length u.words ≡ length u.slots
-  many = under.many tree code texts w lay p img.stacks part next parts core.below s.stands.frame s.around begins core_small
+  many = under.many tree code texts w lay p img.stacks inner
 
   pub height : f ≡ length u.below + length u.words
-  height = under.height tree code texts w lay p img.stacks part next parts core.below s.stands.frame s.around begins core_small
+  height = under.height tree code texts w lay p img.stacks inner
 
   pub top : f + 2 + length s.stands.frame.cells ≡ length core.below
-  top = under.top tree code texts w lay p img.stacks part next parts core.below s.stands.frame s.around begins core_small
+  top = under.top tree code texts w lay p img.stacks inner
 
   pub begins_below : Begins_with img.stacks p u.below
-  begins_below = under.begins_below tree code texts w lay p img.stacks part next parts core.below s.stands.frame s.around begins core_small
+  begins_below = under.begins_below tree code texts w lay p img.stacks inner
 
   -- ---- the frames
 
@@ -88,7 +92,7 @@ module _ (tree : PProgram) (code : Code) (texts : Texts) (actor : InnerActor tre
   b = record { mark = newest home (length u.below) u.slots; frame = home; control = u.back }
 
   left_there : look_seen img.stacks (left_to (place p f)) ≡ Ok b
-  left_there = under.leads_down tree code texts w lay p img.stacks part next parts core.below s.stands.frame s.around begins core_small
+  left_there = under.leads_down tree code texts w lay p img.stacks inner
 
   abbrev pub display : List (Option Place)
   display = shown (place p home) hung.more

@@ -292,8 +292,24 @@ module _ (tree : PProgram) (code : Code) (texts : Texts) (lay : Layout) where
     pub owned : AllOwned w (list_in process.state)
     pub within : (to : Place) → IsListed (waiters_at to img.events) k → event_is_among (list_of k img.lists) to ≡ true
 
-  module _ (w : World) (img : Image) (by : PicturesBy tree code texts w lay img) (facts : HasFacts w) (r : Reference) (at : Place) (lies : IsEventAt (scopes_of tree) w lay r at) (o : IsOwned w r.instance)
-      (k : ℕ) (h : IsWaiter w img k) (position : Option ℕ) (position_is : position ≡ position_of at img.lists k) where
+  -- A process waits for this event, among others.
+  pub record GoesFree : Type 0 where
+    pub w : World
+    pub img : Image
+    pub by : PicturesBy tree code texts w lay img
+    pub facts : HasFacts w
+    pub reference : Reference
+    pub at : Place
+    pub lies : IsEventAt (scopes_of tree) w lay reference at
+    pub owned : IsOwned w reference.instance
+    pub waiter : ℕ
+    pub waits : IsWaiter w img waiter
+    pub position : Option ℕ
+    pub position_is : position ≡ position_of at img.lists waiter
+
+  module _ (free : GoesFree) where
+    open free use {w, img, by, facts, reference as r, at, lies, owned as o, waiter as k, waits as h, position, position_is}
+
     abbrev q : Process
     q = h.process
 
@@ -396,8 +412,9 @@ module _ (tree : PProgram) (code : Code) (texts : Texts) (lay : Layout) where
       let position : Option ℕ = position_of at before k in
       let position_is : position ≡ position_of at img.lists k = ap (λ (ls : List Place). kernel.first_that (λ (p : Place). kernel.same_place p at) 1 ls) (same k (inl refl)) in
       let next : World = let_go_one w r k in
-      let now : Image = go_image w img by facts r at lies o k h position position_is in
-      all_gone ps next now (go_pictured w img by facts r at lies o k h position position_is) (go_facts w img by facts r at lies o k h position position_is) r at
-      (event_stays sc w next lay lay (stays_shape w next (go_shape w img by facts r at lies o k h position position_is)) (λ j f laid. laid) r at lies) (owned_then w r k h.process h.is r.instance o) once.1
-      (λ m listed. others_wait w img by facts r at lies o k h position position_is m (apart_of k ps m once.0 listed) (waiters m (inr listed))) before
+      let free : GoesFree = record { w = w; img = img; by = by; facts = facts; reference = r; at = at; lies = lies; owned = o; waiter = k; waits = h; position = position; position_is = position_is } in
+      let now : Image = go_image free in
+      all_gone ps next now (go_pictured free) (go_facts free) r at
+      (event_stays sc w next lay lay (stays_shape w next (go_shape free)) (λ j f laid. laid) r at lies) (owned_then w r k h.process h.is r.instance o) once.1
+      (λ m listed. others_wait free m (apart_of k ps m once.0 listed) (waiters m (inr listed))) before
       (λ m listed. same m (inr listed) ∙ sym (list_beside img.lists k m [] (λ (e : m ≡ k). apart_of k ps m once.0 listed (sym e))))

@@ -61,6 +61,7 @@ pub mod Passing
 pub mod Resolving
 pub mod EvaluationEntering
 pub mod Evaluating
+pub mod Head
 pub mod ElementActions
 pub mod Releasing
 pub mod GrownCells

@@ -1,6 +1,6 @@
 -- What a block declares is made: ENTR leaves words in place of the mark and what lies above it, and PUSH makes cells of them.
 use Rattle.std.proofs.Common.{◌≡◌, ◌≢◌, ◌⊎◌, inl, inr, refl, sym, ap, ◌∙◌, subst, ℕ, ◌+◌, ◌<◌, ◌≤◌, List, [], ◌∷◌, ◌++◌, length, Option, Some, None, Ok, false, arith, length-append}
-use Rattle.b67_pictures.proofs.Prelude.{reverse-reverse, length-reverse, numbered, IsListed, Letter, block_numbered, level_of, PProgram, Scopes, scopes_of, resume, Choice, choice, is_evaluation, done, NamedCell, Process, Part, World, instance_at, or_no_instance, Instance, Made, all_to_make, all_left_to_make, RestsKeepToTheirText, AllIsMadeInOrder, segment_of, IsLow, IsStanding, IsAmongParts, Word, Place, place_at, Registers, Intrinsic, Placed, Code, Rows, stack_limit, Event, waiters_at, Image, woken_number, frame, plain, operator_at, letter_of, made_base, in_routine, Has, AreNested, Texts, context_of, ComesTo, Slot, Core, size, IsCore, HasCore, with_core, Known, SlotsAre, CoreAt, FragmentsArePerformed, CellsAreMade, length_set_numbered, weight, has_now, others_have, system_stays, enter_class, same_or_not, most_or_more, action_not_plain, action_is, made_many, HasFacts, facts_of, KeepsArrays, keeps_same, below_frame, StandOn, Allotted, Layout, AreMade, ArraysAre, EventsAre, most_around, IsChained, Frame, Owned, run_level, all_laid, IsEntered, operator_there, AreAlike, living_of, AbleActor, actor_of, gives_within, limit_beyond, goes_on, text_in, level_in, context_in, most_in, names_in, changed_at, others_at, task_stays, state_stays, Living, Pictures, PicturesBy, MayAct, Does, gave, stopped}
+use Rattle.b67_pictures.proofs.Prelude.{reverse-reverse, length-reverse, numbered, IsListed, Letter, block_numbered, level_of, PProgram, Scopes, scopes_of, resume, Choice, choice, is_evaluation, done, NamedCell, Process, Part, World, instance_at, or_no_instance, Instance, Made, all_to_make, all_left_to_make, segment_of, IsLow, IsStanding, IsAmongParts, Word, Place, place_at, Registers, Intrinsic, Placed, Code, Rows, stack_limit, Event, waiters_at, Image, woken_number, frame, plain, operator_at, letter_of, made_base, in_routine, Has, AreNested, Texts, context_of, ComesTo, Slot, Core, size, IsCore, HasCore, with_core, Known, SlotsAre, CoreAt, CellsAreMade, length_set_numbered, weight, at_operator, has_now, others_have, system_stays, enter_class, same_or_not, most_or_more, action_not_plain, action_is, made_many, HasFacts, facts_of, KeepsArrays, keeps_same, below_frame, StandOn, Allotted, Layout, AreMade, ArraysAre, EventsAre, most_around, IsChained, Frame, Owned, run_level, all_laid, IsEntered, operator_there, AreAlike, living_of, AbleActor, actor_of, gives_within, limit_beyond, goes_on, text_in, level_in, context_in, most_in, names_in, changed_at, others_at, task_stays, state_stays, TheLaws, Living, Pictures, PicturesBy, MayAct, Does, gave, stopped}
 use Rattle.algol_standing.specs.Lows.{IsMaking}
 use Rattle.b67_ops.specs.declared.Operator.TheVariants as ops
 use Rattle.b67_ops.specs.declared.PlainKind.TheVariants as kinds
@@ -20,15 +20,37 @@ pub none_left : (sc : Scopes) (known : List Known) (level home base : ℕ) (ws :
 none_left sc known level home base [] are = refl
 none_left sc known level home base (w ∷ ws) are = absurd are
 
-module _ (tree : PProgram) (code : Code) (texts : Texts) (nested : AreNested (scopes_of tree)) (fragments : FragmentsArePerformed) (cells_made : CellsAreMade) (keeps : RestsKeepToTheirText) (order : AllIsMadeInOrder)
-    (actor : AbleActor tree code texts) where
+module _ (tree : PProgram) (code : Code) (texts : Texts) (nested : AreNested (scopes_of tree)) (laws : TheLaws) (cells_made : CellsAreMade) (actor : AbleActor tree code texts) where
+  open laws use {fragments, keeps, order}
   open actor use {w, lay, img, p, q, part, outer, bound, core, s, able_is, able_p}
 
-  module _ (owns : is_evaluation part.purpose ≡ false) (ms : List Made) (makes : all_to_make part.rest ≡ ms ++ all_left_to_make part.rest) (new_cells : List NamedCell) (allotted : List Allotted) (descriptors : List Word) (added : AreMade ms new_cells allotted descriptors)
-      (name : Intrinsic) (slots : List Slot) (lies : s.stands.slots ≡ slots) (arguments : List Word) (c : IsEntered tree code texts (actor_of s) name slots [] lies arguments)
-      (made next : ℕ) (stands : Has (text_in tree texts w part) (level_in tree w part) s.stands.pc (ops.Plain kinds.Entr) made) (push : Has (text_in tree texts w part) (level_in tree w part) made (ops.Plain kinds.Push) next)
-      (comes : ComesTo (scopes_of tree) (context_in tree code texts w part s.stands.frame.gives) (text_in tree texts w part) (level_in tree w part) (most_in tree w part) (resume (scopes_of tree) part.rest done) next [])
-      (some : 1 ≤ length ms) (some_room : length ms ≤ most_in tree w part) (rows : Rows) (events : List Event) where
+  -- The intrinsic is entered that makes these cells: their descriptors are pushed onto the frame.
+  pub record MakesCells : Type 0 where
+    pub owns : is_evaluation part.purpose ≡ false
+    pub declared : List Made
+    pub makes : all_to_make part.rest ≡ declared ++ all_left_to_make part.rest
+    pub new_cells : List NamedCell
+    pub allotted : List Allotted
+    pub descriptors : List Word
+    pub added : AreMade declared new_cells allotted descriptors
+    pub name : Intrinsic
+    pub slots : List Slot
+    pub lies : s.stands.slots ≡ slots
+    pub arguments : List Word
+    pub entered : IsEntered tree code texts (actor_of s) name slots [] lies arguments
+    pub made : ℕ
+    pub next : ℕ
+    pub stands : Has (text_in tree texts w part) (level_in tree w part) s.stands.pc (ops.Plain kinds.Entr) made
+    pub push : Has (text_in tree texts w part) (level_in tree w part) made (ops.Plain kinds.Push) next
+    pub comes : ComesTo (scopes_of tree) (context_in tree code texts w part s.stands.frame.gives) (text_in tree texts w part) (level_in tree w part) (most_in tree w part) (resume (scopes_of tree) part.rest done) next []
+    pub some : 1 ≤ length declared
+    pub some_room : length declared ≤ most_in tree w part
+    pub rows : Rows
+    pub events : List Event
+
+  module _ (made_cells : MakesCells) where
+    open made_cells use {owns, declared as ms, makes, new_cells, allotted, descriptors, added, name, slots, arguments, entered as c, made, next, stands, push, comes, some, some_room, rows, events}
+
     abbrev sc : Scopes
     sc = scopes_of tree
 
@@ -218,10 +240,19 @@ module _ (tree : PProgram) (code : Code) (texts : Texts) (nested : AreNested (sc
           })
 
     -- where the rows and events are those of the world after it, an operator that leaves that does it
-    module _ (arrays_now : ArraysAre (scopes_of tree) w' lay' rows) (events_now : EventsAre (scopes_of tree) w' lay' events)
-        (fewer : (m : ℕ) (there : Place) → IsListed (waiters_at there events) m → IsListed (waiters_at there img.events) m) (action : Letter) (acts : Some (letter_of (woken_number img.numbers core.registers.stack) name) ≡ Some action)
-        (raw_is : raw code img p ≡ effects.gives (with_core (record img { rows = rows; events = events }) p (with_descriptors core descriptors c.calls.m.df made)))
-        (chosen : choice (scopes_of tree) w p ≡ record { action = action; world = w'; released = []; started = None }) where
+    -- What the intrinsic does, in the world and in the image.
+    pub record MakesThen : Type 0 where
+      pub arrays_now : ArraysAre (scopes_of tree) w' lay' rows
+      pub events_now : EventsAre (scopes_of tree) w' lay' events
+      pub fewer : (m : ℕ) (there : Place) → IsListed (waiters_at there events) m → IsListed (waiters_at there img.events) m
+      pub action : Letter
+      pub acts : Some (letter_of (woken_number img.numbers core.registers.stack) name) ≡ Some action
+      pub raw_is : raw code img p ≡ effects.gives (with_core (record img { rows = rows; events = events }) p (with_descriptors core descriptors c.calls.m.df made))
+      pub chosen : choice (scopes_of tree) w p ≡ record { action = action; world = w'; released = []; started = None }
+
+    module _ (then : MakesThen) where
+      open then use {arrays_now, events_now, fewer, acts, raw_is, chosen}
+
       making_it : IsMaking w part.instance
       making_it =
           record {
@@ -256,13 +287,13 @@ module _ (tree : PProgram) (code : Code) (texts : Texts) (nested : AreNested (sc
       cells_are_made = by_size (most_or_more new.registers.s stack_limit)
         where
           not_plain : plain code img p ≡ false
-          not_plain = action_not_plain code img p core s.has (ops.Plain kinds.Entr) made there (enter_class code img p core s.has made there name arguments c.reference c.marked c.others c.calls)
+          not_plain = action_not_plain code (ops.Plain kinds.Entr) (at_operator s.has there) (enter_class code (at_operator s.has there) name arguments c.reference c.marked c.others c.calls)
 
           by_size : (new.registers.s ≤ stack_limit) ⊎ (stack_limit < new.registers.s) → Does tree code texts w img p
           by_size (inl small) =
               let table_is : table code img p ≡ outcomes.gives after = gives_within code img after p new.registers raw_is has_here.registers small in
               gave after not_plain table_is
-              (action_is code img p core s.has (ops.Plain kinds.Entr) made there (outcomes.gives after) table_is ∙ c.action ∙ acts ∙ ap (λ (o : Choice). Some o.action) (sym chosen))
+              (action_is code (ops.Plain kinds.Entr) (at_operator s.has there) (outcomes.gives after) table_is ∙ c.action ∙ acts ∙ ap (λ (o : Choice). Some o.action) (sym chosen))
               (λ may. subst (λ (o : Choice). Pictures tree code texts o.world after) (sym chosen) (lay', pictured may (omega (arith, small, new_core.top))))
           by_size (inr long) =
               stopped not_plain (limit_beyond code img after p new.registers raw_is has_here.registers long) (omega (arith, long, new_core.top, words_many, some_room, s.room, s.light))

@@ -1,6 +1,6 @@
 -- The making of an event: ENTR on EVENT, after which PUSH makes a cell of its word.
 use Rattle.std.proofs.Common.{◌≡◌, ◌≢◌, ◌⊎◌, inl, inr, refl, sym, ap, ◌∙◌, subst, ℕ, ◌+◌, List, [], ◌∷◌, ◌++◌, length, Option, Some, None, Ok, false, arith, length-append}
-use Rattle.b67_pictures.proofs.Prelude.{slice_get, EventState, Block, block_numbered, PProgram, Scopes, scopes_of, Named, Ask, makes_event, ask, resume, choice, choice_of, is_evaluation, Answer, done, ArrayCell, event, array, NamedCell, Instance, Part, World, or_no_instance, with_instance, with_process, Made, an_event, all_to_make, all_left_to_make, RestsKeepToTheirText, AllIsMadeInOrder, IsOwn, Place, event_word, Code, get_within, place, frame, operator_at, simple_cells, made_base, AreNested, Texts, ActionAt, Acted, ComesTo, Slot, intrinsic, mark, SlotsAre, FragmentsArePerformed, CellsAreMade, made_many, IsElsewhere, asks_as_own, below_frame, cells_length, Allotted, Layout, AreMade, ArraysAre, HasEvent, EventsAre, Framed, IsEntered, entered_with, operator_there, AbleActor, actor_of, choice_is, text_in, level_in, context_in, most_in, held_of, Does}
+use Rattle.b67_pictures.proofs.Prelude.{slice_get, EventState, Block, block_numbered, PProgram, Scopes, scopes_of, Named, Ask, makes_event, resume, choice, choice_of, is_evaluation, done, ArrayCell, event, array, NamedCell, Instance, Part, World, or_no_instance, with_instance, with_process, Made, an_event, all_to_make, all_left_to_make, IsOwn, Place, event_word, Code, get_within, place, frame, operator_at, simple_cells, made_base, AreNested, Texts, Slot, intrinsic, mark, SlotsAre, CellsAreMade, at_operator, made_many, IsElsewhere, asks_as_own, below_frame, cells_length, Allotted, Layout, AreMade, ArraysAre, HasEvent, EventsAre, Framed, IsEntered, entered_with, operator_there, AbleActor, actor_of, choice_is, text_in, level_in, TheLaws, held_of, Does}
 use Rattle.b67_deeds.specs.declared.Letter.TheVariants.{MakeEvent}
 use Rattle.b67_deeds.specs.Events.{fresh_state}
 use Rattle.b67_events.specs.Events.{event_opened}
@@ -17,15 +17,15 @@ use Rattle.b67_scenes.proofs.Calling.{none_lying}
 use Rattle.b67_scenes.proofs.MakingFrame as frames
 use Rattle.b67_scenes.proofs.Waiting.{fewer_opened}
 use Rattle.b67_pictures.proofs.MakingCells.{none_left, cells_are_made}
+use Rattle.b67_pictures.proofs.Head.{Head}
 
-module _ (tree : PProgram) (code : Code) (texts : Texts) (nested : AreNested (scopes_of tree)) (fragments : FragmentsArePerformed) (cells_made : CellsAreMade) (keeps : RestsKeepToTheirText) (order : AllIsMadeInOrder)
-    (actor : AbleActor tree code texts) where
+module _ (tree : PProgram) (code : Code) (texts : Texts) (nested : AreNested (scopes_of tree)) (laws : TheLaws) (cells_made : CellsAreMade) (actor : AbleActor tree code texts) where
+  open laws use {keeps, order}
   open actor use {w, lay, img, p, q, part, outer, core, s}
 
-  module _ (n : Named) (asks : ask part.rest ≡ makes_event n)
-      (a : ActionAt (scopes_of tree) (context_in tree code texts w part s.stands.frame.gives) (text_in tree texts w part) (level_in tree w part) (most_in tree w part) (makes_event n) s.stands.pc s.stands.slots)
-      (answered : (r : Answer) (at : ℕ) (left : List Slot) → Acted (scopes_of tree) (context_in tree code texts w part s.stands.frame.gives) (text_in tree texts w part) (level_in tree w part) (most_in tree w part) (makes_event n) s.stands.pc s.stands.slots a r at left →
-      ComesTo (scopes_of tree) (context_in tree code texts w part s.stands.frame.gives) (text_in tree texts w part) (level_in tree w part) (most_in tree w part) (resume (scopes_of tree) part.rest r) at left) where
+  module _ (n : Named) (head : Head tree code texts actor (makes_event n)) where
+    open head use {asks, action as a, answered}
+
     abbrev sc : Scopes
     sc = scopes_of tree
 
@@ -113,8 +113,18 @@ module _ (tree : PProgram) (code : Code) (texts : Texts) (nested : AreNested (sc
 
     arrays_now : ArraysAre sc w' lay' img.rows
     arrays_now =
-        arrays_still sc w w' lay lay' i x (record x { cells = x.cells ++ one ∷ [] }) framed.is refl refl refl (event_has_none x.cells n.name fresh_state).0 (event_has_none x.cells n.name fresh_state).1 was
-        (λ j other. frames.rows_elsewhere tree code texts nested keeps order (actor_of s) owns ms made_first (one ∷ []) (none_allotted ∷ []) (event_word (record {}) ∷ []) added j (λ same. other (sym same))) img.rows s.by.arrays
+        arrays_still sc w w' lay lay' i (record {
+          x = x;
+          y = record x { cells = x.cells ++ one ∷ [] };
+          there = framed.is;
+          now = refl;
+          left = refl;
+          block = refl;
+          elements = (event_has_none x.cells n.name fresh_state).0;
+          many = (event_has_none x.cells n.name fresh_state).1;
+          was = was;
+          others = λ j other. frames.rows_elsewhere tree code texts nested keeps order (actor_of s) owns ms made_first (one ∷ []) (none_allotted ∷ []) (event_word (record {}) ∷ []) added j (λ same. other (sym same));
+        }) img.rows s.by.arrays
       where
         was : (k : ℕ) (name : List ℕ) (c : ArrayCell) (al : Allotted) → slice_get (x.cells ++ one ∷ []) (length (simple_cells sc b) + k) ≡ Some (record { name = name; cell = array c }) → slice_get (lay'.rows i) k ≡ Some al →
             (slice_get x.cells (length (simple_cells sc b) + k) ≡ Some (record { name = name; cell = array c })) × (slice_get (lay.rows i) k ≡ Some al)
@@ -168,14 +178,50 @@ module _ (tree : PProgram) (code : Code) (texts : Texts) (nested : AreNested (sc
     events_now : EventsAre sc w' lay' (event_opened (place core.registers.stack core.registers.f) img.events)
     events_now =
         subst (λ (z : Place). EventsAre sc w' lay' (event_opened z img.events)) (sym here_is)
-        (events_made sc w w' lay lay' i x n.name number framed.is refl many (λ j f laid. laid) (place p (length s.stands.frame.lower)) framed.laid img.events below_here s.by.events)
+        (events_made sc w w' lay lay' i (record {
+          x = x;
+          name = n.name;
+          number = number;
+          is = framed.is;
+          now = refl;
+          many = many;
+          places = λ j f laid. laid;
+          frame = place p (length s.stands.frame.lower);
+          laid = framed.laid;
+        }) img.events below_here s.by.events)
 
     -- ---- the action
 
     pub making_event : Does tree code texts w img p
     making_event =
-        cells_are_made tree code texts nested fragments cells_made keeps order actor owns ms made_first (one ∷ []) (none_allotted ∷ []) (event_word (record {}) ∷ []) added Event
-        (intrinsic Event ∷ mark ∷ []) a.1.lies [] entered a.1.made a.0 a.1.stands a.1.push (answered done a.0 [] (refl, refl)) (omega arith) (omega (arith, ap length a.1.lies, s.stands.few)) img.rows
-        (event_opened (place core.registers.stack core.registers.f) img.events) arrays_now events_now
-        (λ m there listed. fewer_opened (place core.registers.stack core.registers.f) img.events m there listed) MakeEvent refl
-        (event_raw code img p core s.has a.1.made there entered.reference entered.marked entered.others none entered.calls) chosen
+        cells_are_made tree code texts nested laws cells_made actor (record {
+          owns = owns;
+          declared = ms;
+          makes = made_first;
+          new_cells = one ∷ [];
+          allotted = none_allotted ∷ [];
+          descriptors = event_word (record {}) ∷ [];
+          added = added;
+          name = Event;
+          slots = intrinsic Event ∷ mark ∷ [];
+          lies = a.1.lies;
+          arguments = [];
+          entered = entered;
+          made = a.1.made;
+          next = a.0;
+          stands = a.1.stands;
+          push = a.1.push;
+          comes = answered done a.0 [] (refl, refl);
+          some = omega arith;
+          some_room = omega (arith, ap length a.1.lies, s.stands.few);
+          rows = img.rows;
+          events = event_opened (place core.registers.stack core.registers.f) img.events;
+        }) (record {
+          arrays_now = arrays_now;
+          events_now = events_now;
+          fewer = λ m there listed. fewer_opened (place core.registers.stack core.registers.f) img.events m there listed;
+          action = MakeEvent;
+          acts = refl;
+          raw_is = event_raw code (at_operator s.has there) entered.reference entered.marked entered.others none entered.calls;
+          chosen = chosen;
+        })

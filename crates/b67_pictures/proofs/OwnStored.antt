@@ -1,26 +1,20 @@
 -- A process goes on in its innermost part, after a store into a cell of one of its own instances: of a variable, whose word in its stack is another one, or
 -- of an array or an event, whose word stays.
-use Rattle.std.proofs.Common.{◌≡◌, refl, sym, ap, ◌∙◌, subst, ℕ, suc, ◌+◌, ◌<◌, ◌≤◌, List, ◌∷◌, ◌++◌, length, Option, Some, arith}
-use Rattle.b67_pictures.proofs.Prelude.{numbered, block_numbered, level_of, PProgram, Scopes, scopes_of, resume, is_evaluation, Answer, NamedCell, Instance, Process, Part, State, World, instance_at, with_process, Made, all_to_make, all_left_to_make, BlockIsSeen, RestsKeepToTheirText, AllIsMadeInOrder, segment_of, InAnswer, IsInSkeleton, referred_in_cells, IsOwn, Word, place_at, Registers, Code, stack_limit, place, Image, frame, simple_cells, in_routine, Yields, Texts, context_of, ComesTo, Slot, Core, size, over, HasCore, newest, SlotsAre, CoreAt, FragmentsArePerformed, weight, numbered_set, HasFacts, KeepsArrays, StayBelow, known_after, StandOn, frame_resumed, AreMade, AreKnown, IsInReach, CellsAre, most_around, IsChained, Frame, FrameStands, run_level, AreLaid, steps_none, living_of, CanClimb, Actor, weight_of, text_in, level_in, context_in, most_in, names_in, same_weight, FrameStill, frame_still, still_low, IsStored, put, length_put, stored_world, same_of, ChangedCells, EventsStay, task_stays, CriticalIs, TaskIs, Living}
+use Rattle.std.proofs.Common.{◌≡◌, refl, sym, ap, ◌∙◌, subst, ℕ, suc, ◌+◌, ◌<◌, ◌≤◌, ◌∷◌, length, Some, arith}
+use Rattle.b67_pictures.proofs.Prelude.{numbered, block_numbered, level_of, PProgram, Scopes, scopes_of, resume, is_evaluation, Instance, Process, Part, State, World, instance_at, with_process, BlockIsSeen, segment_of, InAnswer, IsOwn, place_at, Registers, Code, stack_limit, place, Image, frame, in_routine, Yields, Texts, context_of, ComesTo, Core, size, over, HasCore, newest, SlotsAre, CoreAt, weight, numbered_set, StayBelow, known_after, StandOn, frame_resumed, AreKnown, IsInReach, most_around, IsChained, Frame, FrameStands, run_level, AreLaid, steps_none, living_of, CanClimb, Actor, weight_of, text_in, level_in, most_in, names_in, same_weight, FrameStill, frame_still, still_low, put, length_put, stored_world, same_of, CellStore, EventsStay, task_stays, TheLaws, CriticalIs, TaskIs, Living}
 use Rattle.b67_scenes.specs.Reaches as reaching
 use Rattle.b67_scenes.proofs.Staying.{IsAsHeavy}
 use Rattle.b67_scenes.proofs.StoringFrames.{same_ancestors, as_heavy, Stored, known_stored, onward_from, frame_stored}
-use Rattle.b67_pictures.proofs.InFrame.{SameFrame}
+use Rattle.b67_pictures.proofs.InFrame.{GoesOnAbove}
 
-module _ (tree : PProgram) (code : Code) (texts : Texts) (fragments : FragmentsArePerformed) (kept : RestsKeepToTheirText) (order : AllIsMadeInOrder) (actor : Actor tree code texts) where
+module _ (tree : PProgram) (code : Code) (texts : Texts) (laws : TheLaws) (actor : Actor tree code texts) where
+  open laws use {fragments, keeps as kept, order}
   open actor use {w, lay, p, q, part, outer, bound, core, s}
 
-  module _ (unmade : all_left_to_make part.rest ≡ all_to_make part.rest) (answer : Answer) (nameless : InAnswer (BlockIsSeen (scopes_of tree) ((instance_at w part.instance).block)) answer)
-      (i : ℕ) (x : Instance) (at : numbered w.instances i ≡ Some x) (with_cells : List NamedCell) (high : ℕ) (laid : numbered lay.places i ≡ Some (place p high)) (far k : ℕ) (place_is : k ≡ high + 2 + far)
-      (word : Option Word) (many : length with_cells ≡ length x.cells) (short : IsStored word → far < length (simple_cells (scopes_of tree) (block_numbered (scopes_of tree).blocks x.block)))
-      (keeps : KeepsArrays (scopes_of tree) w (stored_world w i x at with_cells) lay lay i) (facts : HasFacts w) (fewer : (r : ℕ) → IsInSkeleton (referred_in_cells with_cells) r → IsInSkeleton (referred_in_cells x.cells) r)
-      (changes : (simple : List NamedCell) (values : List Word) (arrays : List NamedCell) (declared : List Made) (descriptors : List Word) →
-      CellsAre (simple_cells (scopes_of tree) (block_numbered (scopes_of tree).blocks x.block)) simple values → AreMade declared arrays (lay.rows i) descriptors → x.cells ≡ simple ++ arrays →
-      ChangedCells (simple_cells (scopes_of tree) (block_numbered (scopes_of tree).blocks x.block)) (lay.rows i) with_cells simple values (put word values far) declared descriptors)
-      (own : IsOwn (part ∷ outer) i) (words : List Word) (registers : Registers) (frame_is : SameFrame core.registers registers) (pc : ℕ) (slots : List Slot)
-      (there : CoreAt (scopes_of tree) s.stands.held code (text_in tree texts w part) (level_in tree w part) pc slots (record { below = core.below; words = words; registers = registers })) (few : length slots ≤ most_in tree w part)
-      (comes : ComesTo (scopes_of tree) (context_in tree code texts w part s.stands.frame.gives) (text_in tree texts w part) (level_in tree w part) (most_in tree w part) (resume (scopes_of tree) part.rest answer) pc slots)
-      (state : State) where
+  module _ (onward : GoesOnAbove tree code texts actor) (store : CellStore tree w lay p) (own : IsOwn (part ∷ outer) store.i) (state : State) where
+    open onward use {unmade, answer, nameless, words, registers, frame_is, pc, slots, there, few, comes}
+    open store use {i, x, at, with_cells, up as k, place_is, word, many}
+
     abbrev sc : Scopes
     sc = scopes_of tree
 
@@ -53,10 +47,10 @@ module _ (tree : PProgram) (code : Code) (texts : Texts) (fragments : FragmentsA
     new = over (put word core.below k) before
 
     abbrev AfterStore : Type 0
-    AfterStore = Stored tree code texts w lay p i x at with_cells high laid far k place_is word many short keeps facts fewer changes part outer core.below st.frame
+    AfterStore = Stored tree code texts w lay p store part outer core.below st.frame
 
     frames : AfterStore
-    frames = frame_stored tree code texts w lay p i x at with_cells high laid far k place_is word many short keeps facts fewer changes part outer core.below st.frame s.around own
+    frames = frame_stored tree code texts w lay p store part outer core.below st.frame s.around own
 
     block_is : b ≡ (instance_at w' part.instance).block
     block_is = same_of w i x at with_cells (λ (z : Instance). z.block) refl part.instance
@@ -100,7 +94,7 @@ module _ (tree : PProgram) (code : Code) (texts : Texts) (fragments : FragmentsA
       abbrev stay : StayBelow sc stored w' lay lay p (suc (length frames.frame.lower))
       stay =
           record {
-            on = onward_from tree code texts w lay p i x at with_cells high laid far k place_is word many short keeps facts fewer changes w' refl on;
+            on = onward_from tree code texts w lay p store w' refl on;
             instances = λ j n y e mine lies low. e;
             rows = λ j n y e mine lies low. refl;
           }
@@ -118,7 +112,7 @@ module _ (tree : PProgram) (code : Code) (texts : Texts) (fragments : FragmentsA
       known_now : AreKnown sc w' lay (IsInReach w' (part' ∷ outer)) part.instance st.held
       known_now =
           known_after tree code texts stored w' lay lay p (suc (length frames.frame.lower)) stay part outer new.below frames.frame frames.around frame_low st.held
-          (known_stored tree code texts w lay p i x at with_cells high laid far k place_is word many short keeps facts fewer changes (part ∷ outer) part.instance st.held st.held_are)
+          (known_stored tree code texts w lay p store (part ∷ outer) part.instance st.held st.held_are)
 
       abbrev At : ℕ → Type 0
       At c = CoreAt sc st.held code (texts.placed (segment_of sc.blocks c)) (run_level (is_evaluation part.purpose) (level_of (block_numbered sc.blocks c))) pc slots new

@@ -1,6 +1,6 @@
 -- The part around a frame that was left goes on, with what is given.
 use Rattle.std.proofs.Common.{◌≡◌, refl, sym, ap, ◌∙◌, subst, ℕ, ◌+◌, ◌≤◌, List, ◌∷◌, length, Option, Some, arith, ◌<◌}
-use Rattle.b67_pictures.proofs.Prelude.{slice_get, numbered, block_numbered, level_of, PProgram, Scopes, scopes_of, resume, is_evaluation, Answer, Process, Part, World, instance_at, ancestor, BlockIsSeen, RestsKeepToTheirText, AllIsMadeInOrder, segment_of, Word, Place, place_at, Code, stack_limit, place, Image, frame, at_or, in_routine, Yields, Texts, context_of, Gives, ComesTo, Slot, Core, size, HasCore, Known, newest, SlotsAre, CoreAt, FragmentsArePerformed, weight, IsSameBut, HasText, HaveTexts, makes, unmade, StayBelow, known_after, frame_resumed, AreKnown, IsInReach, IsChained, most_around, Frame, Waits, run_level, all_laid, steps_none, living_of, CanClimb, InnerActor, weight_of, text_in, level_in, most_in, FrameStill, frame_still, still_low, same_weight, context_in, names_in, task_stays, Living}
+use Rattle.b67_pictures.proofs.Prelude.{slice_get, numbered, block_numbered, level_of, PProgram, Scopes, scopes_of, resume, is_evaluation, Answer, Process, Part, World, instance_at, ancestor, BlockIsSeen, segment_of, Word, Place, place_at, Code, stack_limit, place, Image, frame, at_or, in_routine, Yields, Texts, context_of, Gives, ComesTo, Slot, Core, size, HasCore, Known, newest, SlotsAre, CoreAt, weight, IsSameBut, HasText, HaveTexts, makes, unmade, StayBelow, known_after, frame_resumed, AreKnown, IsInReach, IsChained, most_around, Frame, Waits, run_level, all_laid, steps_none, living_of, CanClimb, InnerActor, weight_of, text_in, level_in, most_in, FrameStill, frame_still, still_low, same_weight, context_in, names_in, task_stays, TheLaws, Living}
 use Rattle.b67_rows.proofs.LeaveRow.{without_frame}
 use Rattle.b67_scenes.specs.Reaches as reaching
 use Rattle.b67_scenes.proofs.Tasks.{events_left}
@@ -8,12 +8,24 @@ use Rattle.b67_scenes.proofs.Stuffed.{known_both}
 use Rattle.b67_pictures.proofs.LeavingWords as leaving
 use Rattle.b67_pictures.proofs.LeavingWords.{IsGiven, known_given, low, height, top, hung, shown_home, nameless, words_are, same_newest, one_more, few}
 
-module _ (tree : PProgram) (code : Code) (texts : Texts) (stand : HaveTexts tree code texts) (fragments : FragmentsArePerformed) (keeps : RestsKeepToTheirText) (order : AllIsMadeInOrder)
-    (actor : InnerActor tree code texts) where
+module _ (tree : PProgram) (code : Code) (texts : Texts) (actor : InnerActor tree code texts) where
+  open actor use {w, lay, next, parts, s}
+
+  -- what the part gives to the one around it
+  pub record GivesBack : Type 0 where
+    pub answer : Answer
+    pub given : Option Word
+    pub is_given : IsGiven s.stands.frame.gives answer given
+    pub gives_it : Gives s.stands.frame.gives answer
+    pub known_there : AreKnown (scopes_of tree) w lay (IsInReach w (next ∷ parts)) next.instance (known_given s.stands.frame.gives answer given)
+
+module _ (tree : PProgram) (code : Code) (texts : Texts) (stand : HaveTexts tree code texts) (laws : TheLaws) (actor : InnerActor tree code texts) where
+  open laws use {fragments, keeps, order}
   open actor use {w, lay, p, q, next, parts, core, s}
 
-  module _ (r : Answer) (given : Option Word) (g : IsGiven s.stands.frame.gives r given) (gives_it : Gives s.stands.frame.gives r)
-      (known_there : AreKnown (scopes_of tree) w lay (IsInReach w (next ∷ parts)) next.instance (known_given s.stands.frame.gives r given)) where
+  module _ (given_back : GivesBack tree code texts actor) where
+    open given_back use {answer as r, given, is_given as g, gives_it, known_there}
+
     abbrev sc : Scopes
     sc = scopes_of tree
 
@@ -69,8 +81,21 @@ module _ (tree : PProgram) (code : Code) (texts : Texts) (stand : HaveTexts tree
 
     -- ---- in a world in which the instances are what they were, but for what was left
 
-    module _ (w' : World) (climb : CanClimb (scopes_of tree) w') (as_many : length lay.places ≡ length w'.instances) (at_now : numbered w'.processes p ≡ Some q') (stay : StayBelow (scopes_of tree) w w' lay lay p f) (same_now : (j : ℕ) → IsSameBut (instance_at w' j) (instance_at w j))
-        (same_up : (up j : ℕ) → ancestor w' up j ≡ ancestor w up j) (now : Image) (has_here : HasCore now p new) where
+    -- The world after it, and an image in which the process has its core.
+    pub record WorldAround : Type 0 where
+      pub world : World
+      pub climb : CanClimb (scopes_of tree) world
+      pub as_many : length lay.places ≡ length world.instances
+      pub at_now : numbered world.processes p ≡ Some q'
+      pub stay : StayBelow (scopes_of tree) w world lay lay p f
+      pub same_now : (j : ℕ) → IsSameBut (instance_at world j) (instance_at w j)
+      pub same_up : (up j : ℕ) → ancestor world up j ≡ ancestor w up j
+      pub now : Image
+      pub has_here : HasCore now p new
+
+    module _ (then : WorldAround) where
+      open then use {world as w', climb, as_many, at_now, stay, same_now, same_up, now, has_here}
+
       still : FrameStill tree code texts w w' lay lay p f stay next parts u.below u.frame.cells u.frame.gives
       still = frame_still tree code texts w w' lay lay p f stay next parts u.below u.frame s.around.1 lowest
 

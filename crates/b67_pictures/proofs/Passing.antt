@@ -1,6 +1,6 @@
 -- The passing of a parameter that stands for an array, for an event, for a variable or for an actual: what its cell has is given on.
 use Rattle.std.proofs.Common.{◌≡◌, inl, refl, sym, ap, ◌∙◌, subst, ℕ, ◌+◌, ◌≤◌, List, ◌∷◌, length, Some, Ok, arith}
-use Rattle.b67_pictures.proofs.Prelude.{PProgram, Scopes, scopes_of, Kind, Named, Ask, passes, ask, resume, choice_of, goes, Answer, cell, Cell, Reference, World, instance_at, cell_at, Shape, BlockIsSeen, IsSeenAround, IsInner, RestsKeepToTheirText, AllIsMadeInOrder, Word, Place, as_irw, as_sirw, Sirw, Placed, Code, word_at, place, frame, display_at, operator_at, Wanted, ShapeAgrees, AreNested, Texts, ActionAt, Acted, ComesTo, Slot, reference as reference_slot, descriptor, passed as passed_held, Core, with_core, Known, newest, CoreAt, FragmentsArePerformed, array_asked, array_seen, action_not_plain, action_is, Top, top_slot, with_other, NearCell, makes, unmade, reference_read, Layout, ReferenceLeadsTo, Denotes, named_from, IsInReach, array_index, cell_there, operator_there, NameCellHome, NameStands, for_variable, for_actual, LeadsOn, leads_on, name_stands, AbleActor, Actor, actor_of, choice_is, text_in, level_in, context_in, most_in, Does}
+use Rattle.b67_pictures.proofs.Prelude.{PProgram, Scopes, scopes_of, Kind, Named, Ask, passes, ask, choice_of, goes, cell, Cell, Reference, World, instance_at, cell_at, Shape, BlockIsSeen, IsSeenAround, IsInner, Word, Place, as_irw, as_sirw, Sirw, Placed, Code, word_at, place, frame, display_at, operator_at, Wanted, ShapeAgrees, AreNested, Texts, Slot, reference as reference_slot, descriptor, passed as passed_held, Core, with_core, Known, newest, CoreAt, array_asked, array_seen, at_operator, action_not_plain, action_is, Top, top_slot, with_other, NearCell, makes, unmade, reference_read, Layout, ReferenceLeadsTo, Denotes, named_from, IsInReach, array_index, cell_there, operator_there, NameCellHome, NameStands, for_variable, for_actual, LeadsOn, leads_on, name_stands, AbleActor, Actor, actor_of, choice_is, text_in, level_in, context_in, most_in, TheLaws, Does}
 use Rattle.algol_meaning.specs.Value as cells
 use Rattle.algol_meaning.specs.Value.{reference}
 use Rattle.b67_deeds.specs.declared.Letter.TheVariants.{Pass}
@@ -15,6 +15,7 @@ use Rattle.b67_scenes.proofs.EventHomes.{FormalEvent, formal_event_there}
 use Rattle.b67_scenes.proofs.FormalHomes.{FormalHome, formal_home}
 use Rattle.b67_pictures.proofs.Indexing.{more_known}
 use Rattle.b67_pictures.proofs.InFrame.{does_in_frame}
+use Rattle.b67_pictures.proofs.Head.{Head}
 
 -- a reference that leads to an array leads to it for each shape with which all agree that agree with the first
 leads_so : (sc : Scopes) (w : World) (lay : Layout) (Stand : ℕ → Type 0) (shape shape' : Shape) → ((a : Shape) → ShapeAgrees shape a → ShapeAgrees shape' a) → (r : Reference) (word : Word) →
@@ -147,15 +148,12 @@ module _ (tree : PProgram) (code : Code) (texts : Texts) (nested : AreNested (sc
 
 -- ---- the action
 
-module _ (tree : PProgram) (code : Code) (texts : Texts) (nested : AreNested (scopes_of tree)) (fragments : FragmentsArePerformed) (keeps : RestsKeepToTheirText) (order : AllIsMadeInOrder)
-    (actor : AbleActor tree code texts) where
+module _ (tree : PProgram) (code : Code) (texts : Texts) (nested : AreNested (scopes_of tree)) (laws : TheLaws) (actor : AbleActor tree code texts) where
   open actor use {w, img, p, q, part, outer, core, s}
 
-  module _ (n : Named) (asks : ask part.rest ≡ passes n)
-      (a : ActionAt (scopes_of tree) (context_in tree code texts w part s.stands.frame.gives) (text_in tree texts w part) (level_in tree w part) (most_in tree w part) (passes n) s.stands.pc s.stands.slots)
-      (answered : (r : Answer) (at : ℕ) (after : List Slot) →
-      Acted (scopes_of tree) (context_in tree code texts w part s.stands.frame.gives) (text_in tree texts w part) (level_in tree w part) (most_in tree w part) (passes n) s.stands.pc s.stands.slots a r at after →
-      ComesTo (scopes_of tree) (context_in tree code texts w part s.stands.frame.gives) (text_in tree texts w part) (level_in tree w part) (most_in tree w part) (resume (scopes_of tree) part.rest r) at after) where
+  module _ (n : Named) (head : Head tree code texts actor (passes n)) where
+    open head use {asks, action as a, answered}
+
     abbrev sc : Scopes
     sc = scopes_of tree
 
@@ -205,19 +203,31 @@ module _ (tree : PProgram) (code : Code) (texts : Texts) (nested : AreNested (sc
 
       passing_does : Does tree code texts w img p
       passing_does =
-          does_in_frame tree code texts fragments keeps order actor (unmade part.rest (ap makes asks)) (cell f.given) tt w.output new refl (record { is = refl })
-          (one ∷ s.stands.held) (f.denotes, s.stands.held_are) next (descriptor (passed_held wanted f.given) ∷ below) core_at few
-          (answered (cell f.given) next (descriptor (passed_held wanted f.given) ∷ below) (refl, refl, f.may_pass)) Pass
-          (action_not_plain code img p core s.has (ops.Plain kinds.Lodt) next there
-          (pass_class code img p core s.has next there f.top.word f.top.words_below f.top.is found.couple.level found.couple.index f.names f.at f.shown f.word f.lies
+          does_in_frame tree code texts laws actor (record {
+            unmade = unmade part.rest (ap makes asks);
+            answer = cell f.given;
+            nameless = tt;
+            new = new;
+            below = refl;
+            frame_is = record { is = refl };
+            known = one ∷ s.stands.held;
+            known_are = (f.denotes, s.stands.held_are);
+            pc = next;
+            slots = descriptor (passed_held wanted f.given) ∷ below;
+            there = core_at;
+            few = few;
+            comes = answered (cell f.given) next (descriptor (passed_held wanted f.given) ∷ below) (refl, refl, f.may_pass);
+          }) w.output Pass
+          (action_not_plain code (ops.Plain kinds.Lodt) (at_operator s.has there)
+          (pass_class code (at_operator s.has there) f.top.word f.top.words_below f.top.is found.couple.level found.couple.index f.names f.at f.shown f.word f.lies
           f.other f.refers))
-          (pass_raw code img p core s.has next there f.top.word f.top.words_below f.top.is found.couple.level found.couple.index f.names f.at f.shown f.word f.lies
+          (pass_raw code (at_operator s.has there) f.top.word f.top.words_below f.top.is found.couple.level found.couple.index f.names f.at f.shown f.word f.lies
           f.other f.refers
           ∙ ap (λ (o : List (List ℕ)). effects.gives (record (with_core img p new) { output = o })) s.by.output)
           (choice_is sc w p q part outer s.at s.todo
           ∙ ap (λ (k : Ask). choice_of sc w p q part outer k) asks
           ∙ ap (λ (c : Cell). goes sc w p q part outer Pass w (cell c)) f.cell_is)
-          (λ t. action_is code img p core s.has (ops.Plain kinds.Lodt) next there (outcomes.gives (record (with_core img p new) { output = w.output })) t)
+          (λ t. action_is code (ops.Plain kinds.Lodt) (at_operator s.has there) (outcomes.gives (record (with_core img p new) { output = w.output })) t)
 
     pub passing : Does tree code texts w img p
     passing = passing_does (finds_formal tree code texts nested (actor_of s) n asks wanted next below found)

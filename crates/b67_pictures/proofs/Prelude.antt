@@ -9,7 +9,7 @@ pub use Rattle.std.specs.Prelude.{All, if◌then◌else◌, is_some, map, pos, r
 pub use Rattle.b67_list.specs.Numbered.{numbered, set_numbered}
 pub use Rattle.b67_num.specs.declared.FaultKind.{FaultKind}
 pub use Rattle.b67_num.specs.declared.FaultKind.TheVariants.{InvalidIndex, NotAVariable}
-pub use Rattle.b67_deeds.specs.Deeds.{Deed, EventDeed, Next, after_change, answers, deed, is_of_several}
+pub use Rattle.b67_deeds.specs.Deeds.{Deed, EventDeed, after_change, answers, deed, is_of_several}
 pub use Rattle.b67_deeds.specs.Events.{EventState, caused, joined, left_by}
 pub use Rattle.b67_deeds.specs.Listed.{IsListed}
 pub use Rattle.b67_deeds.specs.declared.EventAct.{EventAct}
@@ -38,8 +38,8 @@ pub use Rattle.algol_meaning.specs.Statements.{items_from, items_of, settle_item
 pub use Rattle.algol_meaning.specs.Value.{ArrayCell, Bounds, Cell, Reference, Value, array, event, named, number, simple, truth, whole_of}
 pub use Rattle.algol_meaning.specs.World.{Instance, NamedCell, Part, Process, Purpose, State, World, able, ancestor, array_in, by_cell, cell_at, cell_in, cells_with, ended, event_in, followed, instance_at, is_able, lives, name_place, or_no_instance, process_at, procures, set_able, set_all_able, set_cell, value_in, waits_any, waits_for, with_instance, with_process}
 pub use Rattle.algol_paths.specs.Arrays.{DeclaredArray, Made, Shape, all_left_to_make, all_to_make, an_array, an_event, shape_of}
-pub use Rattle.algol_paths.specs.Blocks.{IsInner, BlockIsSeen, IsSeenAround}
-pub use Rattle.algol_paths.specs.Laws.{AllIsMadeInOrder, JumpsKeepToTheirText, KeepsToText, RestsKeepToTheirText}
+pub use Rattle.algol_paths.specs.Blocks.{BlockIsSeen, IsInner, IsSeenAround}
+pub use Rattle.algol_paths.specs.Laws.{JumpsKeepToTheirText, KeepsToText, RestsKeepToTheirText}
 pub use Rattle.algol_paths.specs.Segments.{is_procedure, segment_of}
 pub use Rattle.algol_paths.specs.Texts.{InAnswer, InGivens, InName, InRest}
 pub use Rattle.algol_standing.proofs.Criticals.{starts_lie_on_paths}
@@ -52,7 +52,7 @@ pub use Rattle.algol_standing.specs.Fitting.{IsOk}
 pub use Rattle.algol_standing.specs.Laws.{referred_by_start}
 pub use Rattle.algol_standing.specs.Lows.{CellLow, CellsLow, InstanceLow, IsLow, WorldLow}
 pub use Rattle.algol_standing.specs.Skeleton.{Home, IsInSkeleton, Stack}
-pub use Rattle.algol_standing.specs.Worlds.{WaitersAreListed, Awaits, IsAmongParts, IsNoBlock, IsOnPath, IsOwn, IsStanding, IsWholeInstance, newest_own, referred_in_cells, skeleton, stack_of}
+pub use Rattle.algol_standing.specs.Worlds.{Awaits, IsAmongParts, IsNoBlock, IsOnPath, IsOwn, IsStanding, IsWholeInstance, WaitersAreListed, newest_own, referred_in_cells, skeleton, stack_of}
 pub use Rattle.b67_word.specs.Word.{Word}
 pub use Rattle.b67_word.specs.declared.Place.{Place}
 pub use Rattle.b67_control.proofs.ControlLaws.{as_pcw-pcw_word, as_sirw-other, irw_laws, kind_of-pcw_word, sirw_laws}
@@ -76,7 +76,7 @@ pub use Rattle.b67_segment.specs.declared.code.Segment.{Segment}
 pub use Rattle.b67_store.specs.Store.{Row, Rows, Stacks, row_at, stack_at, stack_limit, with_word, word_at, words_of, words_or}
 pub use Rattle.b67_events.proofs.EventLaws.{one_event}
 pub use Rattle.b67_events.proofs.Listed.{same_place-self, same_place-true}
-pub use Rattle.b67_events.specs.Events.{Event, event_changed, closed_from, event_is_among, is_from, is_open, list_of, same_place, unlisted, waiters_at, with_state}
+pub use Rattle.b67_events.specs.Events.{Event, closed_from, event_changed, event_is_among, is_from, is_open, list_of, same_place, unlisted, waiters_at, with_state}
 pub use Rattle.b67_table.proofs.Lists.{get_within, numbered_within}
 pub use Rattle.b67_table.specs.Arrays.{as_indexed, index_in}
 pub use Rattle.b67_table.specs.Chains.{place, rebuilt}
@@ -92,7 +92,7 @@ pub use Rattle.b67_table.specs.Program.{Change, Program, answer, asked, see, ◌
 pub use Rattle.b67_table.specs.Questions.{live_criticals}
 pub use Rattle.b67_table.specs.References.{cell_of, cell_place, cell_word, couple_cell, irw_or_sirw, reached_in}
 pub use Rattle.b67_table.specs.Rows.{is_result, level_below}
-pub use Rattle.b67_table.specs.Runs.{ProcessActs, Plains, go, stay}
+pub use Rattle.b67_table.specs.Runs.{Plains, ProcessActs, go, stay}
 pub use Rattle.b67_table.specs.Sound.{Lives, OperatorTouches}
 pub use Rattle.b67_table.specs.Starting.{frames_with, named_frames, place_of}
 pub use Rattle.b67_table.specs.Table.{operator_at, plain}
@@ -106,7 +106,7 @@ pub use Rattle.b67_table.specs.declared.Reached.{Reached}
 pub use Rattle.b67_letters.specs.Letters.{element_or_not, letter, letter_of, operator_letter, stored_letter, told_by}
 pub use Rattle.b67_letters.specs.Releases.{registers_releases, released_by, releases}
 pub use Rattle.b67_templates.proofs.Few.{actuals_are_few}
-pub use Rattle.b67_templates.specs.Cells.{ShapeAgrees, IsDeclaredArray, IsDeclaredEvent, IsProcedure, IsRead, IsVariable, Simple, Wanted, actuals_of, has_place, made_base, made_of, of_formal, of_variable, parameter_cells, parameter_wants, procedures, result_cells_of, simple_cells, variables, zero_cells}
+pub use Rattle.b67_templates.specs.Cells.{IsDeclaredArray, IsDeclaredEvent, IsProcedure, IsRead, IsVariable, ShapeAgrees, Simple, Wanted, actuals_of, has_place, made_base, made_of, of_formal, of_variable, parameter_cells, parameter_wants, procedures, result_cells_of, simple_cells, variables, zero_cells}
 pub use Rattle.b67_templates.specs.Code.{CellsAt, in_routine, stmts_count}
 pub use Rattle.b67_templates.specs.Contexts.{Context, Yields, yields_of}
 pub use Rattle.b67_templates.specs.Depths.{decls_depth, depth, stmts_depth}
@@ -116,8 +116,8 @@ pub use Rattle.b67_templates.specs.Nested.{AreNested, AreParameters, LiesNested}
 pub use Rattle.b67_templates.specs.Programs.{BodyAt, ProgramAt, Texts, context_of}
 pub use Rattle.b67_standing.proofs.OnEvents.{ActsAt}
 pub use Rattle.b67_standing.proofs.Starting.{blocks_start}
-pub use Rattle.b67_standing.specs.Laws.{BlocksStart, JumpsStand, RestsGoOn}
-pub use Rattle.b67_standing.specs.Standing.{Acted, ActionAt, ActsOnAt, AreNumbers, ComesTo, ElementReadAt, Entered, Gives, CodeGoesOn, IsTask, StartsAt, given_slots, of_element, of_row, operands, pushed, selected, start_begun}
+pub use Rattle.b67_standing.specs.Laws.{BlocksStart, RestsGoOn}
+pub use Rattle.b67_standing.specs.Standing.{Acted, ActionAt, ActsOnAt, AreNumbers, CodeGoesOn, ComesTo, ElementReadAt, Gives, IsTask, StartsAt, given_slots, of_element, of_row, operands, pushed, selected, start_begun}
 pub use Rattle.b67_standing.specs.Stepping.{PlaceIsFound, Slot, control, descriptor, element, held_at, intrinsic, mark, operand, passed, reference, variable}
 pub use Rattle.b67_cores.proofs.Beginnings.{blocks_begin}
 pub use Rattle.b67_cores.proofs.Moving.{slots_length}
@@ -133,6 +133,7 @@ pub use Rattle.b67_faithful.specs.Weight.{part_weight, parts_weight, tokens_arou
 pub use Rattle.b67_rows.proofs.Asked.{reads_seen, stores_seen}
 pub use Rattle.b67_rows.proofs.AskedElements.{IsAsked, array_asked, array_seen}
 pub use Rattle.b67_rows.proofs.AskedEntries.{InReferred, enters_seen}
+pub use Rattle.b67_rows.proofs.AtOperator.{AtOperator, at_operator}
 pub use Rattle.b67_rows.proofs.Cored.{has_now, others_have, registers_now, stack_other, system_stays}
 pub use Rattle.b67_rows.proofs.CriticalRow.{FirstDown, IsAmongPlaces}
 pub use Rattle.b67_rows.proofs.Described.{whole_array}
@@ -143,7 +144,7 @@ pub use Rattle.b67_rows.proofs.GivenWords.{ActualsAre, AreFit, Taken, are_fit, f
 pub use Rattle.b67_rows.proofs.Growing.{numbered_before, numbered_earlier, numbered_last}
 pub use Rattle.b67_rows.proofs.IndexRows.{with_one, without_two}
 pub use Rattle.b67_rows.proofs.IntrinsicRows.{enter_class, without_call}
-pub use Rattle.b67_rows.proofs.LeaveRow.{Leaves, after, left_has, left_others, outer_is}
+pub use Rattle.b67_rows.proofs.LeaveRow.{Leaves, after, leaves_here, left_has, left_others, outer_is}
 pub use Rattle.b67_rows.proofs.Numbers.{most_or_more, numbered_beyond, numbered_other, numbered_set, same_or_not}
 pub use Rattle.b67_rows.proofs.Parting.{IsSameBut, same_but}
 pub use Rattle.b67_rows.proofs.PlaceRow.{place_reached_class}
@@ -174,7 +175,7 @@ pub use Rattle.b67_frames.proofs.EventsKept.{event_before, events_joined, events
 pub use Rattle.b67_frames.proofs.EventsLow.{IsElsewhere, event_outside}
 pub use Rattle.b67_frames.proofs.ExitRow.{ended_at, exit_action, exit_class}
 pub use Rattle.b67_frames.proofs.Facts.{HasFacts, IsStandingOrNone, facts_of}
-pub use Rattle.b67_frames.proofs.Formals.{AreGivenCells, LeadAll, given_are}
+pub use Rattle.b67_frames.proofs.Formals.{ActualsLead, AreGivenCells, LeadAll, given_are}
 pub use Rattle.b67_frames.proofs.FreshCells.{fresh_are, simple_many}
 pub use Rattle.b67_frames.proofs.Hanging.{Hangs, hangs}
 pub use Rattle.b67_frames.proofs.Knowing.{KeepsArrays, Remain, denotes_lasts, keeps_same, known_is}
@@ -194,11 +195,10 @@ pub use Rattle.b67_frames.proofs.TouchingCalls.{call_names, over_top, under_top}
 pub use Rattle.b67_frames.proofs.TouchingWords.{found_low, procedure_fits}
 pub use Rattle.b67_frames.proofs.VariablesGiven.{variable_leads}
 pub use Rattle.b67_frames.proofs.Zeros.{cells_length, zero_word}
-pub use Rattle.b67_frames.specs.Arrays.{Allotted, AreKnown, AreMade, ArraysAre, Denotes, HeldIs, HoldElements, IsElement, IsNamed, Layout, ReferenceLeadsTo, LeadsToEvent, LeadsToVariable, named_from}
+pub use Rattle.b67_frames.specs.Arrays.{Allotted, AreKnown, AreMade, ArraysAre, Denotes, HeldIs, HoldElements, IsElement, IsNamed, Layout, LeadsToEvent, LeadsToVariable, ReferenceLeadsTo, named_from}
 pub use Rattle.b67_frames.specs.Events.{EventsAre, HasEvent, event_there}
-pub use Rattle.b67_frames.specs.Frames.{ArePlaced, Around, CellsAre, Frame, Framed, IsChained, IsComplete, IsInReach, ItemsStand, Owned, FrameStands, Waits, block_controls, controls_count, home_of, most_around, of_lent, of_own, run_level}
+pub use Rattle.b67_frames.specs.Frames.{ArePlaced, Around, CellsAre, Frame, FrameStands, Framed, IsChained, IsComplete, IsInReach, ItemsStand, Owned, Waits, block_controls, controls_count, home_of, most_around, of_lent, of_own, run_level}
 pub use Rattle.b67_frames.specs.Lent.{Lent}
-pub use Rattle.b67_scenes.proofs.ActualEntries.{Takes}
 pub use Rattle.b67_scenes.proofs.ActualHomes.{routine_of}
 pub use Rattle.b67_scenes.proofs.Ancestors.{AreLaid, all_laid}
 pub use Rattle.b67_scenes.proofs.ArrayHomes.{MeantArray, array_home}
@@ -227,9 +227,10 @@ pub use Rattle.b67_scenes.proofs.Stage.{choice_is, comes_to, faulted, faults_so,
 pub use Rattle.b67_scenes.proofs.StartCalling.{Refers}
 pub use Rattle.b67_scenes.proofs.StartingProcess.{rows_before, started_layout, started_world}
 pub use Rattle.b67_scenes.proofs.Staying.{FrameStill, chained_stays, context_in, frame_low, frame_still, known_stays, level_in, most_in, names_in, parts_weigh, same_weight, still_low, text_in, top_stays}
-pub use Rattle.b67_scenes.proofs.StoringFrames.{ChangedCells, IsStored, changed_at, length_cells, length_put, others_at, put, same_of, stored_on, stored_world}
+pub use Rattle.b67_scenes.proofs.StoringFrames.{CellStore, ChangedCells, IsStored, changed, changed_at, length_cells, length_put, others_at, put, same_of, stored_on, stored_world}
 pub use Rattle.b67_scenes.proofs.StoringOthers.{others_stored}
 pub use Rattle.b67_scenes.proofs.Tasks.{EventsStay, critical_stays, event_stays, events_before, events_beside, events_kept, events_same, state_stays, task_stays}
+pub use Rattle.b67_scenes.proofs.TheLaws.{TheLaws, the_laws}
 pub use Rattle.b67_scenes.proofs.TouchingCells.{IsEntry, Names, procedure_there}
 pub use Rattle.b67_scenes.proofs.TouchingScene.{by_names}
 pub use Rattle.b67_scenes.proofs.VariableHomes.{VariableHome}
@@ -240,5 +241,6 @@ pub use Rattle.b67_scenes.specs.Pictures.{Living, Pictured, Pictures, PicturesBy
 pub use Rattle.b67_scenes.specs.States.{StateIs}
 pub use Rattle.b67_scenes.specs.Waiting.{AreAwaiting, ListIs, WaitsAre}
 pub use Rattle.b67_pictures.specs.Acting.{Does, MayAct, failed_by, gave, stopped}
-pub use Rattle.b67_pictures.specs.Programs.{NestedProgramsAreFaithful}
+pub use Rattle.b67_pictures.specs.Programs.{NestedProgramsAreFaithful, NestedStacksStayOwn}
 pub use Rattle.b67_listing.specs.Listings.{IsListable}
+pub use Rattle.b67_settling.specs.Local.{NobodyDepends, StacksStayOwn}

@@ -1,6 +1,6 @@
 -- A procedure is entered.
 use Rattle.std.proofs.Common.{◌≡◌, ◌⊎◌, inl, inr, refl, sym, ap, ◌∙◌, ℕ, ◌+◌, ◌*◌, ◌≤◌, ◌<◌, List, ◌∷◌, length, Some, None, true, false, arith}
-use Rattle.b67_pictures.proofs.Prelude.{Block, block_numbered, level_of, PProgram, PBody, Scopes, scopes_of, use_of, Sort, is_variable, is_formal, Kind, Named, Ask, nothing, enters, ask, resume, choice_of, given_cells, Answer, Given, block_of_sort, Cell, instance_at, ancestor, DeclaredArray, Shape, shape_of, BlockIsSeen, IsSeenAround, IsInner, RestsKeepToTheirText, AllIsMadeInOrder, is_procedure, segment_of, IsStanding, Word, as_sirw-other, as_pcw-pcw_word, kind_of-pcw_word, as_irw, as_sirw, pcw_word, Pcw, Couple, Code, get_within, frame, actuals_are_few, Simple, parameter_cells, parameter_wants, procedures, ShapeAgrees, IsVariable, IsDeclaredArray, IsDeclaredEvent, IsProcedure, Yields, yields_of, Context, decls_depth, stmts_depth, code_at, LiesNested, AreParameters, Texts, context_of, BodyAt, ProgramAt, BlocksStart, ActionAt, Entered, Gives, pushed, ComesTo, Slot, reference, mark, SlotIs, BlocksBegin, FragmentsArePerformed, IsShortSegment, tokens_around, InReferred, enters_seen, AreFit, are_fit, fit_many, ActualsAre, length_mapped, makes, unmade, reference_read, controls_fit, AreGivenCells, given_are, simple_many, IsSeenMade, both_seen, up_complete, named_leads, event_leads, HasCells, variable_leads, named_from, ReferenceLeadsTo, LeadsToEvent, LeadsToVariable, IsNamed, IsInReach, ArePlaced, block_controls, controls_count, most_around, IsComplete, Calls, part_there, scene_placed, made_or_around, AbleActor, actor_of, choice_is, text_in, level_in, context_in, most_in, names_in, Does}
+use Rattle.b67_pictures.proofs.Prelude.{Block, block_numbered, level_of, PProgram, PBody, Scopes, scopes_of, use_of, Sort, is_variable, is_formal, Kind, Named, Ask, enters, choice_of, given_cells, Given, block_of_sort, Cell, instance_at, ancestor, DeclaredArray, Shape, shape_of, BlockIsSeen, IsSeenAround, IsInner, is_procedure, segment_of, IsStanding, Word, as_sirw-other, as_pcw-pcw_word, kind_of-pcw_word, as_irw, as_sirw, pcw_word, Pcw, Couple, Code, get_within, frame, actuals_are_few, Simple, parameter_cells, parameter_wants, procedures, ShapeAgrees, IsVariable, IsDeclaredArray, IsDeclaredEvent, IsProcedure, yields_of, Context, decls_depth, stmts_depth, code_at, LiesNested, AreParameters, Texts, context_of, BodyAt, ProgramAt, BlocksStart, reference, mark, SlotIs, BlocksBegin, IsShortSegment, tokens_around, InReferred, enters_seen, AreFit, are_fit, fit_many, ActualsAre, length_mapped, makes, unmade, reference_read, controls_fit, AreGivenCells, given_are, simple_many, IsSeenMade, both_seen, up_complete, named_leads, event_leads, HasCells, variable_leads, named_from, ReferenceLeadsTo, LeadsToEvent, LeadsToVariable, IsNamed, IsInReach, ArePlaced, block_controls, controls_count, most_around, IsComplete, Calls, part_there, scene_placed, made_or_around, AbleActor, actor_of, choice_is, text_in, level_in, context_in, most_in, names_in, TheLaws, Does, ActualsLead}
 use Rattle.algol_meaning.specs.Rest.{entered}
 use Rattle.algol_meaning.specs.World.{procedure}
 use Rattle.algol_meaning.specs.Choice.{entered_procedure}
@@ -11,6 +11,7 @@ use Rattle.b67_pictures.proofs.ParentPlaces.{standing_cells, linked_few, linked_
 use Rattle.b67_frames.proofs.Segmenting.{needs}
 use Rattle.b67_pictures.proofs.CalledProcedure.{CalledProcedure, called_procedure}
 use Rattle.b67_pictures.proofs.FrameEntering.{AreCells, Body, GoesOnBehind, entering}
+use Rattle.b67_pictures.proofs.Head.{Head}
 
 -- what makes the arrays of a procedure, and its statements, with the control words of those that it declares, need no more words than its
 -- segment has room for
@@ -19,20 +20,13 @@ HasRoomFor tree =
     (j : ℕ) → j < length (scopes_of tree).blocks → (j ≡ 0) ⊎ (is_procedure (block_numbered (scopes_of tree).blocks j) ≡ true) →
     needs (block_numbered (scopes_of tree).blocks j) ≤ 4 * tokens_around tree j
 
-module _ (tree : PProgram) (code : Code) (program : ProgramAt code tree) (nested : LiesNested tree) (short : IsShortSegment tree code) (small : HasRoomFor tree)
-    (fragments : FragmentsArePerformed) (begins_so : BlocksBegin) (starts : BlocksStart) (keeps : RestsKeepToTheirText) (order : AllIsMadeInOrder)
+module _ (tree : PProgram) (code : Code) (program : ProgramAt code tree) (nested : LiesNested tree) (short : IsShortSegment tree code) (small : HasRoomFor tree) (laws : TheLaws) (begins_so : BlocksBegin) (starts : BlocksStart)
     (actor : AbleActor tree code program.texts) where
   open actor use {w, lay, img, p, q, part, outer, core, s}
 
-  module _ (n : Named) (gs : List Given) (asks : ask part.rest ≡ enters n gs)
-      (a : ActionAt (scopes_of tree) (context_in tree code program.texts w part s.stands.frame.gives) (text_in tree program.texts w part) (level_in tree w part) (most_in tree w part) (enters n gs) s.stands.pc s.stands.slots)
-      (waits : (to : ℕ) (after : List Slot) (wanted : Yields) →
-      Entered (scopes_of tree) (context_in tree code program.texts w part s.stands.frame.gives) (text_in tree program.texts w part) (level_in tree w part) (most_in tree w part) (enters n gs) s.stands.pc s.stands.slots a to after wanted →
-      ask (resume (scopes_of tree) part.rest entered) ≡ nothing)
-      (returns : (to : ℕ) (after : List Slot) (wanted : Yields) →
-      Entered (scopes_of tree) (context_in tree code program.texts w part s.stands.frame.gives) (text_in tree program.texts w part) (level_in tree w part) (most_in tree w part) (enters n gs) s.stands.pc s.stands.slots a to after wanted →
-      (r : Answer) → Gives wanted r →
-      ComesTo (scopes_of tree) (context_in tree code program.texts w part s.stands.frame.gives) (text_in tree program.texts w part) (level_in tree w part) (most_in tree w part) (resume (scopes_of tree) (resume (scopes_of tree) part.rest entered) r) to (pushed wanted r after)) where
+  module _ (n : Named) (gs : List Given) (head : Head tree code program.texts actor (enters n gs)) where
+    open head use {asks, action as a, waits, returns}
+
     abbrev sc : Scopes
     sc = scopes_of tree
 
@@ -177,7 +171,7 @@ module _ (tree : PProgram) (code : Code) (program : ProgramAt code tree) (nested
     room : decls_depth b.decls + stmts_depth b.stmts + controls_count sc callee + 1 ≤ 4 * tokens_around tree callee
     room = omega (arith, small callee known (inr is_own), actuals_are_few sc b)
 
-    abbrev procedure_body : Body tree code texts nested short fragments begins_so keeps order actor callee 0
+    abbrev procedure_body : Body tree code texts nested short laws begins_so actor callee 0
     procedure_body =
         record {
           ready = code_there.begin;
@@ -194,11 +188,11 @@ module _ (tree : PProgram) (code : Code) (program : ProgramAt code tree) (nested
           small = omega (arith, room);
         }
 
-    abbrev behind : GoesOnBehind tree code texts nested short fragments begins_so keeps order actor a.1 a.2 callee
+    abbrev behind : GoesOnBehind tree code texts nested short laws begins_so actor a.1 a.2 callee
     behind = record { unmade = unmade part.rest (ap makes asks); waits = waits a.1 a.2 (yields_of b.result) (refl, refl, refl); returns = returns a.1 a.2 (yields_of b.result) (refl, refl, refl) }
 
     abbrev AreCellsThere : List Cell → List Word → Type 0
-    AreCellsThere given ws = AreCells tree code texts nested short fragments begins_so keeps order actor callee given ws
+    AreCellsThere given ws = AreCells tree code texts nested short laws begins_so actor callee given ws
 
     abbrev Reached : ℕ → Type 0
     Reached = IsInReach w (part ∷ outer)
@@ -214,29 +208,56 @@ module _ (tree : PProgram) (code : Code) (program : ProgramAt code tree) (nested
 
     arrays_lead : (m : Named) → IsSeenMade tree w lay part m → (shape : Shape) (d : DeclaredArray) (y : Couple) → IsDeclaredArray sc names m d y → ShapeAgrees shape (shape_of d) → (x : Word) → IsNamed sc w lay Reached part.instance m x →
         ReferenceLeadsTo sc w lay Reached shape (named_from sc w lay part.instance m) x
-    arrays_lead m seen shape d y v agrees x h = named_leads tree w lay placed each part here_stands Reached names m seen shape d y v agrees x h
+    arrays_lead m seen shape d y v agrees x h = named_leads tree w lay placed each part here_stands Reached (record {
+      level = names;
+      name = m;
+      seen = seen;
+      shape = shape;
+      declared = d;
+      couple = y;
+      is_declared = v;
+      agrees = agrees;
+      word = x;
+      named = h;
+    })
 
     variables_lead : (m : Named) → IsSeenMade tree w lay part m → (kind : Kind) (y : Couple) → IsVariable sc names m kind y → (x : Word) → IsNamed sc w lay Reached part.instance m x →
         LeadsToVariable sc w lay Reached kind (named_from sc w lay part.instance m) x
-    variables_lead m seen kind y v x h = variable_leads tree w lay placed part here_stands Reached names m seen.0 kind y v x h
+    variables_lead m seen kind y v x h = variable_leads tree w lay placed part here_stands Reached (record { level = names; name = m; seen = seen.0; kind = kind; couple = y; is_variable = v; word = x; named = h })
 
     events_lead : (m : Named) → IsSeenMade tree w lay part m → (y : Couple) → IsDeclaredEvent sc names m y → (x : Word) → IsNamed sc w lay Reached part.instance m x →
         LeadsToEvent sc w lay Reached (named_from sc w lay part.instance m) x
-    events_lead m seen y v x h = event_leads tree w lay placed each part here_stands Reached names m seen y v x h
+    events_lead m seen y v x h = event_leads tree w lay placed each part here_stands Reached (record { level = names; name = m; seen = seen; couple = y; is_declared = v; word = x; named = h })
+
+    abbrev leading : ActualsLead sc context w lay part Reached (IsSeenMade tree w lay part)
+    leading = record {
+      known = s.stands.held;
+      are = s.stands.held_are;
+      leads = arrays_lead;
+      leads_event = events_lead;
+      leads_variable = variables_lead;
+    }
 
     -- the cells of its parameters
     cells_there : (ws : List Word) → ActualsAre sc s.stands.held level (frame core.registers) (length core.below) (parameter_wants sc callee) gs ws → AreCellsThere (given_cells sc w p q part outer gs) ws
     cells_there ws are =
-        let g : AreGivenCells sc context w lay p q part outer level (frame core.registers) (length core.below) Reached s.stands.held s.stands.held_are (IsSeenMade tree w lay part) arrays_lead events_lead variables_lead
+        let g : AreGivenCells sc context w lay p q part outer level (frame core.registers) (length core.below) Reached (IsSeenMade tree w lay part) leading
         (parameter_cells sc b) b.parameters gs ws =
-        given_are sc context w lay p q part outer level (frame core.registers) (length core.below) Reached s.stands.held s.stands.held_are (IsSeenMade tree w lay part) arrays_lead events_lead variables_lead fit
+        given_are sc context w lay p q part outer level (frame core.registers) (length core.below) Reached (IsSeenMade tree w lay part) leading fit
         (parameter_cells sc b) b.parameters parameters.told refl arrays_seen ws are in
         record { cells = g.cells; lead = g.lead }
 
     pub entering_procedure : Does tree code texts w img p
     entering_procedure =
-        entering tree code texts nested short fragments begins_so keeps order actor (parameter_wants sc callee) gs (reference couple) a.1 a.2 h callee 0 calls procedure refl procedure_body
-        behind (given_cells sc w p q part outer gs) cells_there
+        entering tree code texts nested short laws begins_so actor (record {
+          called = record { wanted = parameter_wants sc callee; gs = gs; slot = reference couple; next = a.1; waiting = a.2; parent = h; block = callee; begin = 0; calls = calls };
+          purpose = procedure;
+          owns = refl;
+          body = procedure_body;
+          behind = behind;
+          given = given_cells sc w p q part outer gs;
+          fit = cells_there;
+        })
         (choice_is sc w p q part outer s.at s.todo
         ∙ ap (λ (k : Ask). choice_of sc w p q part outer k) asks
         ∙ ap (λ (x : Sort). entered_procedure sc w p q part outer (block_of_sort x) h (given_cells sc w p q part outer gs)) named.sort_is)

@@ -1,6 +1,6 @@
 -- A process is started, or there are as many as there may be.
 use Rattle.std.proofs.Common.{◌≡◌, ◌≢◌, ◌⊎◌, inl, inr, refl, sym, ap, ◌∙◌, subst, ℕ, ◌+◌, ◌<◌, ◌≤◌, List, [], ◌∷◌, ◌++◌, length, Option, Some, Bool, false, Ok, arith, length-append}
-use Rattle.b67_pictures.proofs.Prelude.{if◌then◌else◌, numbered, set_numbered, block_numbered, PProgram, Scopes, scopes_of, Sort, Named, Ask, starts, ask, resume, Choice, choice, choice_of, home, given_cells, task_of, own_instances, newest_first, first_on_path, referred_by, referred_by_task, fresh_cells, Answer, Given, done, block_of_sort, Reference, Cell, Instance, Process, Part, able, World, RestsKeepToTheirText, AllIsMadeInOrder, starts_lie_on_paths, path_first, IsOk, referred_by_start, IsInSkeleton, newest_own, skeleton, IsOnPath, IsWholeInstance, Word, Place, Pcw, Registers, Start, Code, stack_limit, place, failed, Image, most_processes, operator_at, parameter_wants, simple_cells, Texts, ActionAt, Acted, ComesTo, StartsAt, given_slots, start_begun, Slot, Core, size, HasCore, with_core, FragmentsArePerformed, length_set_numbered, has_now, others_have, system_stays, below_is, numbered_before, numbered_earlier, without_call, enter_class, most_or_more, numbered_set, action_not_plain, fault_not_plain, action_is, begins_with, first_stack, not_below, makes, unmade, no_elements, no_rows, arrays_joined, events_joined, HasFacts, facts_of, StandOn, cells_length, Layout, CellsAre, AreLaid, all_laid, IsEntered, operator_there, LeavesAlone, AbleActor, actor_of, gives_within, faults_so, choice_is, faulted, Refers, started_world, started_layout, rows_before, text_in, level_in, context_in, most_in, events_before, Living, Pictures, PicturesBy, Does, gave, failed_by}
+use Rattle.b67_pictures.proofs.Prelude.{if◌then◌else◌, numbered, set_numbered, block_numbered, PProgram, Scopes, scopes_of, Sort, Named, Ask, starts, resume, Choice, choice, choice_of, home, given_cells, task_of, own_instances, newest_first, first_on_path, referred_by, referred_by_task, fresh_cells, Given, done, block_of_sort, Reference, Cell, Instance, Process, Part, able, World, starts_lie_on_paths, path_first, IsOk, referred_by_start, IsInSkeleton, newest_own, skeleton, IsOnPath, IsWholeInstance, Word, Place, Pcw, Registers, Start, Code, stack_limit, place, failed, Image, most_processes, operator_at, parameter_wants, simple_cells, Texts, StartsAt, given_slots, start_begun, Core, size, HasCore, with_core, length_set_numbered, at_operator, has_now, others_have, system_stays, below_is, numbered_before, numbered_earlier, without_call, enter_class, most_or_more, numbered_set, action_not_plain, fault_not_plain, action_is, begins_with, first_stack, not_below, makes, unmade, no_elements, no_rows, arrays_joined, events_joined, HasFacts, facts_of, StandOn, cells_length, Layout, CellsAre, AreLaid, all_laid, IsEntered, operator_there, LeavesAlone, AbleActor, actor_of, gives_within, faults_so, choice_is, faulted, Refers, started_world, started_layout, rows_before, text_in, level_in, context_in, most_in, events_before, TheLaws, Living, Pictures, PicturesBy, Does, gave, failed_by}
 use Rattle.std.specs.Prelude.{nat_lt}
 use Rattle.b67_num.specs.declared.FaultKind.TheVariants.{ProcessLimit}
 use Rattle.algol_meaning.specs.declared.TheConstants.{MOST_STARTED}
@@ -21,7 +21,8 @@ use Rattle.b67_scenes.proofs.StartCalling as calling
 use Rattle.b67_scenes.proofs.StartingProcess.{HasGoneOn, starts_by}
 use Rattle.b67_pictures.proofs.Alone.{IsAfter, after_choice}
 use Rattle.b67_pictures.proofs.GoingOn.{goes_along}
-use Rattle.b67_pictures.proofs.StartingFree.{all_stand_on, left_alone}
+use Rattle.b67_pictures.proofs.StartingFree.{all_stand_on, left_alone, StartsIn}
+use Rattle.b67_pictures.proofs.Head.{Head}
 
 -- a process with a part has a newest instance
 pub newest_there : (sc : Scopes) (w : World) (ok : IsOk sc IsWholeInstance w) (p : ℕ) (q : Process) (part : Part) (outer : List Part) → numbered w.processes p ≡ Some q → q.todo ≡ part ∷ outer →
@@ -35,13 +36,12 @@ newest_there sc w ok p q part outer is todo = by (own_head (part ∷ outer))
     by (inl none) = absurd (subst (λ (xs : List ℕ). IsInSkeleton xs (newest_own (part ∷ outer))) (ap own_instances todo ∙ none) inside)
     by (inr some) = (some.0, ap own_instances todo ∙ some.1)
 
-module _ (tree : PProgram) (code : Code) (texts : Texts) (fragments : FragmentsArePerformed) (keeps : RestsKeepToTheirText) (order : AllIsMadeInOrder) (actor : AbleActor tree code texts) where
+module _ (tree : PProgram) (code : Code) (texts : Texts) (laws : TheLaws) (actor : AbleActor tree code texts) where
   open actor use {w, lay, img, p, q, part, outer, core, s, able_is, able_p}
 
-  module _ (n : Named) (gs : List Given) (task : Option Named) (asks : ask part.rest ≡ starts n gs task)
-      (a : ActionAt (scopes_of tree) (context_in tree code texts w part s.stands.frame.gives) (text_in tree texts w part) (level_in tree w part) (most_in tree w part) (starts n gs task) s.stands.pc s.stands.slots)
-      (answered : (r : Answer) (at : ℕ) (left : List Slot) → Acted (scopes_of tree) (context_in tree code texts w part s.stands.frame.gives) (text_in tree texts w part) (level_in tree w part) (most_in tree w part) (starts n gs task) s.stands.pc s.stands.slots a r at left →
-      ComesTo (scopes_of tree) (context_in tree code texts w part s.stands.frame.gives) (text_in tree texts w part) (level_in tree w part) (most_in tree w part) (resume (scopes_of tree) part.rest r) at left) where
+  module _ (n : Named) (gs : List Given) (task : Option Named) (head : Head tree code texts actor (starts n gs task)) where
+    open head use {asks, action as a, answered}
+
     abbrev sc : Scopes
     sc = scopes_of tree
 
@@ -124,20 +124,30 @@ module _ (tree : PProgram) (code : Code) (texts : Texts) (fragments : FragmentsA
 
     -- ---- there are as many processes as there may be
 
-    module _ (home_at : Place) (more : List Place) (cell : Option MachineCell) (critical : Place) (refers : RefersTo home_at more cell critical) where
+    -- To what the process refers that is started.
+    pub record RefersSo : Type 0 where
+      pub home_at : Place
+      pub more : List Place
+      pub cell : Option MachineCell
+      pub critical : Place
+      pub refers : RefersTo home_at more cell critical
+
+    module _ (referring : RefersSo) where
+      open referring use {home_at, more, cell, critical, refers}
+
       abbrev starts_there : StartsProcess img core arguments pcw home_at cell parameters more critical
       starts_there = calling.starts_there tree code texts (actor_of s) n gs task callee next a.2 at home_at more cell critical refers
 
       limit_done : most_processes ≤ length w.processes → Does tree code texts w img p
       limit_done full =
-          failed_by ProcessLimit (fault_not_plain code img p core s.has (ops.Plain kinds.Entr) next there ProcessLimit table_is) table_is
-          (action_is code img p core s.has (ops.Plain kinds.Entr) next there (outcomes.faults ProcessLimit) table_is ∙ ap (λ (c : Choice). Some c.action) (sym chosen))
+          failed_by ProcessLimit (fault_not_plain code (ops.Plain kinds.Entr) (at_operator s.has there) ProcessLimit table_is) table_is
+          (action_is code (ops.Plain kinds.Entr) (at_operator s.has there) (outcomes.faults ProcessLimit) table_is ∙ ap (λ (c : Choice). Some c.action) (sym chosen))
           (subst (λ (c : Choice). Pictures tree code texts c.world (failed img p ProcessLimit)) (sym chosen) (lay, faulted tree code texts w lay img s.by p q s.at s.ok ProcessLimit))
         where
           table_is : table code img p ≡ outcomes.faults ProcessLimit
           table_is =
               faults_so code img p ProcessLimit
-              (start_limit code img p core s.has next there arguments e.reference e.marked e.others e.calls pcw home_at cell parameters more critical starts_there (omega (arith, full, s.by.started)))
+              (start_limit code (at_operator s.has there) arguments e.reference e.marked e.others e.calls pcw home_at cell parameters more critical starts_there (omega (arith, full, s.by.started)))
 
           chosen : choice sc w p ≡ choices.fails sc w p q part outer ProcessLimit
           chosen =
@@ -173,7 +183,7 @@ module _ (tree : PProgram) (code : Code) (texts : Texts) (fragments : FragmentsA
 
       raw_is : length w.processes < most_processes → raw code img p ≡ effects.gives after
       raw_is room =
-          start_raw code img p core s.has next there arguments e.reference e.marked e.others e.calls pcw home_at cell parameters more critical starts_there (omega (arith, room, s.by.started))
+          start_raw code (at_operator s.has there) arguments e.reference e.marked e.others e.calls pcw home_at cell parameters more critical starts_there (omega (arith, room, s.by.started))
           (omega (arith, s.has.own, s.by.started, (numbered_few w.processes p q s.at).1))
           ∙ ap (λ (o : List (List ℕ)). effects.gives (with_process (record (with_core img p new) { output = o }) registers words)) s.by.output
 
@@ -213,15 +223,31 @@ module _ (tree : PProgram) (code : Code) (texts : Texts) (fragments : FragmentsA
             path_first (skeleton w) s.ok.sound.skeleton_ok (referred_by_start sc w p q part outer n gs task) (newest_own (part ∷ outer)) (first_on_path w (newest_first 1 w.instances []) p (referred_by_start sc w p q part outer n gs task))
             (starts_lie_on_paths sc w p q part outer n gs task s.ok s.at s.todo able_is asks).first
 
+        abbrev starts_in : StartsIn w
+        starts_in = record {
+          p = p;
+          q = q;
+          onward = q';
+          at = s.at;
+          critical_is = refl;
+          alive = λ e. e;
+          top = newest_own (part ∷ outer);
+          older = newest.0;
+          own = newest.1;
+          made = made;
+          new = begun_process;
+          critical_in = first_on_path w (newest_first 1 w.instances []) p (referred_by_start sc w p q part outer n gs task);
+          critical = refl;
+          path = path;
+        }
+
         on : StandOn sc w world_after lay lay'
         on =
-            all_stand_on sc w lay s.ok p q q' s.at refl (λ e. e) (newest_own (part ∷ outer)) newest.0 newest.1 made begun_process
-            (first_on_path w (newest_first 1 w.instances []) p (referred_by_start sc w p q part outer n gs task)) refl path after_it
+            all_stand_on sc w lay s.ok starts_in after_it
 
         apart : (k : ℕ) → k ≢ p → LeavesAlone sc w world_after lay lay' k
         apart =
-            left_alone sc w lay s.ok p q q' s.at refl (λ e. e) (newest_own (part ∷ outer)) newest.0 newest.1 made begun_process
-            (first_on_path w (newest_first 1 w.instances []) p (referred_by_start sc w p q part outer n gs task)) refl path after_it laid
+            left_alone sc w lay s.ok starts_in after_it laid
 
         at_later : numbered world_after.processes p ≡ Some q'
         at_later = numbered_before (set_numbered w.processes p q') (begun_process ∷ []) p q' (numbered_set w.processes p q q' s.at)
@@ -236,13 +262,46 @@ module _ (tree : PProgram) (code : Code) (texts : Texts) (fragments : FragmentsA
 
         starter : Living tree code texts world_after lay' after p q'
         starter =
-            goes_along tree code texts fragments keeps order (actor_of s) (unmade part.rest (ap makes asks)) done tt new refl (record { is = refl }) s.stands.held s.stands.held_are next a.2 (e.after_at next) e.few
-            (answered done next a.2 (refl, refl)) world_after lay' q.state on (λ i x e own. numbered_before w.instances (made ∷ []) i x e) (λ i x e own. rows_before w lay i x e)
-            (events_before w world_after (λ i x e. numbered_before w.instances (made ∷ []) i x e)) laid_later at_later after has_new new_small after_it.climb
+            goes_along tree code texts laws (actor_of s) (record {
+              unmade = unmade part.rest (ap makes asks);
+              answer = done;
+              nameless = tt;
+              new = new;
+              below = refl;
+              frame_is = record { is = refl };
+              known = s.stands.held;
+              known_are = s.stands.held_are;
+              pc = next;
+              slots = a.2;
+              there = e.after_at next;
+              few = e.few;
+              comes = answered done next a.2 (refl, refl);
+            }) (record {
+              world = world_after;
+              layout = lay';
+              state = q.state;
+              on = on;
+              own = λ i x e own. numbered_before w.instances (made ∷ []) i x e;
+              rows = λ i x e own. rows_before w lay i x e;
+              events = events_before w world_after (λ i x e. numbered_before w.instances (made ∷ []) i x e);
+              laid_later = laid_later;
+              at_later = at_later;
+            }) after has_new new_small after_it.climb
 
         pictured : PicturesBy tree code texts world_after lay' after
         pictured =
-            starts_by tree code texts w lay img s.by p q q' s.at made begun_process image_onward registers words (omega (arith, s.by.started)) room gone refl refl refl refl able_is able_p apart
+            starts_by tree code texts w lay img s.by p (record {
+              q = q;
+              onward_process = q';
+              at = s.at;
+              made = made;
+              new = begun_process;
+              onward = image_onward;
+              registers = registers;
+              words = words;
+              number = omega (arith, s.by.started);
+              room = room;
+            }) gone refl refl refl refl able_is able_p apart
             (arrays_joined sc w world_after lay lay' made refl (no_elements (simple_cells sc (block_numbered sc.blocks callee)) made.cells b.cell_words b.cells)
             (no_rows (simple_cells sc (block_numbered sc.blocks callee)) made.cells b.cell_words b.cells) (λ k. refl) img.rows s.by.arrays)
             (events_joined sc w world_after lay lay' made refl (cells_length (simple_cells sc (block_numbered sc.blocks callee)) made.cells b.cell_words b.cells)
@@ -252,8 +311,8 @@ module _ (tree : PProgram) (code : Code) (texts : Texts) (fragments : FragmentsA
       begun_done : length w.processes < most_processes → IsBegun → Does tree code texts w img p
       begun_done room b =
           gave after
-          (action_not_plain code img p core s.has (ops.Plain kinds.Entr) next there (enter_class code img p core s.has next there Start arguments e.reference e.marked e.others e.calls)) table_is
-          (action_is code img p core s.has (ops.Plain kinds.Entr) next there (outcomes.gives after) table_is ∙ e.action ∙ ap (λ (c : Choice). Some c.action) (sym chosen))
+          (action_not_plain code (ops.Plain kinds.Entr) (at_operator s.has there) (enter_class code (at_operator s.has there) Start arguments e.reference e.marked e.others e.calls)) table_is
+          (action_is code (ops.Plain kinds.Entr) (at_operator s.has there) (outcomes.gives after) table_is ∙ e.action ∙ ap (λ (c : Choice). Some c.action) (sym chosen))
           (λ may. subst (λ (v : World). Pictures tree code texts v after) (sym same) (lay', pictured room b (after_choice sc w world_after p q facts may s.at same)))
         where
           table_is : table code img p ≡ outcomes.gives after

@@ -1,6 +1,6 @@
 -- A read of a variable, or of the variable that a parameter by name stands for.
 use Rattle.std.proofs.Common.{◌≡◌, refl, ap, ◌∙◌, ℕ, ◌+◌, List, ◌∷◌, length, Option, Some, Ok, arith}
-use Rattle.b67_pictures.proofs.Prelude.{Read, PProgram, Scopes, scopes_of, Named, Ask, reads, ask, resume, choice_of, read_of, goes, Answer, value, Value, Cell, instance_at, cell_at, value_in, BlockIsSeen, IsSeenAround, IsInner, RestsKeepToTheirText, AllIsMadeInOrder, Word, Place, Code, place, couple_cell, operator_at, IsVariable, HasKind, AreNested, Texts, ActionAt, Acted, ComesTo, Slot, operand, Core, IsCore, with_core, ValueIs, CoreAt, FragmentsArePerformed, reads_seen, Reaches, reached_through, with_top, value_reached_class, action_not_plain, action_is, makes, unmade, value_tag, no_sirw, no_pcw, named_from, Found, operator_there, NameHome, ActualNamed, NameStands, for_variable, for_actual, name_stands, AbleActor, actor_of, choice_is, text_in, level_in, context_in, most_in, names_in, VariableHome, Does}
+use Rattle.b67_pictures.proofs.Prelude.{Read, PProgram, Scopes, scopes_of, Named, Ask, reads, choice_of, read_of, goes, value, Value, Cell, instance_at, cell_at, value_in, BlockIsSeen, IsSeenAround, IsInner, Word, Place, Code, place, couple_cell, operator_at, IsVariable, HasKind, AreNested, Texts, ActionAt, operand, Core, IsCore, with_core, ValueIs, CoreAt, reads_seen, at_operator, Reaches, reached_through, with_top, value_reached_class, action_not_plain, action_is, makes, unmade, value_tag, no_sirw, no_pcw, named_from, Found, operator_there, NameHome, ActualNamed, NameStands, for_variable, for_actual, name_stands, AbleActor, actor_of, choice_is, text_in, level_in, context_in, most_in, names_in, TheLaws, VariableHome, Does}
 use Rattle.b67_ops.specs.declared.Operator.TheVariants as ops
 use Rattle.b67_templates.specs.Cells.{IsFormalName}
 use Rattle.b67_table.specs.declared.Cell as cells
@@ -11,8 +11,9 @@ use Rattle.b67_scenes.proofs.Homes.{named_at, Home, home}
 use Rattle.b67_pictures.proofs.InFrame.{does_in_frame}
 use Rattle.b67_rows.proofs.Reaching.{reached_there}
 use Rattle.b67_rows.proofs.ReachingRows.{value_read_raw, value_read_letter}
+use Rattle.b67_pictures.proofs.Head.{Head}
 
-module _ (tree : PProgram) (code : Code) (texts : Texts) (fragments : FragmentsArePerformed) (keeps : RestsKeepToTheirText) (order : AllIsMadeInOrder) (actor : AbleActor tree code texts) where
+module _ (tree : PProgram) (code : Code) (texts : Texts) (laws : TheLaws) (actor : AbleActor tree code texts) where
   open actor use {w, lay, img, p, q, part, outer, core, s}
 
   abbrev sc : Scopes
@@ -21,9 +22,9 @@ module _ (tree : PProgram) (code : Code) (texts : Texts) (fragments : FragmentsA
   abbrev IsAction : Named → Type 0
   IsAction n = ActionAt sc (context_in tree code texts w part s.stands.frame.gives) (text_in tree texts w part) (level_in tree w part) (most_in tree w part) (reads n) s.stands.pc s.stands.slots
 
-  module _ (n : Named) (asks : ask part.rest ≡ reads n) (a : IsAction n)
-      (answered : (r : Answer) (at : ℕ) (after : List Slot) → Acted sc (context_in tree code texts w part s.stands.frame.gives) (text_in tree texts w part) (level_in tree w part) (most_in tree w part) (reads n) s.stands.pc s.stands.slots a r at after →
-      ComesTo sc (context_in tree code texts w part s.stands.frame.gives) (text_in tree texts w part) (level_in tree w part) (most_in tree w part) (resume sc part.rest r) at after) where
+  module _ (n : Named) (head : Head tree code texts actor (reads n)) where
+    open head use {asks, action as a, answered}
+
     -- the operator
     there : operator_at code core.registers ≡ Ok (ops.Valc a.2.0, a.1)
     there = operator_there sc s.stands.held code (text_in tree texts w part) (level_in tree w part) s.stands.pc s.stands.slots core (ops.Valc a.2.0) a.1 s.stands.there a.2.2
@@ -63,16 +64,29 @@ module _ (tree : PProgram) (code : Code) (texts : Texts) (fragments : FragmentsA
 
       read_does : Does tree code texts w img p
       read_does =
-          does_in_frame tree code texts fragments keeps order actor (unmade part.rest (ap makes asks)) (value v) tt w.output new refl (record { is = refl }) s.stands.held s.stands.held_are a.1 (operand v ∷ s.stands.slots)
-          core_at (omega (arith, a.3)) (answered (value v) a.1 (operand v ∷ s.stands.slots) (refl, refl, fits)) Read
-          (action_not_plain code img p core s.has (ops.Valc a.2.0) a.1 there (value_reached_class code img p core s.has a.2.0 a.1 there from to shown x reaches))
-          (value_read_raw code img p core s.has a.2.0 a.1 there from to shown x reaches tag (no_pcw x tag)
+          does_in_frame tree code texts laws actor (record {
+            unmade = unmade part.rest (ap makes asks);
+            answer = value v;
+            nameless = tt;
+            new = new;
+            below = refl;
+            frame_is = record { is = refl };
+            known = s.stands.held;
+            known_are = s.stands.held_are;
+            pc = a.1;
+            slots = operand v ∷ s.stands.slots;
+            there = core_at;
+            few = omega (arith, a.3);
+            comes = answered (value v) a.1 (operand v ∷ s.stands.slots) (refl, refl, fits);
+          }) w.output Read
+          (action_not_plain code (ops.Valc a.2.0) (at_operator s.has there) (value_reached_class code a.2.0 (at_operator s.has there) from to shown x reaches))
+          (value_read_raw code a.2.0 (at_operator s.has there) from to shown x reaches tag (no_pcw x tag)
           ∙ ap (λ (o : List (List ℕ)). effects.gives (record (with_core img p new) { output = o })) s.by.output)
           (choice_is sc w p q part outer s.at s.todo
           ∙ ap (λ (k : Ask). choice_of sc w p q part outer k) asks
           ∙ reads_so)
-          (λ t. action_is code img p core s.has (ops.Valc a.2.0) a.1 there (outcomes.gives (record (with_core img p new) { output = w.output })) t
-          ∙ (value_read_letter code img p core s.has a.2.0 a.1 there from to shown x reaches (no_pcw x tag)))
+          (λ t. action_is code (ops.Valc a.2.0) (at_operator s.has there) (outcomes.gives (record (with_core img p new) { output = w.output })) t
+          ∙ (value_read_letter code a.2.0 (at_operator s.has there) from to shown x reaches (no_pcw x tag)))
 
     -- ---- a variable
 

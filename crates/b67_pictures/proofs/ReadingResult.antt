@@ -1,6 +1,6 @@
 -- The read of a procedure's result, at its end.
 use Rattle.std.proofs.Common.{◌≡◌, refl, sym, ap, ◌∙◌, subst, ℕ, suc, ◌+◌, List, [], ◌∷◌, ◌++◌, length, Option, Some, None, Bool, true, false, Ok, arith}
-use Rattle.b67_pictures.proofs.Prelude.{if◌then◌else◌, slice_get, Read, Block, block_numbered, PProgram, Scopes, scopes_of, same_name, Kind, Ask, reads_result, ask, resume, choice_of, goes, is_evaluation, Answer, value, Cell, simple, NamedCell, Instance, instance_at, or_no_instance, cell_at, cell_in, value_in, RestsKeepToTheirText, AllIsMadeInOrder, Word, Code, word_at, place, display_at, operator_at, Simple, parameter_cells, result_cells_of, variables, simple_cells, yields_of, AreNested, Texts, ActionAt, Acted, ComesTo, Slot, operand, Core, IsCore, with_core, CoreAt, FragmentsArePerformed, with_top, action_not_plain, action_is, get-front, get-behind, makes, unmade, value_tag, no_sirw, no_pcw, result_given, begins_core, owned_frame, asks_as_own, frame_gives, Owned, operator_there, shown_frame, AbleActor, actor_of, choice_is, text_in, level_in, context_in, most_in, Does}
+use Rattle.b67_pictures.proofs.Prelude.{if◌then◌else◌, slice_get, Read, Block, block_numbered, PProgram, Scopes, scopes_of, same_name, Kind, Ask, reads_result, choice_of, goes, is_evaluation, value, Cell, simple, NamedCell, Instance, instance_at, or_no_instance, cell_at, cell_in, value_in, Word, Code, word_at, place, display_at, operator_at, Simple, parameter_cells, result_cells_of, variables, simple_cells, yields_of, AreNested, Texts, operand, Core, IsCore, with_core, CoreAt, at_operator, with_top, action_not_plain, action_is, get-front, get-behind, makes, unmade, value_tag, no_sirw, no_pcw, result_given, begins_core, owned_frame, asks_as_own, frame_gives, Owned, operator_there, shown_frame, AbleActor, actor_of, choice_is, text_in, level_in, context_in, TheLaws, Does}
 use Rattle.algol_meaning.proofs.Naming.{same_name-itself}
 use Rattle.b67_ops.specs.declared.Operator.TheVariants as ops
 use Rattle.b67_table.specs.Effect as effects
@@ -13,6 +13,7 @@ use Rattle.b67_rows.proofs.ValueRow.{reads_value, value_raw, value_class}
 use Rattle.b67_frames.proofs.FreshCells.{cells_joined}
 use Rattle.b67_frames.proofs.Variables.{Cell_of, variable_cell, cell_front, Holds_value, value_of_cell}
 use Rattle.b67_pictures.proofs.InFrame.{does_in_frame}
+use Rattle.b67_pictures.proofs.Head.{Head}
 
 -- what is not found among the first cells is found after them
 found_behind : (from : ℕ) (ss others : List Simple) (name : List ℕ) (f : Found) → found_from from ss name ≡ None → found_from (from + length ss) others name ≡ Some f → found_from from (ss ++ others) name ≡ Some f
@@ -35,14 +36,12 @@ result_found sc b kind apart typed =
     ∙ ap (λ (o : Option Kind). found_from far (result_cells_of o b.name ++ variables b.decls) b.name) typed
     ∙ ap (λ (t : Bool). if t then Some (record { number = far; cell = record { name = b.name; wanted = wants.value kind } }) else found_from (far + 1) (variables b.decls) b.name) (same_name-itself b.name))
 
-module _ (tree : PProgram) (code : Code) (texts : Texts) (nested : AreNested (scopes_of tree)) (fragments : FragmentsArePerformed) (keeps : RestsKeepToTheirText) (order : AllIsMadeInOrder) (actor : AbleActor tree code texts) where
+module _ (tree : PProgram) (code : Code) (texts : Texts) (nested : AreNested (scopes_of tree)) (laws : TheLaws) (actor : AbleActor tree code texts) where
   open actor use {w, lay, img, p, q, part, outer, core, s}
 
-  module _ (name : List ℕ) (asks : ask part.rest ≡ reads_result name)
-      (a : ActionAt (scopes_of tree) (context_in tree code texts w part s.stands.frame.gives) (text_in tree texts w part) (level_in tree w part) (most_in tree w part) (reads_result name) s.stands.pc s.stands.slots)
-      (answered : (r : Answer) (at : ℕ) (after : List Slot) →
-      Acted (scopes_of tree) (context_in tree code texts w part s.stands.frame.gives) (text_in tree texts w part) (level_in tree w part) (most_in tree w part) (reads_result name) s.stands.pc s.stands.slots a r at after →
-      ComesTo (scopes_of tree) (context_in tree code texts w part s.stands.frame.gives) (text_in tree texts w part) (level_in tree w part) (most_in tree w part) (resume (scopes_of tree) part.rest r) at after) where
+  module _ (name : List ℕ) (head : Head tree code texts actor (reads_result name)) where
+    open head use {asks, action as a, answered}
+
     abbrev sc : Scopes
     sc = scopes_of tree
 
@@ -153,17 +152,30 @@ module _ (tree : PProgram) (code : Code) (texts : Texts) (nested : AreNested (sc
 
         pub result_read : Does tree code texts w img p
         result_read =
-            does_in_frame tree code texts fragments keeps order actor (unmade part.rest (ap makes asks)) (value held.value) tt w.output new refl (record { is = refl }) s.stands.held s.stands.held_are next (operand held.value ∷ s.stands.slots)
-            core_at (omega (arith, ap length a.1, a.2)) (answered (value held.value) next (operand held.value ∷ s.stands.slots) (refl, refl, held.kind)) Read
-            (action_not_plain code img p core s.has (ops.Valc at.couple) next there
-            (value_class code img p core s.has at.couple next there (place p base) shown c.word lies tag (no_sirw c.word tag) (no_pcw c.word tag)))
-            (value_raw code img p core s.has at.couple next there (place p base) shown c.word lies tag (no_sirw c.word tag) (no_pcw c.word tag)
+            does_in_frame tree code texts laws actor (record {
+              unmade = unmade part.rest (ap makes asks);
+              answer = value held.value;
+              nameless = tt;
+              new = new;
+              below = refl;
+              frame_is = record { is = refl };
+              known = s.stands.held;
+              known_are = s.stands.held_are;
+              pc = next;
+              slots = operand held.value ∷ s.stands.slots;
+              there = core_at;
+              few = omega (arith, ap length a.1, a.2);
+              comes = answered (value held.value) next (operand held.value ∷ s.stands.slots) (refl, refl, held.kind);
+            }) w.output Read
+            (action_not_plain code (ops.Valc at.couple) (at_operator s.has there)
+            (value_class code at.couple (at_operator s.has there) (place p base) shown c.word lies tag (no_sirw c.word tag) (no_pcw c.word tag)))
+            (value_raw code at.couple (at_operator s.has there) (place p base) shown c.word lies tag (no_sirw c.word tag) (no_pcw c.word tag)
             ∙ ap (λ (o : List (List ℕ)). effects.gives (record (with_core img p new) { output = o })) s.by.output)
             (choice_is sc w p q part outer s.at s.todo
             ∙ ap (λ (k : Ask). choice_of sc w p q part outer k) asks
             ∙ ap (λ (x : Cell). goes sc w p q part outer Read w (value (value_in x))) cell_is)
-            (λ t. action_is code img p core s.has (ops.Valc at.couple) next there (outcomes.gives (record (with_core img p new) { output = w.output })) t
-            ∙ (reads_value code img p core s.has at.couple next there (place p base) shown c.word lies tag (no_sirw c.word tag) (no_pcw c.word tag)))
+            (λ t. action_is code (ops.Valc at.couple) (at_operator s.has there) (outcomes.gives (record (with_core img p new) { output = w.output })) t
+            ∙ (reads_value code at.couple (at_operator s.has there) (place p base) shown c.word lies tag (no_sirw c.word tag) (no_pcw c.word tag)))
 
     pub reading_result : Does tree code texts w img p
     reading_result = result_read c (held c)

@@ -1,7 +1,7 @@
 -- A parameter by name is resolved. Of one that stands for a variable, the reference to the variable's cell comes in place of that to the parameter's.
 -- An actual that is not subscripted has no place: that is a fault.
 use Rattle.std.proofs.Common.{◌≡◌, inl, refl, sym, ap, ◌∙◌, subst, ℕ, ◌+◌, ◌≤◌, List, [], ◌∷◌, length, Option, Some, None, Bool, true, false, Ok, arith}
-use Rattle.b67_pictures.proofs.Prelude.{if◌then◌else◌, NotAVariable, Fault, PProgram, Scopes, scopes_of, Kind, Named, Ask, resolves, ask, resume, located_of, Choice, choice, choice_of, resolved_of, is_subscripted, opens, fails, Answer, settle_actual_place, Cell, name_place, World, instance_at, BlockIsSeen, IsSeenAround, IsInner, RestsKeepToTheirText, AllIsMadeInOrder, Word, Place, as_pcw-pcw_word, as_irw, as_sirw, pcw_word, Irw, Pcw, Couple, Placed, Code, place, failed, frame, display_at, cell_word, irw_or_sirw, cell_of, operator_at, AreNested, Texts, ActionAt, Acted, ComesTo, Slot, reference as reference_slot, descriptor, variable, Core, with_core, Known, newest, CoreAt, FragmentsArePerformed, array_asked, array_seen, place_reached_class, Reaches, reached_through, action_not_plain, fault_not_plain, action_is, Top, top_slot, with_other, makes, unmade, value_tag, no_sirw, no_pcw, pcw_refers_nothing, reference_read, LeadsToVariable, IsInReach, routine_of, Found, operator_there, NameCellHome, NameHome, ActualNamed, NameStands, for_variable, for_actual, name_stands, AbleActor, Actor, actor_of, faults_so, choice_is, faulted, text_in, level_in, context_in, most_in, VariableHome, Pictures, Does, failed_by}
+use Rattle.b67_pictures.proofs.Prelude.{if◌then◌else◌, NotAVariable, Fault, PProgram, Scopes, scopes_of, Kind, Named, Ask, resolves, ask, located_of, Choice, choice, choice_of, resolved_of, is_subscripted, opens, fails, settle_actual_place, Cell, name_place, World, instance_at, BlockIsSeen, IsSeenAround, IsInner, Word, Place, as_pcw-pcw_word, as_irw, as_sirw, pcw_word, Irw, Pcw, Couple, Placed, Code, place, failed, frame, display_at, cell_word, irw_or_sirw, cell_of, operator_at, AreNested, Texts, Slot, reference as reference_slot, descriptor, variable, Core, with_core, Known, newest, CoreAt, array_asked, array_seen, at_operator, place_reached_class, Reaches, reached_through, action_not_plain, fault_not_plain, action_is, Top, top_slot, with_other, makes, unmade, value_tag, no_sirw, no_pcw, pcw_refers_nothing, reference_read, LeadsToVariable, IsInReach, routine_of, Found, operator_there, NameCellHome, NameHome, ActualNamed, NameStands, for_variable, for_actual, name_stands, AbleActor, Actor, actor_of, faults_so, choice_is, faulted, text_in, level_in, context_in, most_in, TheLaws, VariableHome, Pictures, Does, failed_by}
 use Rattle.algol_meaning.specs.Rest as rests
 use Rattle.algol_meaning.specs.Rest.{place as given_place}
 use Rattle.b67_deeds.specs.declared.Letter.TheVariants.{Resolve}
@@ -17,6 +17,7 @@ use Rattle.b67_rows.proofs.PlaceRow.{place_left_raw, place_left_letter, no_place
 use Rattle.b67_scenes.proofs.ActualHomes.{same_place}
 use Rattle.b67_pictures.proofs.Indexing.{more_known}
 use Rattle.b67_pictures.proofs.InFrame.{does_in_frame}
+use Rattle.b67_pictures.proofs.Head.{Head}
 
 -- ---- what a process finds that stands at EVAL
 
@@ -48,15 +49,12 @@ module _ (tree : PProgram) (code : Code) (texts : Texts) (nested : AreNested (sc
 
 -- ---- the action
 
-module _ (tree : PProgram) (code : Code) (texts : Texts) (nested : AreNested (scopes_of tree)) (fragments : FragmentsArePerformed) (keeps : RestsKeepToTheirText) (order : AllIsMadeInOrder)
-    (actor : AbleActor tree code texts) where
+module _ (tree : PProgram) (code : Code) (texts : Texts) (nested : AreNested (scopes_of tree)) (laws : TheLaws) (actor : AbleActor tree code texts) where
   open actor use {w, lay, img, p, q, part, outer, core, s}
 
-  module _ (n : Named) (asks : ask part.rest ≡ resolves n)
-      (a : ActionAt (scopes_of tree) (context_in tree code texts w part s.stands.frame.gives) (text_in tree texts w part) (level_in tree w part) (most_in tree w part) (resolves n) s.stands.pc s.stands.slots)
-      (answered : (r : Answer) (at : ℕ) (after : List Slot) →
-      Acted (scopes_of tree) (context_in tree code texts w part s.stands.frame.gives) (text_in tree texts w part) (level_in tree w part) (most_in tree w part) (resolves n) s.stands.pc s.stands.slots a r at after →
-      ComesTo (scopes_of tree) (context_in tree code texts w part s.stands.frame.gives) (text_in tree texts w part) (level_in tree w part) (most_in tree w part) (resume (scopes_of tree) part.rest r) at after) where
+  module _ (n : Named) (head : Head tree code texts actor (resolves n)) where
+    open head use {asks, action as a, answered}
+
     abbrev sc : Scopes
     sc = scopes_of tree
 
@@ -145,18 +143,30 @@ module _ (tree : PProgram) (code : Code) (texts : Texts) (nested : AreNested (sc
 
       resolving_does : Does tree code texts w img p
       resolving_does =
-          does_in_frame tree code texts fragments keeps order actor (unmade part.rest (ap makes asks)) (given_place (rests.there h.r)) tt w.output new refl (record { is = refl })
-          (one ∷ s.stands.held) (leads, s.stands.held_are) next (descriptor (variable h.r kind) ∷ below) core_at few
-          (answered (given_place (rests.there h.r)) next (descriptor (variable h.r kind) ∷ below) (refl, refl)) Resolve
-          (action_not_plain code img p core s.has (ops.Plain kinds.Eval) next there
-          (place_reached_class code img p core s.has next there f.top.word f.top.words_below f.top.is from to named v.word reaches))
-          (place_left_raw code img p core s.has next there f.top.word f.top.words_below f.top.is from to named v.word reaches tag (no_pcw v.word tag)
+          does_in_frame tree code texts laws actor (record {
+            unmade = unmade part.rest (ap makes asks);
+            answer = given_place (rests.there h.r);
+            nameless = tt;
+            new = new;
+            below = refl;
+            frame_is = record { is = refl };
+            known = one ∷ s.stands.held;
+            known_are = (leads, s.stands.held_are);
+            pc = next;
+            slots = descriptor (variable h.r kind) ∷ below;
+            there = core_at;
+            few = few;
+            comes = answered (given_place (rests.there h.r)) next (descriptor (variable h.r kind) ∷ below) (refl, refl);
+          }) w.output Resolve
+          (action_not_plain code (ops.Plain kinds.Eval) (at_operator s.has there)
+          (place_reached_class code (at_operator s.has there) f.top.word f.top.words_below f.top.is from to named v.word reaches))
+          (place_left_raw code (at_operator s.has there) f.top.word f.top.words_below f.top.is from to named v.word reaches tag (no_pcw v.word tag)
           ∙ ap (λ (o : List (List ℕ)). effects.gives (record (with_core img p new) { output = o })) s.by.output)
           (choice_is sc w p q part outer s.at s.todo
           ∙ ap (λ (k : Ask). choice_of sc w p q part outer k) asks
           ∙ ap (λ (c : Cell). resolved_of sc w p q part outer n c) h.cell_is)
-          (λ t. action_is code img p core s.has (ops.Plain kinds.Eval) next there (outcomes.gives (record (with_core img p new) { output = w.output })) t
-          ∙ (place_left_letter code img p core s.has next there f.top.word f.top.words_below f.top.is from to named v.word reaches (no_pcw v.word tag)))
+          (λ t. action_is code (ops.Plain kinds.Eval) (at_operator s.has there) (outcomes.gives (record (with_core img p new) { output = w.output })) t
+          ∙ (place_left_letter code (at_operator s.has there) f.top.word f.top.words_below f.top.is from to named v.word reaches (no_pcw v.word tag)))
 
     -- ---- of an actual
 
@@ -187,7 +197,7 @@ module _ (tree : PProgram) (code : Code) (texts : Texts) (nested : AreNested (sc
       table_is : table code img p ≡ outcomes.faults NotAVariable
       table_is =
           faults_so code img p NotAVariable
-          (no_place_raw code img p core s.has next there f.top.word f.top.words_below f.top.is first second (named_on_top f h.home.at h.home.shown) (pcw_word control) control_reached control
+          (no_place_raw code (at_operator s.has there) f.top.word f.top.words_below f.top.is first second (named_on_top f h.home.at h.home.shown) (pcw_word control) control_reached control
           (as_pcw-pcw_word control h.actual.fits) (sym (same_place h.a.actual) ∙ no_place))
 
       abbrev failed_world : World
@@ -204,8 +214,8 @@ module _ (tree : PProgram) (code : Code) (texts : Texts) (nested : AreNested (sc
 
       no_variable : Does tree code texts w img p
       no_variable =
-          failed_by NotAVariable (fault_not_plain code img p core s.has (ops.Plain kinds.Eval) next there NotAVariable table_is) table_is
-          (action_is code img p core s.has (ops.Plain kinds.Eval) next there (outcomes.faults NotAVariable) table_is ∙ ap (λ (c : Choice). Some c.action) (sym chosen))
+          failed_by NotAVariable (fault_not_plain code (ops.Plain kinds.Eval) (at_operator s.has there) NotAVariable table_is) table_is
+          (action_is code (ops.Plain kinds.Eval) (at_operator s.has there) (outcomes.faults NotAVariable) table_is ∙ ap (λ (c : Choice). Some c.action) (sym chosen))
           (subst (λ (c : Choice). Pictures tree code texts c.world (failed img p NotAVariable)) (sym chosen) (lay, faulted tree code texts w lay img s.by p q s.at s.ok NotAVariable))
 
     -- a variable's cell is found, or an element's by the code of the actual, where that is subscripted

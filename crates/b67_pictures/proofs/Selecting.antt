@@ -1,6 +1,6 @@
 -- CASE: the choice of a statement.
 use Rattle.std.proofs.Common.{◌≡◌, refl, sym, ap, ◌∙◌, subst, ℕ, zero, suc, ◌+◌, ◌*◌, ◌<◌, ◌≤◌, List, [], ◌∷◌, length, Some, None, Ok, Bool, true, false, All, arith, length-append, ℤ, ◌⊎◌, inl, inr}
-use Rattle.b67_pictures.proofs.Prelude.{recursion_from_All, pos, slice_get, if◌then◌else◌, ◌&&◌, PProgram, PStmts, Scopes, scopes_of, Ask, selects, ask, resume, Choice, choice, choice_of, goes, fails, Answer, done, Value, number, truth, whole_of, RestsKeepToTheirText, AllIsMadeInOrder, Operator, Placed, Spells, Code, Segment, failed, segment_limit, end_of_code, operator_at, stmts_count, HasKind, Texts, AreNumbers, ActionAt, Acted, ComesTo, Slot, Core, with_core, FragmentsArePerformed, below_is, without_call, enter_class, action_not_plain, action_is, fault_not_plain, not_below, makes, unmade, wholes_of, IsCall, call, operator_there, AbleActor, actor_of, choice_is, faults_so, faulted, text_in, level_in, context_in, most_in, Pictures, Does, failed_by}
+use Rattle.b67_pictures.proofs.Prelude.{recursion_from_All, pos, slice_get, if◌then◌else◌, ◌&&◌, PProgram, PStmts, Scopes, scopes_of, Ask, selects, Choice, choice, choice_of, goes, fails, done, Value, number, truth, whole_of, Operator, Placed, Spells, Code, Segment, failed, segment_limit, end_of_code, operator_at, stmts_count, HasKind, Texts, AreNumbers, Core, with_core, at_operator, below_is, without_call, enter_class, action_not_plain, action_is, fault_not_plain, not_below, makes, unmade, wholes_of, IsCall, call, operator_there, AbleActor, actor_of, choice_is, faults_so, faulted, text_in, level_in, TheLaws, Pictures, Does, failed_by}
 use Rattle.std.specs.Prelude.{negsuc, int_le, int_lt}
 use Rattle.std.specs.List.{AllByRecursion}
 use Rattle.std.proofs.lemmas.Int.{ints}
@@ -21,6 +21,7 @@ use Rattle.b67_table.specs.Outcome as outcomes
 use Rattle.b67_table.specs.Table.{table}
 use Rattle.b67_rows.proofs.IntrinsicRows.{select_raw, select_faults}
 use Rattle.b67_pictures.proofs.InFrame.{does_in_frame}
+use Rattle.b67_pictures.proofs.Head.{Head}
 
 -- ---- places of a segment
 
@@ -94,13 +95,12 @@ number_is (truth b) z fits e = absurd fits
 
 -- ---- the action
 
-module _ (tree : PProgram) (code : Code) (texts : Texts) (fragments : FragmentsArePerformed) (keeps : RestsKeepToTheirText) (order : AllIsMadeInOrder)
-    (short : All (λ (o : Segment). length o.words ≤ segment_limit) code.segments) (actor : AbleActor tree code texts) where
+module _ (tree : PProgram) (code : Code) (texts : Texts) (laws : TheLaws) (short : All (λ (o : Segment). length o.words ≤ segment_limit) code.segments) (actor : AbleActor tree code texts) where
   open actor use {w, lay, img, p, q, part, outer, core, s}
 
-  module _ (v : Value) (ss : PStmts) (asks : ask part.rest ≡ selects v ss) (a : ActionAt (scopes_of tree) (context_in tree code texts w part s.stands.frame.gives) (text_in tree texts w part) (level_in tree w part) (most_in tree w part) (selects v ss) s.stands.pc s.stands.slots)
-      (answered : (r : Answer) (at : ℕ) (left : List Slot) → Acted (scopes_of tree) (context_in tree code texts w part s.stands.frame.gives) (text_in tree texts w part) (level_in tree w part) (most_in tree w part) (selects v ss) s.stands.pc s.stands.slots a r at left →
-      ComesTo (scopes_of tree) (context_in tree code texts w part s.stands.frame.gives) (text_in tree texts w part) (level_in tree w part) (most_in tree w part) (resume (scopes_of tree) part.rest r) at left) where
+  module _ (v : Value) (ss : PStmts) (head : Head tree code texts actor (selects v ss)) where
+    open head use {asks, action as a, answered}
+
     abbrev sc : Scopes
     sc = scopes_of tree
 
@@ -129,30 +129,42 @@ module _ (tree : PProgram) (code : Code) (texts : Texts) (fragments : FragmentsA
 
       goes_to_case : (i : ℕ) → whole_of v ≡ pos i → i < stmts_count ss → nth_exists (whole_of v) ss ≡ true → case_in (whole_of v) (pos (stmts_count ss)) ≡ Some i → Does tree code texts w img p
       goes_to_case i is h exists inside =
-          does_in_frame tree code texts fragments keeps order actor (unmade part.rest (ap makes asks)) done tt w.output (new i) refl (record { is = refl }) s.stands.held s.stands.held_are (a.0 + 3 * i) a.1
-          (c.after_at (a.0 + 3 * i)) c.few
-          (answered done (a.0 + 3 * i) a.1 (i, number_is v (pos i) a.2.fits is, h, refl, refl)) act.Select
-          (action_not_plain code img p core s.has (ops.Plain kinds.Entr) a.0 there
-          (enter_class code img p core s.has a.0 there Select c.arguments c.reference c.marked c.others c.calls))
-          (select_raw code img p core s.has a.0 there Select c.arguments c.reference c.marked c.others c.calls (wholes_of given) c.wholes (whole_of v) (pos (stmts_count ss)) (pos a.0) refl refl
+          does_in_frame tree code texts laws actor (record {
+            unmade = unmade part.rest (ap makes asks);
+            answer = done;
+            nameless = tt;
+            new = new i;
+            below = refl;
+            frame_is = record { is = refl };
+            known = s.stands.held;
+            known_are = s.stands.held_are;
+            pc = a.0 + 3 * i;
+            slots = a.1;
+            there = c.after_at (a.0 + 3 * i);
+            few = c.few;
+            comes = answered done (a.0 + 3 * i) a.1 (i, number_is v (pos i) a.2.fits is, h, refl, refl);
+          }) w.output act.Select
+          (action_not_plain code (ops.Plain kinds.Entr) (at_operator s.has there)
+          (enter_class code (at_operator s.has there) Select c.arguments c.reference c.marked c.others c.calls))
+          (select_raw code (at_operator s.has there) Select c.arguments c.reference c.marked c.others c.calls (wholes_of given) c.wholes (whole_of v) (pos (stmts_count ss)) (pos a.0) refl refl
           i a.0 inside refl (table_within i h)
           ∙ ap (λ (o : List (List ℕ)). effects.gives (record (with_core img p (new i)) { output = o })) s.by.output)
           (choice_is sc w p q part outer s.at s.todo
           ∙ ap (λ (k : Ask). choice_of sc w p q part outer k) asks
           ∙ ap (λ (b : Bool). if b then (goes sc w p q part outer act.Select w done) else fails sc w p q part outer CaseIndex) exists)
-          (λ t. action_is code img p core s.has (ops.Plain kinds.Entr) a.0 there (outcomes.gives (record (with_core img p (new i)) { output = w.output })) t ∙ c.action)
+          (λ t. action_is code (ops.Plain kinds.Entr) (at_operator s.has there) (outcomes.gives (record (with_core img p (new i)) { output = w.output })) t ∙ c.action)
 
       goes_nowhere : nth_exists (whole_of v) ss ≡ false → case_in (whole_of v) (pos (stmts_count ss)) ≡ None → Does tree code texts w img p
       goes_nowhere exists inside =
           let table_is : table code img p ≡ outcomes.faults CaseIndex =
           faults_so code img p CaseIndex
-          (select_faults code img p core s.has a.0 there Select c.arguments c.reference c.marked c.others c.calls (wholes_of given) c.wholes (whole_of v) (pos (stmts_count ss)) (pos a.0) refl refl inside) in
+          (select_faults code (at_operator s.has there) Select c.arguments c.reference c.marked c.others c.calls (wholes_of given) c.wholes (whole_of v) (pos (stmts_count ss)) (pos a.0) refl refl inside) in
           let chosen : choice sc w p ≡ fails sc w p q part outer CaseIndex =
           choice_is sc w p q part outer s.at s.todo
           ∙ ap (λ (k : Ask). choice_of sc w p q part outer k) asks
           ∙ ap (λ (b : Bool). if b then (goes sc w p q part outer act.Select w done) else fails sc w p q part outer CaseIndex) exists in
-          failed_by CaseIndex (fault_not_plain code img p core s.has (ops.Plain kinds.Entr) a.0 there CaseIndex table_is) table_is
-          (action_is code img p core s.has (ops.Plain kinds.Entr) a.0 there (outcomes.faults CaseIndex) table_is ∙ ap (λ (o : Choice). Some o.action) (sym chosen))
+          failed_by CaseIndex (fault_not_plain code (ops.Plain kinds.Entr) (at_operator s.has there) CaseIndex table_is) table_is
+          (action_is code (ops.Plain kinds.Entr) (at_operator s.has there) (outcomes.faults CaseIndex) table_is ∙ ap (λ (o : Choice). Some o.action) (sym chosen))
           (subst (λ (o : Choice). Pictures tree code texts o.world (failed img p CaseIndex)) (sym chosen) (lay, faulted tree code texts w lay img s.by p q s.at s.ok CaseIndex))
 
       by_case : IsCase (whole_of v) ss → Does tree code texts w img p

@@ -1,13 +1,14 @@
 -- Where a process stands at its action, its operator is that action, and releases whom that releases.
 use Rattle.b67_deeds.specs.Deeds as deeds
 use Rattle.std.proofs.Common.{◌≡◌, refl, sym, ◌∙◌, subst, ℕ, List, [], ◌∷◌, Option, Some, None, true}
-use Rattle.b67_pictures.proofs.Prelude.{EventAct, PProgram, scopes_of, Named, Ask, nothing, reads, reads_element, indexes, enters, passes, resolves, reads_result, leaves, stores, selects, turns, goes_to, enters_block, starts, writes, makes_arrays, makes_event, ask, event_deed, Choice, choice, choice_of, Answer, Reference, Process, Part, lives, World, RestsKeepToTheirText, AllIsMadeInOrder, Code, Image, releases, LiesNested, Texts, RestsGoOn, CodeGoesOn, Core, FragmentsArePerformed, ReleasesNone, Layout, Scene, AbleActor, OutmostActor, actor_of, choice_is, text_in, level_in, context_in, most_in, TaskIs, Does, outmost_actor}
+use Rattle.b67_pictures.proofs.Prelude.{EventAct, PProgram, scopes_of, Named, Ask, nothing, reads, reads_element, indexes, enters, passes, resolves, reads_result, leaves, stores, selects, turns, goes_to, enters_block, starts, writes, makes_arrays, makes_event, ask, event_deed, Choice, choice, choice_of, Answer, Reference, Process, Part, lives, World, Code, Image, releases, LiesNested, Texts, RestsGoOn, CodeGoesOn, Core, ReleasesNone, Layout, Scene, AbleActor, OutmostActor, actor_of, outmost_actor, choice_is, text_in, level_in, context_in, most_in, TheLaws, TaskIs, Does}
 use Rattle.algol_meaning.specs.Asks.{fails}
 use Rattle.b67_faithful.proofs.Choices.{NoEvent, NoTask, frees}
 use Rattle.b67_pictures.proofs.Dispatching.{OthersAreDone, scene_does}
-use Rattle.b67_pictures.proofs.Evaluating.{ActualsAreEntered, At, AnswersAfter}
+use Rattle.b67_pictures.proofs.Evaluating.{ActualsAreEntered}
 use Rattle.b67_pictures.proofs.Quiet.{Settled}
 use Rattle.b67_pictures.proofs.Releasing.{IsReleased, none_released}
+use Rattle.b67_pictures.proofs.Head.{At, AnswersAfter}
 
 -- the head asks for an action on an event, that the part be left, or for none of both
 data IsOfEvent (task : Option Reference) (outer : List Part) (k : Ask) : Type 0 where
@@ -68,15 +69,15 @@ module _ (tree : PProgram) (code : Code) (texts : Texts) (w : World) (lay : Layo
       by_task None none = calmly [] s (leaves r) e tt (λ last. none)
       by_task (Some task) has = ends (outmost_actor s) alive task has r e a
 
-module _ (tree : PProgram) (code : Code) (texts : Texts) (lies : LiesNested tree) (actuals : ActualsAreEntered tree code texts) (fragments : FragmentsArePerformed) (keeps : RestsKeepToTheirText) (order : AllIsMadeInOrder) (rests : RestsGoOn)
-    (others : OthersAreDone tree code texts) (freed : AreFreed tree code texts) (ends : EndsAreFreed tree code texts) (actor : AbleActor tree code texts) where
+module _ (tree : PProgram) (code : Code) (texts : Texts) (lies : LiesNested tree) (actuals : ActualsAreEntered tree code texts) (laws : TheLaws) (rests : RestsGoOn) (others : OthersAreDone tree code texts)
+    (freed : AreFreed tree code texts) (ends : EndsAreFreed tree code texts) (actor : AbleActor tree code texts) where
   open actor use {w, lay, img, p, q, part, outer, bound, core, s, able_is, able_p}
 
   abbrev IsThere : Ask → Type 0
   IsThere k = (a : At tree code texts (actor_of s) k) → AnswersAfter tree code texts (actor_of s) k a → IsReleased tree code w img p
 
   done_there : Does tree code texts w img p
-  done_there = scene_does tree code texts lies actuals fragments keeps order rests others actor
+  done_there = scene_does tree code texts lies actuals laws rests others actor
 
   by_ask : (k : Ask) → ask part.rest ≡ k → IsOfEvent q.task outer k → IsThere k
   by_ask k e (of_event x ns is) =

@@ -1,7 +1,7 @@
 -- A wait for several events: the process goes on by the first that has happened, or waits for all of them; and a process that was released goes on by
 -- its woken number.
 use Rattle.std.proofs.Common.{◌≡◌, refl, sym, ap, ◌∙◌, subst, ℕ, zero, suc, ◌+◌, ◌<◌, ◌≤◌, pos, List, [], ◌∷◌, length, Option, Some, None, Bool, true, false, Ok, arith, lit≤}
-use Rattle.b67_pictures.proofs.Prelude.{if◌then◌else◌, map, reverse, numbered, set_numbered, Letter, PProgram, Scopes, scopes_of, Named, Ask, event_deed, ask, resume, Choice, choice, choice_of, wakes_or_waits, value, number, Reference, Process, World, followed, RestsKeepToTheirText, AllIsMadeInOrder, Word, Place, Couple, Placed, Code, Image, woken_number, frame, cell_place, plain, operator_at, ProcessState, letter, letter_of, AreNested, Texts, ActsOnAt, ComesTo, Slot, operand, intrinsic, mark, Core, with_core, SlotsAre, CoreAt, FragmentsArePerformed, length_set_numbered, some_same, IsAsked, enter_class, without_call, numbered_set, numbered_other, action_not_plain, action_is, makes, unmade, facts_of, named_from, IsEntered, entered_with, operator_there, idle_nowhere, AbleActor, actor_of, state_there, process_is, choice_is, gives_within, text_in, level_in, context_in, most_in, number_is, number_by, Pictures, Does, gave}
+use Rattle.b67_pictures.proofs.Prelude.{if◌then◌else◌, map, reverse, numbered, set_numbered, Letter, PProgram, Scopes, scopes_of, Named, Ask, event_deed, ask, resume, Choice, choice, choice_of, wakes_or_waits, value, number, Reference, Process, World, followed, Word, Place, Couple, Placed, Code, Image, woken_number, frame, cell_place, plain, operator_at, ProcessState, letter, letter_of, AreNested, Texts, ActsOnAt, ComesTo, Slot, operand, intrinsic, mark, Core, with_core, SlotsAre, CoreAt, length_set_numbered, some_same, IsAsked, at_operator, enter_class, without_call, numbered_set, numbered_other, action_not_plain, action_is, makes, unmade, facts_of, named_from, IsEntered, entered_with, operator_there, idle_nowhere, AbleActor, actor_of, state_there, process_is, choice_is, gives_within, text_in, level_in, context_in, most_in, TheLaws, number_is, number_by, Pictures, Does, gave}
 use Rattle.std.proofs.lemmas.List.{length-map}
 use Rattle.b67_limits.specs.declared.TheConstants.{MOST_EVENTS}
 use Rattle.b67_num.specs.Whole.{most}
@@ -42,8 +42,7 @@ first_few passes k n (r ∷ rs) e = by_test (passes r) e (first_few passes (k + 
 pub few_whole : (n : ℕ) → n ≤ MOST_EVENTS → IsWholeNumber (pos n)
 few_whole n few = let eight : MOST_EVENTS ≤ most = lit≤ tt in omega (arith, few, eight)
 
-module _ (tree : PProgram) (code : Code) (texts : Texts) (nested : AreNested (scopes_of tree)) (fragments : FragmentsArePerformed) (keeps : RestsKeepToTheirText) (order : AllIsMadeInOrder)
-    (actor : AbleActor tree code texts) where
+module _ (tree : PProgram) (code : Code) (texts : Texts) (nested : AreNested (scopes_of tree)) (laws : TheLaws) (actor : AbleActor tree code texts) where
   open actor use {w, lay, img, p, q, part, outer, core, s, able_is}
 
   module _ (ns : List Named)
@@ -103,12 +102,12 @@ module _ (tree : PProgram) (code : Code) (texts : Texts) (nested : AreNested (sc
     few = omega (arith, as_many, (acts_at.many).1)
 
     not_plain : plain code img p ≡ false
-    not_plain = action_not_plain code img p core s.has (ops.Plain kinds.Entr) next there (enter_class code img p core s.has next there WaitAny (reverse words) call.reference call.marked call.others call.calls)
+    not_plain = action_not_plain code (ops.Plain kinds.Entr) (at_operator s.has there) (enter_class code (at_operator s.has there) WaitAny (reverse words) call.reference call.marked call.others call.calls)
 
     -- ---- the number with which it goes on
 
     abbrev core_of : ℕ → Core
-    core_of n = number_core code img p core s.has next there words call.reference call.marked call.others call.calls on.cells on.reach some few n
+    core_of n = number_core code (at_operator s.has there) words call.reference call.marked call.others call.calls on.cells on.reach some few n
 
     above : CoreAt sc s.stands.held code text level next below (without_call core call.others call.calls.m.df next)
     above = call.after_at next
@@ -134,7 +133,7 @@ module _ (tree : PProgram) (code : Code) (texts : Texts) (nested : AreNested (sc
 
     letter_is : (after : Image) (l : Letter) → (k : ℕ) → q.woken ≡ k → letter_of k WaitAny ≡ l → table code img p ≡ outcomes.gives after → letter code img p ≡ Some l
     letter_is after l k woken is t =
-        action_is code img p core s.has (ops.Plain kinds.Entr) next there (outcomes.gives after) t ∙ call.action
+        action_is code (ops.Plain kinds.Entr) (at_operator s.has there) (outcomes.gives after) t ∙ call.action
         ∙ ap (λ (n : ℕ). Some (letter_of n WaitAny)) (number_is_q ∙ woken) ∙ ap (λ (x : Letter). Some x) is
 
     chosen_by : (k : ℕ) → q.woken ≡ k → choice sc w p ≡ wakes_or_waits sc w p q part outer k rs
@@ -157,10 +156,23 @@ module _ (tree : PProgram) (code : Code) (texts : Texts) (nested : AreNested (sc
 
       goes_woken : Does tree code texts w img p
       goes_woken =
-          does_numbered tree code texts fragments keeps order actor (unmade part.rest (ap makes asks)) (value (number (pos (suc n)))) tt w.output (core_of (suc n)) refl (record { is = refl }) s.stands.held
-          s.stands.held_are next (operand (number (pos (suc n))) ∷ below) (core_at (suc n) small) (few_slots (suc n)) (comes (suc n) small) 0 numbers (length_set_numbered img.numbers p 0) (number_is numbers p 0 (numbered_set img.numbers p has_number.0 0 has_number.1))
+          does_numbered tree code texts laws actor (record {
+            unmade = unmade part.rest (ap makes asks);
+            answer = value (number (pos (suc n)));
+            nameless = tt;
+            new = core_of (suc n);
+            below = refl;
+            frame_is = record { is = refl };
+            known = s.stands.held;
+            known_are = s.stands.held_are;
+            pc = next;
+            slots = operand (number (pos (suc n))) ∷ below;
+            there = core_at (suc n) small;
+            few = few_slots (suc n);
+            comes = comes (suc n) small;
+          }) w.output 0 numbers (length_set_numbered img.numbers p 0) (number_is numbers p 0 (numbered_set img.numbers p has_number.0 0 has_number.1))
           (λ r other. number_by numbers img.numbers r (numbered_other img.numbers p r 0 (λ e. other (sym e)))) Woke not_plain
-          (woken_raw code img p core s.has next there words call.reference call.marked call.others call.calls on.cells on.reach some few n (number_is_q ∙ woken)
+          (woken_raw code (at_operator s.has there) words call.reference call.marked call.others call.calls on.cells on.reach some few n (number_is_q ∙ woken)
           ∙ ap (λ (o : List (List ℕ)). effects.gives (record (with_core img p (core_of (suc n))) { output = o; numbers = numbers })) s.by.output)
           (chosen_by (suc n) woken) (λ t. letter_is (record (with_core img p (core_of (suc n))) { output = w.output; numbers = numbers }) Woke (suc n) woken refl t)
 
@@ -170,9 +182,22 @@ module _ (tree : PProgram) (code : Code) (texts : Texts) (nested : AreNested (sc
       -- an event has happened
       goes_first : (n : ℕ) → kernel.first_event_happened ats img.events ≡ Some n → Does tree code texts w img p
       goes_first n found =
-          does_in_frame tree code texts fragments keeps order actor (unmade part.rest (ap makes asks)) (value (number (pos n))) tt w.output (core_of n) refl (record { is = refl }) s.stands.held
-          s.stands.held_are next (operand (number (pos n)) ∷ below) (core_at n small) (few_slots n) (comes n small) waits_letter not_plain
-          (gone_raw code img p core s.has next there words call.reference call.marked call.others call.calls on.cells on.reach some few n (number_is_q ∙ woken) found
+          does_in_frame tree code texts laws actor (record {
+            unmade = unmade part.rest (ap makes asks);
+            answer = value (number (pos n));
+            nameless = tt;
+            new = core_of n;
+            below = refl;
+            frame_is = record { is = refl };
+            known = s.stands.held;
+            known_are = s.stands.held_are;
+            pc = next;
+            slots = operand (number (pos n)) ∷ below;
+            there = core_at n small;
+            few = few_slots n;
+            comes = comes n small;
+          }) w.output waits_letter not_plain
+          (gone_raw code (at_operator s.has there) words call.reference call.marked call.others call.calls on.cells on.reach some few n (number_is_q ∙ woken) found
           ∙ ap (λ (o : List (List ℕ)). effects.gives (record (with_core img p (core_of n)) { output = o })) s.by.output)
           (chosen_by 0 woken ∙ ap (λ (o : Option ℕ). waits_for_any sc w p q part outer rs o) found_there) (λ t. letter_is (record (with_core img p (core_of n)) { output = w.output }) waits_letter 0 woken refl t)
         where
@@ -188,7 +213,23 @@ module _ (tree : PProgram) (code : Code) (texts : Texts) (nested : AreNested (sc
           gave after not_plain table_is (letter_is after waits_letter 0 woken refl table_is ∙ ap (λ (c : Choice). Some c.action) (sym chosen))
           (λ may. subst (λ (u : World). Pictures tree code texts u after) (sym (ap (λ (c : Choice). c.world) chosen)) (
             lay,
-            joined_pictured tree code texts lay w img s.by (facts_of sc w s.ok) p q s.at able_is (idle_nowhere tree code texts w lay img s.by p may.able) state_now.0 state_now.1 rs ats on.list_is owned,
+            joined_pictured tree code texts lay (record {
+              w = w;
+              img = img;
+              by = s.by;
+              facts = facts_of sc w s.ok;
+              p = p;
+              q = q;
+              is = s.at;
+              alive = able_is;
+              nowhere = idle_nowhere tree code texts w lay img s.by p may.able;
+              machine_state = state_now.0;
+              there = state_now.1;
+              events_named = rs;
+              places = ats;
+              list = on.list_is;
+              owned = owned;
+            }),
           ))
         where
           after : Image
@@ -200,7 +241,7 @@ module _ (tree : PProgram) (code : Code) (texts : Texts) (nested : AreNested (sc
           table_is : table code img p ≡ outcomes.gives after
           table_is =
               gives_within code img after p core.registers
-              (waiting_raw code img p core s.has next there words call.reference call.marked call.others call.calls on.cells on.reach some few (number_is_q ∙ woken) found) s.has.registers (omega (arith, s.small, s.has.is.top))
+              (waiting_raw code (at_operator s.has there) words call.reference call.marked call.others call.calls on.cells on.reach some few (number_is_q ∙ woken) found) s.has.registers (omega (arith, s.small, s.has.is.top))
 
           chosen : choice sc w p ≡ waits_for_any sc w p q part outer rs None
           chosen = chosen_by 0 woken ∙ ap (λ (o : Option ℕ). waits_for_any sc w p q part outer rs o) (sym (first_there tree code texts w lay img s.by (facts_of sc w s.ok) 1 rs ats on.list_is owned) ∙ found)

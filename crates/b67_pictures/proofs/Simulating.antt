@@ -1,6 +1,6 @@
 -- Images that picture worlds go with the source through every operator.
 use Rattle.std.proofs.Common.{◌≡◌, refl, ap, subst, ℕ, ◌<◌, ◌≤◌, List, length, Option, Some, None, arith, true}
-use Rattle.b67_pictures.proofs.Prelude.{numbered, FaultKind, PProgram, scopes_of, choice, Process, World, is_able, process_at, first_world_stands, IsOk, IsWholeInstance, Place, Registers, Code, stack_limit, failed, Image, is_live, Outcome, faults, limit, Plains, ProcessActs, Lives, OperatorTouches, IsPrivate, Texts, StepsArePerformed, StepsComeToLimit, true_false, HasFormats, IsShortSegment, Faithful, AreFew, weight, numbered_beyond, Layout, Pictured, living, dead, PicturesBy, Pictures, MayAct, Does, gave, failed_by, stopped, IsListable}
+use Rattle.b67_pictures.proofs.Prelude.{numbered, FaultKind, PProgram, scopes_of, choice, Process, World, is_able, process_at, first_world_stands, IsOk, IsWholeInstance, Place, Registers, Code, stack_limit, failed, Image, is_live, Outcome, faults, limit, Plains, ProcessActs, Lives, OperatorTouches, IsPrivate, Texts, StepsArePerformed, StepsComeToLimit, true_false, HasFormats, IsShortSegment, Faithful, AreFew, weight, numbered_beyond, Layout, Pictured, living, dead, PicturesBy, Pictures, MayAct, Does, gave, failed_by, stopped, IsListable, NobodyDepends, StacksStayOwn}
 use Rattle.algol_meaning.specs.Run.{start, may_go}
 use Rattle.algol_calls.specs.Texts.{AreTexts, HasOuterBlock}
 use Rattle.algol_standing.proofs.LowLaws.{others_keep_low, making_is_low}
@@ -19,7 +19,6 @@ use Rattle.b67_faithful.proofs.Contradictions.{gives_same, faults_same, gives_fa
 use Rattle.b67_faithful.proofs.Counting.{simulations_are_faithful}
 use Rattle.b67_faithful.proofs.Following.{related, tails_through}
 use Rattle.b67_faithful.proofs.Ways.{may_lead}
-use Rattle.b67_settling.specs.Local.{NobodyDepends, StacksStayOwn}
 use Rattle.b67_table.specs.Runs.{TableRun}
 use Rattle.b67_scenes.proofs.Showing.{able_acts, no_limit, IsAble, able_one, able_alike, ends_alike, is_light}
 use Rattle.b67_pictures.proofs.Quiet.{SettledAct, through_plain, Operates, plainly, acting, operates, Settles, settles}

@@ -1,32 +1,31 @@
 -- A process that is started has what its starter gives it, and lives.
 use Rattle.std.proofs.Common.{◌≡◌, ◌≢◌, inl, inr, refl, sym, ap, ◌∙◌, subst, ℕ, zero, suc, ◌+◌, ◌*◌, ◌≤◌, ◌<◌, List, [], ◌∷◌, ◌++◌, length, Option, Some, false, arith, length-append}
-use Rattle.b67_pictures.proofs.Prelude.{slice_get, replicate, numbered, set_numbered, Block, block_numbered, level_of, PProgram, Scopes, scopes_of, Named, starts, ask, resume, home, given_cells, task_of, some_depends, own_instances, newest_first, first_on_path, Answer, Given, done, Cell, NamedCell, Instance, Process, World, instance_at, or_no_instance, ancestor, RestsKeepToTheirText, AllIsMadeInOrder, segment_of, starts_lie_on_paths, path_first, referred_by_start, IsStanding, IsOnPath, IsWholeInstance, newest_own, skeleton, Word, Place, Pcw, Code, numbered_within, place, Image, place_of, frames_with, named_frames, actuals_are_few, Simple, parameter_cells, zero_cells, decls_depth, stmts_depth, LiesNested, Texts, context_of, BodyAt, ProgramAt, BlocksStart, ActionAt, Acted, ComesTo, StartsAt, Slot, HasCore, BlocksBegin, FragmentsArePerformed, length_set_numbered, none_some, tokens_around, FirstDown, numbered_last, numbered_before, begins_with, first_stack, rows_there, controls_fit, HasFacts, facts_of, IsStandingOrNone, LeadAll, fresh_are, Remain, denotes_lasts, Linked, all_each, StandOn, zero_word, Layout, block_controls, controls_count, most_around, IsInReach, home_of, AreLaid, all_laid, reached_stands, AbleActor, actor_of, Refers, started_layout, text_in, level_in, context_in, most_in, events_before, task_stays, Living, Does}
+use Rattle.b67_pictures.proofs.Prelude.{slice_get, replicate, numbered, set_numbered, Block, block_numbered, level_of, PProgram, Scopes, scopes_of, Named, starts, resume, home, given_cells, task_of, some_depends, own_instances, newest_first, first_on_path, Given, done, Cell, NamedCell, Instance, Process, World, instance_at, or_no_instance, ancestor, segment_of, starts_lie_on_paths, path_first, referred_by_start, IsStanding, IsOnPath, IsWholeInstance, newest_own, skeleton, Word, Place, Pcw, Code, numbered_within, place, Image, place_of, frames_with, named_frames, actuals_are_few, Simple, parameter_cells, zero_cells, decls_depth, stmts_depth, LiesNested, Texts, context_of, BodyAt, ProgramAt, BlocksStart, StartsAt, HasCore, BlocksBegin, length_set_numbered, none_some, tokens_around, FirstDown, numbered_last, numbered_before, begins_with, first_stack, rows_there, controls_fit, HasFacts, facts_of, IsStandingOrNone, LeadAll, fresh_are, Remain, denotes_lasts, Linked, all_each, StandOn, zero_word, Layout, block_controls, controls_count, most_around, IsInReach, home_of, AreLaid, all_laid, reached_stands, AbleActor, actor_of, Refers, started_layout, text_in, level_in, context_in, most_in, events_before, task_stays, TheLaws, Living, Does}
 use Rattle.algol_meaning.specs.Instances as instances
 use Rattle.algol_standing.proofs.Seen.{top_stands}
 use Rattle.b67_rows.proofs.Begun.{core_of, begun_has}
 use Rattle.b67_rows.proofs.Numbers.{get_within}
 use Rattle.b67_rows.proofs.StartRow.{begins_is}
-use Rattle.b67_scenes.proofs.BeginningProcess.{HasCode, Begun, begun_lives}
+use Rattle.b67_scenes.proofs.BeginningProcess.{HasCode, Begun, begun_lives, NewProcess}
 use Rattle.b67_scenes.proofs.StartCalling as calling
 use Rattle.b67_pictures.proofs.Alone.{IsAfter, free_still, dependent_but}
 use Rattle.b67_pictures.proofs.FrameEntering.{fresh_free}
 use Rattle.b67_pictures.proofs.NamedFrames.{frame_small}
 use Rattle.b67_pictures.proofs.ProcedureEntering.{HasRoomFor}
 use Rattle.b67_pictures.proofs.ProcessStarting as process
-use Rattle.b67_pictures.proofs.ProcessStarting.{newest_there, IsBegun, starting_process}
+use Rattle.b67_pictures.proofs.ProcessStarting.{newest_there, IsBegun, starting_process, RefersSo}
 use Rattle.b67_pictures.proofs.StartingFree.{none_depends, all_stand_on}
 use Rattle.b67_pictures.proofs.StartThere as given
+use Rattle.b67_pictures.proofs.Head.{Head}
 
-module _ (tree : PProgram) (code : Code) (program : ProgramAt code tree) (nested : LiesNested tree) (small : HasRoomFor tree)
-    (fragments : FragmentsArePerformed) (begins_so : BlocksBegin) (starts_so : BlocksStart) (keeps : RestsKeepToTheirText) (order : AllIsMadeInOrder)
+module _ (tree : PProgram) (code : Code) (program : ProgramAt code tree) (nested : LiesNested tree) (small : HasRoomFor tree) (laws : TheLaws) (begins_so : BlocksBegin) (starts_so : BlocksStart)
     (actor : AbleActor tree code program.texts) where
+  open laws use {keeps}
   open actor use {w, lay, img, p, q, part, outer, s, able_is}
 
-  module _ (n : Named) (gs : List Given) (task : Option Named) (asks : ask part.rest ≡ starts n gs task)
-      (a : ActionAt (scopes_of tree) (context_in tree code program.texts w part s.stands.frame.gives) (text_in tree program.texts w part) (level_in tree w part) (most_in tree w part) (starts n gs task) s.stands.pc s.stands.slots)
-      (answered : (r : Answer) (at : ℕ) (left : List Slot) →
-      Acted (scopes_of tree) (context_in tree code program.texts w part s.stands.frame.gives) (text_in tree program.texts w part) (level_in tree w part) (most_in tree w part) (starts n gs task) s.stands.pc s.stands.slots a r at left →
-      ComesTo (scopes_of tree) (context_in tree code program.texts w part s.stands.frame.gives) (text_in tree program.texts w part) (level_in tree w part) (most_in tree w part) (resume (scopes_of tree) part.rest r) at left) where
+  module _ (n : Named) (gs : List Given) (task : Option Named) (head : Head tree code program.texts actor (starts n gs task)) where
+    open head use {asks, action as a}
+
     abbrev sc : Scopes
     sc = scopes_of tree
 
@@ -92,13 +91,13 @@ module _ (tree : PProgram) (code : Code) (program : ProgramAt code tree) (nested
     -- ---- the world after it
 
     abbrev w' : World
-    w' = process.world_after tree code texts fragments keeps order actor n gs task asks a answered
+    w' = process.world_after tree code texts laws actor n gs task head
 
     abbrev new : Process
-    new = process.begun_process tree code texts fragments keeps order actor n gs task asks a answered
+    new = process.begun_process tree code texts laws actor n gs task head
 
     abbrev made : Instance
-    made = process.made tree code texts fragments keeps order actor n gs task asks a answered
+    made = process.made tree code texts laws actor n gs task head
 
     abbrev q' : Process
     q' = record q { todo = record part { rest = resume sc part.rest done } ∷ outer }
@@ -112,8 +111,11 @@ module _ (tree : PProgram) (code : Code) (program : ProgramAt code tree) (nested
     abbrev instance : ℕ
     instance = length w.instances + 1
 
+    abbrev referring : RefersSo tree code texts laws actor n gs task head
+    referring = record { home_at = linked.at; more = more; cell = tasked.cell; critical = critical_there.0; refers = refers }
+
     abbrev after : Image
-    after = process.after tree code texts fragments keeps order actor n gs task asks a answered linked.at more tasked.cell critical_there.0 refers
+    after = process.after tree code texts laws actor n gs task head referring
 
     abbrev given_now : List Cell
     given_now = given_cells sc w p q part outer gs
@@ -170,7 +172,22 @@ module _ (tree : PProgram) (code : Code) (program : ProgramAt code tree) (nested
 
     module _ (after_it : IsAfter (scopes_of tree) w w' p) where
       on : StandOn sc w w' lay lay'
-      on = all_stand_on sc w lay s.ok p q q' s.at refl (λ e. e) (newest_own (part ∷ outer)) newest.0 newest.1 made new critical refl critical_path after_it
+      on = all_stand_on sc w lay s.ok (record {
+        p = p;
+        q = q;
+        onward = q';
+        at = s.at;
+        critical_is = refl;
+        alive = λ e. e;
+        top = newest_own (part ∷ outer);
+        older = newest.0;
+        own = newest.1;
+        made = made;
+        new = new;
+        critical_in = critical;
+        critical = refl;
+        path = critical_path;
+      }) after_it
 
       stays : (k : ℕ) → IsInReach w (part ∷ outer) k → IsStanding w' k
       stays k reached =
@@ -199,8 +216,28 @@ module _ (tree : PProgram) (code : Code) (program : ProgramAt code tree) (nested
           all_laid w' lay' after_it.climb.facts
           (omega (arith, length-append lay.places (place number 0 ∷ []), length-append w.instances (made ∷ []), s.by.laid))
 
+      abbrev fresh : NewProcess tree
+      fresh = record {
+        w = w';
+        lay = lay';
+        img = after;
+        climb = after_it.climb;
+        all_laid = laid_later;
+        p = number;
+        number = instance;
+        block = callee;
+        parent = parent;
+        given = given_now;
+        new = new;
+        home = linked.at;
+        critical = critical_there.0;
+        more = more;
+        cell = tasked.cell;
+        parameters = words;
+      }
+
       abbrev CodeThere : Type 0
-      CodeThere = HasCode tree code texts nested fragments begins_so keeps order w' lay' after after_it.climb laid_later number instance callee parent given_now new linked.at critical_there.0 more tasked.cell words
+      CodeThere = HasCode tree code texts nested laws begins_so fresh
 
       has_code : CodeThere
       has_code =
@@ -227,13 +264,13 @@ module _ (tree : PProgram) (code : Code) (program : ProgramAt code tree) (nested
       pcw = calling.started_code tree code texts (actor_of s) n gs task callee a.1 a.2 at
 
       abbrev onward : Image
-      onward = process.image_onward tree code texts fragments keeps order actor n gs task asks a answered linked.at more tasked.cell critical_there.0 refers
+      onward = process.image_onward tree code texts laws actor n gs task head referring
 
       many : length onward.regs ≡ length onward.states
       many =
           omega (
             arith,
-            length_set_numbered img.regs p (process.new tree code texts fragments keeps order actor n gs task asks a answered linked.at more tasked.cell critical_there.0 refers).registers,
+            length_set_numbered img.regs p (process.new tree code texts laws actor n gs task head referring).registers,
             s.by.counted,
             s.by.started,
             s.by.states,
@@ -246,7 +283,7 @@ module _ (tree : PProgram) (code : Code) (program : ProgramAt code tree) (nested
           (begins_is (img.started + 1) pcw linked.at tasked.cell words more critical_there.0 refers.level_is))
 
       abbrev BegunThere : Type 0
-      BegunThere = Begun tree code texts nested fragments begins_so keeps order w' lay' after after_it.climb laid_later number instance callee parent given_now new linked.at critical_there.0 more tasked.cell words
+      BegunThere = Begun tree code texts nested laws begins_so fresh
 
       begun : BegunThere
       begun =
@@ -271,12 +308,12 @@ module _ (tree : PProgram) (code : Code) (program : ProgramAt code tree) (nested
           }
 
       lives_there : Living tree code texts w' lay' after number new
-      lives_there = begun_lives tree code texts nested fragments begins_so keeps order w' lay' after after_it.climb laid_later number instance callee parent given_now new linked.at critical_there.0 more tasked.cell words has_code begun
+      lives_there = begun_lives tree code texts nested laws begins_so fresh has_code begun
 
     -- ---- the action
 
     abbrev BegunSo : Type 0
-    BegunSo = IsBegun tree code texts fragments keeps order actor n gs task asks a answered linked.at more tasked.cell critical_there.0 refers
+    BegunSo = IsBegun tree code texts laws actor n gs task head referring
 
     is_begun : BegunSo
     is_begun =
@@ -288,4 +325,4 @@ module _ (tree : PProgram) (code : Code) (program : ProgramAt code tree) (nested
 
     pub process_started : Does tree code program.texts w img p
     process_started =
-        starting_process tree code texts fragments keeps order actor n gs task asks a answered linked.at more tasked.cell critical_there.0 refers (λ few. is_begun)
+        starting_process tree code texts laws actor n gs task head referring (λ few. is_begun)

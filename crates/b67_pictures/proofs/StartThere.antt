@@ -1,7 +1,7 @@
 -- What a process is started with, where its starter stands at the call: the frame that holds the procedure, the cells of what is given, the task,
 -- and the critical frame.
 use Rattle.std.proofs.Common.{◌≡◌, ◌⊎◌, inl, inr, refl, sym, ap, ◌∙◌, subst, ℕ, suc, ◌+◌, ◌<◌, ◌^◌, List, [], ◌∷◌, ◌++◌, length, Option, Some, None, Bool, true, arith}
-use Rattle.b67_pictures.proofs.Prelude.{slice_get, pos, numbered, Block, block_numbered, level_of, PProgram, Scopes, scopes_of, use_of, Parameter, Kind, Named, starts, ask, home, given_cells, task_of, newest_first, first_on_path, referred_by, referred_by_task, Given, number, Instance, Part, lives, instance_at, or_no_instance, ancestor, cell_in as world_cell, DeclaredArray, Shape, shape_of, BlockIsSeen, IsSeenAround, IsInner, is_procedure, segment_of, InGivens, InName, InRest, starts_lie_on_paths, in_either, referred_by_start, IsInSkeleton, IsStanding, IsNoBlock, newest_own, Word, Place, as_irw, as_sirw, event_word, Irw, Pcw, Registers, Sirw, Couple, Start, Code, Segment, one_event, Event, is_open, get_within, place, gives, Image, ◌>->◌, valid, frame, asked, see, ◌>>=◌, cell_place, irw_or_sirw, reached_in, place_of, frames_with, named_frames, Reached, Simple, parameter_cells, parameter_wants, procedures, made_base, made_of, ShapeAgrees, IsVariable, IsDeclaredArray, IsDeclaredEvent, IsProcedure, Context, code_at, LiesNested, AreParameters, Texts, ProgramAt, IsTask, StartsAt, Slot, reference, operand, intrinsic, mark, SlotIs, some_same, InReferred, IsAmongPlaces, FirstDown, AreFit, are_fit, fit_many, length_mapped, Top, reference_read, event_refers_nothing, AreGivenCells, given_are, simple_many, Linked, Begins_with, begins_core, begins_front, IsSeenMade, both_seen, named_leads, event_leads, HasCells, IsParent, variable_leads, named_from, ReferenceLeadsTo, LeadsToEvent, LeadsToVariable, IsNamed, IsInReach, ArePlaced, IsComplete, EventHome, cell_there, has_there, Found, found_laid, part_there, named_parent, scene_placed, reached_stands, made_or_around, Actor, frame_is, Refers, text_in, level_in, context_in, most_in, names_in, frame_low, IsEventAt, TaskIs}
+use Rattle.b67_pictures.proofs.Prelude.{slice_get, pos, numbered, Block, block_numbered, level_of, PProgram, Scopes, scopes_of, use_of, Parameter, Kind, Named, starts, ask, home, given_cells, task_of, newest_first, first_on_path, referred_by, referred_by_task, Given, number, Instance, Part, lives, instance_at, or_no_instance, ancestor, cell_in as world_cell, DeclaredArray, Shape, shape_of, BlockIsSeen, IsSeenAround, IsInner, is_procedure, segment_of, InGivens, InName, InRest, starts_lie_on_paths, in_either, referred_by_start, IsInSkeleton, IsStanding, IsNoBlock, newest_own, Word, Place, as_irw, as_sirw, event_word, Irw, Pcw, Registers, Sirw, Couple, Start, Code, Segment, one_event, Event, is_open, get_within, place, gives, Image, ◌>->◌, valid, frame, asked, see, ◌>>=◌, cell_place, irw_or_sirw, reached_in, place_of, frames_with, named_frames, Reached, Simple, parameter_cells, parameter_wants, procedures, made_base, made_of, ShapeAgrees, IsVariable, IsDeclaredArray, IsDeclaredEvent, IsProcedure, Context, code_at, LiesNested, AreParameters, Texts, ProgramAt, IsTask, StartsAt, Slot, reference, operand, intrinsic, mark, SlotIs, some_same, InReferred, IsAmongPlaces, FirstDown, AreFit, are_fit, fit_many, length_mapped, Top, reference_read, event_refers_nothing, AreGivenCells, given_are, simple_many, Linked, Begins_with, begins_core, begins_front, IsSeenMade, both_seen, named_leads, event_leads, HasCells, IsParent, variable_leads, named_from, ReferenceLeadsTo, LeadsToEvent, LeadsToVariable, IsNamed, IsInReach, ArePlaced, IsComplete, EventHome, cell_there, has_there, Found, found_laid, part_there, named_parent, scene_placed, reached_stands, made_or_around, Actor, frame_is, Refers, text_in, level_in, context_in, most_in, names_in, frame_low, IsEventAt, TaskIs, ActualsLead}
 use Rattle.b67_templates.specs.Cells.{made_from}
 use Rattle.b67_templates.specs.Nested.{AreTold}
 use Rattle.b67_rows.proofs.Words.{event_read}
@@ -174,25 +174,45 @@ module _ (tree : PProgram) (code : Code) (program : ProgramAt code tree) (nested
 
     abbrev arrays_lead : (m : Named) → IsSeenMade tree w lay part m → (shape : Shape) (d : DeclaredArray) (y : Couple) → IsDeclaredArray sc names m d y → ShapeAgrees shape (shape_of d) → (x : Word) → IsNamed sc w lay InReach part.instance m x →
         ReferenceLeadsTo sc w lay InReach shape (named_from sc w lay part.instance m) x
-    arrays_lead m seen shape d y v agrees x h = named_leads tree w lay placed each part here_stands InReach names m seen shape d y v agrees x h
+    arrays_lead m seen shape d y v agrees x h = named_leads tree w lay placed each part here_stands InReach (record {
+      level = names;
+      name = m;
+      seen = seen;
+      shape = shape;
+      declared = d;
+      couple = y;
+      is_declared = v;
+      agrees = agrees;
+      word = x;
+      named = h;
+    })
 
     abbrev variables_lead : (m : Named) → IsSeenMade tree w lay part m → (kind : Kind) (y : Couple) → IsVariable sc names m kind y → (x : Word) → IsNamed sc w lay InReach part.instance m x →
         LeadsToVariable sc w lay InReach kind (named_from sc w lay part.instance m) x
-    variables_lead m seen kind y v x h = variable_leads tree w lay placed part here_stands InReach names m seen.0 kind y v x h
+    variables_lead m seen kind y v x h = variable_leads tree w lay placed part here_stands InReach (record { level = names; name = m; seen = seen.0; kind = kind; couple = y; is_variable = v; word = x; named = h })
 
     abbrev events_lead : (m : Named) → IsSeenMade tree w lay part m → (y : Couple) → IsDeclaredEvent sc names m y → (x : Word) → IsNamed sc w lay InReach part.instance m x →
         LeadsToEvent sc w lay InReach (named_from sc w lay part.instance m) x
-    events_lead m seen y v x h = event_leads tree w lay placed each part here_stands InReach names m seen y v x h
+    events_lead m seen y v x h = event_leads tree w lay placed each part here_stands InReach (record { level = names; name = m; seen = seen; couple = y; is_declared = v; word = x; named = h })
 
     -- the actuals, the first one first
     abbrev words : List Word
     words = calling.parameters tree code texts actor n gs task callee next waiting at
 
+    abbrev leading : ActualsLead sc context w lay part InReach (IsSeenMade tree w lay part)
+    leading = record {
+      known = s.stands.held;
+      are = s.stands.held_are;
+      leads = arrays_lead;
+      leads_event = events_lead;
+      leads_variable = variables_lead;
+    }
+
     -- the cells of its parameters
-    pub cells_given : AreGivenCells sc context w lay p q part outer level (frame core.registers) (length core.below) InReach s.stands.held s.stands.held_are (IsSeenMade tree w lay part) arrays_lead events_lead variables_lead
+    pub cells_given : AreGivenCells sc context w lay p q part outer level (frame core.registers) (length core.below) InReach (IsSeenMade tree w lay part) leading
         (parameter_cells sc b) b.parameters gs words
     cells_given =
-        given_are sc context w lay p q part outer level (frame core.registers) (length core.below) InReach s.stands.held s.stands.held_are (IsSeenMade tree w lay part) arrays_lead events_lead variables_lead fit
+        given_are sc context w lay p q part outer level (frame core.registers) (length core.below) InReach (IsSeenMade tree w lay part) leading fit
         (parameter_cells sc b) b.parameters parameters.told refl arrays_seen words
         (calling.given tree code texts actor n gs task callee next waiting at).actuals
 
@@ -237,8 +257,19 @@ module _ (tree : PProgram) (code : Code) (program : ProgramAt code tree) (nested
           listed = tt;
         }
 
-    module _ (m : Named) (y : Couple) (v : IsDeclaredEvent sc names m y) (same : at.tasked ≡ reference y) (is_seen : BlockIsSeen sc block m) (made : IsComplete sc w lay part.instance ⊎ IsSeenAround sc block m)
-        (around_it : InRest (IsSeenAround sc block) IsNoBlock (IsSeenAround sc block) part.rest → IsSeenAround sc block m) where
+    -- The name of the event that is the task.
+    pub record NamesTask : Type 0 where
+      pub name : Named
+      pub couple : Couple
+      pub is_declared : IsDeclaredEvent sc names name couple
+      pub same : at.tasked ≡ reference couple
+      pub is_seen : BlockIsSeen sc block name
+      pub made : IsComplete sc w lay part.instance ⊎ IsSeenAround sc block name
+      pub around_it : InRest (IsSeenAround sc block) IsNoBlock (IsSeenAround sc block) part.rest → IsSeenAround sc block name
+
+    module _ (task_name : NamesTask) where
+      open task_name use {name as m, couple as y, is_declared as v, same, is_seen, made, around_it}
+
       abbrev home_m : EventHome tree code texts nested.nested actor (named_from sc w lay part.instance m) y
       home_m = declared_home tree code texts nested.nested actor m y is_seen made around_it v
 
@@ -296,7 +327,7 @@ module _ (tree : PProgram) (code : Code) (program : ProgramAt code tree) (nested
     task_for : (t : Option Named) → IsTask sc context t at.tasked → InName (BlockIsSeen sc block) t → IsComplete sc w lay part.instance ⊎ InName (IsSeenAround sc block) t →
         (InRest (IsSeenAround sc block) IsNoBlock (IsSeenAround sc block) part.rest → InName (IsSeenAround sc block) t) → TaskThere t
     task_for None is is_seen made around_it = no_task_there is
-    task_for (Some m) is is_seen made around_it = task_m m is.0 is.1 is.2 is_seen made around_it
+    task_for (Some m) is is_seen made around_it = task_m (record { name = m; couple = is.0; is_declared = is.1; same = is.2; is_seen = is_seen; made = made; around_it = around_it })
 
     pub task_found : TaskThere task
     task_found = task_for task at.task_is all_seen.2 (task_in_bound in_bound) (λ text. (around_seen text).2)

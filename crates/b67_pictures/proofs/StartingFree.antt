@@ -22,8 +22,26 @@ none_depends (q ∷ qs) new i c critical other free = by (lives q.state && is_th
     by true e again = e
     by false e again = again e
 
-module _ (sc : Scopes) (w : World) (lay : Layout) (ok : IsOk sc IsWholeInstance w) (p : ℕ) (q q' : Process) (at : numbered w.processes p ≡ Some q) (critical_is : q'.critical ≡ q.critical) (alive : lives q'.state ≡ true → lives q.state ≡ true)
-    (top : ℕ) (older : List ℕ) (own : own_instances q.todo ≡ top ∷ older) (made : Instance) (new : Process) (c : ℕ) (critical : new.critical ≡ Some c) (path : IsOnPath w top c) where
+-- Process p starts one, whose critical instance is on the path of its newest instance.
+pub record StartsIn (w : World) : Type 0 where
+  pub p : ℕ
+  pub q : Process
+  pub onward : Process
+  pub at : numbered w.processes p ≡ Some q
+  pub critical_is : onward.critical ≡ q.critical
+  pub alive : lives onward.state ≡ true → lives q.state ≡ true
+  pub top : ℕ
+  pub older : List ℕ
+  pub own : own_instances q.todo ≡ top ∷ older
+  pub made : Instance
+  pub new : Process
+  pub critical_in : ℕ
+  pub critical : new.critical ≡ Some critical_in
+  pub path : IsOnPath w top critical_in
+
+module _ (sc : Scopes) (w : World) (lay : Layout) (ok : IsOk sc IsWholeInstance w) (starts : StartsIn w) where
+  open starts use {p, q, onward as q', at, critical_is, alive, top, own, made, new, critical_in as c, critical, path}
+
   facts : HasFacts w
   facts = facts_of sc w ok
 

@@ -1,6 +1,6 @@
 -- STOD on a cell of another stack than the process's own, which the reference under the top names.
-use Rattle.std.proofs.Common.{◌≡◌, ◌≢◌, refl, ap, ◌∙◌, ℕ, ◌+◌, ◌-◌, List, [], ◌∷◌, ◌++◌, take, Option, Some, None, Bool, false, Ok, arith}
-use Rattle.b67_pictures.proofs.Prelude.{if◌then◌else◌, ◌==◌, reverse, slice_set, Store, ElementStore, Word, Place, Descriptor, Registers, Code, Stacks, words_or, words_of, word_at, with_word, as_indexed, gives, Image, with_stacks, ◌>->◌, valid, look_seen, floor, Program, asked, see, answer, ◌>>=◌, cell_of, cell_place, reached_in, operator_at, Reached, told_by, element_or_not, stored_letter, operator_letter, Core, HasCore, with_core, stack_other, without_two, most_is}
+use Rattle.std.proofs.Common.{◌≡◌, ◌≢◌, refl, ap, ◌∙◌, ℕ, ◌+◌, ◌-◌, List, [], ◌∷◌, ◌++◌, take, Option, Some, None, Bool, false, arith}
+use Rattle.b67_pictures.proofs.Prelude.{if◌then◌else◌, ◌==◌, reverse, slice_set, Store, ElementStore, Word, Place, Descriptor, Registers, Code, Stacks, words_or, words_of, word_at, with_word, as_indexed, gives, Image, with_stacks, ◌>->◌, valid, look_seen, floor, Program, asked, see, answer, ◌>>=◌, cell_of, cell_place, reached_in, Reached, told_by, element_or_not, stored_letter, operator_letter, Core, with_core, AtOperator, stack_other, without_two, most_is}
 use Rattle.b67_ops.specs.declared.Operator.TheVariants as ops
 use Rattle.b67_ops.specs.declared.PlainKind.TheVariants as kinds
 use Rattle.b67_store.specs.Store.{with_stack, with_cut}
@@ -18,9 +18,26 @@ use Rattle.b67_rows.proofs.Rows.{raw_is}
 use Rattle.b67_rows.proofs.StackWords.{cut-stack}
 use Rattle.b67_rows.proofs.StoreRow.{words_whole, words_long, top_word, under_word}
 
-module _ (code : Code) (img : Image) (p : ℕ) (core : Core) (has : HasCore img p core) (next : ℕ) (at : operator_at code core.registers ≡ Ok (ops.Plain kinds.Stod, next))
-    (x y old : Word) (words : List Word) (top : core.words ≡ x ∷ y ∷ words) (frame : Place) (index : ℕ) (names : cell_of core.registers y ≡ Some (record { frame = frame; index = index })) (plain_word : as_indexed y ≡ None)
-    (apart : frame.stack ≢ core.registers.stack) (lies : word_at img.stacks (cell_place (record { frame = frame; index = index })) ≡ Some old) (tag : x.tag ≡ 0) (old_tag : old.tag ≡ 0) where
+-- The word on top is stored into the cell of another stack that the word below it names.
+pub record StoresElsewhere (img : Image) (core : Core) : Type 0 where
+  pub x : Word
+  pub y : Word
+  pub old : Word
+  pub words : List Word
+  pub top : core.words ≡ x ∷ y ∷ words
+  pub frame : Place
+  pub index : ℕ
+  pub names : cell_of core.registers y ≡ Some (record { frame = frame; index = index })
+  pub plain_word : as_indexed y ≡ None
+  pub apart : frame.stack ≢ core.registers.stack
+  pub lies : word_at img.stacks (cell_place (record { frame = frame; index = index })) ≡ Some old
+  pub tag : x.tag ≡ 0
+  pub old_tag : old.tag ≡ 0
+
+module _ (code : Code) (here : AtOperator code (ops.Plain kinds.Stod)) (elsewhere : StoresElsewhere here.img here.core) where
+  open here use {img, p, core, has, next}
+  open elsewhere use {x, y, old, words, top, frame, index, names, plain_word, apart, lies, tag, old_tag}
+
   abbrev r : Registers
   r = core.registers
 
@@ -77,7 +94,7 @@ module _ (code : Code) (img : Image) (p : ℕ) (core : Core) (has : HasCore img 
 
   pub store_elsewhere_raw : raw code img p ≡ gives (with_core (with_stacks img (with_word img.stacks (cell_place (record { frame = frame; index = index })) x)) p (without_two core words next))
   unfolding row
-  store_elsewhere_raw = raw_is code img p core has (ops.Plain kinds.Stod) next at ∙ does_is
+  store_elsewhere_raw = raw_is code (ops.Plain kinds.Stod) here ∙ does_is
 
   pub store_elsewhere_class : class_at (ops.Plain kinds.Stod) core.registers.place ≡ classes.Action
   unfolding class_at row

@@ -1,6 +1,6 @@
 -- A store into a variable that the part names.
 use Rattle.std.proofs.Common.{◌≡◌, refl, ap, ◌∙◌, ℕ, ◌+◌, ◌<◌, ◌^◌, List, ◌∷◌, length, Option, Some, Ok}
-use Rattle.b67_pictures.proofs.Prelude.{block_numbered, level_of, PProgram, Scopes, scopes_of, use_of, Named, stores, ask, resume, is_evaluation, Answer, done, own, Value, instance_at, ancestor, BlockIsSeen, IsSeenAround, IsInner, RestsKeepToTheirText, AllIsMadeInOrder, segment_of, Word, Place, as_irw, as_sirw, Irw, Couple, Placed, Code, as_indexed, place, frame, irw_or_sirw, cell_of, operator_at, Texts, ActionAt, Acted, ComesTo, Slot, operand, reference, ValueIs, SlotsAre, FragmentsArePerformed, stores_seen, Top, top_slot, reference_read, FrameStands, run_level, operator_there, AbleActor, actor_of, text_in, level_in, context_in, most_in, Does}
+use Rattle.b67_pictures.proofs.Prelude.{block_numbered, level_of, PProgram, Scopes, scopes_of, use_of, Named, stores, is_evaluation, done, own, Value, instance_at, ancestor, BlockIsSeen, IsSeenAround, IsInner, segment_of, Word, Place, as_irw, as_sirw, Irw, Couple, Placed, Code, as_indexed, place, frame, irw_or_sirw, cell_of, operator_at, Texts, operand, reference, ValueIs, SlotsAre, stores_seen, Top, top_slot, reference_read, FrameStands, run_level, operator_there, AbleActor, actor_of, TheLaws, Does}
 use Rattle.b67_table.specs.References.{cell_in}
 use Rattle.b67_ops.specs.declared.Operator.TheVariants as ops
 use Rattle.b67_ops.specs.declared.PlainKind.TheVariants as kinds
@@ -8,19 +8,18 @@ use Rattle.b67_table.specs.PrivateRows as rows
 use Rattle.b67_rows.proofs.Words.{reference_unindexed}
 use Rattle.b67_scenes.proofs.Homes.{Home, home}
 use Rattle.b67_pictures.proofs.StoringVariable.{variable_stored}
+use Rattle.b67_pictures.proofs.Head.{Head}
 
 -- the two topmost words, one after another
 pub two_words : (words left : List Word) (x y : Word) (rest : List Word) → words ≡ x ∷ left → left ≡ y ∷ rest → words ≡ x ∷ y ∷ rest
 two_words words left x y rest e f = e ∙ ap (λ (ws : List Word). x ∷ ws) f
 
-module _ (tree : PProgram) (code : Code) (texts : Texts) (fragments : FragmentsArePerformed) (kept : RestsKeepToTheirText) (order : AllIsMadeInOrder) (actor : AbleActor tree code texts) where
+module _ (tree : PProgram) (code : Code) (texts : Texts) (laws : TheLaws) (actor : AbleActor tree code texts) where
   open actor use {w, lay, img, p, part, outer, core, s}
 
-  module _ (n : Named) (v : Value) (asks : ask part.rest ≡ stores (own n) v)
-      (a : ActionAt (scopes_of tree) (context_in tree code texts w part s.stands.frame.gives) (text_in tree texts w part) (level_in tree w part) (most_in tree w part) (stores (own n) v) s.stands.pc s.stands.slots)
-      (answered : (r : Answer) (at : ℕ) (left : List Slot) →
-      Acted (scopes_of tree) (context_in tree code texts w part s.stands.frame.gives) (text_in tree texts w part) (level_in tree w part) (most_in tree w part) (stores (own n) v) s.stands.pc s.stands.slots a r at left →
-      ComesTo (scopes_of tree) (context_in tree code texts w part s.stands.frame.gives) (text_in tree texts w part) (level_in tree w part) (most_in tree w part) (resume (scopes_of tree) part.rest r) at left) where
+  module _ (n : Named) (v : Value) (head : Head tree code texts actor (stores (own n) v)) where
+    open head use {asks, action as a, answered}
+
     abbrev sc : Scopes
     sc = scopes_of tree
 
@@ -65,8 +64,32 @@ module _ (tree : PProgram) (code : Code) (texts : Texts) (fragments : FragmentsA
 
       does : Does tree code texts w img p
       does =
-          variable_stored tree code texts fragments kept order actor (record { instance = i; name = n.name }) a.2.kind f.found f.at (own n) v a.2.fits asks refl a.0 a.1
-          (answered done a.0 a.1 (refl, refl)) there (reference couple) a.2.lies refl x y words top x_is named (ap as_indexed y_is ∙ reference_unindexed couple low little) left_are
+          variable_stored tree code texts laws actor (record {
+            reference = record { instance = i; name = n.name };
+            kind = a.2.kind;
+            found = f.found;
+            home = f.at;
+            to = own n;
+            value = v;
+            fits = a.2.fits;
+            asks = asks;
+            stores_so = refl;
+            next = a.0;
+            below = a.1;
+            answered = answered done a.0 a.1 (refl, refl);
+            there = there;
+            under = reference couple;
+            top_lies = a.2.lies;
+            unmarked = refl;
+            x = x;
+            y = y;
+            words = words;
+            top = top;
+            x_is = x_is;
+            names = named;
+            plain_word = ap as_indexed y_is ∙ reference_unindexed couple low little;
+            left_are = left_are;
+          })
 
     pub storing : a.2.couple.level < 32 → a.2.couple.index < 2 ^ 14 → Does tree code texts w img p
     storing low little =

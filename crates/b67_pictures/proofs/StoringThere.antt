@@ -1,6 +1,6 @@
 -- A store into the variable to whose cell the reference under the top leads.
-use Rattle.std.proofs.Common.{◌≡◌, refl, sym, ap, ◌∙◌, ℕ, ◌+◌, List, ◌∷◌, length, Option, Some, None, Ok}
-use Rattle.b67_pictures.proofs.Prelude.{PProgram, Scopes, scopes_of, Kind, stores, ask, resume, Answer, done, there, Value, Reference, RestsKeepToTheirText, AllIsMadeInOrder, Word, Place, irw_laws, sirw_laws, as_irw, as_sirw, Irw, Sirw, Code, as_indexed, place, frame, irw_or_sirw, cell_of, operator_at, AreNested, Texts, ActionAt, Acted, ComesTo, Slot, operand, descriptor, variable, FragmentsArePerformed, Top, top_slot, known_is, LeadsToVariable, IsInReach, operator_there, names_variable, AbleActor, Actor, actor_of, text_in, level_in, context_in, most_in, VariableHome, Does}
+use Rattle.std.proofs.Common.{◌≡◌, refl, sym, ap, ◌∙◌, ◌+◌, List, ◌∷◌, length, Option, Some, None, Ok}
+use Rattle.b67_pictures.proofs.Prelude.{PProgram, Scopes, scopes_of, Kind, stores, done, there, Value, Reference, Word, Place, irw_laws, sirw_laws, as_irw, as_sirw, Irw, Sirw, Code, as_indexed, place, frame, irw_or_sirw, cell_of, operator_at, AreNested, Texts, Slot, operand, descriptor, variable, Top, top_slot, known_is, LeadsToVariable, IsInReach, operator_there, names_variable, AbleActor, Actor, actor_of, text_in, level_in, TheLaws, VariableHome, Does}
 use Rattle.b67_ops.specs.declared.Operator.TheVariants as ops
 use Rattle.b67_ops.specs.declared.PlainKind.TheVariants as kinds
 use Rattle.b67_table.specs.Arrays.{indexed_in}
@@ -8,6 +8,7 @@ use Rattle.b67_rows.proofs.Words.{cell_describes_nothing}
 use Rattle.b67_scenes.proofs.NamedVariables.{NamesVariable}
 use Rattle.b67_pictures.proofs.Storing.{two_words}
 use Rattle.b67_pictures.proofs.StoringVariable.{variable_stored}
+use Rattle.b67_pictures.proofs.Head.{Head}
 
 -- a reference that is read alike everywhere is read in no other way
 pub no_other_reference : (w : Word) (s : Sirw) → as_sirw w ≡ Some s → as_irw w ≡ None
@@ -41,15 +42,12 @@ module _ (tree : PProgram) (code : Code) (texts : Texts) (nested : AreNested (sc
 
 -- ---- the action
 
-module _ (tree : PProgram) (code : Code) (texts : Texts) (nested : AreNested (scopes_of tree)) (fragments : FragmentsArePerformed) (keeps : RestsKeepToTheirText) (order : AllIsMadeInOrder)
-    (actor : AbleActor tree code texts) where
+module _ (tree : PProgram) (code : Code) (texts : Texts) (nested : AreNested (scopes_of tree)) (laws : TheLaws) (actor : AbleActor tree code texts) where
   open actor use {w, img, p, part, core, s}
 
-  module _ (r : Reference) (v : Value) (asks : ask part.rest ≡ stores (there r) v)
-      (a : ActionAt (scopes_of tree) (context_in tree code texts w part s.stands.frame.gives) (text_in tree texts w part) (level_in tree w part) (most_in tree w part) (stores (there r) v) s.stands.pc s.stands.slots)
-      (answered : (x : Answer) (at : ℕ) (left : List Slot) →
-      Acted (scopes_of tree) (context_in tree code texts w part s.stands.frame.gives) (text_in tree texts w part) (level_in tree w part) (most_in tree w part) (stores (there r) v) s.stands.pc s.stands.slots a x at left →
-      ComesTo (scopes_of tree) (context_in tree code texts w part s.stands.frame.gives) (text_in tree texts w part) (level_in tree w part) (most_in tree w part) (resume (scopes_of tree) part.rest x) at left) where
+  module _ (r : Reference) (v : Value) (head : Head tree code texts actor (stores (there r) v)) where
+    open head use {asks, action as a, answered}
+
     at_store : operator_at code core.registers ≡ Ok (ops.Plain kinds.Stod, a.0)
     at_store = operator_there (scopes_of tree) s.stands.held code (text_in tree texts w part) (level_in tree w part) s.stands.pc s.stands.slots core (ops.Plain kinds.Stod) a.0 s.stands.there a.2.stands
 
@@ -61,9 +59,32 @@ module _ (tree : PProgram) (code : Code) (texts : Texts) (nested : AreNested (sc
         ap (λ (o : Option Irw). irw_or_sirw core.registers o (as_sirw f.second.word)) (no_other_reference f.second.word _ f.named.reads)
         ∙ ap (λ (o : Option Sirw). irw_or_sirw core.registers None o) f.named.reads in
         let plain_word : as_indexed f.second.word ≡ None = ap as_indexed f.leads.word_is ∙ ap indexed_in (cell_describes_nothing _) in
-        variable_stored tree code texts fragments keeps order actor r a.2.kind f.leads.found h (there r) v a.2.fits asks refl a.0 a.1
-        (answered done a.0 a.1 (refl, refl)) at_store (descriptor (variable r a.2.kind)) a.2.lies refl f.first.word f.second.word f.second.words_below
-        (two_words core.words f.first.words_below f.first.word f.second.word f.second.words_below f.first.is f.second.is) f.first.slot_is names plain_word f.second.are
+        variable_stored tree code texts laws actor (record {
+          reference = r;
+          kind = a.2.kind;
+          found = f.leads.found;
+          home = h;
+          to = there r;
+          value = v;
+          fits = a.2.fits;
+          asks = asks;
+          stores_so = refl;
+          next = a.0;
+          below = a.1;
+          answered = answered done a.0 a.1 (refl, refl);
+          there = at_store;
+          under = descriptor (variable r a.2.kind);
+          top_lies = a.2.lies;
+          unmarked = refl;
+          x = f.first.word;
+          y = f.second.word;
+          words = f.second.words_below;
+          top = two_words core.words f.first.words_below f.first.word f.second.word f.second.words_below f.first.is f.second.is;
+          x_is = f.first.slot_is;
+          names = names;
+          plain_word = plain_word;
+          left_are = f.second.are;
+        })
 
     pub storing_there : Does tree code texts w img p
     storing_there = does (finds_variable tree code texts nested (actor_of s) r a.2.kind v a.1 a.2.lies)

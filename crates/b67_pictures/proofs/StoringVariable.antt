@@ -1,6 +1,6 @@
 -- A store into the cell of a variable, in whatever stack, which the word under the top names.
 use Rattle.std.proofs.Common.{◌≡◌, ◌≢◌, ◌⊎◌, inl, inr, refl, sym, ap, ◌∙◌, subst, ℕ, ◌+◌, ◌<◌, ◌≤◌, List, [], ◌∷◌, ◌++◌, length, Option, Some, None, Ok, arith}
-use Rattle.b67_pictures.proofs.Prelude.{slice_set, slice_get, numbered, Store, block_numbered, PProgram, Scopes, scopes_of, Kind, Ask, stores, ask, resume, Choice, choice, choice_of, goes, done, Value, Reference, simple, NamedCell, Instance, Process, Part, World, or_no_instance, with_instance, with_process, cell_in, cells_with, set_cell, Made, RestsKeepToTheirText, AllIsMadeInOrder, Word, Place, Code, stack_limit, word_at, with_word, get_within, as_indexed, place, Image, with_stacks, frame, cell_of, operator_at, Simple, simple_cells, HasKind, Texts, ComesTo, Slot, operand, Core, size, IsCore, HasCore, with_core, ValueIs, newest, SlotsAre, CoreAt, FragmentsArePerformed, registers_now, without_two, same_or_not, action_not_plain, action_is, makes, unmade, value_tag, event_before, events_replaced, facts_of, KeepsArrays, as_many_values, AreMade, ArraysAre, EventsAre, CellsAre, AbleActor, actor_of, gives_within, choice_is, text_in, level_in, context_in, most_in, length_cells, stored_world, changed_at, ChangedCells, VariableHome, PicturesBy, MayAct, Does, gave}
+use Rattle.b67_pictures.proofs.Prelude.{slice_set, slice_get, numbered, Store, block_numbered, PProgram, Scopes, scopes_of, Kind, Ask, stores, ask, resume, Choice, choice, choice_of, goes, done, Value, Reference, simple, NamedCell, Instance, Process, Part, World, or_no_instance, with_instance, with_process, cell_in, cells_with, set_cell, Made, Word, Place, Code, stack_limit, word_at, with_word, get_within, as_indexed, place, Image, with_stacks, frame, cell_of, operator_at, Simple, simple_cells, HasKind, Texts, ComesTo, Slot, operand, Core, size, IsCore, HasCore, with_core, ValueIs, newest, SlotsAre, CoreAt, at_operator, registers_now, without_two, same_or_not, action_not_plain, action_is, makes, unmade, value_tag, event_before, events_replaced, facts_of, KeepsArrays, as_many_values, AreMade, ArraysAre, EventsAre, CellsAre, AbleActor, actor_of, gives_within, choice_is, text_in, level_in, context_in, most_in, length_cells, stored_world, changed_at, ChangedCells, changed, TheLaws, VariableHome, PicturesBy, MayAct, Does, gave}
 use Rattle.algol_meaning.specs.Rest as meant
 use Rattle.b67_ops.specs.declared.Operator.TheVariants as ops
 use Rattle.b67_ops.specs.declared.PlainKind.TheVariants as kinds
@@ -12,25 +12,45 @@ use Rattle.b67_frames.proofs.ArraysKept.{arrays_stored}
 use Rattle.b67_frames.proofs.Knowing.{keeps_stored}
 use Rattle.b67_frames.proofs.Variables.{cell_changed, changed_front, references_stored}
 use Rattle.b67_scenes.proofs.Finding as finding
-use Rattle.b67_scenes.proofs.StoringFrames.{changed}
 use Rattle.b67_pictures.proofs.Alone.{IsAfter, after_choice}
-use Rattle.b67_pictures.proofs.Changing.{same_floor, word_below, refers_fewer, own_pictured, other_pictured}
-use Rattle.b67_pictures.proofs.StoreElsewhereRow.{store_elsewhere_raw, store_elsewhere_class, stores_elsewhere}
+use Rattle.b67_pictures.proofs.Changing.{same_floor, word_below, refers_fewer, own_pictured, other_pictured, CellChange, PicturesElse}
+use Rattle.b67_pictures.proofs.StoreElsewhereRow.{store_elsewhere_raw, store_elsewhere_class, stores_elsewhere, StoresElsewhere}
 use Rattle.b67_pictures.proofs.WordPut.{core_beside}
+use Rattle.b67_pictures.proofs.InFrame.{GoesOnAbove}
 
-module _ (tree : PProgram) (code : Code) (texts : Texts) (fragments : FragmentsArePerformed) (kept : RestsKeepToTheirText) (order : AllIsMadeInOrder) (actor : AbleActor tree code texts) where
+module _ (tree : PProgram) (code : Code) (texts : Texts) (laws : TheLaws) (actor : AbleActor tree code texts) where
   open actor use {w, lay, img, p, q, part, outer, core, s, able_is, able_p}
 
-  module _ (r : Reference) (kind : Kind) (found : Found)
-      (h : VariableHome tree code texts (actor_of s) r kind found) (to : meant.Place) (v : Value) (fits : HasKind kind v) (asks : ask part.rest ≡ stores to v)
-      (stores_so : choice_of (scopes_of tree) w p q part outer (stores to v) ≡ goes (scopes_of tree) w p q part outer Store (set_cell w r (simple v)) done)
-      (next : ℕ) (below : List Slot)
-      (answered : ComesTo (scopes_of tree) (context_in tree code texts w part s.stands.frame.gives) (text_in tree texts w part) (level_in tree w part) (most_in tree w part) (resume (scopes_of tree) part.rest done) next below)
-      (there : operator_at code core.registers ≡ Ok (ops.Plain kinds.Stod, next)) (under : Slot) (top_lies : s.stands.slots ≡ operand v ∷ under ∷ below)
-      (unmarked : newest (frame core.registers) (length core.below) (operand v ∷ under ∷ below) ≡ newest (frame core.registers) (length core.below) below)
-      (x y : Word) (words : List Word) (top : core.words ≡ x ∷ y ∷ words) (x_is : ValueIs v x)
-      (names : cell_of core.registers y ≡ Some (record { frame = place h.seen_there.found.number (length h.seen_there.found.lies.frame.lower); index = 2 + h.number })) (plain_word : as_indexed y ≡ None)
-      (left_are : SlotsAre (scopes_of tree) s.stands.held (level_in tree w part) (frame core.registers) (length core.below) below words) where
+  -- The value on top of the stack is stored into the variable that the word below it names.
+  pub record StoresVariable : Type 0 where
+    pub reference : Reference
+    pub kind : Kind
+    pub found : Found
+    pub home : VariableHome tree code texts (actor_of s) reference kind found
+    pub to : meant.Place
+    pub value : Value
+    pub fits : HasKind kind value
+    pub asks : ask part.rest ≡ stores to value
+    pub stores_so : choice_of (scopes_of tree) w p q part outer (stores to value) ≡ goes (scopes_of tree) w p q part outer Store (set_cell w reference (simple value)) done
+    pub next : ℕ
+    pub below : List Slot
+    pub answered : ComesTo (scopes_of tree) (context_in tree code texts w part s.stands.frame.gives) (text_in tree texts w part) (level_in tree w part) (most_in tree w part) (resume (scopes_of tree) part.rest done) next below
+    pub there : operator_at code core.registers ≡ Ok (ops.Plain kinds.Stod, next)
+    pub under : Slot
+    pub top_lies : s.stands.slots ≡ operand value ∷ under ∷ below
+    pub unmarked : newest (frame core.registers) (length core.below) (operand value ∷ under ∷ below) ≡ newest (frame core.registers) (length core.below) below
+    pub x : Word
+    pub y : Word
+    pub words : List Word
+    pub top : core.words ≡ x ∷ y ∷ words
+    pub x_is : ValueIs value x
+    pub names : cell_of core.registers y ≡ Some (record { frame = place home.seen_there.found.number (length home.seen_there.found.lies.frame.lower); index = 2 + home.number })
+    pub plain_word : as_indexed y ≡ None
+    pub left_are : SlotsAre (scopes_of tree) s.stands.held (level_in tree w part) (frame core.registers) (length core.below) below words
+
+  module _ (variable : StoresVariable) where
+    open variable use {reference as r, kind, found, home as h, value as v, fits, asks, stores_so, next, below, answered, there, top_lies, unmarked, x, y, words, top, x_is, names, plain_word, left_are}
+
     abbrev sc : Scopes
     sc = scopes_of tree
 
@@ -87,7 +107,12 @@ module _ (tree : PProgram) (code : Code) (texts : Texts) (fragments : FragmentsA
         choice_is sc w p q part outer s.at s.todo
         ∙ ap (λ (m : Ask). choice_of sc w p q part outer m) asks
         ∙ stores_so
-        ∙ ap (λ (o : Option Instance). record { action = Store; world = with_process (with_instance w i (record (or_no_instance o) { cells = cells_with ((or_no_instance o).cells) r.name (simple v) })) p q'; released = []; started = None }) instance_there
+        ∙ ap (λ (o : Option Instance). record {
+          action = Store;
+          world = with_process (with_instance w i (record (or_no_instance o) { cells = cells_with ((or_no_instance o).cells) r.name (simple v) })) p q';
+          released = [];
+          started = None;
+        }) instance_there
 
     -- ---- its cells after it
 
@@ -165,6 +190,60 @@ module _ (tree : PProgram) (code : Code) (texts : Texts) (fragments : FragmentsA
     abbrev at : Place
     at = place f.number (high + (2 + h.number))
 
+    abbrev onward : GoesOnAbove tree code texts (actor_of s)
+    onward = record {
+      unmade = unmade part.rest (ap makes asks);
+      answer = done;
+      nameless = tt;
+      words = words;
+      registers = new.registers;
+      frame_is = record { is = refl };
+      pc = next;
+      slots = below;
+      there = core_at;
+      few = held;
+      comes = answered;
+    }
+
+    abbrev change : CellChange tree code texts laws (actor_of s)
+    change = record {
+      i = i;
+      found = f;
+      x = instance;
+      at = instance_there;
+      with_cells = cells';
+      far = h.number;
+      word = Some x;
+      many = many;
+      short = λ set. short;
+      low = λ set. low;
+      keeps = keeps;
+      fewer = refers_fewer instance.cells r.name (simple v) refl;
+      changes = changes;
+    }
+
+    abbrev elsewhere : (may : MayAct sc w p) → PicturesElse tree code texts laws (actor_of s) onward change smaller able_is q.state
+    elsewhere may = record {
+      base = img;
+      same = λ m other had. had;
+      stacks = refl;
+      after = after_so may;
+      arrays = arrays_now;
+      events = events_now;
+      list_same = refl;
+      lists = refl;
+      numbers = refl;
+      awaiting = s.by.waits.awaiting;
+      output = refl;
+      fault = refl;
+      started = refl;
+      regs = refl;
+      many_states = refl;
+      states = λ m other. refl;
+      lives_so = able_is;
+      state_is = able_p;
+    }
+
     same_at : high + 2 + h.number ≡ high + (2 + h.number)
     same_at = omega arith
 
@@ -184,22 +263,20 @@ module _ (tree : PProgram) (code : Code) (texts : Texts) (fragments : FragmentsA
       pictured : MayAct sc w p → PicturesBy tree code texts w' lay (with_core img p stored_core)
       pictured may =
           subst (λ (n : ℕ). PicturesBy tree code texts w' lay (with_core img p (with_cell core n x words next))) same_at
-          (own_pictured tree code texts fragments kept order (actor_of s) (unmade part.rest (ap makes asks)) done tt i f instance instance_there cells' h.number (Some x) many (λ set. short) (λ set. low) keeps
-          (refers_fewer instance.cells r.name (simple v) refl) changes words new.registers (record { is = refl }) next below core_at held answered smaller able_is q.state img (λ m other had. had) refl (after_so may) arrays_now events_now refl refl refl s.by.waits.awaiting refl refl refl refl refl
-          (λ m other. refl) able_is able_p here)
+          (own_pictured tree code texts laws (actor_of s) onward change smaller able_is q.state (elsewhere may) here)
 
       stores_own : Does tree code texts w img p
       stores_own =
           let is : table code img p ≡ outcomes.gives (with_core img p stored_core) =
           gives_within code img (with_core img p stored_core) p stored_core.registers
-          (store_raw code img p core s.has next there x y h.word words top (2 + h.number) high own_names plain_word below_lies (value_tag v x x_is) tag)
+          (store_raw code (at_operator s.has there) x y h.word words top (2 + h.number) high own_names plain_word below_lies (value_tag v x x_is) tag)
           (registers_now img p core stored_core s.has refl) (omega (arith, smaller, is_new.top)) in
           gave (with_core img p stored_core)
-          (action_not_plain code img p core s.has (ops.Plain kinds.Stod) next there
-          (store_class code img p core s.has next there x y h.word words top (2 + h.number) high own_names plain_word below_lies (value_tag v x x_is) tag))
+          (action_not_plain code (ops.Plain kinds.Stod) (at_operator s.has there)
+          (store_class code (at_operator s.has there) x y h.word words top (2 + h.number) high own_names plain_word below_lies (value_tag v x x_is) tag))
           is
-          (action_is code img p core s.has (ops.Plain kinds.Stod) next there (outcomes.gives (with_core img p stored_core)) is
-          ∙ (stores_variable code img p core s.has next there x y h.word words top (2 + h.number) high own_names plain_word below_lies (value_tag v x x_is) tag)
+          (action_is code (ops.Plain kinds.Stod) (at_operator s.has there) (outcomes.gives (with_core img p stored_core)) is
+          ∙ (stores_variable code (at_operator s.has there) x y h.word words top (2 + h.number) high own_names plain_word below_lies (value_tag v x x_is) tag)
           ∙ ap (λ (c : Choice). Some c.action) (sym chosen))
           (λ may. (lay, subst (λ (c : Choice). PicturesBy tree code texts c.world lay (with_core img p stored_core)) (sym chosen) (pictured may)))
 
@@ -214,25 +291,40 @@ module _ (tree : PProgram) (code : Code) (texts : Texts) (fragments : FragmentsA
       pictured_there : MayAct sc w p → PicturesBy tree code texts w' lay (with_core with_it p new)
       pictured_there may =
           subst (λ (n : ℕ). PicturesBy tree code texts w' lay (with_core (with_stacks img (with_word img.stacks (place f.number n) x)) p new)) same_at
-          (other_pictured tree code texts fragments kept order (actor_of s) (unmade part.rest (ap makes asks)) done tt i f instance instance_there cells' h.number (Some x) many (λ set. short) (λ set. low) keeps
-          (refers_fewer instance.cells r.name (simple v) refl) changes words new.registers (record { is = refl }) next below core_at held answered smaller able_is q.state img (λ m other had. had) refl (after_so may) arrays_now events_now refl refl refl s.by.waits.awaiting refl refl refl refl refl
-          (λ m other. refl) able_is able_p other)
+          (other_pictured tree code texts laws (actor_of s) onward change smaller able_is q.state (elsewhere may) other)
 
       has_there : HasCore with_it p core
       has_there = core_beside img f.number (high + (2 + h.number)) (Some x) p core (λ (e : p ≡ f.number). other (sym e)) s.has
+
+      abbrev stores_beside : StoresElsewhere img core
+      stores_beside = record {
+        x = x;
+        y = y;
+        old = h.word;
+        words = words;
+        top = top;
+        frame = place f.number high;
+        index = 2 + h.number;
+        names = names;
+        plain_word = plain_word;
+        apart = apart;
+        lies = h.word_lies;
+        tag = value_tag v x x_is;
+        old_tag = tag;
+      }
 
       stores_there : Does tree code texts w img p
       stores_there =
           let is : table code img p ≡ outcomes.gives (with_core with_it p new) =
           gives_within code img (with_core with_it p new) p new.registers
-          (store_elsewhere_raw code img p core s.has next there x y h.word words top (place f.number high) (2 + h.number) names plain_word apart h.word_lies (value_tag v x x_is) tag)
+          (store_elsewhere_raw code (at_operator s.has there) stores_beside)
           (registers_now with_it p core new has_there refl) (omega (arith, smaller, is_new.top)) in
           gave (with_core with_it p new)
-          (action_not_plain code img p core s.has (ops.Plain kinds.Stod) next there
-          (store_elsewhere_class code img p core s.has next there x y h.word words top (place f.number high) (2 + h.number) names plain_word apart h.word_lies (value_tag v x x_is) tag))
+          (action_not_plain code (ops.Plain kinds.Stod) (at_operator s.has there)
+          (store_elsewhere_class code (at_operator s.has there) stores_beside))
           is
-          (action_is code img p core s.has (ops.Plain kinds.Stod) next there (outcomes.gives (with_core with_it p new)) is
-          ∙ (stores_elsewhere code img p core s.has next there x y h.word words top (place f.number high) (2 + h.number) names plain_word apart h.word_lies (value_tag v x x_is) tag)
+          (action_is code (ops.Plain kinds.Stod) (at_operator s.has there) (outcomes.gives (with_core with_it p new)) is
+          ∙ (stores_elsewhere code (at_operator s.has there) stores_beside)
           ∙ ap (λ (c : Choice). Some c.action) (sym chosen))
           (λ may. (lay, subst (λ (c : Choice). PicturesBy tree code texts c.world lay (with_core with_it p new)) (sym chosen) (pictured_there may)))
 

@@ -2,7 +2,7 @@
 use Rattle.algol_standing.proofs.Pairs.{stack_back}
 use Rattle.b67_pictures.proofs.Deeds.{waiting_not_able}
 use Rattle.std.proofs.Common.{◌≡◌, ◌≢◌, ◌⊎◌, inl, inr, refl, sym, ap, ◌∙◌, subst, ℕ, ◌+◌, List, [], ◌∷◌, length, Option, Some, None, true, false, arith, Bool}
-use Rattle.b67_pictures.proofs.Prelude.{option_map, if◌then◌else◌, numbered, set_numbered, EventState, caused, IsListed, End, block_numbered, PProgram, Scopes, scopes_of, leaves, ask, Choice, choice, ended_releasing, some_depends, is_evaluation, own_instances, event_at, set_event, caused_by_end, list_in, all_withdrawn, leave, done, Reference, event, NamedCell, Instance, Process, Part, is_able, lives, World, instance_at, or_no_instance, process_at, with_process, cell_in, cell_at, event_in, cells_with, set_all_able, stack_forth, IsInSkeleton, Stack, WaitersAreListed, IsOwn, IsStanding, IsOnPath, referred_in_cells, newest_own, stack_of, Place, Code, same_place-true, same_place-self, Event, waiters_at, closed_from, event_changed, with_state, list_of, place, Image, is_critical, Outcome, live_criticals, able_again, told_positions, ProcessState, Ended, registers_releases, released_by, releases, made_base, Texts, ActionAt, Core, HasCore, length_set_numbered, some_same, true_false, same_or_not, numbered_set, numbered_other, IsSameBut, action_not_plain, arrays_unchanged, FramesClose, events_unchanged, exit_class, exit_action, HasFacts, facts_of, StandOn, OwnCells, framed_cells, OwnEvent, known_event, event_there, EventsAre, AreLaid, all_laid, Found, found_laid, find, numbered_swap, idle_list, idle_nowhere, LeavesAlone, alike_but, OutmostActor, process_is, gives_within, text_in, level_in, context_in, most_in, stored_world, others_at, same_of, stored_on, others_stored, EventsStay, event_stays, waits_still, awaiting_beside, fewer_closed, own_listed, IsEventAt, Pictured, dead, Pictures, PicturesBy, ListIs, WaitsAre, MayAct, Does, gave}
+use Rattle.b67_pictures.proofs.Prelude.{option_map, if◌then◌else◌, numbered, set_numbered, EventState, caused, IsListed, End, block_numbered, PProgram, Scopes, scopes_of, leaves, ask, Choice, choice, ended_releasing, some_depends, is_evaluation, own_instances, event_at, set_event, caused_by_end, list_in, all_withdrawn, leave, done, Reference, event, NamedCell, Instance, Process, Part, is_able, lives, World, instance_at, or_no_instance, process_at, with_process, cell_in, cell_at, event_in, cells_with, set_all_able, stack_forth, IsInSkeleton, Stack, WaitersAreListed, IsOwn, IsStanding, IsOnPath, referred_in_cells, newest_own, stack_of, Place, Code, same_place-true, same_place-self, Event, waiters_at, closed_from, event_changed, with_state, list_of, place, Image, is_critical, Outcome, live_criticals, able_again, told_positions, ProcessState, Ended, registers_releases, released_by, releases, made_base, Texts, ActionAt, Core, HasCore, length_set_numbered, some_same, true_false, at_operator, same_or_not, numbered_set, numbered_other, IsSameBut, action_not_plain, arrays_unchanged, FramesClose, events_unchanged, exit_class, exit_action, HasFacts, facts_of, StandOn, OwnCells, framed_cells, OwnEvent, known_event, event_there, EventsAre, AreLaid, all_laid, Found, found_laid, find, numbered_swap, idle_list, idle_nowhere, LeavesAlone, alike_but, OutmostActor, process_is, gives_within, text_in, level_in, context_in, most_in, stored_world, others_at, same_of, stored_on, changed, CellStore, others_stored, EventsStay, event_stays, waits_still, awaiting_beside, fewer_closed, own_listed, IsEventAt, Pictured, dead, Pictures, PicturesBy, ListIs, WaitsAre, MayAct, Does, gave}
 use Rattle.algol_standing.specs.Skeleton as skeletons
 use Rattle.b67_events.specs.Events as kernel
 use Rattle.b67_ops.specs.declared.Operator.TheVariants as ops
@@ -13,7 +13,6 @@ use Rattle.b67_scenes.proofs.EventThere as there
 use Rattle.b67_scenes.proofs.Freeing.{able_beside}
 use Rattle.b67_scenes.proofs.Kept.{pictured_alike}
 use Rattle.b67_scenes.proofs.Stage.{comes_by}
-use Rattle.b67_scenes.proofs.StoringFrames.{changed}
 use Rattle.b67_scenes.proofs.TaskStanding.{TaskStands, task_stands}
 use Rattle.b67_scenes.proofs.Tasks as tasks
 use Rattle.b67_pictures.proofs.Alone as alone
@@ -22,7 +21,7 @@ use Rattle.b67_pictures.proofs.Changing.{refers_fewer}
 use Rattle.b67_pictures.proofs.EventLow.{event_low, event_was_low}
 use Rattle.b67_pictures.proofs.LeftInstances.{keeps_left}
 use Rattle.b67_pictures.proofs.Ending as ending
-use Rattle.b67_pictures.proofs.EndReleases.{caused_at, caused_raw, end_releases}
+use Rattle.b67_pictures.proofs.EndReleases.{caused_at, caused_raw, end_releases, ExitsLast}
 use Rattle.b67_pictures.proofs.EventMoving.{IsOwned}
 use Rattle.b67_pictures.proofs.Walking.{changed_there}
 use Rattle.b67_pictures.proofs.SameShape.{IsSameShape, shape_back, after_shape, event_moves, states_self, stays_shape}
@@ -35,10 +34,22 @@ use Rattle.b67_table.proofs.Lists.{numbered_same}
 module _ (tree : PProgram) (code : Code) (texts : Texts) (closing : FramesClose) (actor : OutmostActor tree code texts) where
   open actor use {w, lay, img, p, q, part, core, s}
 
-  module _ (owns : is_evaluation part.purpose ≡ false)
-      (alive : lives q.state ≡ true) (free : some_depends w.processes part.instance ≡ false) (r : Reference) (has_task : q.task ≡ Some r)
-      (task : Place) (tasked : core.registers.task ≡ Some task) (e : IsEventAt (scopes_of tree) w lay r task) (asks : ask part.rest ≡ leaves done)
-      (a : ActionAt (scopes_of tree) (context_in tree code texts w part s.stands.frame.gives) (text_in tree texts w part) (level_in tree w part) (most_in tree w part) (leaves done) s.stands.pc s.stands.slots) where
+  -- The outermost part has nothing more to do, no process depends on it, and it has a task, whose event lies there.
+  pub record EndsWithTask : Type 0 where
+    pub owns : is_evaluation part.purpose ≡ false
+    pub alive : lives q.state ≡ true
+    pub free : some_depends w.processes part.instance ≡ false
+    pub reference : Reference
+    pub has_task : q.task ≡ Some reference
+    pub task : Place
+    pub tasked : core.registers.task ≡ Some task
+    pub event_there : IsEventAt (scopes_of tree) w lay reference task
+    pub asks : ask part.rest ≡ leaves done
+    pub action : ActionAt (scopes_of tree) (context_in tree code texts w part s.stands.frame.gives) (text_in tree texts w part) (level_in tree w part) (most_in tree w part) (leaves done) s.stands.pc s.stands.slots
+
+  module _ (ends_so : EndsWithTask) where
+    open ends_so use {owns, alive, free, reference as r, has_task, task, tasked, event_there as e, asks, action as a}
+
     abbrev sc : Scopes
     sc = scopes_of tree
 
@@ -219,11 +230,29 @@ module _ (tree : PProgram) (code : Code) (texts : Texts) (closing : FramesClose)
     fewer : (k : ℕ) → IsInSkeleton (referred_in_cells (cells_with x.cells r.name (event later))) k → IsInSkeleton (referred_in_cells x.cells) k
     fewer = refers_fewer x.cells r.name (event later) refl
 
+    abbrev store : CellStore tree w lay h.number
+    store = record {
+      i = j;
+      x = x;
+      at = own_before.is;
+      with_cells = cells_with x.cells r.name (event later);
+      high = high;
+      laid = laid;
+      far = 0;
+      up = high + 2 + 0;
+      place_is = refl;
+      word = None;
+      many = there.as_many sc w lay j x own_before r.name e.made.number found_before later;
+      short = λ set. absurd set;
+      keeps = there.event_keeps sc w lay j x own_before r.name e.made.number found_before later;
+      facts = facts;
+      fewer = fewer;
+      changes = there.cells_changed sc w lay j x own_before r.name e.made.number found_before later;
+    }
+
     on_first : StandOn sc w u lay lay
     on_first =
-        stored_on tree code texts w lay h.number j x own_before.is (cells_with x.cells r.name (event later)) high laid 0 (high + 2 + 0) refl None
-        (there.as_many sc w lay j x own_before r.name e.made.number found_before later) (λ set. absurd set) (there.event_keeps sc w lay j x own_before r.name e.made.number found_before later) facts fewer
-        (there.cells_changed sc w lay j x own_before r.name e.made.number found_before later)
+        stored_on tree code texts w lay h.number store
 
     alone_first : (m : ℕ) → LeavesAlone sc w u lay lay m
     alone_first m =
@@ -240,9 +269,7 @@ module _ (tree : PProgram) (code : Code) (texts : Texts) (closing : FramesClose)
     pictured_first : (m : ℕ) (o : Process) → m ≢ p → numbered w.processes m ≡ Some o → Pictured tree code texts w lay img m o → Pictured tree code texts u lay img m o
     pictured_first m o other there_is pictured =
         subst (λ (z : World). Pictured tree code texts z lay img m o) same_process
-        (others_stored tree code texts w lay h.number j x own_before.is (cells_with x.cells r.name (event later)) high laid 0 (high + 2 + 0) refl None
-        (there.as_many sc w lay j x own_before r.name e.made.number found_before later) (λ set. absurd set)
-        (there.event_keeps sc w lay j x own_before r.name e.made.number found_before later) facts fewer (there.cells_changed sc w lay j x own_before r.name e.made.number found_before later) p q
+        (others_stored tree code texts w lay h.number store p q
         (λ k apart_k. subst (λ (z : World). LeavesAlone sc w z lay lay k) (sym same_process) (alone_first k)) img img (mine_there ∙ h.lies.owned.framed.own)
         (λ y y_is. subst (λ (z : Process). IsOwn z.todo j) (some_same (sym h.is ∙ y_is)) (subst (λ (ps : List Part). IsOwn ps j) (sym h.todo) h.own)) (λ k has set. absurd set)
         (λ k has. has) (λ n k far apart_n has. has) (λ k apart_k. refl) m o other there_is (ap (λ (qs : List Process). numbered qs m) (numbered_same w.processes p q s.at) ∙ there_is) pictured)
@@ -450,11 +477,24 @@ module _ (tree : PProgram) (code : Code) (texts : Texts) (closing : FramesClose)
     critical_free : is_critical core.registers.stack (0 ∷ []) (live_criticals img.states img.regs) ≡ false
     critical_free = ending.free_there tree code texts closing actor owns asks a free
 
+    abbrev exits : ExitsLast img core
+    exits = record {
+      mark = s.stands.frame.mark;
+      control = s.stands.frame.control;
+      cells = s.stands.frame.cells;
+      below = ending.below_is tree code texts closing actor owns asks a;
+      counted = s.stands.counted;
+      base = ending.base tree code texts closing actor owns asks a;
+      rows = (ending.shut tree code texts closing actor owns asks a).rows;
+      closed = (ending.shut tree code texts closing actor owns asks a).changes;
+      free = critical_free;
+      task = task;
+      tasked = tasked;
+    }
+
     abbrev after : Image
     after =
-        caused_at code img p core s.has a.0 (ending.there tree code texts closing actor owns asks a) s.stands.frame.mark s.stands.frame.control s.stands.frame.cells
-        (ending.below_is tree code texts closing actor owns asks a) s.stands.counted (ending.base tree code texts closing actor owns asks a)
-        (ending.shut tree code texts closing actor owns asks a).rows (ending.shut tree code texts closing actor owns asks a).changes critical_free task tasked
+        caused_at code (at_operator s.has (ending.there tree code texts closing actor owns asks a)) exits
 
     abbrev image_by : Place → List ℕ → List ProcessState → Image
     image_by y ws states =
@@ -497,20 +537,18 @@ module _ (tree : PProgram) (code : Code) (texts : Texts) (closing : FramesClose)
     table_is : table code img p ≡ outcomes.gives after
     table_is =
         gives_within code img after p (record core.registers { place = a.0 })
-        (caused_raw code img p core s.has a.0 (ending.there tree code texts closing actor owns asks a) s.stands.frame.mark s.stands.frame.control s.stands.frame.cells
-        (ending.below_is tree code texts closing actor owns asks a) s.stands.counted (ending.base tree code texts closing actor owns asks a)
-        (ending.shut tree code texts closing actor owns asks a).rows (ending.shut tree code texts closing actor owns asks a).changes critical_free task tasked)
+        (caused_raw code (at_operator s.has (ending.there tree code texts closing actor owns asks a)) exits)
         (numbered_set img.regs p core.registers (record core.registers { place = a.0 }) s.has.registers) (ending.fits tree code texts closing actor owns asks a)
 
     pub ending_with_task : Does tree code texts w img p
     ending_with_task =
         gave after
-        (action_not_plain code img p core s.has (ops.Plain kinds.Exit) a.0 (ending.there tree code texts closing actor owns asks a)
-        (exit_class code img p core s.has a.0 (ending.there tree code texts closing actor owns asks a) s.stands.frame.mark s.stands.frame.control s.stands.frame.cells
+        (action_not_plain code (ops.Plain kinds.Exit) (at_operator s.has (ending.there tree code texts closing actor owns asks a))
+        (exit_class code (at_operator s.has (ending.there tree code texts closing actor owns asks a)) s.stands.frame.mark s.stands.frame.control s.stands.frame.cells
         (ending.below_is tree code texts closing actor owns asks a) s.stands.counted (ending.base tree code texts closing actor owns asks a)
         (ending.shut tree code texts closing actor owns asks a).rows (ending.shut tree code texts closing actor owns asks a).changes critical_free))
         table_is
-        (exit_action code img p core s.has a.0 (ending.there tree code texts closing actor owns asks a) s.stands.frame.mark s.stands.frame.control s.stands.frame.cells
+        (exit_action code (at_operator s.has (ending.there tree code texts closing actor owns asks a)) s.stands.frame.mark s.stands.frame.control s.stands.frame.cells
         (ending.below_is tree code texts closing actor owns asks a) s.stands.counted (ending.base tree code texts closing actor owns asks a)
         (ending.shut tree code texts closing actor owns asks a).rows (ending.shut tree code texts closing actor owns asks a).changes critical_free after table_is
         ∙ ap (λ (y : Choice). Some y.action) (sym chosen))
@@ -520,8 +558,6 @@ module _ (tree : PProgram) (code : Code) (texts : Texts) (closing : FramesClose)
     pub end_frees : releases code img p ≡ (choice (scopes_of tree) w p).released
     end_frees =
         ap (λ (o : Outcome Image). released_by o (registers_releases code img p (numbered img.regs p))) table_is
-        ∙ end_releases code img p core s.has a.0 (ending.there tree code texts closing actor owns asks a) s.stands.frame.mark s.stands.frame.control s.stands.frame.cells
-        (ending.below_is tree code texts closing actor owns asks a) s.stands.counted (ending.base tree code texts closing actor owns asks a)
-        (ending.shut tree code texts closing actor owns asks a).rows (ending.shut tree code texts closing actor owns asks a).changes critical_free task tasked
+        ∙ end_releases code (at_operator s.has (ending.there tree code texts closing actor owns asks a)) exits
         ∙ waiters_there
         ∙ sym (ap (λ (y : Choice). y.released) chosen)

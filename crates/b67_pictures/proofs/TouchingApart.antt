@@ -1,6 +1,6 @@
 -- No operator of a pictured image reads or writes a word in the private part of another process.
 use Rattle.std.proofs.Common.{◌≡◌, ◌⊎◌, inl, inr, refl, sym, ap, ◌∙◌, subst, ℕ, ◌+◌, ◌-◌, ◌<◌, ◌≤◌, List, [], ◌∷◌, length, Some, None, Bool, true, false, arith, ◌^◌, ◌++◌}
-use Rattle.b67_pictures.proofs.Prelude.{if◌then◌else◌, pos, numbered, PProgram, PStmts, PDecls, Scopes, scopes_of, Spot, Kind, Named, PhraseText, Ask, nothing, reads, reads_element, indexes, enters, passes, resolves, reads_result, leaves, stores, selects, turns, goes_to, enters_block, starts, writes, makes_arrays, makes_event, ask, event_deed, is_evaluation, own, there, element_of, Given, done, value, cell, Value, Reference, number, Process, Part, World, instance_at, BlockIsSeen, IsSeenAround, IsInner, IsOk, IsWholeInstance, Word, Place, as_pcw-pcw_word, as_sirw-other, irw_laws, as_irw, as_sirw, as_pcw, pcw_word, Pcw, Registers, Brun, Couple, Operator, Intrinsic, Placed, Code, word_at, place, Image, display_at, frame, level_below, Lives, OperatorTouches, IsPrivate, Wanted, parameter_wants, IsRead, of_variable, of_formal, stmts_count, Context, Has, operator_for, code_at, AreNested, Texts, RestsGoOn, ActionAt, CodeGoesOn, given_slots, operands, Slot, control, intrinsic, mark, operand, reference, slots_length, Core, HasCore, CoreStep, CoreSteps, onward, newest, SlotIs, SlotsAre, some_same, none_some, reads_seen, stores_seen, enters_seen, AreFit, none_wanted, are_fit, Taken, Top, top_slot, cell_named, StandsNear, no_sirw, reference_read, result_given, asks_as_own, frame_gives, runs_low, runs_deep, under_top, over_top, call_names, procedure_fits, Layout, Found, NameCellHome, NameStands, LeadsOn, leads_on, name_stands, Scene, scene_of, shown_frame, actor_of, text_in, level_in, context_in, most_in, names_in, IsEntry, Names, procedure_there, by_names, narrow_of, Living, PicturesBy}
+use Rattle.b67_pictures.proofs.Prelude.{if◌then◌else◌, pos, numbered, PProgram, PStmts, PDecls, Scopes, scopes_of, Spot, Kind, Named, PhraseText, Ask, nothing, reads, reads_element, indexes, enters, passes, resolves, reads_result, leaves, stores, selects, turns, goes_to, enters_block, starts, writes, makes_arrays, makes_event, ask, event_deed, is_evaluation, own, there, element_of, Given, done, value, cell, Value, Reference, number, Process, World, instance_at, BlockIsSeen, IsSeenAround, IsInner, IsOk, IsWholeInstance, Word, Place, as_pcw-pcw_word, as_sirw-other, irw_laws, as_irw, as_sirw, as_pcw, pcw_word, Pcw, Registers, Brun, Couple, Operator, Intrinsic, Placed, Code, word_at, place, Image, display_at, frame, level_below, Lives, OperatorTouches, IsPrivate, Wanted, parameter_wants, IsRead, of_variable, of_formal, stmts_count, Context, Has, operator_for, code_at, AreNested, Texts, RestsGoOn, ActionAt, CodeGoesOn, given_slots, operands, Slot, control, intrinsic, mark, operand, reference, slots_length, Core, HasCore, CoreStep, CoreSteps, onward, newest, SlotIs, SlotsAre, some_same, none_some, reads_seen, stores_seen, enters_seen, AreFit, none_wanted, are_fit, Taken, Top, top_slot, cell_named, StandsNear, no_sirw, reference_read, result_given, asks_as_own, frame_gives, runs_low, runs_deep, under_top, over_top, call_names, procedure_fits, Layout, Found, NameCellHome, NameStands, LeadsOn, leads_on, name_stands, scene_of, shown_frame, Actor, actor_of, text_in, level_in, context_in, most_in, names_in, IsEntry, Names, procedure_there, by_names, narrow_of, Living, PicturesBy, NobodyDepends}
 use Rattle.std.specs.Prelude.{nat_le}
 use Rattle.algol_tree.specs.Plain as tree_forms
 use Rattle.algol_meaning.specs.Rest.{Place as FoundPlace, place as at_place, entered}
@@ -17,7 +17,6 @@ use Rattle.b67_rows.proofs.Touching.{NearFrame, own_frame, NamesNear}
 use Rattle.b67_rows.proofs.TouchingOperators.{privately, near_reaches, operator_private}
 use Rattle.b67_rows.proofs.TouchingNames.{value_names, value_names_through, through_named, none_named, branch_names, refers_named, no_kind, block_names, entry_names}
 use Rattle.b67_frames.proofs.TouchingWords.{couple_fits}
-use Rattle.b67_settling.specs.Local.{NobodyDepends}
 use Rattle.b67_rows.proofs.Touching.{IsNearStack}
 use Rattle.b67_rows.proofs.TouchingOperators.{stands_touches}
 use Rattle.b67_scenes.proofs.Finding.{frame_near, place_near}
@@ -33,11 +32,13 @@ use Rattle.b67_pictures.proofs.TouchingElements.{element_read_near, indexed_near
 
 -- ---- a process at its action
 
-module _ (tree : PProgram) (code : Code) (texts : Texts) (nested : AreNested (scopes_of tree)) (rests : RestsGoOn) (w : World) (lay : Layout) (img : Image) where
+module _ (tree : PProgram) (code : Code) (texts : Texts) (nested : AreNested (scopes_of tree)) (rests : RestsGoOn) where
   abbrev sc : Scopes
   sc = scopes_of tree
 
-  module _ (p : ℕ) (q : Process) (part : Part) (outer : List Part) (bound : ℕ) (core : Core) (s : Scene tree code texts w lay img p q part outer bound core) where
+  module _ (actor : Actor tree code texts) where
+    open actor use {w, lay, img, p, part, outer, core, s}
+
     abbrev r : Registers
     r = core.registers
 
@@ -64,13 +65,13 @@ module _ (tree : PProgram) (code : Code) (texts : Texts) (nested : AreNested (sc
 
     -- an operand, or the control word of a procedure, in a cell that a couple names
     abbrev InCell : Couple → (Word → Type 0) → Type 0
-    InCell couple Is = Names tree code texts nested (actor_of s) couple Is
+    InCell couple Is = Names tree code texts nested actor couple Is
 
     known : named_level < 32
     known = omega (arith, runs_low tree code texts w lay p part outer core.below s.stands.frame, runs_deep (is_evaluation part.purpose) named_level)
 
     by_op : (op : Operator) (next : ℕ) → Has text level s.stands.pc op next → NamesNear p img op r → Comes
-    by_op = by_names tree code texts nested (actor_of s)
+    by_op = by_names tree code texts nested actor
 
     -- ---- cells
 
@@ -84,20 +85,20 @@ module _ (tree : PProgram) (code : Code) (texts : Texts) (nested : AreNested (sc
     -- ---- actions
 
     abbrev IsNamedThere : Named → Kind → Couple → Type 0
-    IsNamedThere n kind couple = NameStands tree code texts nested (actor_of s) n kind couple
+    IsNamedThere n kind couple = NameStands tree code texts nested actor n kind couple
 
     -- the cell of a parameter by name, and the cell to which its word refers
-    abbrev CellOf : (n : Named) (kind : Kind) (couple : Couple) → IsNamedThere n kind couple → NameCellHome tree code texts nested (actor_of s) n kind couple
-    CellOf n kind couple x = home_of_name tree code texts nested (actor_of s) n kind couple x
+    abbrev CellOf : (n : Named) (kind : Kind) (couple : Couple) → IsNamedThere n kind couple → NameCellHome tree code texts nested actor n kind couple
+    CellOf n kind couple x = home_of_name tree code texts nested actor n kind couple x
 
-    way : (n : Named) (kind : Kind) (couple : Couple) (x : IsNamedThere n kind couple) → LeadsOn tree code texts nested (actor_of s) (CellOf n kind couple x).word
-    way n kind couple x = leads_on tree code texts nested (actor_of s) n kind couple x
+    way : (n : Named) (kind : Kind) (couple : Couple) (x : IsNamedThere n kind couple) → LeadsOn tree code texts nested actor (CellOf n kind couple x).word
+    way n kind couple x = leads_on tree code texts nested actor n kind couple x
 
     -- it leads to one that is near
     name_near : (n : Named) (kind : Kind) (couple : Couple) (next : ℕ) → Has text level s.stands.pc (ops.Valc couple) next → IsNamedThere n kind couple → Comes
     name_near n kind couple next has_it x =
-        let h : NameCellHome tree code texts nested (actor_of s) n kind couple = CellOf n kind couple x in
-        let t : LeadsOn tree code texts nested (actor_of s) (CellOf n kind couple x).word = way n kind couple x in
+        let h : NameCellHome tree code texts nested actor n kind couple = CellOf n kind couple x in
+        let t : LeadsOn tree code texts nested actor (CellOf n kind couple x).word = way n kind couple x in
         by_op (ops.Valc couple) next has_it
         (value_names_through p img r couple h.at h.shown h.near h.word h.lies
         (record { stack = (t.at).stack; displacement = (t.at).at; index = t.index }) t.refers t.near t.reached t.lies t.no_further)
@@ -108,14 +109,14 @@ module _ (tree : PProgram) (code : Code) (texts : Texts) (nested : AreNested (sc
         by_read seen a.2.1
       where
         by_read : BlockIsSeen sc block n → IsRead sc named_level n a.0 a.2.0 → Comes
-        by_read seen (of_variable v) = operand_near a.2.0 a.1 a.2.2 (variable_there tree code texts nested (actor_of s) n a.0 a.2.0 seen v)
-        by_read seen (of_formal v) = name_near n a.0 a.2.0 a.1 a.2.2 (name_stands tree code texts nested (actor_of s) n a.0 a.2.0 seen v)
+        by_read seen (of_variable v) = operand_near a.2.0 a.1 a.2.2 (variable_there tree code texts nested actor n a.0 a.2.0 seen v)
+        by_read seen (of_formal v) = name_near n a.0 a.2.0 a.1 a.2.2 (name_stands tree code texts nested actor n a.0 a.2.0 seen v)
 
     result_near : (name : List ℕ) → ask part.rest ≡ reads_result name → At (reads_result name) → Comes
     result_near name e a =
         let owns : is_evaluation part.purpose ≡ false = asks_as_own tree code texts w lay p part outer core.below s.stands.frame (reads_result name) e (λ k. k) in
         operand_near a.0.couple a.0.valued a.0.read
-        (result_there tree code texts nested (actor_of s) owns a.0.kind (result_given _ a.0.kind (sym (frame_gives tree code texts w lay p part outer core.below s.stands.frame owns) ∙ a.0.is))
+        (result_there tree code texts nested actor owns a.0.kind (result_given _ a.0.kind (sym (frame_gives tree code texts w lay p part outer core.below s.stands.frame owns) ∙ a.0.is))
         a.0.couple a.0.level_is a.0.index_is)
 
     stored_near : (n : Named) (v : Value) → ask part.rest ≡ stores (own n) v → At (stores (own n) v) → Comes
@@ -128,7 +129,7 @@ module _ (tree : PProgram) (code : Code) (texts : Texts) (nested : AreNested (sc
         top_slot sc s.stands.held level (frame r) (length core.below) (reference couple ∷ a.1) (reference couple) a.1 first.words_below first.are refl in
         let fits : (couple.level < 32) × (couple.index < 2 ^ 14) = couple_fits sc nested named_level n a.2.kind couple a.2.variable known in
         let top : core.words ≡ (first.word ∷ []) ++ second.word ∷ second.words_below = first.is ∙ ap (λ (ws : List Word). first.word ∷ ws) second.is in
-        let c : InCell couple IsOperand = variable_there tree code texts nested (actor_of s) n a.2.kind couple seen a.2.variable in
+        let c : InCell couple IsOperand = variable_there tree code texts nested actor n a.2.kind couple seen a.2.variable in
         by_op (ops.Plain kinds.Stod) a.0 a.2.stands
         (cell_named p img r kinds.Stod (λ f. cc) (r.s - 2) (λ m f. f) second.word
         (under_top img p core s.has (first.word ∷ []) second.word second.words_below top (r.s - 2) (omega (arith, s.has.is.top, ap length top))) (λ follows. follows)
@@ -136,10 +137,10 @@ module _ (tree : PProgram) (code : Code) (texts : Texts) (nested : AreNested (sc
 
     resolved_near : (n : Named) → ask part.rest ≡ resolves n → At (resolves n) → Comes
     resolved_near n e a =
-        let x : IsNamedThere n a.0 a.3.couple = resolved_name tree code texts nested (actor_of s) n e a.0 a.1 a.2 a.3 in
-        let h : NameCellHome tree code texts nested (actor_of s) n a.0 a.3.couple = CellOf n a.0 a.3.couple x in
-        let t : LeadsOn tree code texts nested (actor_of s) (CellOf n a.0 a.3.couple x).word = way n a.0 a.3.couple x in
-        let f : FindsName tree code texts nested (actor_of s) n e a.0 a.1 a.2 a.3 = finds_name tree code texts nested (actor_of s) n e a.0 a.1 a.2 a.3 h in
+        let x : IsNamedThere n a.0 a.3.couple = resolved_name tree code texts nested actor n e a.0 a.1 a.2 a.3 in
+        let h : NameCellHome tree code texts nested actor n a.0 a.3.couple = CellOf n a.0 a.3.couple x in
+        let t : LeadsOn tree code texts nested actor (CellOf n a.0 a.3.couple x).word = way n a.0 a.3.couple x in
+        let f : FindsName tree code texts nested actor n e a.0 a.1 a.2 a.3 = finds_name tree code texts nested actor n e a.0 a.1 a.2 a.3 h in
         by_op (ops.Plain kinds.Eval) a.1 a.3.stands
         (through_named p img r kinds.Eval (λ g. cc) (r.s - 1) (λ m g. g) f.top.word (over_top img p core s.has f.top.word f.top.words_below f.top.is)
         (record { level = a.3.couple.level; index = a.3.couple.index }) h.at h.word (record { stack = (t.at).stack; displacement = (t.at).at; index = t.index }) t.reached f.names h.shown
@@ -147,8 +148,8 @@ module _ (tree : PProgram) (code : Code) (texts : Texts) (nested : AreNested (sc
 
     there_near : (x : Reference) (v : Value) → At (stores (there x) v) → Comes
     there_near x v a =
-        let f : FindsVariable tree code texts nested (actor_of s) x a.2.kind v a.1 =
-        finds_variable tree code texts nested (actor_of s) x a.2.kind v a.1 a.2.lies in
+        let f : FindsVariable tree code texts nested actor x a.2.kind v a.1 =
+        finds_variable tree code texts nested actor x a.2.kind v a.1 a.2.lies in
         let top : core.words ≡ (f.first.word ∷ []) ++ f.second.word ∷ f.second.words_below = f.first.is ∙ ap (λ (ws : List Word). f.first.word ∷ ws) f.second.is in
         let found : Found tree code texts w lay img x.instance = f.named.home.seen_there.found in
         let high : ℕ = length found.lies.frame.lower in
@@ -206,7 +207,7 @@ module _ (tree : PProgram) (code : Code) (texts : Texts) (nested : AreNested (sc
 
         by_test : (b : Bool) → (if b then display_at r (level + 1 - 1) else None) ≡ Some h → NearFrame p img h
         by_test true f =
-            shown_near (length s.stands.frame.lower) (level + 1 - 1) (ap (λ (l : ℕ). display_at r l) same ∙ shown_frame tree code texts (actor_of s)) h f
+            shown_near (length s.stands.frame.lower) (level + 1 - 1) (ap (λ (l : ℕ). display_at r l) same ∙ shown_frame tree code texts actor) h f
         by_test false f = none_some f
 
     block_near : (spot : Spot) (ds : PDecls) (ss : PStmts) → At (enters_block (tree_forms.body spot ds ss)) → Comes
@@ -225,7 +226,7 @@ module _ (tree : PProgram) (code : Code) (texts : Texts) (nested : AreNested (sc
         let couple : Couple = a.3.couple in
         let fits : (couple.level < 32) × (couple.index < 2 ^ 14) = procedure_fits sc nested named_level n a.0 couple a.3.procedure known in
         let above = above_mark (parameter_wants sc a.0) gs (are_fit sc context (parameter_wants sc a.0) gs a.3.fit) (reference couple) a.2 a.3.lies refl in
-        let c : InCell couple IsEntry = procedure_there tree code texts nested (actor_of s) n a.0 couple seen a.3.procedure in
+        let c : InCell couple IsEntry = procedure_there tree code texts nested actor n a.0 couple seen a.3.procedure in
         by_op (ops.Plain kinds.Entr) a.1 a.3.stands
         (entry_names p img r above.0 above.2 (record { level = couple.level; index = couple.index }) (ap as_irw above.1 ∙ reference_read couple fits.0 fits.1) c.home c.shown c.near
         c.word c.lies c.is.no_sirw (λ kind n u d after there names. no_kind p img r above.0 above.2 c.word c.is.control c.is.reads c.is.no_intrinsic kind))
@@ -233,7 +234,7 @@ module _ (tree : PProgram) (code : Code) (texts : Texts) (nested : AreNested (sc
     by_ask : (k : Ask) → ask part.rest ≡ k → At k → Comes
     by_ask (reads n) e a = read_near n e a
     by_ask (fails fault) e a =
-        by_class tree code texts nested (actor_of s) (ops.Plain (operator_for a.0)) a.3 a.5.stands (operator_private a.0 r.place)
+        by_class tree code texts nested actor (ops.Plain (operator_for a.0)) a.3 a.5.stands (operator_private a.0 r.place)
     by_ask (stores (own n) v) e a = stored_near n v e a
     by_ask turns e a =
         by_op (ops.Branch Brun a.0) a.1 a.2.stands (branch_names p img r Brun a.0)
@@ -248,17 +249,17 @@ module _ (tree : PProgram) (code : Code) (texts : Texts) (nested : AreNested (sc
     by_ask (leaves (at_place y)) e a = giving_near y a
     by_ask (leaves entered) e a = absurd a
     by_ask (stores (there y) v) e a = there_near y v a
-    by_ask (stores (element_of y ks) v) e a = element_stored_near tree code texts nested (actor_of s) y ks v a
+    by_ask (stores (element_of y ks) v) e a = element_stored_near tree code texts nested actor y ks v a
     by_ask nothing e a = absurd a
-    by_ask (reads_element n ks v) e a = element_read_near tree code texts nested (actor_of s) n ks v e a
-    by_ask (indexes n ks v) e a = indexed_near tree code texts nested (actor_of s) n ks v e a
-    by_ask (passes n) e a = passed_near tree code texts nested (actor_of s) n e a
+    by_ask (reads_element n ks v) e a = element_read_near tree code texts nested actor n ks v e a
+    by_ask (indexes n ks v) e a = indexed_near tree code texts nested actor n ks v e a
+    by_ask (passes n) e a = passed_near tree code texts nested actor n e a
     by_ask (resolves n) e a = resolved_near n e a
     by_ask (goes_to n) e a = gone_near n a
-    by_ask (starts n gs task) e a = starts_near tree code texts nested (actor_of s) n gs task e a
-    by_ask (event_deed y ns) e a = deed_near tree code texts nested (actor_of s) y ns e a
-    by_ask (makes_arrays kind ns pairs vs) e a = made_near tree code texts nested (actor_of s) kind ns pairs vs a
-    by_ask (makes_event n) e a = event_made_near tree code texts nested (actor_of s) n a
+    by_ask (starts n gs task) e a = starts_near tree code texts nested actor n gs task e a
+    by_ask (event_deed y ns) e a = deed_near tree code texts nested actor y ns e a
+    by_ask (makes_arrays kind ns pairs vs) e a = made_near tree code texts nested actor kind ns pairs vs a
+    by_ask (makes_event n) e a = event_made_near tree code texts nested actor n a
 
     pub standing_near : Comes
     standing_near =
@@ -268,14 +269,14 @@ module _ (tree : PProgram) (code : Code) (texts : Texts) (nested : AreNested (sc
 
   -- ---- a process that lives
 
-  module _ (by : PicturesBy tree code texts w lay img) (ok : IsOk (scopes_of tree) IsWholeInstance w) where
+  module _ (w : World) (lay : Layout) (img : Image) (by : PicturesBy tree code texts w lay img) (ok : IsOk (scopes_of tree) IsWholeInstance w) where
     operator_near : (p : ℕ) (q : Process) → numbered w.processes p ≡ Some q → (l : Living tree code texts w lay img p q) → StandsNear code p img l.core.registers
     operator_near p q at l = by_steps l.steps refl refl
       where
         settled_near : l.core ≡ l.settled → StandsNear code p img l.core.registers
         settled_near same =
             let found = scene_of tree code texts w lay img p q (narrow_of tree code texts w lay img by ok p q at) ok by at l (subst (λ (c : Core). HasCore img p c) same l.has) in
-            subst (λ (c : Core). StandsNear code p img c.registers) (sym same) (standing_near p q found.0 found.1 l.bound l.settled found.2)
+            subst (λ (c : Core). StandsNear code p img c.registers) (sym same) (standing_near (actor_of found.2))
 
         step_near : (c b : Core) → c ≡ l.core → CoreStep code c b → StandsNear code p img l.core.registers
         step_near c b same step = subst (λ (d : Core). StandsNear code p img d.registers) same (privately step.op step.next step.stands step.private)

@@ -203,7 +203,18 @@ module _ (tree : PProgram) (code : Code) (texts : Texts) (nested : AreNested (sc
   given_ends (a_name shape n d c v agrees rest) is made keeps lows (x ∷ ws) are = (
     led_ends x
         (array_on shape (named_from sc w lay part.instance n) x
-        (named_leads tree w lay placed each part here_stands Reached names n (is.0, first_made made) shape d c v agrees x (known_is sc w lay Reached part.instance s.stands.held s.stands.held_are (cell_named n) x are.0))
+        (named_leads tree w lay placed each part here_stands Reached (record {
+          level = names;
+          name = n;
+          seen = (is.0, first_made made);
+          shape = shape;
+          declared = d;
+          couple = c;
+          is_declared = v;
+          agrees = agrees;
+          word = x;
+          named = known_is sc w lay Reached part.instance s.stands.held s.stands.held_are (cell_named n) x are.0;
+        }))
         (declared_led tree code texts actor n is.0 (λ text. far_array sc names n d c v (keeps text).0.1))),
     given_ends rest is.1 (then_made made) (λ text. (keeps text).1) lows ws are.1,
   )
@@ -215,7 +226,15 @@ module _ (tree : PProgram) (code : Code) (texts : Texts) (nested : AreNested (sc
   given_ends (an_event_name n c v rest) is made keeps lows (x ∷ ws) are = (
     led_ends x
         (event_on (named_from sc w lay part.instance n) x
-        (event_leads tree w lay placed each part here_stands Reached names n (is.0, first_made made) c v x (known_is sc w lay Reached part.instance s.stands.held s.stands.held_are (cell_named n) x are.0))
+        (event_leads tree w lay placed each part here_stands Reached (record {
+          level = names;
+          name = n;
+          seen = (is.0, first_made made);
+          couple = c;
+          is_declared = v;
+          word = x;
+          named = known_is sc w lay Reached part.instance s.stands.held s.stands.held_are (cell_named n) x are.0;
+        }))
         (declared_led tree code texts actor n is.0 (λ text. far_event sc names n c v (keeps text).0.1))),
     given_ends rest is.1 (then_made made) (λ text. (keeps text).1) lows ws are.1,
   )
@@ -227,7 +246,16 @@ module _ (tree : PProgram) (code : Code) (texts : Texts) (nested : AreNested (sc
   given_ends (a_variable kind n c v rest) is made keeps lows (x ∷ ws) are = (
     led_ends x
         (variable_on tree code texts nested actor (named_from sc w lay part.instance n) kind x
-        (variable_leads tree w lay placed part here_stands Reached names n is.0 kind c v x (known_is sc w lay Reached part.instance s.stands.held s.stands.held_are (cell_named n) x are.0))),
+        (variable_leads tree w lay placed part here_stands Reached (record {
+          level = names;
+          name = n;
+          seen = is.0;
+          kind = kind;
+          couple = c;
+          is_variable = v;
+          word = x;
+          named = known_is sc w lay Reached part.instance s.stands.held s.stands.held_are (cell_named n) x are.0;
+        }))),
     given_ends rest is.1 (then_made made) (λ text. (keeps text).1) lows ws are.1,
   )
   given_ends (an_actual kind e c v rest) is made keeps lows [] are = absurd are

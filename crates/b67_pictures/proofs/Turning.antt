@@ -1,22 +1,23 @@
 -- The turn of a loop, and the choice of a case.
 use Rattle.std.proofs.Common.{◌≡◌, refl, ap, ◌∙◌, ℕ, ◌≤◌, List, Ok, arith}
-use Rattle.b67_pictures.proofs.Prelude.{PProgram, Scopes, scopes_of, Ask, turns, ask, resume, choice_of, Answer, done, RestsKeepToTheirText, AllIsMadeInOrder, Brun, Code, operator_at, Texts, ActionAt, Acted, ComesTo, Slot, Core, with_core, CoreAt, FragmentsArePerformed, action_not_plain, action_is, makes, unmade, operator_there, AbleActor, choice_is, text_in, level_in, context_in, most_in, Does}
+use Rattle.b67_pictures.proofs.Prelude.{PProgram, Scopes, scopes_of, Ask, turns, choice_of, done, Brun, Code, operator_at, Texts, Core, with_core, CoreAt, at_operator, action_not_plain, action_is, makes, unmade, operator_there, AbleActor, choice_is, text_in, level_in, TheLaws, Does}
 use Rattle.b67_deeds.specs.declared.Letter.TheVariants.{Turn}
 use Rattle.b67_ops.specs.declared.Operator.TheVariants as ops
 use Rattle.b67_table.specs.Effect as effects
 use Rattle.b67_table.specs.Outcome as outcomes
 use Rattle.b67_rows.proofs.TurnRow.{at_place, turns_back, turn_raw, turn_class}
 use Rattle.b67_pictures.proofs.InFrame.{does_in_frame}
+use Rattle.b67_pictures.proofs.Head.{Head}
 
-module _ (tree : PProgram) (code : Code) (texts : Texts) (fragments : FragmentsArePerformed) (keeps : RestsKeepToTheirText) (order : AllIsMadeInOrder) (actor : AbleActor tree code texts) where
+module _ (tree : PProgram) (code : Code) (texts : Texts) (laws : TheLaws) (actor : AbleActor tree code texts) where
   open actor use {w, img, p, q, part, outer, core, s}
 
   abbrev sc : Scopes
   sc = scopes_of tree
 
-  module _ (asks : ask part.rest ≡ turns) (a : ActionAt sc (context_in tree code texts w part s.stands.frame.gives) (text_in tree texts w part) (level_in tree w part) (most_in tree w part) turns s.stands.pc s.stands.slots)
-      (answered : (r : Answer) (at : ℕ) (left : List Slot) → Acted sc (context_in tree code texts w part s.stands.frame.gives) (text_in tree texts w part) (level_in tree w part) (most_in tree w part) turns s.stands.pc s.stands.slots a r at left →
-      ComesTo sc (context_in tree code texts w part s.stands.frame.gives) (text_in tree texts w part) (level_in tree w part) (most_in tree w part) (resume sc part.rest r) at left) where
+  module _ (head : Head tree code texts actor turns) where
+    open head use {asks, action as a, answered}
+
     there : operator_at code core.registers ≡ Ok (ops.Branch Brun a.0, a.1)
     there = operator_there sc s.stands.held code (text_in tree texts w part) (level_in tree w part) s.stands.pc s.stands.slots core (ops.Branch Brun a.0) a.1 s.stands.there a.2.stands
 
@@ -41,10 +42,23 @@ module _ (tree : PProgram) (code : Code) (texts : Texts) (fragments : FragmentsA
 
     pub turning : Does tree code texts w img p
     turning =
-        does_in_frame tree code texts fragments keeps order actor (unmade part.rest (ap makes asks)) done tt w.output new refl (record { is = refl }) s.stands.held s.stands.held_are a.0 s.stands.slots core_at s.stands.few
-        (answered done a.0 s.stands.slots (refl, refl)) Turn
-        (action_not_plain code img p core s.has (ops.Branch Brun a.0) a.1 there (turn_class code img p core s.has a.0 a.1 there back))
-        (turn_raw code img p core s.has a.0 a.1 there back ∙ ap (λ (o : List (List ℕ)). effects.gives (record (with_core img p new) { output = o })) s.by.output)
+        does_in_frame tree code texts laws actor (record {
+          unmade = unmade part.rest (ap makes asks);
+          answer = done;
+          nameless = tt;
+          new = new;
+          below = refl;
+          frame_is = record { is = refl };
+          known = s.stands.held;
+          known_are = s.stands.held_are;
+          pc = a.0;
+          slots = s.stands.slots;
+          there = core_at;
+          few = s.stands.few;
+          comes = answered done a.0 s.stands.slots (refl, refl);
+        }) w.output Turn
+        (action_not_plain code (ops.Branch Brun a.0) (at_operator s.has there) (turn_class code a.0 (at_operator s.has there) back))
+        (turn_raw code a.0 (at_operator s.has there) back ∙ ap (λ (o : List (List ℕ)). effects.gives (record (with_core img p new) { output = o })) s.by.output)
         (choice_is sc w p q part outer s.at s.todo ∙ ap (λ (k : Ask). choice_of sc w p q part outer k) asks)
-        (λ t. action_is code img p core s.has (ops.Branch Brun a.0) a.1 there (outcomes.gives (record (with_core img p new) { output = w.output })) t
-        ∙ (turns_back code img p core s.has a.0 a.1 there back))
+        (λ t. action_is code (ops.Branch Brun a.0) (at_operator s.has there) (outcomes.gives (record (with_core img p new) { output = w.output })) t
+        ∙ (turns_back code a.0 (at_operator s.has there) back))

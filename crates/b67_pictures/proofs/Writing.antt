@@ -1,6 +1,6 @@
 -- WRITE: a line of the output.
 use Rattle.std.proofs.Common.{◌≡◌, refl, sym, ap, ◌∙◌, subst, ℕ, List, [], ◌∷◌, ◌++◌, length, Option, Some, Ok, Bool, true, false, arith}
-use Rattle.b67_pictures.proofs.Prelude.{pos, replicate, if◌then◌else◌, ◌==◌, PProgram, Scopes, scopes_of, PhraseText, Ask, writes, ask, resume, choice_of, Answer, done, Value, number, whole_of, instance_at, RestsKeepToTheirText, AllIsMadeInOrder, Placed, Code, operator_at, in_routine, Yields, Texts, context_of, ActionAt, Acted, ComesTo, Slot, Core, with_core, FragmentsArePerformed, without_call, enter_class, action_not_plain, action_is, makes, unmade, wholes_of, IsCall, call, operator_there, AbleActor, actor_of, choice_is, text_in, level_in, context_in, most_in, Does}
+use Rattle.b67_pictures.proofs.Prelude.{pos, replicate, if◌then◌else◌, ◌==◌, PProgram, Scopes, scopes_of, PhraseText, Ask, writes, choice_of, done, Value, number, whole_of, instance_at, Placed, Code, operator_at, in_routine, Yields, Texts, context_of, Core, with_core, at_operator, without_call, enter_class, action_not_plain, action_is, makes, unmade, wholes_of, IsCall, call, operator_there, AbleActor, actor_of, choice_is, text_in, level_in, TheLaws, Does}
 use Rattle.b67_list.specs.Lines.{justified}
 use Rattle.algol_tree.specs.Spelling.{value_of}
 use Rattle.algol_meaning.specs.Lines.{line_of, number_first}
@@ -17,6 +17,7 @@ use Rattle.b67_table.specs.Outcome as outcomes
 use Rattle.b67_templates.specs.Code.{IsCodePart, text, word, AreParts, numbers_in, FormatIs}
 use Rattle.b67_rows.proofs.IntrinsicRows.{write_raw}
 use Rattle.b67_pictures.proofs.InFrame.{does_in_frame}
+use Rattle.b67_pictures.proofs.Head.{Head}
 
 -- ---- the line
 
@@ -53,12 +54,12 @@ line_is sc code texts j gives ps level format ts vs f =
 
 -- ---- the action
 
-module _ (tree : PProgram) (code : Code) (texts : Texts) (fragments : FragmentsArePerformed) (keeps : RestsKeepToTheirText) (order : AllIsMadeInOrder) (actor : AbleActor tree code texts) where
+module _ (tree : PProgram) (code : Code) (texts : Texts) (laws : TheLaws) (actor : AbleActor tree code texts) where
   open actor use {w, img, p, q, part, outer, core, s}
 
-  module _ (ts : List PhraseText) (vs : List Value) (asks : ask part.rest ≡ writes ts vs) (a : ActionAt (scopes_of tree) (context_in tree code texts w part s.stands.frame.gives) (text_in tree texts w part) (level_in tree w part) (most_in tree w part) (writes ts vs) s.stands.pc s.stands.slots)
-      (answered : (r : Answer) (at : ℕ) (left : List Slot) → Acted (scopes_of tree) (context_in tree code texts w part s.stands.frame.gives) (text_in tree texts w part) (level_in tree w part) (most_in tree w part) (writes ts vs) s.stands.pc s.stands.slots a r at left →
-      ComesTo (scopes_of tree) (context_in tree code texts w part s.stands.frame.gives) (text_in tree texts w part) (level_in tree w part) (most_in tree w part) (resume (scopes_of tree) part.rest r) at left) where
+  module _ (ts : List PhraseText) (vs : List Value) (head : Head tree code texts actor (writes ts vs)) where
+    open head use {asks, action as a, answered}
+
     abbrev sc : Scopes
     sc = scopes_of tree
 
@@ -81,15 +82,28 @@ module _ (tree : PProgram) (code : Code) (texts : Texts) (fragments : FragmentsA
 
       does : Does tree code texts w img p
       does =
-          does_in_frame tree code texts fragments keeps order actor (unmade part.rest (ap makes asks)) done tt out new refl (record { is = refl }) s.stands.held s.stands.held_are a.0 a.1 (c.after_at a.0) c.few
-          (answered done a.0 a.1 (refl, refl)) Line
-          (action_not_plain code img p core s.has (ops.Plain kinds.Entr) a.0 there
-          (enter_class code img p core s.has a.0 there Write c.arguments c.reference c.marked c.others c.calls))
-          (write_raw code img p core s.has a.0 there Write c.arguments c.reference c.marked c.others c.calls (wholes_of given) c.wholes refl (line_of ts vs)
+          does_in_frame tree code texts laws actor (record {
+            unmade = unmade part.rest (ap makes asks);
+            answer = done;
+            nameless = tt;
+            new = new;
+            below = refl;
+            frame_is = record { is = refl };
+            known = s.stands.held;
+            known_are = s.stands.held_are;
+            pc = a.0;
+            slots = a.1;
+            there = c.after_at a.0;
+            few = c.few;
+            comes = answered done a.0 a.1 (refl, refl);
+          }) out Line
+          (action_not_plain code (ops.Plain kinds.Entr) (at_operator s.has there)
+          (enter_class code (at_operator s.has there) Write c.arguments c.reference c.marked c.others c.calls))
+          (write_raw code (at_operator s.has there) Write c.arguments c.reference c.marked c.others c.calls (wholes_of given) c.wholes refl (line_of ts vs)
           (line_is sc code texts ((instance_at w part.instance).block) s.stands.frame.gives (text_in tree texts w part) (level_in tree w part) a.2.format ts vs a.2.is)
           ∙ ap (λ (o : List (List ℕ)). effects.gives (record (with_core img p new) { output = o ++ line_of ts vs ∷ [] })) s.by.output)
           (choice_is sc w p q part outer s.at s.todo ∙ ap (λ (k : Ask). choice_of sc w p q part outer k) asks)
-          (λ t. action_is code img p core s.has (ops.Plain kinds.Entr) a.0 there (outcomes.gives (record (with_core img p new) { output = out })) t ∙ c.action)
+          (λ t. action_is code (ops.Plain kinds.Entr) (at_operator s.has there) (outcomes.gives (record (with_core img p new) { output = out })) t ∙ c.action)
 
     pub writing : Does tree code texts w img p
     writing = does (call tree code texts (actor_of s) Write given a.1 (a.2.whole, a.2.fits) a.2.lies)

@@ -1,7 +1,7 @@
 -- Accidental entry: the code of an actual is entered where VALC or EVAL reaches its control word. Its frame lies above the words of the part
 -- that waits, and has no cells; a selector lies on it where the code may give a place.
 use Rattle.std.proofs.Common.{◌≡◌, refl, sym, ap, ◌∙◌, ℕ, ◌+◌, ◌-◌, ◌<◌, List, [], ◌∷◌, ◌++◌, length, take, Option, Some, Bool, true, false, Ok, arith, append_assoc, length-append}
-use Rattle.b67_rows.proofs.Prelude.{if◌then◌else◌, nat_lt, reverse, Place, Word, Registers, Pcw, Rcw, as_pcw, as_rcw, place_at, Couple, Code, Stacks, word_at, with_stack, with_cut, Cell, Entry, BadCode, Effect, gives, Image, with_stacks, with_registers, end_of_code, control_word, entered_mark, if_fits, is_home, if_home, entered, accidental, Look, found, stops, ◌>->◌, read_as, look_seen, place, linked, pushed, Program, Change, done, changed, effect_of, asked, see, answer, fault, ◌>>=◌, cut, registers, NotAVariable, frame, at_or, couple_cell, cell_of, invalid, value_or_entry, cell_or_entry, operator_at, Read, Resolve, Enter, entered_or, operator_letter, then_seen, see_found, Core, IsCore, HasCore, with_core, stack_of}
+use Rattle.b67_rows.proofs.Prelude.{if◌then◌else◌, nat_lt, reverse, NotAVariable, Read, Resolve, Enter, Word, Place, as_pcw, as_rcw, place_at, Pcw, Rcw, Registers, Couple, Code, Stacks, word_at, with_stack, with_cut, place, linked, Effect, gives, Image, with_stacks, with_registers, end_of_code, control_word, entered_mark, if_fits, is_home, if_home, entered, accidental, Look, found, stops, ◌>->◌, read_as, look_seen, pushed, frame, at_or, Program, Change, done, changed, effect_of, asked, see, answer, fault, ◌>>=◌, cut, registers, couple_cell, cell_of, invalid, value_or_entry, cell_or_entry, Cell, Entry, BadCode, then_seen, see_found, entered_or, operator_letter, Core, IsCore, HasCore, with_core, stack_of}
 use Rattle.b67_ops.specs.declared.Operator.TheVariants as ops
 use Rattle.b67_ops.specs.declared.PlainKind.TheVariants as kinds
 use Rattle.b67_table.specs.Linkage.{entering, selected}
@@ -15,6 +15,7 @@ use Rattle.b67_rows.proofs.ReachingRows.{value_reached, value_reached_letter}
 use Rattle.b67_rows.proofs.Rows.{words_are}
 use Rattle.b67_rows.proofs.StackWords.{cut-stack, length-stack}
 use Rattle.b67_rows.proofs.TopRow.{pushed_do}
+use Rattle.b67_rows.proofs.AtOperator.{AtOperator}
 
 -- one word, or none
 selected_turned : (names : Bool) (selector : ℕ) → reverse (selected names selector) ≡ selected names selector
@@ -118,30 +119,33 @@ module _ (img : Image) (p : ℕ) (core : Core) (has : HasCore img p core) (next 
 
 -- ---- VALC
 
-module _ (code : Code) (img : Image) (p : ℕ) (core : Core) (has : HasCore img p core) (couple : Couple) (next : ℕ) (there : operator_at code core.registers ≡ Ok (ops.Valc couple, next))
-    (from to : Cell) (shown : couple_cell core.registers couple.level couple.index ≡ Some from) (w : Word) (reaches : Reaches img.stacks from w to)
-    (c : Pcw) (reads : as_pcw w ≡ Some c) (no_intrinsic : c.intrinsic ≡ false) (display : List (Option Place)) (e : Evaluates img core next [] core.words c to.frame display) where
+module _ (code : Code) (couple : Couple) (here : AtOperator code (ops.Valc couple)) (from to : Cell) (shown : couple_cell here.core.registers couple.level couple.index ≡ Some from) (w : Word)
+    (reaches : Reaches here.img.stacks from w to) (c : Pcw) (reads : as_pcw w ≡ Some c) (no_intrinsic : c.intrinsic ≡ false) (display : List (Option Place))
+    (e : Evaluates here.img here.core here.next [] here.core.words c to.frame display) where
+  open here use {img, p, core, has, next}
+
   pub value_entered_raw : raw code img p ≡ gives (with_core img p (with_evaluation core core.words next c to.frame display 0))
   value_entered_raw =
-      value_reached code img p core has couple next there from to shown w reaches
+      value_reached code couple here from to shown w reaches
       ∙ ap (λ (o : Option Pcw). effect_of p img (asked img (value_or_entry core.registers next (record { word = w; cell = to }) o))) reads
       ∙ ap (λ (b : Bool). effect_of p img (asked img (if b then see invalid else accidental core.registers next 0 c to.frame 0))) no_intrinsic
       ∙ accidental_does img p core has next [] core.words c to.frame display e 0
 
   pub value_entered_letter : operator_letter (ops.Valc couple) img core.registers ≡ Some Enter
-  value_entered_letter = value_reached_letter code img p core has couple next there from to shown w reaches ∙ ap (λ (o : Option Pcw). Some (entered_or Read o)) reads
+  value_entered_letter = value_reached_letter code couple here from to shown w reaches ∙ ap (λ (o : Option Pcw). Some (entered_or Read o)) reads
 
 -- ---- EVAL
 
-module _ (code : Code) (img : Image) (p : ℕ) (core : Core) (has : HasCore img p core) (next : ℕ) (there : operator_at code core.registers ≡ Ok (ops.Plain kinds.Eval, next))
-    (x : Word) (words : List Word) (top : core.words ≡ x ∷ words) (from to : Cell) (names : cell_of core.registers x ≡ Some from) (w : Word) (reaches : Reaches img.stacks from w to)
-    (c : Pcw) (reads : as_pcw w ≡ Some c) (has_names : c.names ≡ true) (display : List (Option Place)) (e : Evaluates img core next (x ∷ []) words c to.frame display) where
+module _ (code : Code) (here : AtOperator code (ops.Plain kinds.Eval)) (x : Word) (words : List Word) (top : here.core.words ≡ x ∷ words) (from to : Cell) (names : cell_of here.core.registers x ≡ Some from) (w : Word)
+    (reaches : Reaches here.img.stacks from w to) (c : Pcw) (reads : as_pcw w ≡ Some c) (has_names : c.names ≡ true) (display : List (Option Place)) (e : Evaluates here.img here.core here.next (x ∷ []) words c to.frame display) where
+  open here use {img, p, core, has, next}
+
   pub place_entered_raw : raw code img p ≡ gives (with_core img p (with_evaluation core words next c to.frame display 1))
   place_entered_raw =
-      place_reached code img p core has next there x words top from to names w reaches
+      place_reached code here x words top from to names w reaches
       ∙ ap (λ (o : Option Pcw). effect_of p img (asked img (cell_or_entry core.registers next (record { word = w; cell = to }) o))) reads
       ∙ ap (λ (b : Bool). effect_of p img (asked img (if b then accidental core.registers next 1 c to.frame 1 else fault NotAVariable))) has_names
       ∙ accidental_does img p core has next (x ∷ []) words c to.frame display e 1
 
   pub place_entered_letter : operator_letter (ops.Plain kinds.Eval) img core.registers ≡ Some Enter
-  place_entered_letter = place_reached_letter code img p core has next there x words top from to names w reaches ∙ ap (λ (o : Option Pcw). Some (entered_or Resolve o)) reads
+  place_entered_letter = place_reached_letter code here x words top from to names w reaches ∙ ap (λ (o : Option Pcw). Some (entered_or Resolve o)) reads

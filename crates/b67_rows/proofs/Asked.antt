@@ -1,6 +1,6 @@
 -- The names that a head asks for are seen from the text of its part.
 use Rattle.std.proofs.Common.{◌≡◌, subst}
-use Rattle.b67_rows.proofs.Prelude.{Named, PBody, Hole, read, element, index, tests, broken, enter, inside, subscript, argument, left, right, negated, inverted, condition, Actuals, pass, in_value, Aim, resolve, place_index, inside_place, place_subscript, Rest, over, reading, giving, giving_place, store, select, turning, going, entering_block, entering, starting, acting, line, arrays, event, within, dropping, evaluating, locating, aiming, storing, choosing, looping, checking, counting, differing, stepping, selecting, calling, preparing, writing, bounding, Value, reads, stores, ask, ask_hole, ask_actuals, ask_aim, InHole, InActuals, InAim, InRest}
+use Rattle.b67_rows.proofs.Prelude.{PBody, Named, reads, stores, ask, ask_hole, ask_actuals, ask_aim, Hole, read, element, index, tests, broken, enter, inside, subscript, argument, left, right, negated, inverted, condition, Actuals, pass, in_value, Aim, resolve, place_index, inside_place, place_subscript, Rest, over, reading, giving, giving_place, store, select, turning, going, entering_block, entering, starting, acting, line, arrays, event, within, dropping, evaluating, locating, aiming, storing, choosing, looping, checking, counting, differing, stepping, selecting, calling, preparing, writing, bounding, Value, InHole, InActuals, InAim, InRest}
 use Rattle.algol_meaning.specs.Rest.{Place, own}
 use Rattle.algol_paths.specs.Texts.{InPlace}
 

@@ -1,7 +1,7 @@
 -- A name for which a head asks, for an element of an array, for an index, for what a parameter stands for or for its passing, or for an event, is
 -- seen from the text of its part. All arrays of the part's own instance are made, or the name stands in a bound.
 use Rattle.std.proofs.Common.{◌≡◌, ◌⊎◌, inl, inr, refl, subst, List, [], ◌∷◌, Option, Some, None}
-use Rattle.b67_rows.proofs.Prelude.{AllByRecursion, Named, PBody, Hole, read, element, index, tests, broken, enter, inside, subscript, argument, left, right, negated, inverted, condition, Actuals, pass, in_value, Aim, resolve, place_index, inside_place, place_subscript, Rest, over, reading, giving, giving_place, store, select, turning, going, entering_block, entering, starting, acting, line, arrays, event, within, dropping, evaluating, locating, aiming, storing, choosing, looping, checking, counting, differing, stepping, selecting, calling, preparing, writing, bounding, Ask, reads, enters, stores, enters_block, makes_arrays, makes_event, ask, ask_hole, ask_actuals, ask_aim, all_to_make, InHole, InActuals, InAim, InRest}
+use Rattle.b67_rows.proofs.Prelude.{AllByRecursion, PBody, Named, Ask, reads, enters, stores, enters_block, makes_arrays, makes_event, ask, ask_hole, ask_actuals, ask_aim, Hole, read, element, index, tests, broken, enter, inside, subscript, argument, left, right, negated, inverted, condition, Actuals, pass, in_value, Aim, resolve, place_index, inside_place, place_subscript, Rest, over, reading, giving, giving_place, store, select, turning, going, entering_block, entering, starting, acting, line, arrays, event, within, dropping, evaluating, locating, aiming, storing, choosing, looping, checking, counting, differing, stepping, selecting, calling, preparing, writing, bounding, all_to_make, InHole, InActuals, InAim, InRest}
 use Rattle.algol_meaning.specs.Asks.{nothing, reads_element, indexes, fails, passes, resolves, reads_result, leaves, selects, turns, goes_to, starts, event_deed, writes}
 
 abbrev pub first_named : List Named → Option Named

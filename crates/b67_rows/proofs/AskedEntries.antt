@@ -1,7 +1,7 @@
 -- The procedure that a head enters is seen from the text of its part, and so are the arrays that it gives to it; a block that it enters
 -- stands in that.
 use Rattle.std.proofs.Common.{◌≡◌, ◌⊎◌, inl, inr, refl, List, [], ◌∷◌, subst}
-use Rattle.b67_rows.proofs.Prelude.{Named, PBody, Given, valued, passed, refers, names, Hole, read, element, index, tests, broken, enter, inside, subscript, argument, left, right, negated, inverted, condition, Actuals, pass, in_value, Aim, resolve, place_index, inside_place, place_subscript, Rest, over, reading, giving, giving_place, store, select, turning, going, entering_block, entering, starting, acting, line, arrays, event, within, dropping, evaluating, locating, aiming, storing, choosing, looping, checking, counting, differing, stepping, selecting, calling, preparing, writing, bounding, enters, enters_block, ask, ask_hole, ask_actuals, ask_aim, all_to_make, InHole, InActuals, InAim, InRest}
+use Rattle.b67_rows.proofs.Prelude.{PBody, Named, enters, enters_block, ask, ask_hole, ask_actuals, ask_aim, Given, valued, passed, refers, names, Hole, read, element, index, tests, broken, enter, inside, subscript, argument, left, right, negated, inverted, condition, Actuals, pass, in_value, Aim, resolve, place_index, inside_place, place_subscript, Rest, over, reading, giving, giving_place, store, select, turning, going, entering_block, entering, starting, acting, line, arrays, event, within, dropping, evaluating, locating, aiming, storing, choosing, looping, checking, counting, differing, stepping, selecting, calling, preparing, writing, bounding, all_to_make, InHole, InActuals, InAim, InRest}
 use Rattle.algol_tree.specs.Plain.{body}
 use Rattle.algol_paths.specs.Texts.{InGivens}
 

@@ -1,6 +1,6 @@
 -- An image with a process more: what it has, and that all others have what they had.
 use Rattle.std.proofs.Common.{◌≡◌, ◌≢◌, refl, sym, ap, ◌∙◌, ℕ, zero, suc, ◌+◌, ◌≤◌, List, [], ◌∷◌, ◌++◌, length, Some, arith, append-nil}
-use Rattle.b67_rows.proofs.Prelude.{slice_get, numbered, set_numbered, Word, Registers, Stacks, stack_at, opened_others, Image, get_within, Core, IsCore, HasCore, stack_of, with_core}
+use Rattle.b67_rows.proofs.Prelude.{slice_get, numbered, set_numbered, Word, Registers, opened_others, Stacks, stack_at, get_within, Image, Core, IsCore, HasCore, stack_of, with_core}
 use Rattle.b67_store.specs.Store.{opened_at}
 use Rattle.b67_store.proofs.StoreLaws.{opened_here}
 use Rattle.b67_table.specs.Image.{is_live}

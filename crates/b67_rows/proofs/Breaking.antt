@@ -1,6 +1,6 @@
 -- An operator whose operands have no result.
 use Rattle.std.proofs.Common.{◌≡◌, refl, ap, ◌∙◌, ℕ, ◌+◌, ◌-◌, ◌<◌, List, ◌∷◌, length, Some, Result, Ok, Err, arith, ℤ}
-use Rattle.b67_rows.proofs.Prelude.{Op, Value, number, truth, Word, Registers, Code, Effect, gives, faults, Image, floor, TableRow, private_part, operator_at, by_row, HasKind, operator_for, Core, HasCore, ValueIs}
+use Rattle.b67_rows.proofs.Prelude.{Op, Value, number, truth, Word, Registers, Code, Effect, gives, faults, floor, TableRow, private_part, by_row, HasKind, operator_for, Core, ValueIs}
 use Rattle.algol_tree.specs.declared.tree.Op.TheVariants as operators
 use Rattle.algol_tree.specs.declared.tree.Kind.TheVariants as types
 use Rattle.algol_tree.specs.Types.{taken_by}
@@ -23,6 +23,7 @@ use Rattle.b67_cores.proofs.PartRows.{part, then_is, pop_is}
 use Rattle.b67_cores.proofs.Taking.{number_read}
 use Rattle.b67_cores.proofs.Performing.{private_is}
 use Rattle.b67_rows.proofs.Rows.{raw_is}
+use Rattle.b67_rows.proofs.AtOperator.{AtOperator}
 
 made_of : Result ℤ NumFault → Effect Word
 made_of r = result_or_fault r >>= (λ (z : ℤ). gives (operand z))
@@ -76,9 +77,25 @@ module _ (r : Registers) (s : ℕ) (v w : Word) (f : NumFault) (below : List Wor
   row_faults operators.Imp x y kx ky ix iy e = cc
   row_faults operators.Eqv x y kx ky ix iy e = cc
 
-module _ (code : Code) (img : Image) (p : ℕ) (core : Core) (has : HasCore img p core) (op : Op) (next : ℕ) (there : operator_at code core.registers ≡ Ok (ops.Plain (operator_for op), next))
-    (x y : Value) (v w : Word) (below : List Word) (words : core.words ≡ w ∷ v ∷ below) (kx : HasKind (taken_by op) x) (ky : HasKind (taken_by op) y) (ix : ValueIs x v) (iy : ValueIs y w)
-    (f : NumFault) (breaks : result_of op x y ≡ Err f) where
+-- Two operands on the stack of which the operator has no result.
+pub record Breaks (core : Core) (op : Op) : Type 0 where
+  pub x : Value
+  pub y : Value
+  pub v : Word
+  pub w : Word
+  pub below : List Word
+  pub words : core.words ≡ w ∷ v ∷ below
+  pub first_kind : HasKind (taken_by op) x
+  pub second_kind : HasKind (taken_by op) y
+  pub first_is : ValueIs x v
+  pub second_is : ValueIs y w
+  pub f : NumFault
+  pub breaks : result_of op x y ≡ Err f
+
+module _ (code : Code) (op : Op) (here : AtOperator code (ops.Plain (operator_for op))) (broken : Breaks here.core op) where
+  open here use {img, p, core, has, next}
+  open broken use {x, y, v, w, below, words, first_kind as kx, second_kind as ky, first_is as ix, second_is as iy, f, breaks}
+
   abbrev r : Registers
   r = core.registers
 
@@ -89,7 +106,7 @@ module _ (code : Code) (img : Image) (p : ℕ) (core : Core) (has : HasCore img 
   unfolding row
   break_raw =
       let d : RowFaults r op r.s v w f below = row_faults r r.s v w f below high op x y kx ky ix iy breaks in
-      raw_is code img p core has (ops.Plain (operator_for op)) next there
+      raw_is code (ops.Plain (operator_for op)) here
       ∙ ap (λ (k : TableRow). by_row k code img p r next) d.is
       ∙ ap (λ (q : Private). with_effect img p (floor r) (onward d.change next q)) (private_is img p core has ∙ ap (λ (ws : List Word). record { regs = r; words = ws }) words)
       ∙ ap (λ (e : Effect Private). with_effect img p (floor r) (e >>= (λ (q : Private). gives (pointed next q)))) d.faulted

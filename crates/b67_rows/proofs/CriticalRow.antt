@@ -1,6 +1,6 @@
 -- On which frame a process depends that is started: the first of those that it refers to, on the path down from the frame of its starter.
 use Rattle.std.proofs.Common.{◌≡◌, ◌⊎◌, inl, inr, refl, sym, ap, ◌∙◌, ℕ, zero, suc, ◌+◌, ◌<◌, ◌≤◌, List, [], ◌∷◌, Option, Some, Bool, true, false, Ok, arith}
-use Rattle.b67_rows.proofs.Prelude.{if◌then◌else◌, ◌||◌, nat_eq, nat_tests, Place, frame_below, gives, Image, critical_of, look_seen, Test, answer, asked, ◌>>=◌, see, on_path, see_found}
+use Rattle.b67_rows.proofs.Prelude.{nat_tests, if◌then◌else◌, ◌||◌, nat_eq, Place, frame_below, gives, Image, critical_of, look_seen, Test, answer, asked, ◌>>=◌, see, on_path, see_found}
 use Rattle.b67_events.specs.Events.{same_place}
 use Rattle.b67_events.proofs.Listed.{same_place-true, same_place-self}
 use Rattle.b67_table.specs.Program.{critical}

@@ -1,9 +1,9 @@
 -- The links from a frame down to the system's stack, and the display that is made along them.
 use Rattle.std.proofs.Common.{◌≡◌, refl, ap, ◌∙◌, ℕ, zero, suc, ◌+◌, ◌-◌, ◌≤◌, List, [], ◌∷◌, length, Option, Some, None, Bool, true, Ok, arith}
-use Rattle.b67_rows.proofs.Prelude.{if◌then◌else◌, ◌==◌, slice_get, nat_tests, Place, Mscw, Rcw, as_mscw, as_rcw, place_at, Stacks, word_at, Look, found, ◌>->◌, chained, read_as, look_seen, place, mark_at, control_at, link_of, linked, rebuilt}
+use Rattle.b67_rows.proofs.Prelude.{nat_tests, if◌then◌else◌, ◌==◌, slice_get, Place, as_mscw, as_rcw, place_at, Mscw, Rcw, Stacks, word_at, place, mark_at, control_at, link_of, linked, rebuilt, chain_broken, Look, found, ◌>->◌, chained, read_as, look_seen}
 use Rattle.std.specs.Prelude.{slice_index_or, replicate}
 use Rattle.b67_control.specs.Display.{levels}
-use Rattle.b67_table.specs.Chains.{chain_broken, if_own, links}
+use Rattle.b67_table.specs.Chains.{if_own, links}
 use Rattle.b67_rows.proofs.StoreRow.{most_is}
 
 pub same_is : (m n : ℕ) → m ≡ n → (m == n) ≡ true

@@ -1,6 +1,6 @@
 -- ENTR on the control word of a block: its home is the frame of the level below.
 use Rattle.std.proofs.Common.{◌≡◌, ap, ◌∙◌, ℕ, Option, Some, None, Ok}
-use Rattle.b67_rows.proofs.Prelude.{Place, Word, Registers, Irw, Mscw, Pcw, Sirw, as_irw, as_sirw, as_pcw, Code, Effect, Image, valid, look_seen, Program, effect_of, asked, see, ◌>>=◌, irw_or_sirw, cell_of, enter_by, enter_procedure, level_below, Core, called_by}
+use Rattle.b67_rows.proofs.Prelude.{Word, Place, as_irw, as_sirw, as_pcw, Irw, Mscw, Pcw, Registers, Sirw, Code, Effect, Image, valid, look_seen, Program, effect_of, asked, see, ◌>>=◌, irw_or_sirw, cell_of, enter_by, enter_procedure, level_below, called_by, Core}
 use Rattle.b67_rows.proofs.EntryRow.{Leads}
 
 module _ (code : Code) (img : Image) (core : Core) (next : ℕ) (control : Word) (m : Mscw) (c : Pcw) (home : Place) (no_irw : as_irw control ≡ None) where

@@ -1,6 +1,6 @@
 -- ENTR on the reference of a procedure's control word: its home is the frame in which that word lies.
 use Rattle.std.proofs.Common.{◌≡◌, ap, ◌∙◌, ℕ, ◌+◌, Option, Some, None, Ok}
-use Rattle.b67_rows.proofs.Prelude.{Place, Word, Registers, Irw, Mscw, Pcw, Sirw, as_irw, as_sirw, as_pcw, Code, word_at, Cell, Reached, Effect, Image, ◌>->◌, valid, look_seen, display_at, Program, effect_of, asked, see, ◌>>=◌, cell_in, cell_of, irw_or_sirw, reached_in, one_sirw, enter_by, enter_procedure, Core, called_by}
+use Rattle.b67_rows.proofs.Prelude.{Word, Place, as_irw, as_sirw, as_pcw, Irw, Mscw, Pcw, Registers, Sirw, Code, word_at, Effect, Image, ◌>->◌, valid, look_seen, display_at, Program, effect_of, asked, see, ◌>>=◌, cell_in, cell_of, irw_or_sirw, reached_in, one_sirw, enter_by, enter_procedure, Cell, Reached, called_by, Core}
 use Rattle.b67_rows.proofs.EntryRow.{Leads}
 
 module _ (code : Code) (img : Image) (core : Core) (next : ℕ) (reference : Word) (m : Mscw) (c : Pcw) (home : Place) (level index : ℕ)

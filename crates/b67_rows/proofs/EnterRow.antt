@@ -1,12 +1,13 @@
 -- ENTR on an intrinsic: the intrinsic is given the words above its reference, the first one first.
-use Rattle.std.proofs.Common.{length-append, ◌≡◌, sym, ap, ◌∙◌, ℕ, ◌+◌, ◌-◌, ◌<◌, List, [], ◌∷◌, ◌++◌, length, take, drop, Option, Some, None, Bool, true, false, Ok, arith, append_assoc}
-use Rattle.b67_rows.proofs.Prelude.{if◌then◌else◌, nat_lt, ◌&&◌, slice_get, reverse, nat_tests, length-reverse, Place, Word, Registers, Irw, Mscw, Pcw, Sirw, as_irw, as_sirw, as_mscw, as_pcw, Code, words_of, word_at, Cell, Reached, intrinsic_numbered, Effect, Image, Look, found, at, ◌>->◌, valid, place, Program, Change, does, effect_of, asked, see, ◌>>=◌, display_at, floor, cell_in, irw_or_sirw, reached_in, one_sirw, invalid, intrinsic, intrinsic_row, enter_by, enter_procedure, not_entered, operator_at, Core, HasCore}
+use Rattle.std.proofs.Common.{length-append, ◌≡◌, sym, ap, ◌∙◌, ℕ, ◌+◌, ◌-◌, ◌<◌, List, [], ◌∷◌, ◌++◌, length, take, drop, Option, Some, None, Bool, true, false, arith, append_assoc}
+use Rattle.b67_rows.proofs.Prelude.{nat_tests, length-reverse, if◌then◌else◌, nat_lt, ◌&&◌, slice_get, reverse, Word, Place, as_irw, as_sirw, as_mscw, as_pcw, Irw, Mscw, Pcw, Registers, Sirw, Code, words_of, word_at, place, Effect, Image, intrinsic, intrinsic_row, Look, found, at, ◌>->◌, valid, intrinsic_numbered, display_at, floor, Program, Change, does, effect_of, asked, see, ◌>>=◌, cell_in, irw_or_sirw, reached_in, one_sirw, invalid, enter_by, enter_procedure, not_entered, Cell, Reached, Core}
 use Rattle.b67_ops.specs.declared.Operator.TheVariants as ops
 use Rattle.b67_ops.specs.declared.PlainKind.TheVariants as kinds
 use Rattle.b67_table.specs.Rows.{enter}
 use Rattle.b67_rows.proofs.Rows.{words_are}
 use Rattle.b67_rows.proofs.StackWords.{word-under, stack-over, drop-seam, take-all, length-stack}
 use Rattle.b67_rows.proofs.StoreRow.{most_is}
+use Rattle.b67_rows.proofs.AtOperator.{AtOperator}
 
 pub below_is : (m n : ℕ) → m < n → nat_lt m n ≡ true
 below_is m n h = grind (arith, nat_tests)
@@ -16,12 +17,32 @@ pub record Called (core : Core) (arguments : List Word) (reference marked : Word
   pub words : core.words ≡ arguments ++ reference ∷ marked ∷ below
   pub mark_at : core.registers.f ≡ length core.below + length below
 
-module _ (code : Code) (img : Image) (p : ℕ) (core : Core) (has : HasCore img p core) (next : ℕ) (there : operator_at code core.registers ≡ Ok (ops.Plain kinds.Entr, next))
-    (arguments : List Word) (reference marked : Word) (below : List Word) (called : Called core arguments reference marked below)
-    (m : Mscw) (reads_mark : as_mscw marked ≡ Some m) (unentered : m.entered ≡ false)
-    (level index : ℕ) (frame : Place) (reads : as_irw reference ≡ Some (record { level = level; index = index })) (shown : display_at core.registers level ≡ Some frame)
-    (entry : Word) (lies : word_at img.stacks (record { stack = frame.stack; at = frame.at + index }) ≡ Some entry) (no_sirw : as_sirw entry ≡ None)
-    (pcw : Pcw) (reads_entry : as_pcw entry ≡ Some pcw) (is_intrinsic : pcw.intrinsic ≡ true) where
+-- What ENTR finds where it enters an intrinsic: arguments on a reference on a mark, and the control word in the cell that the reference names.
+pub record EntersIntrinsic (img : Image) (core : Core) : Type 0 where
+  pub arguments : List Word
+  pub reference : Word
+  pub marked : Word
+  pub below : List Word
+  pub called : Called core arguments reference marked below
+  pub m : Mscw
+  pub reads_mark : as_mscw marked ≡ Some m
+  pub unentered : m.entered ≡ false
+  pub level : ℕ
+  pub index : ℕ
+  pub frame : Place
+  pub reads : as_irw reference ≡ Some (record { level = level; index = index })
+  pub shown : display_at core.registers level ≡ Some frame
+  pub entry : Word
+  pub lies : word_at img.stacks (record { stack = frame.stack; at = frame.at + index }) ≡ Some entry
+  pub no_sirw : as_sirw entry ≡ None
+  pub pcw : Pcw
+  pub reads_entry : as_pcw entry ≡ Some pcw
+  pub is_intrinsic : pcw.intrinsic ≡ true
+
+module _ (code : Code) (here : AtOperator code (ops.Plain kinds.Entr)) (enters : EntersIntrinsic here.img here.core) where
+  open here use {img, p, core, has, next}
+  open enters use {arguments, reference, marked, below, called, m, reads_mark, unentered, index, frame, reads, shown, entry, lies, no_sirw, pcw, reads_entry, is_intrinsic}
+
   abbrev r : Registers
   r = core.registers
 

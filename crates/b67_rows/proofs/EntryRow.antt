@@ -1,6 +1,6 @@
 -- ENTR on a word that leads to a procedure or a block: a frame is made of the mark under it and of the word itself.
 use Rattle.std.proofs.Common.{◌≡◌, refl, sym, ap, ◌∙◌, ℕ, zero, suc, ◌+◌, ◌-◌, ◌<◌, ◌≤◌, List, [], ◌∷◌, ◌++◌, length, Option, Some, Bool, true, false, Result, Ok, arith, append_assoc, append-nil, length-append}
-use Rattle.b67_rows.proofs.Prelude.{if◌then◌else◌, nat_lt, nat_le, ◌&&◌, slice_get, slice_set, reverse, Place, Word, Registers, Mscw, Pcw, Rcw, as_irw, as_sirw, as_mscw, as_rcw, place_at, Code, Stacks, words_of, word_at, with_stack, with_word, Entry, InterruptKind, BadCode, Effect, gives, Image, with_stacks, with_registers, end_of_code, most_cells, control_word, entered_mark, if_fits, is_home, if_home, entered, Look, found, stops, at, ◌>->◌, valid, read_as, look_seen, place, linked, Program, Change, done, does, effect_of, asked, see, answer, ◌>>=◌, save, registers, floor, frame, at_or, irw_or_sirw, cell_of, invalid, intrinsic_numbered, intrinsic, enter_by, enter_procedure, not_entered, table, operator_at, Core, IsCore, HasCore, with_core, stack_of, Enter, told_by, called_by, letter, then_seen, see_found, reverse-append, length-reverse}
+use Rattle.b67_rows.proofs.Prelude.{reverse-append, length-reverse, if◌then◌else◌, nat_lt, nat_le, ◌&&◌, slice_get, slice_set, reverse, Enter, Word, Place, as_irw, as_sirw, as_mscw, as_rcw, place_at, Mscw, Pcw, Rcw, Registers, Code, Stacks, words_of, word_at, with_stack, with_word, place, linked, Effect, gives, Image, with_stacks, with_registers, intrinsic, end_of_code, most_cells, control_word, entered_mark, if_fits, is_home, if_home, entered, Look, found, stops, at, ◌>->◌, valid, read_as, look_seen, intrinsic_numbered, floor, frame, at_or, Program, Change, done, does, effect_of, asked, see, answer, ◌>>=◌, save, registers, irw_or_sirw, cell_of, invalid, enter_by, enter_procedure, not_entered, table, Entry, InterruptKind, BadCode, then_seen, see_found, told_by, called_by, letter, Core, IsCore, with_core, stack_of}
 use Rattle.b67_ops.specs.declared.Operator.TheVariants as ops
 use Rattle.b67_ops.specs.declared.PlainKind.TheVariants as kinds
 use Rattle.b67_table.specs.declared.Class.TheVariants as classes
@@ -15,6 +15,7 @@ use Rattle.b67_rows.proofs.Rows.{raw_is, words_are, action_is}
 use Rattle.b67_rows.proofs.StackWords.{word-under, stack-over, length-stack, words-set, set-set}
 use Rattle.b67_rows.proofs.StoreRow.{most_is}
 use Rattle.b67_rows.proofs.EnterRow.{below_is}
+use Rattle.b67_rows.proofs.AtOperator.{AtOperator}
 
 -- another word after so many
 set-over : (front back : List Word) (k n : ℕ) (x : Word) → n ≡ length front + k → slice_set (front ++ back) n x ≡ front ++ slice_set back k x
@@ -58,8 +59,10 @@ pub record Enters (code : Code) (img : Image) (core : Core) (next : ℕ) (argume
   pub returns : next < end_of_code
   pub linked : look_seen img.stacks (linked (place core.registers.stack core.registers.f) home c.level) ≡ Ok display
 
-module _ (code : Code) (img : Image) (p : ℕ) (core : Core) (has : HasCore img p core) (next : ℕ) (there : operator_at code core.registers ≡ Ok (ops.Plain kinds.Entr, next))
-    (arguments : List Word) (control marked : Word) (more : List Word) (m : Mscw) (c : Pcw) (home : Place) (display : List (Option Place)) (e : Enters code img core next arguments control marked more m c home display) where
+module _ (code : Code) (here : AtOperator code (ops.Plain kinds.Entr)) (arguments : List Word) (control marked : Word) (more : List Word) (m : Mscw) (c : Pcw) (home : Place) (display : List (Option Place))
+    (e : Enters code here.img here.core here.next arguments control marked more m c home display) where
+  open here use {img, p, core, has, next}
+
   abbrev r : Registers
   r = core.registers
 
@@ -175,7 +178,7 @@ module _ (code : Code) (img : Image) (p : ℕ) (core : Core) (has : HasCore img 
 
   pub enter_raw : raw code img p ≡ gives (with_core img p new)
   unfolding row
-  enter_raw = raw_is code img p core has (ops.Plain kinds.Entr) next there ∙ does_is
+  enter_raw = raw_is code (ops.Plain kinds.Entr) here ∙ does_is
 
   pub enter_class : class_at (ops.Plain kinds.Entr) r.place ≡ classes.Action
   unfolding class_at row
@@ -183,7 +186,7 @@ module _ (code : Code) (img : Image) (p : ℕ) (core : Core) (has : HasCore img 
 
   pub enter_action : table code img p ≡ outcomes.gives (with_core img p new) → letter code img p ≡ Some act.Enter
   enter_action t =
-      action_is code img p core has (ops.Plain kinds.Entr) next there (outcomes.gives (with_core img p new)) t
+      action_is code (ops.Plain kinds.Entr) here (outcomes.gives (with_core img p new)) t
       ∙ ap (λ (o : Option Word). (told_by (called_letter img r.stack) (look_seen img.stacks (valid o >-> (λ (above : Word). called_by above (cell_of r above)))))) control_there
       ∙ ap (λ (x : Result Pcw InterruptKind). (told_by (called_letter img r.stack) x)) e.calls
       ∙ ap (λ (b : Bool). (if b then intrinsic_letter (woken_number img.numbers r.stack) (intrinsic_numbered c.number) else Some Enter)) e.no_intrinsic

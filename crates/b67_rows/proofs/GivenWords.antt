@@ -1,6 +1,6 @@
 -- The words of the actuals of a call: values, and references to the cells of arrays, of events, of variables and of other actuals.
 use Rattle.std.proofs.Common.{◌≡◌, refl, sym, ap, ◌∙◌, subst, ℕ, suc, ◌+◌, List, [], ◌∷◌, ◌++◌, length, arith, append_assoc, length-append}
-use Rattle.b67_rows.proofs.Prelude.{reverse, reverse-append, Kind, Named, PExpr, Scopes, Value, Given, valued, passed, refers, names, Word, Couple, HasKind, Wanted, IsOwnActual, Slot, Known, newest, ValueIs, SlotIs, SlotsAre}
+use Rattle.b67_rows.proofs.Prelude.{reverse-append, reverse, PExpr, Scopes, Kind, Named, Given, valued, passed, refers, names, Value, Word, Couple, Wanted, IsOwnActual, HasKind, Slot, Known, newest, ValueIs, SlotIs, SlotsAre}
 use Rattle.algol_meaning.specs.Value.{Reference, Cell}
 use Rattle.algol_meaning.specs.Value as cells
 use Rattle.algol_paths.specs.Arrays.{DeclaredArray, Shape, shape_of}

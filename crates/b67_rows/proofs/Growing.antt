@@ -1,6 +1,6 @@
 -- The world in which an instance is made, and where the code after an entry ends.
 use Rattle.std.proofs.Common.{slice_get, ◌≡◌, ◌≢◌, sym, ap, ◌∙◌, ℕ, zero, suc, ◌+◌, ◌*◌, ◌≤◌, List, [], ◌∷◌, ◌++◌, length, Option, Some, None, arith, length-append}
-use Rattle.b67_rows.proofs.Prelude.{numbered, Kind, Block, items, items_of, decls_items, ending, Operator, Spells, Segment, none_some}
+use Rattle.b67_rows.proofs.Prelude.{numbered, Block, Kind, items, items_of, decls_items, ending, Operator, Spells, Segment, none_some}
 use Rattle.b67_ops.specs.Spelling.{spelling}
 use Rattle.b67_segment.specs.Operators.{Placed, text, size, width, StandsAmong}
 use Rattle.b67_segment.proofs.Fetches.{length-syllables}

@@ -1,6 +1,6 @@
 -- NXLV, NXLN and INDX on the descriptor of an array, and STOD on that of an element.
 use Rattle.std.proofs.Common.{◌≡◌, refl, sym, ap, ◌∙◌, ℕ, ◌+◌, ◌-◌, List, [], ◌∷◌, ◌++◌, length, take, Option, Some, None, Bool, true, false, Ok, ℤ, arith, append_assoc}
-use Rattle.b67_rows.proofs.Prelude.{if◌then◌else◌, ◌==◌, slice_get, reverse, FaultKind, Place, Word, Registers, Descriptor, Irw, Sirw, as_irw, as_sirw, as_descriptor, Code, Stacks, words_of, word_at, with_stack, with_push, with_cut, Cell, Reached, StackUnderflow, is_array_descriptor, as_indexed, gives, faults, Image, with_stacks, with_registers, with_rows, Look, found, stops, ◌>->◌, valid, look_seen, replaced, Test, answer, interrupt, fault, Program, does, effect_of, asked, changed, see, ◌>>=◌, told, display_at, floor, Two, cell_in, sirw_cell, irw_or_sirw, no_second, one_sirw, reached_in, from_top, operand_in, invalid, store_by, stored, operator_at, Core, HasCore, with_core, stack_of, then_seen, see_found, reverse-cons}
+use Rattle.b67_rows.proofs.Prelude.{if◌then◌else◌, ◌==◌, slice_get, reverse, FaultKind, Word, Place, as_irw, as_sirw, as_descriptor, Descriptor, Irw, Registers, Sirw, Code, Stacks, words_of, word_at, with_stack, with_push, with_cut, is_array_descriptor, as_indexed, gives, faults, Image, with_stacks, with_registers, with_rows, Look, found, stops, ◌>->◌, valid, look_seen, replaced, display_at, floor, Test, answer, interrupt, fault, Program, does, effect_of, asked, changed, see, ◌>>=◌, told, Two, cell_in, sirw_cell, irw_or_sirw, no_second, one_sirw, reached_in, from_top, operand_in, invalid, store_by, stored, operator_at, Cell, StackUnderflow, Reached, then_seen, see_found, Core, HasCore, with_core, stack_of, reverse-cons}
 use Rattle.b67_num.specs.declared.FaultKind.TheVariants.{InvalidIndex}
 use Rattle.b67_word.specs.Word.{as_whole}
 use Rattle.b67_control.specs.Control.{descriptor_word}
@@ -17,6 +17,7 @@ use Rattle.b67_table.specs.Table.{raw, class_at}
 use Rattle.b67_rows.proofs.Rows.{raw_is, words_are}
 use Rattle.b67_rows.proofs.StackWords.{word-over, word-under, cut-stack, words-set, set-set}
 use Rattle.b67_rows.proofs.StoreRow.{most_is}
+use Rattle.b67_rows.proofs.AtOperator.{at_operator}
 
 -- ---- tests, one after another
 
@@ -287,19 +288,19 @@ module _ (img : Image) (p : ℕ) (core : Core) (has : HasCore img p core) (x y :
 module _ (code : Code) (img : Image) (p : ℕ) (core : Core) (has : HasCore img p core) (next : ℕ) where
   pub load_raw : operator_at code core.registers ≡ Ok (ops.Plain kinds.Nxlv, next) → raw code img p ≡ does p (index_and_load core.registers next) img
   unfolding rows.row
-  load_raw at = raw_is code img p core has (ops.Plain kinds.Nxlv) next at
+  load_raw at = raw_is code (ops.Plain kinds.Nxlv) (at_operator has at)
 
   pub mother_raw : operator_at code core.registers ≡ Ok (ops.Plain kinds.Nxln, next) → raw code img p ≡ does p (index_mother core.registers next) img
   unfolding rows.row
-  mother_raw at = raw_is code img p core has (ops.Plain kinds.Nxln) next at
+  mother_raw at = raw_is code (ops.Plain kinds.Nxln) (at_operator has at)
 
   pub index_raw : operator_at code core.registers ≡ Ok (ops.Plain kinds.Indx, next) → raw code img p ≡ does p (index_program core.registers next) img
   unfolding rows.row
-  index_raw at = raw_is code img p core has (ops.Plain kinds.Indx) next at
+  index_raw at = raw_is code (ops.Plain kinds.Indx) (at_operator has at)
 
   pub stored_raw : operator_at code core.registers ≡ Ok (ops.Plain kinds.Stod, next) → raw code img p ≡ does p (store false core.registers next) img
   unfolding rows.row
-  stored_raw at = raw_is code img p core has (ops.Plain kinds.Stod) next at
+  stored_raw at = raw_is code (ops.Plain kinds.Stod) (at_operator has at)
 
 -- none of them is private
 module _ (at : ℕ) where

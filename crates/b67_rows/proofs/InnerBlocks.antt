@@ -1,6 +1,6 @@
 -- A block that is no procedure's stands in the text of one before it: that block is next around it, and has as many tokens at least.
 use Rattle.std.proofs.Common.{◌≡◌, refl, sym, ap, ◌∙◌, subst, ℕ, zero, suc, ◌+◌, ◌<◌, ◌≤◌, Bool, true, false, List, [], ◌∷◌, ◌++◌, length, map, Some, None, arith, add-one, append_assoc}
-use Rattle.b67_rows.proofs.Prelude.{◌==◌, if◌then◌else◌, not, slice_get, Spot, Named, Block, block_numbered, number_at, around, stmt_tokens, stmts_tokens, decls_tokens, PStmt, PStmts, PDecls, PBody, Scopes, Item, items, event_items, decls_items, ending, items_of, BlockIsSeen, IsSeenAround, IsInner, is_procedure, InStmt, InStmts, InItems, InDeclared, get_within, true_false, some_same, none_some}
+use Rattle.b67_rows.proofs.Prelude.{◌==◌, if◌then◌else◌, not, slice_get, Block, block_numbered, number_at, around, stmt_tokens, stmts_tokens, decls_tokens, PStmt, PStmts, PDecls, PBody, Scopes, Spot, Named, Item, items, event_items, decls_items, ending, items_of, BlockIsSeen, IsSeenAround, IsInner, is_procedure, InStmt, InStmts, InItems, InDeclared, get_within, true_false, some_same, none_some}
 use Rattle.std.proofs.lemmas.Bool.{and_parts, eqb-true}
 use Rattle.algol_tree.specs.declared.tree.Heading.{Heading}
 use Rattle.algol_tree.specs.Blocks.{same_spot, of_statement, of_procedure, procedure_block, blocks_of, blocks_in_decl, blocks_in_decls, blocks_in_stmts, blocks_in_body, spot_of, outer_block}

@@ -1,13 +1,12 @@
 -- WRITE and SELECT.
-use Rattle.std.proofs.Common.{◌≡◌, refl, sym, ap, ◌∙◌, ℕ, ◌+◌, ◌-◌, ◌*◌, ◌≤◌, List, [], ◌∷◌, ◌++◌, take, Option, Some, None, Bool, true, false, Ok, append_assoc, ℤ}
-use Rattle.b67_rows.proofs.Prelude.{if◌then◌else◌, reverse, pos, Place, Word, Registers, Mscw, Pcw, as_irw, as_sirw, as_mscw, as_pcw, Code, words_of, word_at, with_stack, Effect, gives, faults, Image, with_stacks, with_registers, found, ◌>->◌, valid, chained, read_as, place, mark_at, end_of_code, intrinsic_numbered, display_at, Program, effect_of, asked, see, answer, ◌>>=◌, if_chained, finished_at, intrinsic_row, operator_at, Core, HasCore, with_core}
+use Rattle.std.proofs.Common.{◌≡◌, refl, sym, ap, ◌∙◌, ℕ, ◌+◌, ◌-◌, ◌*◌, ◌≤◌, List, [], ◌∷◌, ◌++◌, take, Option, Some, None, Bool, true, false, append_assoc, ℤ}
+use Rattle.b67_rows.proofs.Prelude.{if◌then◌else◌, reverse, pos, Word, Place, as_irw, as_sirw, as_mscw, as_pcw, Mscw, Pcw, Registers, Code, words_of, word_at, with_stack, if_chained, finished_at, place, mark_at, chain_broken, Effect, gives, faults, Image, with_stacks, with_registers, intrinsic_row, end_of_code, found, ◌>->◌, valid, chained, read_as, intrinsic_numbered, display_at, Program, effect_of, asked, see, answer, ◌>>=◌, Core, with_core}
 use Rattle.b67_num.specs.declared.FaultKind.TheVariants.{CaseIndex}
 use Rattle.b67_ops.specs.declared.Operator.TheVariants as ops
 use Rattle.b67_ops.specs.declared.PlainKind.TheVariants as kinds
 use Rattle.b67_ops.specs.declared.intrinsic.Intrinsic.{Intrinsic}
 use Rattle.b67_ops.specs.declared.intrinsic.Intrinsic.TheVariants.{Write, Select}
 use Rattle.b67_table.specs.declared.Class.TheVariants as classes
-use Rattle.b67_table.specs.Chains.{chain_broken}
 use Rattle.b67_table.specs.Lines.{line_for}
 use Rattle.b67_table.specs.Program.{line}
 use Rattle.b67_table.specs.Arguments.{Three, three_in, wholes_in}
@@ -17,7 +16,8 @@ use Rattle.b67_table.specs.Table.{raw, class_at}
 use Rattle.b67_rows.proofs.Rows.{raw_is, words_are}
 use Rattle.b67_rows.proofs.StackWords.{cut-stack}
 use Rattle.b67_rows.proofs.StoreRow.{most_is}
-use Rattle.b67_rows.proofs.EnterRow.{Called, enter_asked, enter_does}
+use Rattle.b67_rows.proofs.EnterRow.{Called, enter_asked, enter_does, EntersIntrinsic}
+use Rattle.b67_rows.proofs.AtOperator.{AtOperator}
 
 -- the core up to below a mark, with the mark below it in F
 abbrev pub without_call : Core → List Word → ℕ → ℕ → Core
@@ -49,8 +49,33 @@ pub record CallsIntrinsic (img : Image) (core : Core) (name : Intrinsic) (argume
   pub lower_mark : Mscw
   pub reads_lower : as_mscw lower ≡ Some lower_mark
 
-module _ (code : Code) (img : Image) (p : ℕ) (core : Core) (has : HasCore img p core) (next : ℕ) (there : operator_at code core.registers ≡ Ok (ops.Plain kinds.Entr, next))
-    (name : Intrinsic) (arguments : List Word) (reference marked : Word) (below : List Word) (c : CallsIntrinsic img core name arguments reference marked below) where
+module _ (code : Code) (here : AtOperator code (ops.Plain kinds.Entr)) (name : Intrinsic) (arguments : List Word) (reference marked : Word) (below : List Word)
+    (c : CallsIntrinsic here.img here.core name arguments reference marked below) where
+  open here use {img, p, core, has, next}
+
+  abbrev enters : EntersIntrinsic img core
+  enters = record {
+    arguments = arguments;
+    reference = reference;
+    marked = marked;
+    below = below;
+    called = c.called;
+    m = c.m;
+    reads_mark = c.reads_mark;
+    unentered = c.unentered;
+    level = c.level;
+    index = c.index;
+    frame = c.frame;
+    reads = c.reads;
+    shown = c.shown;
+    entry = c.entry;
+    lies = c.lies;
+    no_sirw = c.no_sirw;
+    pcw = c.pcw;
+    reads_entry = c.reads_entry;
+    is_intrinsic = c.is_intrinsic;
+  }
+
   abbrev r : Registers
   r = core.registers
 
@@ -60,16 +85,14 @@ module _ (code : Code) (img : Image) (p : ℕ) (core : Core) (has : HasCore img 
   -- what its test answers
   pub entered_asked : asked img (enter code core.registers next) ≡ asked img (intrinsic_row (Some name) code core.registers next c.m (reverse arguments))
   entered_asked =
-      enter_asked code img p core has next there arguments reference marked below c.called c.m c.reads_mark c.unentered c.level c.index c.frame c.reads c.shown c.entry c.lies c.no_sirw
-      c.pcw c.reads_entry c.is_intrinsic
+      enter_asked code here enters
       ∙ ap (λ (o : Option Intrinsic). asked img (intrinsic_row o code r next c.m (reverse arguments))) c.numbered
 
   pub entered : raw code img p ≡ tested (intrinsic_row (Some name) code r next c.m (reverse arguments))
   unfolding row
   entered =
-      raw_is code img p core has (ops.Plain kinds.Entr) next there
-      ∙ enter_does code img p core has next there arguments reference marked below c.called c.m c.reads_mark c.unentered c.level c.index c.frame c.reads c.shown c.entry c.lies c.no_sirw
-      c.pcw c.reads_entry c.is_intrinsic
+      raw_is code (ops.Plain kinds.Entr) here
+      ∙ enter_does code here enters
       ∙ ap (λ (o : Option Intrinsic). tested (intrinsic_row o code r next c.m (reverse arguments))) c.numbered
 
   pub cut_words : take r.f (words_of img.stacks r.stack) ≡ core.below ++ reverse below

@@ -1,6 +1,6 @@
 -- EXIT and RETN of a frame that is not the base frame.
 use Rattle.std.proofs.Common.{◌≡◌, refl, sym, ap, ◌∙◌, ℕ, ◌+◌, ◌≤◌, List, [], ◌∷◌, ◌++◌, length, take, drop, Option, Some, None, Bool, true, false, Ok, arith, append_assoc, length-append, ◌≢◌}
-use Rattle.b67_rows.proofs.Prelude.{if◌then◌else◌, nat_eq, reverse, CriticalBlockExit, Place, Word, Registers, place_at, Code, Stacks, words_of, with_stack, with_cut, with_push, Below, Effect, gives, faults, Image, with_stacks, with_rows, with_registers, place, left_to, rebuilt, is_critical, leave, found, ◌>->◌, look_seen, pushed, frame, at_or, Program, Change, done, changed, effect_of, asked, answer, fault, registers, cut, live_criticals, table, operator_at, Core, IsCore, HasCore, with_core, stack_of, letter, then_seen, see_found, nat_tests}
+use Rattle.b67_rows.proofs.Prelude.{nat_tests, if◌then◌else◌, nat_eq, reverse, CriticalBlockExit, Word, Place, place_at, Registers, Code, Stacks, words_of, with_stack, with_cut, with_push, place, left_to, rebuilt, Effect, gives, faults, Image, with_stacks, with_rows, with_registers, is_critical, leave, found, ◌>->◌, look_seen, pushed, frame, at_or, Program, Change, done, changed, effect_of, asked, answer, fault, registers, cut, live_criticals, table, operator_at, Below, then_seen, see_found, letter, Core, IsCore, HasCore, with_core, stack_of}
 use Rattle.b67_deeds.specs.declared.Letter.TheVariants as act
 use Rattle.b67_ops.specs.declared.Operator.TheVariants as ops
 use Rattle.b67_ops.specs.declared.PlainKind.TheVariants as kinds
@@ -19,6 +19,7 @@ use Rattle.b67_letters.specs.Letters.{left_letter}
 use Rattle.b67_rows.proofs.Rows.{raw_is, words_are, action_is}
 use Rattle.b67_rows.proofs.StackWords.{take-seam, drop-seam, stack-over, length-stack, words-set, set-set}
 use Rattle.b67_rows.proofs.Cored.{has_now, others_have}
+use Rattle.b67_rows.proofs.AtOperator.{at_operator}
 
 pub not_zero : (n : ℕ) → 1 ≤ n → nat_eq n 0 ≡ false
 not_zero n h = grind (arith, nat_tests)
@@ -45,8 +46,24 @@ pub record Leaves (img : Image) (core : Core) (below words : List Word) (mark co
   pub left_to : look_seen img.stacks (left_to (place core.registers.stack (length (below ++ reverse words)))) ≡ Ok b
   pub rebuilt : look_seen img.stacks (rebuilt (place core.registers.stack b.frame) b.control.caller_level) ≡ Ok display
 
-module _ (code : Code) (img : Image) (p : ℕ) (core : Core) (has : HasCore img p core) (next : ℕ)
-    (below words : List Word) (mark control : Word) (cells : List Word) (b : Below) (display : List (Option Place)) (e : Leaves img core below words mark control cells b display) where
+-- The innermost frame, which is left, and what lies under it.
+pub record LeavesHere (img : Image) (core : Core) : Type 0 where
+  pub below : List Word
+  pub words : List Word
+  pub mark : Word
+  pub control : Word
+  pub cells : List Word
+  pub under : Below
+  pub display : List (Option Place)
+  pub leaves : Leaves img core below words mark control cells under display
+
+abbrev pub leaves_here : {img : Image} {core : Core} {below words : List Word} {mark control : Word} {cells : List Word} {b : Below} {display : List (Option Place)} → Leaves img core below words mark control cells b display → LeavesHere img core
+leaves_here {below = below} {words = words} {mark = mark} {control = control} {cells = cells} {b = b} {display = display} leaves =
+    record { below = below; words = words; mark = mark; control = control; cells = cells; under = b; display = display; leaves = leaves }
+
+module _ (code : Code) (img : Image) (p : ℕ) (core : Core) (has : HasCore img p core) (next : ℕ) (leaves : LeavesHere img core) where
+  open leaves use {below, words, mark, control, cells, under as b, display, leaves as e}
+
   abbrev r : Registers
   r = core.registers
 
@@ -159,11 +176,11 @@ module _ (code : Code) (img : Image) (p : ℕ) (core : Core) (has : HasCore img 
   module _ (at : operator_at code core.registers ≡ Ok (ops.Plain kinds.Exit, next)) where
     pub leave_raw : is_critical core.registers.stack (length (below ++ reverse words) ∷ []) (live_criticals img.states img.regs) ≡ false → raw code img p ≡ gives (after None)
     unfolding row
-    leave_raw free = raw_is code img p core has (ops.Plain kinds.Exit) next at ∙ leave_does None free
+    leave_raw free = raw_is code (ops.Plain kinds.Exit) (at_operator has at) ∙ leave_does None free
 
     pub exit_blocked : is_critical core.registers.stack (length (below ++ reverse words) ∷ []) (live_criticals img.states img.regs) ≡ true → raw code img p ≡ faults CriticalBlockExit
     unfolding row
-    exit_blocked critical = raw_is code img p core has (ops.Plain kinds.Exit) next at ∙ leave_blocked None critical
+    exit_blocked critical = raw_is code (ops.Plain kinds.Exit) (at_operator has at) ∙ leave_blocked None critical
 
     pub leave_class : class_at (ops.Plain kinds.Exit) r.place ≡ classes.Action
     unfolding class_at row
@@ -171,6 +188,6 @@ module _ (code : Code) (img : Image) (p : ℕ) (core : Core) (has : HasCore img 
 
     pub leave_action : table code img p ≡ outcomes.gives (after None) → letter code img p ≡ Some act.Leave
     leave_action t =
-        action_is code img p core has (ops.Plain kinds.Exit) next at (outcomes.gives (after None)) t
+        action_is code (ops.Plain kinds.Exit) (at_operator has at) (outcomes.gives (after None)) t
         ∙ ap (λ (n : ℕ). Some ((left_letter n))) e.frame_is
         ∙ ap (λ (t : Bool). Some ((if t then End else Leave))) (not_zero f e.some)

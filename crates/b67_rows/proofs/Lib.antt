@@ -1,4 +1,5 @@
 pub mod Prelude
+pub mod AtOperator
 pub mod Yielding
 pub mod Numbers
 pub mod Parents

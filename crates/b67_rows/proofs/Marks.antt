@@ -1,7 +1,7 @@
 -- The marks that lie above the floor of a frame lead down to its own mark.
 use Rattle.std.proofs.Common.{◌≡◌, refl, sym, ap, ◌∙◌, ℕ, zero, suc, ◌+◌, ◌-◌, ◌≤◌, ◌<◌, ◌^◌, List, [], ◌∷◌, ◌++◌, length, Option, Some, Bool, true, Ok, arith, append_assoc}
-use Rattle.b67_rows.proofs.Prelude.{if◌then◌else◌, nat_le, ◌&&◌, slice_get, reverse, Scopes, Place, Word, Mscw, Rcw, as_mscw, as_rcw, Stacks, word_at, Below, Look, found, ◌>->◌, chained, read_as, look_seen, place, control_at, frame_below, left_to, Slot, operand, Known, newest, SlotsAre, then_seen}
-use Rattle.b67_table.specs.Chains.{chain_broken, below, entered_from, entered_below, if_apart}
+use Rattle.b67_rows.proofs.Prelude.{if◌then◌else◌, nat_le, ◌&&◌, slice_get, reverse, Scopes, Word, Place, as_mscw, as_rcw, Mscw, Rcw, Stacks, word_at, place, control_at, frame_below, left_to, chain_broken, Look, found, ◌>->◌, chained, read_as, look_seen, Below, then_seen, Slot, operand, Known, newest, SlotsAre}
+use Rattle.b67_table.specs.Chains.{below, entered_from, entered_below, if_apart}
 use Rattle.b67_standing.specs.Stepping.{reference, intrinsic, control, descriptor, mark}
 use Rattle.b67_cores.proofs.Moving.{slots_length}
 use Rattle.b67_rows.proofs.StackWords.{word-under}

@@ -1,6 +1,6 @@
 -- Static parents of an instance, and the blocks around a block.
 use Rattle.std.proofs.Common.{◌≡◌, refl, ap, ℕ, zero, suc, ◌+◌, List, [], ◌∷◌, length, arith}
-use Rattle.b67_rows.proofs.Prelude.{Spot, Block, block_numbered, number_at, around, World, instance_at, ancestor}
+use Rattle.b67_rows.proofs.Prelude.{Block, block_numbered, number_at, around, Spot, World, instance_at, ancestor}
 use Rattle.std.specs.Prelude.{map}
 use Rattle.algol_tree.specs.Cells.{level_of}
 use Rattle.b67_ops.specs.declared.TheConstants.{OUTER_LEVEL}

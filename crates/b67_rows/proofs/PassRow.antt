@@ -1,6 +1,6 @@
 -- LODT on the reference to a cell that has a reference itself, which comes in its place.
-use Rattle.std.proofs.Common.{◌≡◌, refl, ap, ◌∙◌, ℕ, ◌+◌, ◌-◌, List, ◌∷◌, Option, Some, Bool, true, false, Ok, arith}
-use Rattle.b67_rows.proofs.Prelude.{if◌then◌else◌, ◌==◌, ◌||◌, is_some, Place, Word, Registers, Irw, Sirw, as_irw, as_sirw, Code, Stacks, word_at, Cell, Reached, StackUnderflow, Effect, gives, Image, with_stacks, with_registers, Look, stops, ◌>->◌, valid, replaced, display_at, floor, Program, does, effect_of, asked, see, answer, ◌>>=◌, cell_in, irw_or_sirw, cell_of, named, reached_in, from_top, invalid, operator_at, Core, HasCore, with_core}
+use Rattle.std.proofs.Common.{◌≡◌, refl, ap, ◌∙◌, ℕ, ◌+◌, ◌-◌, List, ◌∷◌, Option, Some, Bool, true, false, arith}
+use Rattle.b67_rows.proofs.Prelude.{if◌then◌else◌, ◌==◌, ◌||◌, is_some, Word, Place, as_irw, as_sirw, Irw, Registers, Sirw, Code, Stacks, word_at, Effect, gives, Image, with_stacks, with_registers, Look, stops, ◌>->◌, valid, replaced, display_at, floor, Program, does, effect_of, asked, see, answer, ◌>>=◌, cell_in, irw_or_sirw, cell_of, named, reached_in, from_top, invalid, Cell, StackUnderflow, Reached, with_core}
 use Rattle.b67_ops.specs.declared.Operator.TheVariants as ops
 use Rattle.b67_ops.specs.declared.PlainKind.TheVariants as kinds
 use Rattle.b67_table.specs.declared.Class.TheVariants as classes
@@ -9,6 +9,7 @@ use Rattle.b67_table.specs.Table.{raw, class_at}
 use Rattle.b67_rows.proofs.Rows.{raw_is}
 use Rattle.b67_rows.proofs.StoreRow.{most_is}
 use Rattle.b67_rows.proofs.TopRow.{with_other, one_long, word_on_top, top_replaced}
+use Rattle.b67_rows.proofs.AtOperator.{AtOperator}
 
 pub or_true : (b : Bool) → (b || true) ≡ true
 or_true true = refl
@@ -18,10 +19,11 @@ or_true false = refl
 pub refers_passed : (w : Word) (other : Sirw) → as_sirw w ≡ Some other → is_passed w ≡ true
 refers_passed w other e = ap (λ (o : Option Sirw). (w.tag == 0) || is_some o) e ∙ or_true (w.tag == 0)
 
-module _ (code : Code) (img : Image) (p : ℕ) (core : Core) (has : HasCore img p core) (next : ℕ) (at : operator_at code core.registers ≡ Ok (ops.Plain kinds.Lodt, next))
-    (x : Word) (words : List Word) (top : core.words ≡ x ∷ words)
-    (level index : ℕ) (reads : as_irw x ≡ Some (record { level = level; index = index })) (frame : Place) (shown : display_at core.registers level ≡ Some frame)
-    (w : Word) (lies : word_at img.stacks (record { stack = frame.stack; at = frame.at + index }) ≡ Some w) (other : Sirw) (refers : as_sirw w ≡ Some other) where
+module _ (code : Code) (here : AtOperator code (ops.Plain kinds.Lodt)) (x : Word) (words : List Word) (top : here.core.words ≡ x ∷ words) (level index : ℕ) (reads : as_irw x ≡ Some (record { level = level; index = index }))
+    (frame : Place) (shown : display_at here.core.registers level ≡ Some frame) (w : Word) (lies : word_at here.img.stacks (record { stack = frame.stack; at = frame.at + index }) ≡ Some w) (other : Sirw)
+    (refers : as_sirw w ≡ Some other) where
+  open here use {img, p, core, has, next}
+
   abbrev r : Registers
   r = core.registers
 
@@ -49,7 +51,7 @@ module _ (code : Code) (img : Image) (p : ℕ) (core : Core) (has : HasCore img 
 
   pub pass_raw : raw code img p ≡ gives (with_core img p (with_other core w words next))
   unfolding row
-  pass_raw = raw_is code img p core has (ops.Plain kinds.Lodt) next at ∙ does_is
+  pass_raw = raw_is code (ops.Plain kinds.Lodt) here ∙ does_is
 
   pub pass_class : class_at (ops.Plain kinds.Lodt) r.place ≡ classes.Action
   unfolding class_at row

@@ -1,6 +1,6 @@
 -- EVAL by what is reached from the cell that is named: of a value the cell is left, and code that gives no place is a fault.
-use Rattle.std.proofs.Common.{◌≡◌, refl, ap, ◌∙◌, ℕ, ◌+◌, ◌-◌, ◌≤◌, List, ◌∷◌, Option, Some, None, Bool, false, Result, Ok, arith}
-use Rattle.b67_rows.proofs.Prelude.{if◌then◌else◌, ◌==◌, NotAVariable, Word, Registers, Pcw, as_pcw, Code, Stacks, Cell, InterruptKind, StackUnderflow, Reached, Effect, gives, faults, Image, with_stacks, with_registers, Look, found, stops, ◌>->◌, valid, look_seen, replaced, floor, Program, Change, answer, fault, does, effect_of, asked, see, ◌>>=◌, cell_word, cell_of, reached, from_top, invalid, accidental, cell_or_entry, operator_at, Resolve, told_by, entered_or, operator_letter, see_found, Core, HasCore, with_core}
+use Rattle.std.proofs.Common.{◌≡◌, refl, ap, ◌∙◌, ℕ, ◌+◌, ◌-◌, ◌≤◌, List, ◌∷◌, Option, Some, None, Bool, false, Result, arith}
+use Rattle.b67_rows.proofs.Prelude.{if◌then◌else◌, ◌==◌, NotAVariable, Resolve, Word, as_pcw, Pcw, Registers, Code, Stacks, Effect, gives, faults, Image, with_stacks, with_registers, accidental, Look, found, stops, ◌>->◌, valid, look_seen, replaced, floor, Program, Change, answer, fault, does, effect_of, asked, see, ◌>>=◌, cell_word, cell_of, reached, from_top, invalid, cell_or_entry, Cell, InterruptKind, StackUnderflow, Reached, see_found, told_by, entered_or, operator_letter, with_core}
 use Rattle.b67_ops.specs.declared.Operator.TheVariants as ops
 use Rattle.b67_ops.specs.declared.PlainKind.TheVariants as kinds
 use Rattle.b67_table.specs.declared.Class.TheVariants as classes
@@ -11,9 +11,12 @@ use Rattle.b67_rows.proofs.Reaching.{Reaches}
 use Rattle.b67_rows.proofs.Rows.{raw_is}
 use Rattle.b67_rows.proofs.StoreRow.{most_is}
 use Rattle.b67_rows.proofs.TopRow.{with_other, one_long, word_on_top, top_replaced}
+use Rattle.b67_rows.proofs.AtOperator.{AtOperator}
 
-module _ (code : Code) (img : Image) (p : ℕ) (core : Core) (has : HasCore img p core) (next : ℕ) (at : operator_at code core.registers ≡ Ok (ops.Plain kinds.Eval, next))
-    (x : Word) (words : List Word) (top : core.words ≡ x ∷ words) (from to : Cell) (names : cell_of core.registers x ≡ Some from) (w : Word) (reaches : Reaches img.stacks from w to) where
+module _ (code : Code) (here : AtOperator code (ops.Plain kinds.Eval)) (x : Word) (words : List Word) (top : here.core.words ≡ x ∷ words) (from to : Cell) (names : cell_of here.core.registers x ≡ Some from) (w : Word)
+    (reaches : Reaches here.img.stacks from w to) where
+  open here use {img, p, core, has, next}
+
   abbrev r : Registers
   r = core.registers
 
@@ -42,7 +45,7 @@ module _ (code : Code) (img : Image) (p : ℕ) (core : Core) (has : HasCore img 
 
   pub place_reached : raw code img p ≡ tested (cell_or_entry r next (record { word = w; cell = to }) (as_pcw w))
   unfolding row
-  place_reached = raw_is code img p core has (ops.Plain kinds.Eval) next at ∙ found_so
+  place_reached = raw_is code (ops.Plain kinds.Eval) here ∙ found_so
 
   pub place_reached_letter : operator_letter (ops.Plain kinds.Eval) img r ≡ Some (entered_or Resolve (as_pcw w))
   place_reached_letter =

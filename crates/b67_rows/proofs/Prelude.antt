@@ -23,7 +23,7 @@ pub use Rattle.algol_meaning.specs.Statements.{decls_items, ending, event_items,
 pub use Rattle.algol_meaning.specs.Value.{Value, number, truth}
 pub use Rattle.algol_meaning.specs.World.{Process, World, ancestor, instance_at}
 pub use Rattle.algol_paths.specs.Arrays.{Made, all_left_to_make, all_to_make, an_event, made_in}
-pub use Rattle.algol_paths.specs.Blocks.{IsInner, BlockIsSeen, IsSeenAround}
+pub use Rattle.algol_paths.specs.Blocks.{BlockIsSeen, IsInner, IsSeenAround}
 pub use Rattle.algol_paths.specs.Laws.{KeepsToText}
 pub use Rattle.algol_paths.specs.Segments.{is_procedure, segment_of}
 pub use Rattle.algol_paths.specs.Texts.{InActuals, InAim, InDeclared, InHole, InItems, InRest, InStmt, InStmts}
@@ -49,13 +49,13 @@ pub use Rattle.b67_store.specs.Store.{Stacks, stack_at, with_cut, with_push, wit
 pub use Rattle.b67_table.proofs.Lists.{get_within}
 pub use Rattle.b67_table.specs.Arguments.{finished_at, if_chained}
 pub use Rattle.b67_table.specs.Arrays.{as_indexed, is_array_descriptor}
-pub use Rattle.b67_table.specs.Chains.{control_at, frame_below, left_to, link_of, linked, mark_at, place, rebuilt}
+pub use Rattle.b67_table.specs.Chains.{chain_broken, control_at, frame_below, left_to, link_of, linked, mark_at, place, rebuilt}
 pub use Rattle.b67_table.specs.Effect.{Effect, faults, gives}
 pub use Rattle.b67_table.specs.Image.{Image, critical_of, with_registers, with_rows, with_stacks}
 pub use Rattle.b67_table.specs.Intrinsics.{intrinsic, intrinsic_row}
 pub use Rattle.b67_table.specs.Limits.{end_of_code, most_cells}
 pub use Rattle.b67_table.specs.Linkage.{accidental, control_word, entered, entered_mark, if_fits, if_home, is_critical, is_home, leave}
-pub use Rattle.b67_table.specs.Look.{Look, at, chained, found, read_as, look_seen, stops, valid, ◌>->◌}
+pub use Rattle.b67_table.specs.Look.{Look, at, chained, found, look_seen, read_as, stops, valid, ◌>->◌}
 pub use Rattle.b67_table.specs.Moves.{pushed, replaced}
 pub use Rattle.b67_table.specs.Names.{intrinsic_numbered}
 pub use Rattle.b67_table.specs.Private.{at_or, display_at, floor, frame}
@@ -65,7 +65,7 @@ pub use Rattle.b67_table.specs.Questions.{live_criticals, told}
 pub use Rattle.b67_table.specs.References.{Two, cell_in, cell_of, cell_place, cell_word, couple_cell, from_top, invalid, irw_or_sirw, named, no_second, one_sirw, operand_in, reached, reached_in, sirw_cell}
 pub use Rattle.b67_table.specs.Rows.{TableRow, cell_or_entry, enter_by, enter_procedure, level_below, not_entered, private_part, store_by, stored, value_or_entry}
 pub use Rattle.b67_table.specs.Starting.{on_path}
-pub use Rattle.b67_table.specs.Table.{by_row, operator_at, table}
+pub use Rattle.b67_table.specs.Table.{by_row, class_by, operator_at, table}
 pub use Rattle.b67_table.specs.declared.Below.{Below}
 pub use Rattle.b67_table.specs.declared.Cell.{Cell}
 pub use Rattle.b67_table.specs.declared.Entry.{Entry}
@@ -83,5 +83,6 @@ pub use Rattle.b67_standing.specs.Stepping.{Slot, operand}
 pub use Rattle.b67_cores.specs.Cores.{Core, HasCore, IsCore, stack_of, with_core}
 pub use Rattle.b67_cores.specs.Slots.{Known, SlotIs, SlotsAre, ValueIs, newest}
 pub use Rattle.b67_footprints.specs.Laws.{HaveOwnStacks, ReachesNoOther}
+pub use Rattle.b67_footprints.specs.Reaching.{OperatorReaches}
 pub use Rattle.b67_faithful.proofs.Contradictions.{none_some, some_same, true_false}
 pub use Rattle.b67_faithful.proofs.Sources.{reverse-cons}

@@ -1,6 +1,6 @@
 -- What a reference reaches: the word of the cell that it names, or through a reference that lies there the word of another cell.
 use Rattle.std.proofs.Common.{◌≡◌, ap, ◌∙◌, Option, Some, None, Ok}
-use Rattle.b67_rows.proofs.Prelude.{Word, Sirw, as_sirw, Stacks, word_at, Cell, Reached, ◌>->◌, look_seen, cell_place, sirw_cell, reached, reached_in, one_sirw, no_second}
+use Rattle.b67_rows.proofs.Prelude.{Word, as_sirw, Sirw, Stacks, word_at, ◌>->◌, look_seen, cell_place, sirw_cell, reached, reached_in, one_sirw, no_second, Cell, Reached}
 
 -- from a cell this word in that cell is reached
 abbrev pub Reaches : Stacks → Cell → Word → Cell → Type 0

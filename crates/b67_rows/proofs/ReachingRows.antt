@@ -1,6 +1,6 @@
 -- VALC by what is reached from the cell that is named: a value is read.
-use Rattle.std.proofs.Common.{◌≡◌, refl, ap, ◌∙◌, ℕ, ◌+◌, List, [], ◌∷◌, ◌++◌, Option, Some, None, Result, Ok}
-use Rattle.b67_rows.proofs.Prelude.{if◌then◌else◌, ◌==◌, Word, Registers, Pcw, as_pcw, Couple, Code, with_stack, Cell, InterruptKind, Reached, Effect, gives, Image, with_stacks, with_registers, found, look_seen, Program, Change, does, effect_of, asked, see, ◌>>=◌, couple_cell, reached, invalid, value_or_entry, operator_at, Read, told_by, entered_or, operator_letter, see_found, Core, HasCore, with_core}
+use Rattle.std.proofs.Common.{◌≡◌, refl, ap, ◌∙◌, ℕ, ◌+◌, List, [], ◌∷◌, ◌++◌, Option, Some, None, Result}
+use Rattle.b67_rows.proofs.Prelude.{if◌then◌else◌, ◌==◌, Read, Word, as_pcw, Pcw, Registers, Couple, Code, with_stack, Effect, gives, Image, with_stacks, with_registers, found, look_seen, Program, Change, does, effect_of, asked, see, ◌>>=◌, couple_cell, reached, invalid, value_or_entry, Cell, InterruptKind, Reached, see_found, told_by, entered_or, operator_letter, Core, with_core}
 use Rattle.b67_ops.specs.declared.Operator.TheVariants as ops
 use Rattle.b67_table.specs.declared.Class.TheVariants as classes
 use Rattle.b67_table.specs.Rows.{row, value_call, value_pushed}
@@ -8,13 +8,16 @@ use Rattle.b67_table.specs.Table.{raw, class_at}
 use Rattle.b67_letters.specs.Letters.{value_letter}
 use Rattle.b67_rows.proofs.Reaching.{Reaches}
 use Rattle.b67_rows.proofs.Rows.{raw_is, pushed_stack, words_are}
+use Rattle.b67_rows.proofs.AtOperator.{AtOperator}
 
 -- the core with a word more on top
 abbrev pub with_top : Core → Word → ℕ → Core
 with_top core w next = record core { words = w ∷ core.words; registers = record core.registers { s = core.registers.s + 1; place = next } }
 
-module _ (code : Code) (img : Image) (p : ℕ) (core : Core) (has : HasCore img p core) (couple : Couple) (next : ℕ) (at : operator_at code core.registers ≡ Ok (ops.Valc couple, next))
-    (from to : Cell) (shown : couple_cell core.registers couple.level couple.index ≡ Some from) (w : Word) (reaches : Reaches img.stacks from w to) where
+module _ (code : Code) (couple : Couple) (here : AtOperator code (ops.Valc couple)) (from to : Cell) (shown : couple_cell here.core.registers couple.level couple.index ≡ Some from) (w : Word)
+    (reaches : Reaches here.img.stacks from w to) where
+  open here use {img, p, core, has, next}
+
   abbrev r : Registers
   r = core.registers
 
@@ -36,7 +39,7 @@ module _ (code : Code) (img : Image) (p : ℕ) (core : Core) (has : HasCore img 
   -- what the row does with what is reached
   pub value_reached : raw code img p ≡ tested (value_or_entry r next (record { word = w; cell = to }) (as_pcw w))
   unfolding row
-  value_reached = raw_is code img p core has (ops.Valc couple) next at ∙ found_so
+  value_reached = raw_is code (ops.Valc couple) here ∙ found_so
 
   pub value_reached_letter : operator_letter (ops.Valc couple) img r ≡ Some (entered_or Read (as_pcw w))
   value_reached_letter =

@@ -1,6 +1,6 @@
 -- RETN of a frame that is not the base frame, with an operand on top, which it gives back.
-use Rattle.std.proofs.Common.{◌≡◌, refl, ap, ◌∙◌, ℕ, ◌+◌, ◌-◌, List, [], ◌∷◌, ◌++◌, length, Option, Some, Bool, true, false, Ok, arith}
-use Rattle.b67_rows.proofs.Prelude.{letter, if◌then◌else◌, nat_eq, not, ◌&&◌, ◌==◌, slice_get, reverse, Place, Word, Registers, Code, word_at, Below, place, Effect, gives, faults, Image, is_critical, leave, live_criticals, CriticalBlockExit, stops, valid, floor, frame, Program, does, effect_of, asked, see, ◌>>=◌, from_top, invalid, StackUnderflow, table, operator_at, Core, HasCore, nat_tests}
+use Rattle.std.proofs.Common.{◌≡◌, refl, ap, ◌∙◌, ℕ, ◌+◌, ◌-◌, List, [], ◌∷◌, ◌++◌, length, Option, Some, Bool, true, false, arith}
+use Rattle.b67_rows.proofs.Prelude.{nat_tests, if◌then◌else◌, nat_eq, not, ◌&&◌, ◌==◌, slice_get, reverse, CriticalBlockExit, Word, Registers, Code, word_at, place, Effect, gives, faults, Image, is_critical, leave, stops, valid, floor, frame, Program, does, effect_of, asked, see, ◌>>=◌, live_criticals, from_top, invalid, table, StackUnderflow, letter}
 use Rattle.b67_deeds.specs.declared.Letter.TheVariants as act
 use Rattle.b67_ops.specs.declared.Operator.TheVariants as ops
 use Rattle.b67_ops.specs.declared.PlainKind.TheVariants as kinds
@@ -8,10 +8,11 @@ use Rattle.b67_table.specs.declared.Class.TheVariants as classes
 use Rattle.b67_table.specs.Outcome as outcomes
 use Rattle.b67_table.specs.Rows.{row, is_result, return_value}
 use Rattle.b67_table.specs.Table.{raw, class_at}
-use Rattle.b67_rows.proofs.LeaveRow.{not_zero, Leaves, after, leave_does, leave_blocked}
+use Rattle.b67_rows.proofs.LeaveRow.{not_zero, after, leave_does, leave_blocked, LeavesHere}
 use Rattle.b67_rows.proofs.Rows.{raw_is, words_are, action_is}
 use Rattle.b67_rows.proofs.StackWords.{word-over}
 use Rattle.b67_rows.proofs.StoreRow.{most_is}
+use Rattle.b67_rows.proofs.AtOperator.{AtOperator}
 
 zero_is : (n : ℕ) → n ≡ 0 → (n == 0) ≡ true
 zero_is n e = grind (arith, e, nat_tests)
@@ -20,9 +21,10 @@ zero_is n e = grind (arith, e, nat_tests)
 pub operand_given : (x : Word) → x.tag ≡ 0 → is_result x ≡ true
 operand_given x tag = rw (zero_is x.tag tag) refl
 
-module _ (code : Code) (img : Image) (p : ℕ) (core : Core) (has : HasCore img p core) (next : ℕ) (there : operator_at code core.registers ≡ Ok (ops.Plain kinds.Retn, next))
-    (below words : List Word) (mark control : Word) (cells : List Word) (b : Below) (display : List (Option Place)) (e : Leaves img core below words mark control cells b display)
-    (x : Word) (rest : List Word) (on_top : core.words ≡ x ∷ rest) (result : is_result x ≡ true) where
+module _ (code : Code) (here : AtOperator code (ops.Plain kinds.Retn)) (leaves : LeavesHere here.img here.core) (x : Word) (rest : List Word) (on_top : here.core.words ≡ x ∷ rest) (result : is_result x ≡ true) where
+  open leaves use {below, words, leaves as e}
+  open here use {img, p, core, has, next}
+
   abbrev r : Registers
   r = core.registers
 
@@ -41,7 +43,7 @@ module _ (code : Code) (img : Image) (p : ℕ) (core : Core) (has : HasCore img 
   on_word y = if is_result y && not (nat_eq (frame r) 0) then leave r next (y ∷ []) else see invalid
 
   abbrev pub returned : Image
-  returned = after code img p core has next below words mark control cells b display e (Some x)
+  returned = after code img p core has next leaves (Some x)
 
   return_tests : does p (return_value r next) img ≡ tested (leave r next (x ∷ []))
   return_tests =
@@ -52,15 +54,15 @@ module _ (code : Code) (img : Image) (p : ℕ) (core : Core) (has : HasCore img 
 
   pub return_raw : is_critical core.registers.stack (length (below ++ reverse words) ∷ []) (live_criticals img.states img.regs) ≡ false → raw code img p ≡ gives returned
   unfolding row
-  return_raw free = raw_is code img p core has (ops.Plain kinds.Retn) next there ∙ return_tests ∙ leave_does code img p core has next below words mark control cells b display e (Some x) free
+  return_raw free = raw_is code (ops.Plain kinds.Retn) here ∙ return_tests ∙ leave_does code img p core has next leaves (Some x) free
 
   pub return_blocked : is_critical core.registers.stack (length (below ++ reverse words) ∷ []) (live_criticals img.states img.regs) ≡ true → raw code img p ≡ faults CriticalBlockExit
   unfolding row
-  return_blocked critical = raw_is code img p core has (ops.Plain kinds.Retn) next there ∙ return_tests ∙ leave_blocked code img p core has next below words mark control cells b display e (Some x) critical
+  return_blocked critical = raw_is code (ops.Plain kinds.Retn) here ∙ return_tests ∙ leave_blocked code img p core has next leaves (Some x) critical
 
   pub return_class : class_at (ops.Plain kinds.Retn) r.place ≡ classes.Action
   unfolding class_at row
   return_class = refl
 
   pub return_action : table code img p ≡ outcomes.gives returned → letter code img p ≡ Some act.Leave
-  return_action t = action_is code img p core has (ops.Plain kinds.Retn) next there (outcomes.gives returned) t
+  return_action t = action_is code (ops.Plain kinds.Retn) here (outcomes.gives returned) t

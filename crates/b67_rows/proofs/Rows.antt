@@ -1,6 +1,6 @@
 -- The row of the operator at which a core stands.
-use Rattle.std.proofs.Common.{◌≡◌, refl, sym, ap, ◌∙◌, ℕ, List, [], ◌∷◌, ◌++◌, Option, Bool, true, false, Result, Ok, append_assoc}
-use Rattle.b67_rows.proofs.Prelude.{if◌then◌else◌, ◌&&◌, reverse, reverse-append, numbered, FaultKind, Word, Registers, Operator, Code, words_or, words_of, BadCode as bad_code, Image, table, by_row, operator_at, Core, HasCore, stack_of, operator_letter, letter}
+use Rattle.std.proofs.Common.{◌≡◌, refl, sym, ap, ◌∙◌, ℕ, List, [], ◌∷◌, ◌++◌, Option, Bool, true, false, Result, append_assoc}
+use Rattle.b67_rows.proofs.Prelude.{reverse-append, if◌then◌else◌, ◌&&◌, reverse, numbered, FaultKind, Word, Registers, Operator, Code, words_or, words_of, Image, table, by_row, BadCode as bad_code, operator_letter, letter, Core, HasCore, stack_of}
 use Rattle.b67_ops.specs.declared.BadCode.{BadCode}
 use Rattle.b67_table.specs.declared.Class.TheVariants as classes
 use Rattle.b67_table.specs.Effect.{interrupts}
@@ -9,8 +9,11 @@ use Rattle.b67_table.specs.Outcome as outcomes
 use Rattle.b67_table.specs.Rows.{row}
 use Rattle.b67_table.specs.Table.{raw, plain, by_registers, by_operator, class_at, is_private, is_new, private_at, private_in, private_next}
 use Rattle.b67_letters.specs.Letters.{fetched_letter, registers_letter, letter_by}
+use Rattle.b67_rows.proofs.AtOperator.{AtOperator}
 
-module _ (code : Code) (img : Image) (p : ℕ) (core : Core) (has : HasCore img p core) (op : Operator) (next : ℕ) (at : operator_at code core.registers ≡ Ok (op, next)) where
+module _ (code : Code) (op : Operator) (here : AtOperator code op) where
+  open here use {img, p, core, has, next, there as at}
+
   pub raw_is : raw code img p ≡ by_row (row op core.registers.place) code img p core.registers next
   unfolding raw
   raw_is =

@@ -1,6 +1,6 @@
 -- The words of a core's stack: those on top, and those below.
 use Rattle.std.proofs.Common.{◌≡◌, refl, sym, ap, ◌∙◌, ℕ, zero, suc, ◌+◌, List, [], ◌∷◌, ◌++◌, length, take, drop, Some, arith, append_assoc, append-nil, length-append}
-use Rattle.b67_rows.proofs.Prelude.{slice_get, slice_set, reverse, reverse-append, length-reverse, Word, Stacks, stack_at, words_of, words_or, with_stack}
+use Rattle.b67_rows.proofs.Prelude.{reverse-append, length-reverse, slice_get, slice_set, reverse, Word, Stacks, stack_at, words_of, words_or, with_stack}
 use Rattle.b67_rows.proofs.Cored.{stack_set}
 
 -- what stands right after a front

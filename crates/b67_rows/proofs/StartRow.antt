@@ -1,6 +1,6 @@
 -- ENTR on START: a process is begun, or there are as many as there may be.
 use Rattle.std.proofs.Common.{◌≡◌, ◌≢◌, refl, sym, ap, ◌∙◌, ℕ, ◌+◌, ◌<◌, ◌≤◌, List, [], ◌∷◌, length, take, Option, Some, None, Bool, true, false, Ok, arith}
-use Rattle.b67_rows.proofs.Prelude.{if◌then◌else◌, nat_lt, nat_le, reverse, pos, Place, Word, Irw, Pcw, Registers, Sirw, as_irw, as_sirw, as_pcw, event_word, place_at, Couple, Code, words_of, words_or, word_at, with_stack, Cell, Reached, if_chained, finished_at, place, linked, Effect, gives, faults, Image, with_stacks, with_registers, most_cells, entered_mark, ◌>->◌, valid, look_seen, display_at, frame, at_or, reference, Test, answer, interrupt, fault, Program, effect_of, asked, see, ◌>>=◌, told, cell_place, cell_in, irw_or_sirw, reached, reached_in, one_sirw, on_path, operator_at, Core, IsCore, HasCore, with_core, stack_of, see_found, opened_others}
+use Rattle.b67_rows.proofs.Prelude.{if◌then◌else◌, nat_lt, nat_le, reverse, pos, Word, Place, as_irw, as_sirw, as_pcw, event_word, place_at, Irw, Pcw, Registers, Sirw, Couple, Code, opened_others, words_of, words_or, word_at, with_stack, if_chained, finished_at, place, linked, chain_broken, Effect, gives, faults, Image, with_stacks, with_registers, most_cells, entered_mark, ◌>->◌, valid, look_seen, display_at, frame, at_or, reference, Test, answer, interrupt, fault, Program, effect_of, asked, see, ◌>>=◌, told, cell_place, cell_in, irw_or_sirw, reached, reached_in, one_sirw, on_path, Cell, Reached, see_found, Core, IsCore, with_core, stack_of}
 use Rattle.std.specs.Prelude.{ℤ}
 use Rattle.b67_num.specs.declared.FaultKind.TheVariants.{ProcessLimit}
 use Rattle.b67_word.specs.Word.{as_whole, is_whole}
@@ -11,7 +11,6 @@ use Rattle.b67_ops.specs.declared.Operator.TheVariants as ops
 use Rattle.b67_ops.specs.declared.PlainKind.TheVariants as kinds
 use Rattle.b67_ops.specs.declared.intrinsic.Intrinsic.TheVariants.{Start}
 use Rattle.b67_table.specs.Arguments.{no_such, if_open, reached_event_in, event_of}
-use Rattle.b67_table.specs.Chains.{chain_broken}
 use Rattle.b67_table.specs.Limits.{most_processes}
 use Rattle.b67_table.specs.Linkage.{base_control}
 use Rattle.b67_table.specs.Program.{ask, change_start, started, test_is_event}
@@ -25,6 +24,7 @@ use Rattle.b67_rows.proofs.IntrinsicRows.{CallsIntrinsic, without_call, entered,
 use Rattle.b67_rows.proofs.StoreRow.{most_is}
 use Rattle.b67_rows.proofs.TurnRow.{not_below}
 use Rattle.b67_rows.proofs.Words.{event_read, event_refers_nothing}
+use Rattle.b67_rows.proofs.AtOperator.{AtOperator}
 
 -- ---- tests, one after another
 
@@ -107,10 +107,10 @@ begins_is n pcw home task parameters more critical level =
     ap at_or (ap (λ (l : ℕ). place_at (shown (place n 0) more) l) level ∙ shown_top (place n 0) more) in
     record { bottom = omega (arith, own); top = omega arith }
 
-module _ (code : Code) (img : Image) (p : ℕ) (core : Core) (has : HasCore img p core) (next : ℕ) (there : operator_at code core.registers ≡ Ok (ops.Plain kinds.Entr, next))
-    (arguments : List Word) (reference marked : Word) (below : List Word) (c : CallsIntrinsic img core Start arguments reference marked below)
-    (pcw : Pcw) (home : Place) (task : Option Cell) (parameters : List Word) (more : List Place) (critical : Place)
-    (e : StartsProcess img core arguments pcw home task parameters more critical) where
+module _ (code : Code) (here : AtOperator code (ops.Plain kinds.Entr)) (arguments : List Word) (reference marked : Word) (below : List Word) (c : CallsIntrinsic here.img here.core Start arguments reference marked below)
+    (pcw : Pcw) (home : Place) (task : Option Cell) (parameters : List Word) (more : List Place) (critical : Place) (e : StartsProcess here.img here.core arguments pcw home task parameters more critical) where
+  open here use {img, p, core, has, next}
+
   abbrev r : Registers
   r = core.registers
 
@@ -185,11 +185,11 @@ module _ (code : Code) (img : Image) (p : ℕ) (core : Core) (has : HasCore img 
 
   row_tested : raw code img p ≡ tested (limited (shown (place number 0) more) (Some critical) (nat_lt img.started most_processes))
   row_tested =
-      entered code img p core has next there Start arguments reference marked below c
+      entered code here Start arguments reference marked below c
       ∙ ap (λ (ws : List Word). tested (start_process code r next c.m ws)) e.words
       ∙ ap (effect_of p img)
       (then_asked img (starting r (e.procedure ∷ e.tasked ∷ parameters)) given on_given given_asked
-      ∙ chained_asked code img p core has next there Start arguments reference marked below c (started (on_started given))
+      ∙ chained_asked code here Start arguments reference marked below c (started (on_started given))
       ∙ see_found img (first_display number given) (shown (place number 0) more) on_display display_seen
       ∙ then_asked img (on_path r.stack referred (place r.stack (frame r))) (Some critical) (on_critical (shown (place number 0) more)) path_asked)
 
@@ -213,7 +213,7 @@ module _ (code : Code) (img : Image) (p : ℕ) (core : Core) (has : HasCore img 
       ∙ ap (λ (b : Bool). tested (limited (shown (place number 0) more) (Some critical) b)) (below_is img.started most_processes few)
       ∙ ap (λ (ws : List Word). gives (with_registers (with_stacks new (with_stack new.stacks r.stack (take r.f ws))) p (without_call core below c.m.df next).registers)) same_words
       ∙ ap (λ (ws : List Word). gives (with_registers (with_stacks new (with_stack new.stacks r.stack ws)) p (without_call core below c.m.df next).registers))
-      (cut_words code img p core has next there Start arguments reference marked below c)
+      (cut_words code here Start arguments reference marked below c)
       ∙ ap (λ (i : Image). gives i) (core_beside img begins (first_stack pcw home parameters) p (without_call core below c.m.df next) (stack_of core) core.registers has.stack has.registers apart)
     where
       apart : number ≢ r.stack

@@ -1,6 +1,6 @@
 -- STOD on a cell of the process's own stack, which the reference under the top names.
-use Rattle.std.proofs.Common.{◌≡◌, refl, ap, ◌∙◌, ℕ, ◌+◌, ◌-◌, ◌≤◌, List, [], ◌∷◌, ◌++◌, length, take, Option, Some, None, Bool, true, false, Ok, arith}
-use Rattle.b67_rows.proofs.Prelude.{if◌then◌else◌, ◌==◌, nat_le, slice_get, slice_set, reverse, nat_tests, Place, Word, Registers, Descriptor, as_indexed, Code, Stacks, words_of, word_at, with_stack, with_word, with_cut, Cell, Reached, StackUnderflow, Effect, gives, Image, with_stacks, with_registers, Look, found, stops, ◌>->◌, valid, look_seen, Program, does, effect_of, asked, see, answer, ◌>>=◌, save, floor, Two, cell_of, cell_place, reached_in, named, from_top, operand_in, invalid, store_by, stored, operator_at, told_by, operator_letter, Core, HasCore, with_core, stack_of}
+use Rattle.std.proofs.Common.{◌≡◌, refl, ap, ◌∙◌, ℕ, ◌+◌, ◌-◌, ◌≤◌, List, [], ◌∷◌, ◌++◌, length, take, Option, Some, None, Bool, true, false, arith}
+use Rattle.b67_rows.proofs.Prelude.{nat_tests, if◌then◌else◌, ◌==◌, nat_le, slice_get, slice_set, reverse, Word, Place, Descriptor, Registers, Code, Stacks, words_of, word_at, with_stack, with_word, with_cut, as_indexed, Effect, gives, Image, with_stacks, with_registers, Look, found, stops, ◌>->◌, valid, look_seen, floor, Program, does, effect_of, asked, see, answer, ◌>>=◌, save, Two, cell_of, cell_place, reached_in, named, from_top, operand_in, invalid, store_by, stored, Cell, StackUnderflow, Reached, told_by, operator_letter, Core, HasCore, with_core, stack_of}
 use Rattle.b67_ops.specs.declared.Operator.TheVariants as ops
 use Rattle.b67_ops.specs.declared.PlainKind.TheVariants as kinds
 use Rattle.b67_table.specs.declared.Class.TheVariants as classes
@@ -10,6 +10,7 @@ use Rattle.b67_deeds.specs.declared.Letter.TheVariants.{Store, ElementStore}
 use Rattle.b67_letters.specs.Letters.{element_or_not, stored_letter}
 use Rattle.b67_rows.proofs.Rows.{raw_is, words_are}
 use Rattle.b67_rows.proofs.StackWords.{word-over, word-under, cut-stack, set-front, get-front, length-set, words-set, set-set}
+use Rattle.b67_rows.proofs.AtOperator.{AtOperator}
 
 pub most_is : (m n : ℕ) → m ≤ n → nat_le m n ≡ true
 most_is m n h = grind (arith, nat_tests)
@@ -37,10 +38,11 @@ module _ (img : Image) (p : ℕ) (core : Core) (has : HasCore img p core) (x y :
       ap (λ (ws : List Word). slice_get ws (core.registers.s - 2)) words_whole
       ∙ word-under core.below (x ∷ []) y words (core.registers.s - 2) (omega (arith, words_long))
 
-module _ (code : Code) (img : Image) (p : ℕ) (core : Core) (has : HasCore img p core) (next : ℕ) (at : operator_at code core.registers ≡ Ok (ops.Plain kinds.Stod, next))
-    (x y old : Word) (words : List Word) (top : core.words ≡ x ∷ y ∷ words)
-    (index f : ℕ) (names : cell_of core.registers y ≡ Some (record { frame = record { stack = core.registers.stack; at = f }; index = index })) (plain_word : as_indexed y ≡ None)
-    (lies : slice_get core.below (f + index) ≡ Some old) (tag : x.tag ≡ 0) (old_tag : old.tag ≡ 0) where
+module _ (code : Code) (here : AtOperator code (ops.Plain kinds.Stod)) (x y old : Word) (words : List Word) (top : here.core.words ≡ x ∷ y ∷ words) (index f : ℕ)
+    (names : cell_of here.core.registers y ≡ Some (record { frame = record { stack = here.core.registers.stack; at = f }; index = index })) (plain_word : as_indexed y ≡ None)
+    (lies : slice_get here.core.below (f + index) ≡ Some old) (tag : x.tag ≡ 0) (old_tag : old.tag ≡ 0) where
+  open here use {img, p, core, has, next, there as at}
+
   abbrev r : Registers
   r = core.registers
 
@@ -106,7 +108,7 @@ module _ (code : Code) (img : Image) (p : ℕ) (core : Core) (has : HasCore img 
 
   pub store_raw : raw code img p ≡ gives (with_core img p (with_cell core (f + index) x words next))
   unfolding row
-  store_raw = raw_is code img p core has (ops.Plain kinds.Stod) next at ∙ does_is
+  store_raw = raw_is code (ops.Plain kinds.Stod) here ∙ does_is
 
   pub store_class : class_at (ops.Plain kinds.Stod) r.place ≡ classes.Action
   unfolding class_at row

@@ -1,7 +1,7 @@
 -- What a block has to do keeps to its text, and makes all its arrays.
 use Rattle.b67_templates.specs.Cells.{made_of, events_in}
 use Rattle.std.proofs.Common.{◌≡◌, refl, sym, ap, ◌∙◌, ℕ, List, [], ◌∷◌, ◌++◌, Option, Some, None, append_assoc, append-nil}
-use Rattle.b67_rows.proofs.Prelude.{Kind, Named, PStmts, PDecls, Block, block_numbered, Scopes, Item, event_items, decls_items, items, items_of, ending, Made, made_in, all_to_make, an_event, KeepsToText, IsText}
+use Rattle.b67_rows.proofs.Prelude.{Block, block_numbered, PStmts, PDecls, Scopes, Kind, Named, Item, event_items, decls_items, items, items_of, ending, Made, made_in, all_to_make, an_event, KeepsToText, IsText}
 use Rattle.algol_tree.specs.Plain as tree
 use Rattle.algol_meaning.specs.Statements.{settle_items}
 use Rattle.algol_paths.specs.Arrays.{to_come}

@@ -1,11 +1,11 @@
 -- What an operator reaches is in the private part of no other process, where near are the cells that it names and the frames to which marks and the
 -- display lead.
 use Rattle.std.proofs.Common.{◌≡◌, ◌⊎◌, inl, inr, refl, sym, ap, ◌∙◌, ℕ, ◌+◌, ◌-◌, ◌<◌, ◌≤◌, Some, arith}
-use Rattle.b67_rows.proofs.Prelude.{numbered, Place, Word, Registers, Mscw, Pcw, as_mscw, as_pcw, Operator, word_at, Cell, place, link_of, cell_place, Image, critical_of, display_at, floor, level_below, HaveOwnStacks, ReachesNoOther, some_same, none_some}
+use Rattle.b67_rows.proofs.Prelude.{numbered, Word, Place, as_mscw, as_pcw, Mscw, Pcw, Registers, Operator, word_at, place, link_of, Image, critical_of, display_at, floor, cell_place, level_below, Cell, HaveOwnStacks, ReachesNoOther, OperatorReaches, some_same, none_some}
 use Rattle.b67_ops.specs.declared.Operator.TheVariants as ops
 use Rattle.b67_ops.specs.declared.PlainKind.TheVariants as kinds
 use Rattle.b67_table.specs.Sound.{Lives}
-use Rattle.b67_footprints.specs.Reaching.{NamesCell, OperatorLeadsTo, OperatorReaches, own_word, cell_word, mark, control}
+use Rattle.b67_footprints.specs.Reaching.{NamesCell, OperatorLeadsTo, own_word, cell_word, mark, control}
 use Rattle.b67_footprints.specs.Laws.{IsOfNoOther}
 use Rattle.b67_footprints.proofs.Within.{AreLed, led_are}
 

@@ -1,6 +1,6 @@
 -- The cells that an operator names, by what it finds: none, one, or one and the one to which that refers.
 use Rattle.std.proofs.Common.{◌≡◌, ◌⊎◌, inl, inr, sym, ap, ◌∙◌, subst, ℕ, ◌+◌, ◌<◌, Option, Some, None, true, false}
-use Rattle.b67_rows.proofs.Prelude.{Place, Word, Registers, Irw, Pcw, Sirw, as_irw, as_sirw, as_pcw, irw_laws, as_pcw-other, Couple, Operator, word_at, Cell, place, Image, display_at, cell_place, cell_in, couple_cell, irw_or_sirw, sirw_cell, cell_of, level_below, some_same, none_some}
+use Rattle.b67_rows.proofs.Prelude.{Word, Place, irw_laws, as_pcw-other, as_irw, as_sirw, as_pcw, Irw, Pcw, Registers, Sirw, Couple, Operator, word_at, place, Image, display_at, cell_place, cell_in, couple_cell, irw_or_sirw, sirw_cell, cell_of, level_below, Cell, some_same, none_some}
 use Rattle.b67_control.proofs.ControlLaws.{sirw_laws}
 use Rattle.b67_ops.specs.declared.BranchKind.{BranchKind}
 use Rattle.b67_ops.specs.declared.Operator.TheVariants as ops

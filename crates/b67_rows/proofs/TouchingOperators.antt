@@ -1,16 +1,14 @@
 -- The operator that stands where a process's registers point: a private one, or one that reaches no other's private part.
 use Rattle.std.proofs.Common.{◌≡◌, ◌⊎◌, inl, inr, refl, sym, ◌∙◌, subst, ℕ, ◌+◌, Result, Ok}
-use Rattle.b67_rows.proofs.Prelude.{Op, Registers, Operator, Code, Image, operator_at, operator_for, HaveOwnStacks, ReachesNoOther}
+use Rattle.b67_rows.proofs.Prelude.{Op, Place, Registers, Operator, Code, Image, TableRow, private_part, operator_at, class_by, operator_for, HaveOwnStacks, ReachesNoOther, OperatorReaches}
 use Rattle.algol_tree.specs.declared.tree.Op.TheVariants as operators
 use Rattle.b67_ops.specs.declared.Operator.TheVariants as ops
 use Rattle.b67_table.specs.declared.Class.{Class}
 use Rattle.b67_table.specs.declared.Class.TheVariants as classes
-use Rattle.b67_word.specs.declared.Place.{Place}
-use Rattle.b67_table.specs.Rows.{TableRow, private_part, action, row}
+use Rattle.b67_table.specs.Rows.{action, row}
 use Rattle.b67_table.specs.Sound.{OperatorTouches}
-use Rattle.b67_table.specs.Table.{class_at, class_by}
+use Rattle.b67_table.specs.Table.{class_at}
 use Rattle.b67_table.specs.Touches.{RowTouches}
-use Rattle.b67_footprints.specs.Reaching.{OperatorReaches}
 use Rattle.b67_footprints.proofs.Touching.{operators_touch_what_they_reach}
 use Rattle.b67_rows.proofs.Touching.{IsNear, NamesNear, IsNearStack, reaches_no_other, touches_near}
 

@@ -1,14 +1,15 @@
 -- The branch back to the start of a loop, and EXIT of a base frame.
-use Rattle.std.proofs.Common.{◌≡◌, sym, ap, ◌∙◌, ℕ, zero, suc, ◌≤◌, List, [], ◌∷◌, Option, Some, None, Bool, false, Ok, arith}
-use Rattle.b67_rows.proofs.Prelude.{if◌then◌else◌, nat_lt, nat_tests, Word, Code, Stacks, stack_at, with_stack, gives, Image, with_stacks, with_registers, TableRow, private_part, operator_at, by_row, operator_letter, Core, HasCore, with_core, stack_of}
+use Rattle.std.proofs.Common.{◌≡◌, sym, ap, ◌∙◌, ℕ, zero, suc, ◌≤◌, List, [], ◌∷◌, Option, Some, None, Bool, false, arith}
+use Rattle.b67_rows.proofs.Prelude.{nat_tests, if◌then◌else◌, nat_lt, Word, Code, Stacks, stack_at, with_stack, gives, with_stacks, with_registers, TableRow, private_part, by_row, class_by, operator_letter, Core, with_core, stack_of}
 use Rattle.b67_ops.specs.declared.Operator.TheVariants as ops
 use Rattle.b67_ops.specs.declared.BranchKind.TheVariants.{Brun}
 use Rattle.b67_table.specs.declared.Class.TheVariants as classes
 use Rattle.b67_table.specs.PrivateRows.{branch}
 use Rattle.b67_table.specs.Rows.{row, acts, branch_turn}
-use Rattle.b67_table.specs.Table.{raw, class_at, class_by}
+use Rattle.b67_table.specs.Table.{raw, class_at}
 use Rattle.b67_deeds.specs.declared.Letter.TheVariants.{Turn}
 use Rattle.b67_rows.proofs.Rows.{raw_is}
+use Rattle.b67_rows.proofs.AtOperator.{AtOperator}
 
 pub not_below : (m n : ℕ) → n ≤ m → nat_lt m n ≡ false
 not_below m n h = grind (arith, nat_tests)
@@ -23,15 +24,16 @@ same_stack (None ∷ zs) zero ws e = cc
 same_stack (Some z ∷ zs) zero ws e = ap (λ (o : Option (List Word)). o ∷ zs) (sym e)
 same_stack (z ∷ zs) (suc n) ws e = ap (λ ys. z ∷ ys) (same_stack zs n ws e)
 
-module _ (code : Code) (img : Image) (p : ℕ) (core : Core) (has : HasCore img p core) (target next : ℕ) (at : operator_at code core.registers ≡ Ok (ops.Branch Brun target, next))
-    (back : target ≤ core.registers.place) where
+module _ (code : Code) (target : ℕ) (here : AtOperator code (ops.Branch Brun target)) (back : target ≤ here.core.registers.place) where
+  open here use {img, p, core, has, next}
+
   abbrev row_with : Bool → TableRow
   row_with forward = if forward then private_part (branch Brun target) else acts (branch_turn Brun target)
 
   pub turn_raw : raw code img p ≡ gives (with_core img p (at_place core target))
   unfolding row
   turn_raw =
-      raw_is code img p core has (ops.Branch Brun target) next at
+      raw_is code (ops.Branch Brun target) here
       ∙ ap (λ (b : Bool). by_row (row_with b) code img p core.registers next) (not_below core.registers.place target back)
       ∙ ap (λ (ss : Stacks). gives (with_registers (with_stacks img ss) p (record core.registers { place = target }))) (sym (same_stack img.stacks core.registers.stack (stack_of core) has.stack))
 

@@ -1,6 +1,6 @@
 -- What a part has still to make stays so over each action but that which makes it.
 use Rattle.std.proofs.Common.{◌≡◌, refl, Bool, true, false}
-use Rattle.b67_rows.proofs.Prelude.{Rest, arrays, event, Ask, makes_arrays, makes_event, ask, all_to_make, all_left_to_make}
+use Rattle.b67_rows.proofs.Prelude.{Ask, makes_arrays, makes_event, ask, Rest, arrays, event, all_to_make, all_left_to_make}
 
 abbrev pub makes : Ask → Bool
 makes (makes_arrays kind ns pairs vs) = true

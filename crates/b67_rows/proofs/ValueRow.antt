@@ -1,16 +1,17 @@
 -- VALC on the cell of a variable.
-use Rattle.std.proofs.Common.{◌≡◌, ap, ℕ, ◌+◌, Option, Some, None, Ok}
-use Rattle.b67_rows.proofs.Prelude.{Place, Word, as_sirw, as_pcw, Couple, Code, word_at, Cell, gives, Image, display_at, cell_in, couple_cell, operator_at, Read, operator_letter, Core, HasCore, with_core}
+use Rattle.std.proofs.Common.{◌≡◌, ap, ◌+◌, Option, Some, None}
+use Rattle.b67_rows.proofs.Prelude.{Read, Word, Place, as_sirw, as_pcw, Couple, Code, word_at, gives, display_at, cell_in, couple_cell, Cell, operator_letter, with_core}
 use Rattle.b67_ops.specs.declared.Operator.TheVariants as ops
 use Rattle.b67_table.specs.declared.Class.TheVariants as classes
 use Rattle.b67_table.specs.Table.{raw, class_at}
 use Rattle.b67_rows.proofs.Reaching.{Reaches, reached_there}
 use Rattle.b67_rows.proofs.ReachingRows.{with_top, value_reached_class, value_read_raw, value_read_letter}
+use Rattle.b67_rows.proofs.AtOperator.{AtOperator}
 
-module _ (code : Code) (img : Image) (p : ℕ) (core : Core) (has : HasCore img p core) (couple : Couple) (next : ℕ) (at : operator_at code core.registers ≡ Ok (ops.Valc couple, next))
-    (frame : Place) (shown : display_at core.registers couple.level ≡ Some frame)
-    (w : Word) (lies : word_at img.stacks (record { stack = frame.stack; at = frame.at + couple.index }) ≡ Some w)
-    (tag : w.tag ≡ 0) (no_sirw : as_sirw w ≡ None) (no_pcw : as_pcw w ≡ None) where
+module _ (code : Code) (couple : Couple) (here : AtOperator code (ops.Valc couple)) (frame : Place) (shown : display_at here.core.registers couple.level ≡ Some frame) (w : Word)
+    (lies : word_at here.img.stacks (record { stack = frame.stack; at = frame.at + couple.index }) ≡ Some w) (tag : w.tag ≡ 0) (no_sirw : as_sirw w ≡ None) (no_pcw : as_pcw w ≡ None) where
+  open here use {img, p, core, next}
+
   abbrev cell : Cell
   cell = record { frame = frame; index = couple.index }
 
@@ -22,10 +23,10 @@ module _ (code : Code) (img : Image) (p : ℕ) (core : Core) (has : HasCore img 
 
   -- what it reaches is no procedure, so it is read
   pub reads_value : operator_letter (ops.Valc couple) img core.registers ≡ Some Read
-  reads_value = value_read_letter code img p core has couple next at cell cell named w reaches no_pcw
+  reads_value = value_read_letter code couple here cell cell named w reaches no_pcw
 
   pub value_raw : raw code img p ≡ gives (with_core img p (with_top core w next))
-  value_raw = value_read_raw code img p core has couple next at cell cell named w reaches tag no_pcw
+  value_raw = value_read_raw code couple here cell cell named w reaches tag no_pcw
 
   pub value_class : class_at (ops.Valc couple) core.registers.place ≡ classes.Action
-  value_class = value_reached_class code img p core has couple next at cell cell named w reaches
+  value_class = value_reached_class code couple here cell cell named w reaches

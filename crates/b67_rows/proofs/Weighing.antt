@@ -1,6 +1,6 @@
 -- What is evaluated and performed needs no more words than four for each of its tokens, with one for each actual in it.
 use Rattle.std.proofs.Common.{◌+◌, ◌*◌, ◌≤◌, List, [], ◌∷◌, length, arith}
-use Rattle.b67_rows.proofs.Prelude.{PExpr, PExprs, PPair, PStmt, PStmts, PDecls, expr_tokens, exprs_tokens, pairs_tokens, stmt_tokens, stmts_tokens, decls_tokens, EventName, arguments_in_decls, arguments_in_stmt, arguments_in_stmts, procedures, depth}
+use Rattle.b67_rows.proofs.Prelude.{expr_tokens, exprs_tokens, pairs_tokens, stmt_tokens, stmts_tokens, decls_tokens, PExpr, PExprs, PPair, PStmt, PStmts, PDecls, EventName, arguments_in_decls, arguments_in_stmt, arguments_in_stmts, procedures, depth}
 use Rattle.algol_tree.specs.Plain as tree
 use Rattle.algol_tree.specs.Counts.{events_tokens}
 use Rattle.b67_templates.specs.Arguments.{arguments_in, arguments_among, arguments_given, arguments_in_pairs}

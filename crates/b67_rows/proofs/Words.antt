@@ -1,6 +1,6 @@
 -- What the words of values, events, references and marks are read as.
 use Rattle.std.proofs.Common.{◌≡◌, ◌≢◌, refl, sym, ap, ◌∙◌, ℕ, ◌<◌, ◌^◌, Some, None, Bool, true, false, lit<}
-use Rattle.b67_rows.proofs.Prelude.{◌==◌, if◌then◌else◌, Value, number, truth, Word, as_irw, as_sirw, as_descriptor, as_mscw, as_pcw, event_word, Pcw, as_sirw-other, as_pcw-other, descriptor_laws, Couple, as_indexed, reference, cell_word, Cell, ValueIs}
+use Rattle.b67_rows.proofs.Prelude.{◌==◌, if◌then◌else◌, Value, number, truth, Word, as_sirw-other, as_pcw-other, descriptor_laws, as_irw, as_sirw, as_descriptor, as_mscw, as_pcw, event_word, Pcw, Couple, as_indexed, reference, cell_word, Cell, ValueIs}
 use Rattle.b67_word.specs.Word.{field}
 use Rattle.b67_word.proofs.WordLaws.{operand-tag}
 use Rattle.b67_control.specs.Kind as kind

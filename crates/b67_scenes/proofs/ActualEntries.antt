@@ -1,6 +1,6 @@
 -- The entry of an actual's code by the machine, where a process stands at VALC or EVAL.
 use Rattle.std.proofs.Common.{◌≡◌, refl, sym, ap, ◌∙◌, subst, ℕ, ◌+◌, ◌-◌, ◌*◌, ◌/◌, ◌%◌, ◌≤◌, ◌<◌, ◌^◌, List, [], ◌∷◌, ◌++◌, length, Option, Some, Ok, Bool, true, false, arith, length-append}
-use Rattle.b67_scenes.proofs.Prelude.{◌==◌, ◌&&◌, nat_le, Kind, block_numbered, around, level_of, PExpr, PProgram, Scopes, scopes_of, instance_at, segment_of, Place, Word, Pcw, Rcw, as_mscw, as_rcw, place_at, as_mscw-mscw_word, as_rcw-rcw_word, Operator, Code, stack_limit, word_at, place, linked, end_of_code, entered_mark, control_word, look_seen, read_as, frame, at_or, numbered_within, has_place, Has, Texts, Slot, Core, IsCore, newest, SlotsAre, CoreAt, slots_length, IsShortSegment, some_same, LiesNested, Links, shown, shown_top, linked_seen, lower_of, next_within, newest_low, segment_low, length-stack, IsActual, IsInReach, Linked, Begins_with, begins_core, all_linked, runs_low}
+use Rattle.b67_scenes.proofs.Prelude.{◌==◌, ◌&&◌, nat_le, block_numbered, around, level_of, PExpr, PProgram, Scopes, scopes_of, Kind, instance_at, segment_of, Word, Place, as_mscw-mscw_word, as_rcw-rcw_word, as_mscw, as_rcw, place_at, Pcw, Rcw, Operator, Code, stack_limit, word_at, numbered_within, place, linked, end_of_code, entered_mark, control_word, look_seen, read_as, frame, at_or, has_place, Has, LiesNested, Texts, Slot, slots_length, Core, IsCore, newest, SlotsAre, CoreAt, some_same, IsShortSegment, Links, shown, shown_top, linked_seen, lower_of, next_within, newest_low, segment_low, length-stack, Linked, Begins_with, begins_core, all_linked, runs_low, IsActual, IsInReach}
 use Rattle.b67_word.specs.Word as words
 use Rattle.b67_table.specs.Linkage as linkage
 use Rattle.b67_standing.specs.Standing.{selected}
@@ -65,8 +65,23 @@ module _ (tree : PProgram) (code : Code) (texts : Texts) (nested : LiesNested tr
     pub mark_at : core.registers.f ≡ newest own base waiting
     pub returns : next < end_of_code
 
-  module _ (next : ℕ) (taken rest : List Word) (waiting : List Slot) (t : Takes next taken rest waiting) (i : ℕ) (e : PExpr) (kind : Kind) (word : Word)
-      (is : IsActual sc w lay (IsInReach w (part ∷ outer)) i e kind word) (h : ActualHome tree code texts nested.nested actor i e kind word is) where
+  -- The actual whose code is entered, of which instance, and the words of the stack.
+  pub record ActualEntry : Type 0 where
+    pub next : ℕ
+    pub taken : List Word
+    pub more : List Word
+    pub waiting : List Slot
+    pub takes : Takes next taken more waiting
+    pub instance : ℕ
+    pub actual : PExpr
+    pub kind : Kind
+    pub word : Word
+    pub denotes : IsActual sc w lay (IsInReach w (part ∷ outer)) instance actual kind word
+    pub home : ActualHome tree code texts nested.nested actor instance actual kind word denotes
+
+  module _ (entry : ActualEntry) where
+    open entry use {next, taken, more as rest, waiting, takes as t, instance as i, actual as e, denotes as is, home as h}
+
     -- the block in whose text the actual stands, and the level at which its code runs
     abbrev pub block : ℕ
     block = (instance_at w i).block

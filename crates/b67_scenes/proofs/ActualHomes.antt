@@ -1,6 +1,6 @@
 -- Where a process finds the control word of an actual's code: in the frame of the actual's instance, in whatever stack, and where that code stands.
 use Rattle.std.proofs.Common.{◌≡◌, refl, sym, ap, ◌∙◌, subst, ℕ, ◌+◌, List, ◌∷◌, ◌++◌, length, Some, arith, ◌<◌}
-use Rattle.b67_scenes.proofs.Prelude.{slice_get, Kind, block_numbered, level_of, PExpr, PProgram, Scopes, scopes_of, Instance, instance_at, or_no_instance, segment_of, numbered_small, Place, Word, Pcw, Fits_pcw, as_sirw, pcw_word, Code, word_at, place, cell_word, get_within, simple_cells, procedures, actuals_of, made_base, has_place, Texts, context_of, control_words, some_same, AreNested, get-front, get-behind, IsActual, block_controls, IsInReach, Framed, block_few, as_many_values}
+use Rattle.b67_scenes.proofs.Prelude.{slice_get, block_numbered, level_of, PExpr, PProgram, Scopes, scopes_of, Kind, Instance, instance_at, or_no_instance, segment_of, numbered_small, Word, Place, Fits_pcw, as_sirw, pcw_word, Pcw, Code, word_at, get_within, place, cell_word, simple_cells, procedures, actuals_of, made_base, has_place, AreNested, Texts, context_of, control_words, some_same, get-front, get-behind, block_few, as_many_values, IsActual, block_controls, IsInReach, Framed}
 use Rattle.algol_tree.specs.Plain as forms
 use Rattle.algol_meaning.specs.Choice.{is_subscripted}
 use Rattle.b67_templates.specs.Cells.{Actual, actual_base}

@@ -1,7 +1,7 @@
 -- Where a process finds an array: its descriptor lies in the frame of an instance in reach. A name that a block declares means one that is made;
 -- that of a parameter leads to one.
 use Rattle.std.proofs.Common.{◌≡◌, ◌⊎◌, inl, inr, refl, sym, ap, ◌∙◌, subst, ℕ, ◌+◌, ◌<◌, ◌≤◌, ◌^◌, List, ◌∷◌, length, Option, Some, true, false, arith}
-use Rattle.b67_scenes.proofs.Prelude.{length-map, Named, block_numbered, level_of, PProgram, PBody, Scopes, scopes_of, use_of, Sort, Reference, Bounds, ArrayCell, Cell, ask, Instance, instance_at, or_no_instance, ancestor, by_cell, followed, DeclaredArray, BlockIsSeen, IsSeenAround, IsInner, InRest, IsNoBlock, Place, Word, Sirw, as_sirw, Couple, Code, word_at, place, display_at, cell_place, sirw_cell, simple_cells, made_base, found_from, IsFormalArray, made_of, made_from, Texts, AreNested, some_same, ArraySeen, NearCell, Allotted, DescriptorIs, AreSized, HasArray, IsArrayOf, named_from, IsComplete, IsInReach, Framed, block_few, up_complete, IsParent, low_number, OwnCells, framed_cells, OwnArray, none_later, CountsBy}
+use Rattle.b67_scenes.proofs.Prelude.{length-map, block_numbered, level_of, PProgram, PBody, Scopes, scopes_of, use_of, Sort, Named, ask, Reference, Bounds, ArrayCell, Cell, Instance, instance_at, or_no_instance, ancestor, by_cell, followed, DeclaredArray, BlockIsSeen, IsSeenAround, IsInner, InRest, IsNoBlock, Word, Place, as_sirw, Sirw, Couple, Code, word_at, place, display_at, cell_place, sirw_cell, simple_cells, made_base, found_from, IsFormalArray, made_of, made_from, AreNested, Texts, some_same, ArraySeen, NearCell, block_few, low_number, up_complete, OwnCells, framed_cells, OwnArray, none_later, IsParent, CountsBy, Allotted, DescriptorIs, AreSized, HasArray, IsArrayOf, named_from, IsComplete, IsInReach, Framed}
 use Rattle.algol_tree.specs.Sorts.{is_variable, is_formal}
 use Rattle.algol_paths.specs.Arrays.{an_array, Shape, shape_of}
 use Rattle.b67_templates.specs.Cells.{IsDeclaredArray, IsArray, declared, formal}

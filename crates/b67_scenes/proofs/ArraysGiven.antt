@@ -1,6 +1,6 @@
 -- What ARRAYS is given: how many arrays, and their bounds in pairs.
 use Rattle.std.proofs.Common.{◌≡◌, refl, ap, ℕ, List, [], ◌∷◌, ℤ}
-use Rattle.b67_scenes.proofs.Prelude.{Value, number, whole_of, Slot, operand, intrinsic, mark, operands, AreNumbers}
+use Rattle.b67_scenes.proofs.Prelude.{Value, number, whole_of, operands, AreNumbers, Slot, operand, intrinsic, mark}
 use Rattle.std.specs.Prelude.{pos}
 use Rattle.algol_tree.specs.Plain.{PPair}
 use Rattle.algol_meaning.specs.Arrays.{bounds_of}

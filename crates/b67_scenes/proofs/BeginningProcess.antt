@@ -1,7 +1,7 @@
 -- A process that begins with the instance of a procedure lives: its frame lies at the bottom of its stack, and private operators lead from the
 -- procedure's first place to what the block has to do.
 use Rattle.std.proofs.Common.{◌≡◌, refl, sym, ap, ◌∙◌, subst, ℕ, ◌+◌, ◌*◌, ◌<◌, ◌≤◌, ◌^◌, List, [], ◌∷◌, ◌++◌, length, Option, Some, None, true, false, arith, append_assoc, append-nil, length-append}
-use Rattle.b67_scenes.proofs.Prelude.{replicate, slice_get, numbered, Block, block_numbered, level_of, PProgram, Scopes, scopes_of, some_depends, fresh_cells, settle_items, items_of, Cell, Instance, Part, Process, World, instance_at, or_no_instance, ancestor, KeepsToText, RestsKeepToTheirText, AllIsMadeInOrder, segment_of, IsStanding, Place, Word, Pcw, Rcw, Registers, pcw_word, place_at, as_mscw-mscw_word, as_rcw-rcw_word, Placed, Spells, Code, Segment, place, Image, entered_mark, base_control, at_or, parameter_cells, zero_cells, simple_cells, actuals_of, made_of, in_routine, yields_of, code_at, Texts, context_of, ComesTo, Core, IsCore, HasCore, CoreAt, FragmentsArePerformed, control_words, CoreBegins, BlocksBegin, tokens_around, part_weight, weight, LiesNested, IsText, shown, shown_top, block_keeps, block_makes, Allotted, Layout, AreMade, block_controls, controls_count, most_around, CellsAre, IsChained, home_of, Framed, RoutinesStand, ItemsStand, Frame, of_own, block_few, routines_long, controls_many, LeadAll, lead_there, fresh_are, fresh_lead, simple_many, zero_word, cells_length, as_many_values, CriticalIs, TaskIs, Living, none_yet}
+use Rattle.b67_scenes.proofs.Prelude.{replicate, slice_get, numbered, Block, block_numbered, level_of, PProgram, Scopes, scopes_of, some_depends, fresh_cells, settle_items, items_of, Cell, Instance, Part, Process, World, instance_at, or_no_instance, ancestor, KeepsToText, segment_of, IsStanding, Word, Place, as_mscw-mscw_word, as_rcw-rcw_word, pcw_word, place_at, Pcw, Rcw, Registers, Placed, Spells, Code, Segment, place, Image, entered_mark, base_control, at_or, parameter_cells, zero_cells, simple_cells, actuals_of, made_of, in_routine, yields_of, code_at, LiesNested, IsText, Texts, context_of, ComesTo, Core, IsCore, HasCore, CoreAt, control_words, CoreBegins, BlocksBegin, tokens_around, part_weight, weight, shown, shown_top, block_keeps, block_makes, block_few, routines_long, controls_many, LeadAll, lead_there, fresh_are, fresh_lead, simple_many, as_many_values, zero_word, cells_length, Allotted, Layout, AreMade, block_controls, controls_count, most_around, CellsAre, IsChained, home_of, Framed, RoutinesStand, ItemsStand, Frame, of_own, CriticalIs, TaskIs, Living, none_yet}
 use Rattle.algol_meaning.specs.Instances as instances
 use Rattle.algol_meaning.specs.World.{started}
 use Rattle.b67_table.specs.declared.Cell.{Cell as MachineCell}
@@ -17,10 +17,31 @@ use Rattle.b67_scenes.proofs.Landing.{living_of}
 use Rattle.b67_scenes.proofs.Paths.{CanClimb}
 use Rattle.b67_scenes.proofs.Stage.{weight_of}
 use Rattle.b67_scenes.proofs.Staying.{level_in, names_in}
+use Rattle.b67_scenes.proofs.TheLaws.{TheLaws}
 
-module _ (tree : PProgram) (code : Code) (texts : Texts) (nested : LiesNested tree) (fragments : FragmentsArePerformed) (begins_so : BlocksBegin) (keeps : RestsKeepToTheirText) (order : AllIsMadeInOrder)
-    (w : World) (lay : Layout) (img : Image) (climb : CanClimb (scopes_of tree) w) (all_laid : AreLaid w lay)
-    (p n j parent : ℕ) (given : List Cell) (new : Process) (home critical : Place) (more : List Place) (cell : Option MachineCell) (parameters : List Word) where
+-- A process is new in a world and its image, in which its first block is to begin.
+pub record NewProcess (tree : PProgram) : Type 0 where
+  pub w : World
+  pub lay : Layout
+  pub img : Image
+  pub climb : CanClimb (scopes_of tree) w
+  pub all_laid : AreLaid w lay
+  pub p : ℕ
+  pub number : ℕ
+  pub block : ℕ
+  pub parent : ℕ
+  pub given : List Cell
+  pub new : Process
+  pub home : Place
+  pub critical : Place
+  pub more : List Place
+  pub cell : Option MachineCell
+  pub parameters : List Word
+
+module _ (tree : PProgram) (code : Code) (texts : Texts) (nested : LiesNested tree) (laws : TheLaws) (begins_so : BlocksBegin) (fresh : NewProcess tree) where
+  open fresh use {w, lay, img, climb, all_laid, p, number as n, block as j, parent, given, new, home, critical, more, cell, parameters}
+  open laws use {fragments, keeps, order}
+
   abbrev sc : Scopes
   sc = scopes_of tree
 

@@ -1,6 +1,6 @@
 -- The call of an intrinsic, by what lies above the floor of the frame.
 use Rattle.std.proofs.Common.{◌≡◌, refl, sym, ap, ◌∙◌, subst, ℕ, ◌+◌, ◌-◌, ◌<◌, ◌≤◌, ◌^◌, List, [], ◌∷◌, ◌++◌, length, Option, Some, true, false, arith, lit<, append_assoc, length-append, ℤ}
-use Rattle.b67_scenes.proofs.Prelude.{slice_get, reverse, reverse-append, PProgram, Scopes, scopes_of, Value, number, whole_of, Word, as_whole, Mscw, Pcw, Sirw, as_irw, as_sirw, as_mscw, as_pcw, as_pcw-pcw_word, Intrinsic, Couple, intrinsic_number_of, couple_of_intrinsic, Place, Code, words_of, words_or, word_at, intrinsic_pcw, system_stack, place, woken_number, Look, ◌>->◌, look_seen, cell_of, frame, called_by, HasKind, Texts, Slot, operand, intrinsic, descriptor, mark, operands, AreNumbers, Known, ValueIs, newest, SlotsAre, CoreAt, slots_length, number_read, words_are, Top, top_slot, get-front, get-seam, reference_read, mark_read, pcw_no_sirw}
+use Rattle.b67_scenes.proofs.Prelude.{reverse-append, slice_get, reverse, PProgram, Scopes, scopes_of, Value, number, whole_of, Word, as_whole, Place, as_pcw-pcw_word, as_irw, as_sirw, as_mscw, as_pcw, Mscw, Pcw, Sirw, intrinsic_number_of, couple_of_intrinsic, Couple, Intrinsic, Code, words_of, words_or, word_at, intrinsic_pcw, system_stack, place, woken_number, Look, ◌>->◌, look_seen, frame, cell_of, called_by, HasKind, Texts, operands, AreNumbers, Slot, operand, intrinsic, descriptor, mark, slots_length, number_read, Known, ValueIs, newest, SlotsAre, CoreAt, words_are, Top, top_slot, get-front, get-seam, reference_read, mark_read, pcw_no_sirw}
 use Rattle.algol_tree.specs.declared.tree.Kind.TheVariants as types
 use Rattle.algol_meaning.specs.Value.{truth}
 use Rattle.b67_control.specs.declared.Irw.{Irw}

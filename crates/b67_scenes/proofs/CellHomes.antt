@@ -1,6 +1,6 @@
 -- Where a process finds the cell of a parameter that stands for something else: in a frame that its display names.
 use Rattle.std.proofs.Common.{◌≡◌, sym, ap, ◌∙◌, subst, ℕ, suc, ◌+◌, ◌<◌, ◌^◌, List, [], ◌∷◌, length, Option, Some, Bool, true, false, arith}
-use Rattle.b67_scenes.proofs.Prelude.{if◌then◌else◌, slice_get, numbered, Named, block_numbered, level_of, PProgram, Scopes, scopes_of, use_of, same_name, Reference, Cell, reference, NamedCell, Instance, instance_at, or_no_instance, ancestor, cell_at, cell_in, BlockIsSeen, IsStanding, Place, Word, Couple, Code, word_at, place, display_at, get_within, Simple, Found, Wanted, simple_cells, found_from, Texts, AreNested, some_same, get-front, NearCell, Denotes, named_from, CellsAre, IsInReach, Refers, Framed, cell_front}
+use Rattle.b67_scenes.proofs.Prelude.{if◌then◌else◌, slice_get, numbered, block_numbered, level_of, PProgram, Scopes, scopes_of, use_of, same_name, Named, Reference, Cell, reference, NamedCell, Instance, instance_at, or_no_instance, ancestor, cell_at, cell_in, BlockIsSeen, IsStanding, Word, Place, Couple, Code, word_at, get_within, place, display_at, Simple, Found, Wanted, simple_cells, found_from, AreNested, Texts, some_same, get-front, NearCell, cell_front, Denotes, named_from, CellsAre, IsInReach, Refers, Framed}
 use Rattle.b67_frames.proofs.Knowing.{denotes_so}
 use Rattle.b67_scenes.proofs.Finding.{frame_near, place_near}
 use Rattle.b67_scenes.proofs.Led.{named_parent, named_reached, named_seen, named_shown, IsLed, cell_reached, cell_led}
@@ -71,9 +71,22 @@ module _ (tree : PProgram) (code : Code) (texts : Texts) (nested : AreNested (sc
     pub lies : word_at img.stacks (place at.stack (at.at + couple.index)) ≡ Some word
     pub fits : (couple.level < 32) × (couple.index < 2 ^ 14)
 
-  module _ (n : Named) (wanted : Wanted) (couple : Couple) (found : Found) (refers : Refers wanted) (is_seen : BlockIsSeen sc ((instance_at w part.instance).block) n)
-      (named_there : found_from 0 (simple_cells sc (block_numbered sc.blocks ((use_of sc n).block))) n.name ≡ Some found) (wanted_is : found.cell.wanted ≡ wanted)
-      (level_is : couple.level + (use_of sc n).up ≡ level) (index_is : couple.index ≡ 2 + found.number) where
+  -- The couple names the cell of a parameter that refers.
+  pub record NamesCell : Type 0 where
+    pub name : Named
+    pub wanted : Wanted
+    pub couple : Couple
+    pub found : Found
+    pub refers : Refers wanted
+    pub is_seen : BlockIsSeen sc ((instance_at w part.instance).block) name
+    pub named_there : found_from 0 (simple_cells sc (block_numbered sc.blocks ((use_of sc name).block))) name.name ≡ Some found
+    pub wanted_is : found.cell.wanted ≡ wanted
+    pub level_is : couple.level + (use_of sc name).up ≡ level
+    pub index_is : couple.index ≡ 2 + found.number
+
+  module _ (names_it : NamesCell) where
+    open names_it use {name as n, wanted, couple, found, refers, is_seen, named_there, wanted_is, level_is, index_is}
+
     abbrev home_at : ℕ
     home_at = ancestor w ((use_of sc n).up) part.instance
 

@@ -1,12 +1,10 @@
 -- On whose stacks somebody depends: what lies on the path from an instance lies in the same stack, or in one in which some process has its critical place.
-use Rattle.std.proofs.Common.{◌≡◌, ◌⊎◌, inl, inr, refl, sym, ap, ◌∙◌, subst, ℕ, ◌≤◌, List, [], ◌∷◌, length, Option, Some, None, false}
-use Rattle.b67_scenes.proofs.Prelude.{slice_get, numbered, PProgram, Scopes, scopes_of, Instance, Process, Part, State, World, lives, own_instances, Stack, Home, IsInSkeleton, NextIn, SkeletonNext, IsStanding, IsOnPath, stack_of, skeleton, newest_own, IsWholeInstance, IsOk, stack_forth, facts_of, Place, Code, place, Image, Texts, some_same, Layout, NearFrame, Living, Pictured, living, dead, PicturesBy, CriticalIs}
+use Rattle.std.proofs.Common.{◌≡◌, ◌⊎◌, inl, inr, sym, ap, ◌∙◌, subst, ℕ, ◌≤◌, List, [], ◌∷◌, Option, Some, None, false}
+use Rattle.b67_scenes.proofs.Prelude.{slice_get, numbered, PProgram, scopes_of, Instance, Process, State, World, lives, stack_forth, home_forth, stack_back, parent_path, IsOk, Stack, Home, IsInSkeleton, NextIn, SkeletonNext, IsStanding, IsOnPath, stack_of, skeleton, IsWholeInstance, Place, Code, Image, Texts, some_same, NearFrame, IsNearStack, facts_of, Layout, CriticalIs, Living, Pictured, living, dead, PicturesBy}
 use Rattle.algol_standing.specs.Skeleton as skeletons
 use Rattle.algol_standing.specs.Skeleton.{Owned}
 use Rattle.algol_standing.specs.Worlds.{home_of}
-use Rattle.algol_standing.proofs.Pairs.{home_forth, stack_back}
-use Rattle.algol_standing.proofs.Seen.{parent_path}
-use Rattle.b67_rows.proofs.Touching.{IsDependedOn, IsNearStack}
+use Rattle.b67_rows.proofs.Touching.{IsDependedOn}
 use Rattle.b67_scenes.proofs.Finding.{Found, found_laid, found_process, find, standing_near}
 use Rattle.b67_scenes.proofs.Paths.{path_stands}
 

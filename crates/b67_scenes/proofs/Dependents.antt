@@ -1,6 +1,6 @@
 -- Whether a live process depends on an instance: in a world, and by the critical places of its image.
 use Rattle.std.proofs.Common.{◌≡◌, ◌≢◌, ◌⊎◌, inl, inr, refl, sym, ap, ◌∙◌, ℕ, zero, suc, List, [], ◌∷◌, length, Option, Some, None, Bool, true, false, arith}
-use Rattle.b67_scenes.proofs.Prelude.{◌&&◌, ◌||◌, ◌==◌, slice_get, list_any, numbered, PProgram, scopes_of, Instance, Process, Part, State, lives, World, is_this, some_depends, is_evaluation, IsWholeInstance, IsStanding, stack_of, IsOk, stack_forth, IsOwn, Place, Word, Registers, Code, same_place, same_place-self, place, ProcessState, Able, WaitsFor, WaitsAny, Procures, Ended, Image, is_live, live_criticals, get_within as get_below, Texts, some_same, none_some, Layout, CriticalIs, Frame, Around, Pictured, living, dead, PicturesBy, same_or_not, numbered_beyond, same_is}
+use Rattle.b67_scenes.proofs.Prelude.{list_any, ◌&&◌, ◌||◌, ◌==◌, slice_get, numbered, PProgram, scopes_of, is_this, some_depends, is_evaluation, Instance, Process, Part, State, lives, World, stack_forth, IsOk, IsWholeInstance, IsStanding, stack_of, IsOwn, Word, Place, Registers, Code, same_place-self, same_place, get_within as get_below, place, Image, is_live, live_criticals, ProcessState, Able, WaitsFor, WaitsAny, Procures, Ended, Texts, some_same, none_some, same_is, same_or_not, numbered_beyond, Layout, Frame, Around, CriticalIs, Pictured, living, dead, PicturesBy}
 use Rattle.b67_table.specs.Image.{is_ended}
 use Rattle.b67_table.specs.Questions.{with_critical, unless}
 use Rattle.b67_scenes.proofs.Heights.{alone_there, none_there}

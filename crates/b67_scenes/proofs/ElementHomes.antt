@@ -1,8 +1,8 @@
 -- Where a process finds an element whose descriptor lies on its stack: in an array of an instance in reach.
 use Rattle.std.proofs.Common.{◌≡◌, sym, ap, ◌∙◌, subst, ℕ, ◌≤◌, List, [], ◌∷◌, Some, true, false, arith}
-use Rattle.b67_scenes.proofs.Prelude.{Kind, PProgram, Scopes, scopes_of, Reference, Bounds, ArrayCell, World, Word, Descriptor, Code, Texts, Allotted, Layout, AreSized, HasArray, IsArrayOf, OneSized, one_sized, TwoSized, two_sized, IsInReach, Lies, OwnArray, known_array, framed_cells}
+use Rattle.b67_scenes.proofs.Prelude.{PProgram, Scopes, scopes_of, Kind, Reference, Bounds, ArrayCell, World, Word, Descriptor, Code, Texts, OneSized, one_sized, TwoSized, two_sized, Lies, OwnArray, known_array, framed_cells, Allotted, Layout, AreSized, HasArray, IsArrayOf, ElementIsIn, IsInReach}
 use Rattle.b67_table.specs.Arrays.{as_indexed}
-use Rattle.b67_frames.specs.Arrays.{ElementIsIn, IsElement}
+use Rattle.b67_frames.specs.Arrays.{IsElement}
 use Rattle.b67_frames.proofs.ElementRows.{element_copy_read}
 use Rattle.b67_scenes.proofs.Finding.{Found, find}
 use Rattle.b67_scenes.proofs.Led.{reached_stands}

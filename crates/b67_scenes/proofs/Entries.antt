@@ -1,6 +1,6 @@
 -- The entry of a block or a procedure by the machine, where a process stands at it.
 use Rattle.std.proofs.Common.{◌≡◌, refl, sym, ap, ◌∙◌, subst, ℕ, ◌+◌, ◌-◌, ◌*◌, ◌/◌, ◌%◌, ◌≤◌, ◌<◌, List, [], ◌∷◌, ◌++◌, length, Option, Some, Ok, true, false, arith, length-append}
-use Rattle.b67_scenes.proofs.Prelude.{◌==◌, ◌&&◌, nat_le, slice_get, PProgram, Block, block_numbered, around, level_of, Scopes, scopes_of, Given, Part, World, instance_at, segment_of, Place, Word, Mscw, Pcw, Rcw, as_mscw, as_rcw, as_mscw-mscw_word, as_rcw-rcw_word, place_at, Spells, Code, Segment, stack_limit, place, linked, gives, most_processes, end_of_code, entered_mark, control_word, look_seen, frame, at_or, plain, operator_at, Has, code_at, Wanted, simple_cells, Texts, Slot, mark, given_slots, Core, IsCore, with_core, newest, SlotsAre, CoreAt, control_words, slots_length, called_by, IsShortSegment, AreNested, LiesNested, shown, shown_top, linked_seen, lower_of, AreFit, Taken, taken_words, next_within, newest_low, segment_low, Top, top_slot, length-stack, mark_read, block_few, as_many_controls, controls_many, Layout, block_controls, IsComplete, Framed, Frame, Shape, of_own, of_lent, IsInReach, made_many, Linked, Begins_with, begins_core, all_linked, nat_tests, cell_of, runs_low, as_many_values}
+use Rattle.b67_scenes.proofs.Prelude.{nat_tests, ◌==◌, ◌&&◌, nat_le, slice_get, Block, block_numbered, around, level_of, PProgram, Scopes, scopes_of, Given, Part, World, instance_at, segment_of, Word, Place, as_mscw-mscw_word, as_rcw-rcw_word, as_mscw, as_rcw, place_at, Mscw, Pcw, Rcw, Spells, Code, Segment, stack_limit, place, linked, gives, most_processes, end_of_code, entered_mark, control_word, look_seen, frame, at_or, cell_of, plain, operator_at, called_by, Wanted, simple_cells, Has, code_at, AreNested, LiesNested, Texts, given_slots, Slot, mark, slots_length, Core, IsCore, with_core, newest, SlotsAre, CoreAt, control_words, IsShortSegment, shown, shown_top, linked_seen, lower_of, AreFit, Taken, taken_words, next_within, newest_low, segment_low, Top, top_slot, length-stack, mark_read, made_many, block_few, as_many_controls, controls_many, Linked, Begins_with, begins_core, all_linked, runs_low, as_many_values, Layout, block_controls, IsComplete, Framed, Frame, Shape, of_own, of_lent, IsInReach}
 use Rattle.algol_tree.specs.declared.TheConstants.{MOST_BLOCK_CELLS}
 use Rattle.b67_deeds.specs.declared.Letter.TheVariants.{Enter}
 use Rattle.b67_ops.specs.declared.Operator.TheVariants as ops
@@ -15,6 +15,7 @@ use Rattle.b67_frames.proofs.Linked.{level_around}
 use Rattle.b67_scenes.proofs.Homes.{operator_there}
 use Rattle.b67_scenes.proofs.Scene.{frame_is, Actor}
 use Rattle.b67_scenes.proofs.Staying.{text_in, level_in, context_in, frame_low}
+use Rattle.b67_rows.proofs.AtOperator.{at_operator}
 
 pub home_level : (n level : ℕ) → n ≡ level → 2 ≤ n → (n + 1 == level + 1 && nat_le 2 n) ≡ true
 home_level n level e h = grind (arith, nat_tests)
@@ -88,7 +89,21 @@ module _ (tree : PProgram) (code : Code) (texts : Texts) (nested : LiesNested tr
     pub calls : (x : Word) → SlotIs sc s.stands.held level own base (mark ∷ waiting) slot x →
         look_seen img.stacks (called_by x (cell_of core.registers x)) ≡ Ok (code_at (segment_of sc.blocks j) begin (level_of (block_numbered sc.blocks j)))
 
-  module _ (wanted : List Wanted) (gs : List Given) (slot : Slot) (next : ℕ) (waiting : List Slot) (h j begin : ℕ) (e : Calls wanted gs slot next waiting h j begin) where
+  -- What is entered, and by which operands.
+  pub record Entry : Type 0 where
+    pub wanted : List Wanted
+    pub gs : List Given
+    pub slot : Slot
+    pub next : ℕ
+    pub waiting : List Slot
+    pub parent : ℕ
+    pub block : ℕ
+    pub begin : ℕ
+    pub calls : Calls wanted gs slot next waiting parent block begin
+
+  module _ (called : Entry) where
+    open called use {wanted, gs, slot, next, waiting, parent as h, block as j, begin, calls as e}
+
     abbrev pub inner_level : ℕ
     inner_level = level_of (block_numbered sc.blocks j)
 
@@ -252,7 +267,7 @@ module _ (tree : PProgram) (code : Code) (texts : Texts) (nested : LiesNested tr
 
     pub new_core : IsCore new
     new_core =
-        new_is code img p core s.has next there arguments first.word second.word more m c home display entry
+        new_is code (at_operator s.has there) arguments first.word second.word more m c home display entry
         (shown_here ∙ ap (λ (k : ℕ). Some (place k at)) (sym s.has.own) ∙ ap (λ (k : ℕ). Some (place core.registers.stack k)) (sym at_is))
 
     pub core_at : CoreAt sc [] code (texts.placed (segment_of sc.blocks j)) inner_level begin [] new
@@ -269,11 +284,11 @@ module _ (tree : PProgram) (code : Code) (texts : Texts) (nested : LiesNested tr
         }
 
     pub entry_raw : raw code img p ≡ gives (with_core img p new)
-    entry_raw = enter_raw code img p core s.has next there arguments first.word second.word more m c home display entry
+    entry_raw = enter_raw code (at_operator s.has there) arguments first.word second.word more m c home display entry
 
     pub entry_not_plain : plain code img p ≡ false
     entry_not_plain =
-        action_not_plain code img p core s.has (ops.Plain kinds.Entr) next there (enter_class code img p core s.has next there arguments first.word second.word more m c home display entry)
+        action_not_plain code (ops.Plain kinds.Entr) (at_operator s.has there) (enter_class code (at_operator s.has there) arguments first.word second.word more m c home display entry)
 
     pub entry_action : table code img p ≡ outcomes.gives (with_core img p new) → letter code img p ≡ Some Enter
-    entry_action = enter_action code img p core s.has next there arguments first.word second.word more m c home display entry
+    entry_action = enter_action code (at_operator s.has there) arguments first.word second.word more m c home display entry

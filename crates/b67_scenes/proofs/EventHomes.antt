@@ -1,7 +1,7 @@
 -- Where a process finds an event: its word lies in the frame of one of its parts. A name that a block declares means one that is made; that of
 -- a parameter leads to one.
 use Rattle.std.proofs.Common.{◌≡◌, ◌⊎◌, inl, inr, refl, sym, ap, ◌∙◌, subst, ℕ, ◌+◌, ◌<◌, ◌≤◌, ◌^◌, List, ◌∷◌, length, Option, Some, arith, None}
-use Rattle.b67_scenes.proofs.Prelude.{slice_get, Named, block_numbered, level_of, PProgram, PBody, Scopes, scopes_of, use_of, Reference, Cell, event, reference, ask, NamedCell, Instance, instance_at, or_no_instance, ancestor, cell_in, cell_at, by_cell, followed, BlockIsSeen, IsSeenAround, IsInner, InRest, IsNoBlock, numbered_small, NearCell, Word, Registers, as_irw, as_sirw, event_word, Couple, Code, word_at, place, Image, display_at, cell_place, cell_word, get_within, simple_cells, made_base, found_from, made_of, made_from, Texts, AreNested, some_same, IsAsked, ArraySeen, Denotes, named_from, HasEvent, IsComplete, IsInReach, Framed, block_controls, block_few, controls_many, FindsEvent, directly, by_reference, IsParent, IsEventAt, OwnCells, framed_cells, none_later, OwnEvent, up_complete}
+use Rattle.b67_scenes.proofs.Prelude.{slice_get, block_numbered, level_of, PProgram, PBody, Scopes, scopes_of, use_of, Named, ask, Reference, Cell, event, reference, NamedCell, Instance, instance_at, or_no_instance, ancestor, cell_in, cell_at, by_cell, followed, BlockIsSeen, IsSeenAround, IsInner, InRest, numbered_small, IsNoBlock, Word, as_irw, as_sirw, event_word, Registers, Couple, Code, word_at, get_within, place, Image, display_at, cell_place, cell_word, simple_cells, made_base, found_from, made_of, made_from, AreNested, Texts, some_same, IsAsked, ArraySeen, NearCell, block_few, controls_many, FindsEvent, directly, by_reference, up_complete, OwnCells, framed_cells, none_later, OwnEvent, IsParent, Denotes, named_from, HasEvent, IsComplete, IsInReach, Framed, block_controls, IsEventAt}
 use Rattle.algol_paths.specs.Arrays.{an_event}
 use Rattle.b67_table.specs.declared.Cell.{Cell as MachineCell}
 use Rattle.b67_templates.specs.Cells as wants
@@ -300,7 +300,18 @@ module _ (tree : PProgram) (code : Code) (texts : Texts) (nested : AreNested (sc
 
   module _ (n : Named) (couple : Couple) (is_seen : BlockIsSeen sc block n) (v : IsFormalEvent sc level n couple) where
     h : CellHome tree code texts nested actor n wants.event couple
-    h = cell_home tree code texts nested actor n wants.event couple v.found tt is_seen v.there v.wanted_is v.level_is v.index_is
+    h = cell_home tree code texts nested actor (record {
+      name = n;
+      wanted = wants.event;
+      couple = couple;
+      found = v.found;
+      refers = tt;
+      is_seen = is_seen;
+      named_there = v.there;
+      wanted_is = v.wanted_is;
+      level_is = v.level_is;
+      index_is = v.index_is;
+    })
 
     module _ (r : Reference) (same : h.cell ≡ reference r) (leads : LeadsToEvent sc w lay (IsInReach w (part ∷ outer)) r h.word) (l : LiesThere r.instance) where
       formal_there : FormalEvent n couple

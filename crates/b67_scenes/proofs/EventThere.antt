@@ -1,6 +1,6 @@
 -- An event of an instance that stands becomes another one: its cells, the arrays and the events of the image after it.
 use Rattle.std.proofs.Common.{◌≡◌, ◌≢◌, refl, sym, ap, ◌∙◌, subst, ℕ, ◌+◌, List, [], ◌∷◌, ◌++◌, length, Some}
-use Rattle.b67_scenes.proofs.Prelude.{slice_get, slice_set, numbered, block_numbered, PProgram, Scopes, scopes_of, event, EventState, NamedCell, Instance, Part, World, instance_at, or_no_instance, with_instance, cell_in, cells_with, Made, Place, Word, Event, Code, place, Simple, simple_cells, made_base, Texts, Core, some_same, IsOwn, get-behind, Layout, AreMade, ArraysAre, HasEvent, EventsAre, CellsAre, Framed, Frames, KeepsArrays, Lies, lies_in, OwnCells, OwnEvent, cells_length}
+use Rattle.b67_scenes.proofs.Prelude.{slice_get, slice_set, numbered, EventState, block_numbered, PProgram, Scopes, scopes_of, event, NamedCell, Instance, Part, World, instance_at, or_no_instance, with_instance, cell_in, cells_with, Made, IsOwn, Word, Place, Code, Event, place, Simple, simple_cells, made_base, Texts, Core, some_same, get-behind, KeepsArrays, Lies, lies_in, OwnCells, OwnEvent, cells_length, Layout, AreMade, ArraysAre, HasEvent, EventsAre, CellsAre, Framed, Frames}
 use Rattle.algol_meaning.specs.Events.{set_event}
 use Rattle.b67_events.specs.Events.{event_changed}
 use Rattle.b67_events.specs.Laws.{StaysInPlace}
@@ -76,8 +76,18 @@ module _ (sc : Scopes) (w : World) (lay : Layout) (i : ℕ) (x : Instance) (own 
   pub arrays_after : (rows : Rows) → ArraysAre sc w lay rows → ArraysAre sc (stored_world w i x own.is (cells_with x.cells name (event later))) lay rows
   arrays_after rows =
       let none = event_keeps_none name later x.cells found.cell found.means in
-      arrays_still sc w w' lay lay i x (changed w i x own.is cells') own.is refl refl refl none.0 none.1
-      (λ k other c a lies allots. (array_beside name later x.cells (length (simple_cells sc (block_numbered sc.blocks x.block)) + k) other c lies, allots)) (λ j other. refl) rows
+      arrays_still sc w w' lay lay i (record {
+        x = x;
+        y = changed w i x own.is cells';
+        there = own.is;
+        now = refl;
+        left = refl;
+        block = refl;
+        elements = none.0;
+        many = none.1;
+        was = λ k other c a lies allots. (array_beside name later x.cells (length (simple_cells sc (block_numbered sc.blocks x.block)) + k) other c lies, allots);
+        others = λ j other. refl;
+      }) rows
 
   -- ---- the events
 
@@ -116,4 +126,18 @@ module _ (sc : Scopes) (w : World) (lay : Layout) (i : ℕ) (x : Instance) (own 
         (events : List Event) → EventsAre sc w lay events →
         EventsAre sc (stored_world w i x own.is (cells_with x.cells name (event later))) lay (event_changed (place frame.stack (frame.at + (made_base sc (block_numbered sc.blocks x.block) + number))) change events)
     events_after =
-        events_changed sc w w' lay i x (changed w i x own.is cells') number found.cell later (place frame.stack (frame.at + (made_base sc (block_numbered sc.blocks x.block) + number))) has_event own.is refl refl refl this_is others_are
+        events_changed sc w w' lay i (record {
+          x = x;
+          y = changed w i x own.is cells';
+          number = number;
+          before = found.cell;
+          later = later;
+          there = place frame.stack (frame.at + (made_base sc (block_numbered sc.blocks x.block) + number));
+          has = has_event;
+          is = own.is;
+          now = refl;
+          left = refl;
+          block = refl;
+          this_is = this_is;
+          others_are = others_are;
+        })

@@ -1,12 +1,11 @@
 -- Where the frame of an instance that stands lies, in whatever stack, and how much of it lies below the floor of the process whose stack that is.
 use Rattle.std.proofs.Common.{◌≡◌, inl, inr, refl, sym, ap, ◌∙◌, subst, ℕ, ◌+◌, ◌<◌, ◌≤◌, Bool, false, List, [], ◌∷◌, ◌++◌, length, Some, arith, append_assoc, append-nil}
-use Rattle.b67_scenes.proofs.Prelude.{if◌then◌else◌, slice_get, numbered, block_numbered, PProgram, Scopes, scopes_of, Instance, Process, Part, State, lives, World, instance_at, is_evaluation, own_instances, some_depends, IsInSkeleton, IsStanding, IsOwn, IsWholeInstance, stack_of, IsOk, IsLow, stack_forth, Place, Word, Code, word_at, stack_limit, place, Image, made_base, Texts, Core, size, HasCore, Above, steps_stay_above, some_same, get-front, get-behind, Near, below_floor, NearFrame, Layout, FrameStands, Around, Frames, begins_core, Lies, owned_frame, lies_low, lies_around, Living, Pictured, living, dead, PicturesBy, CoreReaches, ReachesFor}
+use Rattle.b67_scenes.proofs.Prelude.{if◌then◌else◌, slice_get, numbered, block_numbered, PProgram, Scopes, scopes_of, is_evaluation, own_instances, some_depends, Instance, Process, Part, State, lives, World, instance_at, stack_forth, IsOk, IsLow, IsInSkeleton, IsStanding, IsOwn, IsWholeInstance, stack_of, Word, Place, Code, word_at, stack_limit, place, Image, made_base, Texts, steps_stay_above, Core, size, HasCore, Above, some_same, get-front, get-behind, Near, below_floor, NearFrame, IsNearStack, own_stack, begins_core, Lies, owned_frame, lies_low, lies_around, Layout, FrameStands, Around, Frames, Living, Pictured, living, dead, PicturesBy, CoreReaches, ReachesFor}
 use Rattle.b67_rows.proofs.Numbers.{get_within}
 use Rattle.b67_frames.proofs.Linked.{Entered, AreEntered, lies_entered}
 use Rattle.b67_scenes.specs.Reaches as reaching
 use Rattle.b67_scenes.proofs.Staying.{frame_low}
 use Rattle.b67_scenes.proofs.Worlds.{IsInStack, own_listed, in_stack}
-use Rattle.b67_rows.proofs.Touching.{IsNearStack, own_stack}
 
 module _ (tree : PProgram) (code : Code) (texts : Texts) (w : World) (lay : Layout) (img : Image) where
   abbrev sc : Scopes
@@ -97,8 +96,19 @@ module _ (tree : PProgram) (code : Code) (texts : Texts) (w : World) (lay : Layo
   -- ---- of a picture
 
   module _ (by : PicturesBy tree code texts w lay img) (ok : IsOk (scopes_of tree) IsWholeInstance w) (i : ℕ) (h : IsInStack tree code texts w lay img by ok i) where
-    module _ (part : Part) (outer : List Part) (todo : h.process.todo ≡ part ∷ outer) (l : Living tree code texts w lay img h.number h.process) (s : FrameStands tree code texts w lay h.number part outer l.settled)
-        (a : Around tree code texts w lay h.number outer s.frame.lower s.frame.mark s.frame.control s.frame.gives) (r : CoreReaches (scopes_of tree) w lay h.number part l.core l.settled) where
+    -- Its innermost part, which stands at its head.
+    pub record StandsThere : Type 0 where
+      pub part : Part
+      pub outer : List Part
+      pub todo : h.process.todo ≡ part ∷ outer
+      pub living : Living tree code texts w lay img h.number h.process
+      pub stands : FrameStands tree code texts w lay h.number part outer living.settled
+      pub around : Around tree code texts w lay h.number outer stands.frame.lower stands.frame.mark stands.frame.control stands.frame.gives
+      pub reaches : CoreReaches (scopes_of tree) w lay h.number part living.core living.settled
+
+    module _ (there : StandsThere) where
+      open there use {part, outer, todo, living as l, stands as s, around as a, reaches as r}
+
       abbrev top : ℕ
       top = length s.frame.lower
 
@@ -190,7 +200,7 @@ module _ (tree : PProgram) (code : Code) (texts : Texts) (w : World) (lay : Layo
     by_parts : (parts : List Part) → h.process.todo ≡ parts → (l : Living tree code texts w lay img h.number h.process) → Frames tree code texts w lay h.number parts l.settled →
         ReachesFor sc w lay h.number parts l.core l.settled → IsOwn parts i → Found i
     by_parts [] todo l f r own = absurd f
-    by_parts (part ∷ outer) todo l f r own = found_own part outer todo l f.0 f.1 r own
+    by_parts (part ∷ outer) todo l f r own = found_own (record { part = part; outer = outer; todo = todo; living = l; stands = f.0; around = f.1; reaches = r }) own
 
     -- an instance that has a process in whose stack it is, is found there
     pub found_there : Found i

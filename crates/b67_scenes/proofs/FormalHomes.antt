@@ -1,6 +1,6 @@
 -- Where a process finds the cell of a parameter that stands for an array: in a frame that its display names. It leads to the array's cell.
 use Rattle.std.proofs.Common.{◌≡◌, sym, ap, ◌∙◌, ℕ, ◌∷◌, Some, refl}
-use Rattle.b67_scenes.proofs.Prelude.{Named, PProgram, Scopes, scopes_of, Reference, Cell, reference, instance_at, cell_at, BlockIsSeen, Place, as_sirw, Couple, Code, cell_word, IsFormalArray, Texts, AreNested, some_same, Denotes, named_from, IsInReach}
+use Rattle.b67_scenes.proofs.Prelude.{PProgram, Scopes, scopes_of, Named, Reference, Cell, reference, instance_at, cell_at, BlockIsSeen, Place, as_sirw, Couple, Code, cell_word, IsFormalArray, AreNested, Texts, some_same, Denotes, named_from, IsInReach}
 use Rattle.algol_paths.specs.Arrays.{Shape}
 use Rattle.b67_templates.specs.Cells as wants
 use Rattle.b67_frames.specs.Arrays.{ReferenceLeadsTo}
@@ -38,7 +38,18 @@ module _ (tree : PProgram) (code : Code) (texts : Texts) (nested : AreNested (sc
 
   module _ (n : Named) (shape : Shape) (couple : Couple) (is_seen : BlockIsSeen sc ((instance_at w part.instance).block) n) (v : IsFormalArray sc level n shape couple) where
     h : CellHome tree code texts nested actor n (wants.array shape) couple
-    h = cell_home tree code texts nested actor n (wants.array shape) couple v.found tt is_seen v.there v.wanted_is v.level_is v.index_is
+    h = cell_home tree code texts nested actor (record {
+      name = n;
+      wanted = wants.array shape;
+      couple = couple;
+      found = v.found;
+      refers = tt;
+      is_seen = is_seen;
+      named_there = v.there;
+      wanted_is = v.wanted_is;
+      level_is = v.level_is;
+      index_is = v.index_is;
+    })
 
     module _ (r : Reference) (same : h.cell ≡ reference r) (leads : ReferenceLeadsTo sc w lay (IsInReach w (part ∷ outer)) shape r h.word) where
       led : IsLed tree code texts actor r

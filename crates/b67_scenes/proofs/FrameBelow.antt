@@ -1,12 +1,23 @@
 -- Under the frame of a part lies that of the part around it, to which the marks lead down.
 use Rattle.std.proofs.Common.{◌≡◌, refl, ap, ◌∙◌, subst, ℕ, ◌+◌, ◌≤◌, List, ◌∷◌, ◌++◌, length, Ok, arith}
-use Rattle.b67_scenes.proofs.Prelude.{reverse, PProgram, Scopes, scopes_of, Part, World, Word, as_mscw, as_rcw, Code, Stacks, stack_limit, Below, place, left_to, read_as, look_seen, Texts, newest, slots_length, entered_to, length-stack, Layout, Frame, Waits, Around, Begins_with, begins_front, mark_there, control_there}
+use Rattle.b67_scenes.proofs.Prelude.{reverse, PProgram, Scopes, scopes_of, Part, World, Word, as_mscw, as_rcw, Code, Stacks, stack_limit, place, left_to, read_as, look_seen, Below, Texts, slots_length, newest, entered_to, length-stack, Begins_with, begins_front, mark_there, control_there, Layout, Frame, Waits, Around}
 use Rattle.b67_rows.proofs.Marks.{Above, left_seen}
 use Rattle.b67_scenes.proofs.Staying.{level_in, frame_low}
 
-module _ (tree : PProgram) (code : Code) (texts : Texts) (w : World) (lay : Layout) (p : ℕ) (stacks : Stacks) (part next : Part) (parts : List Part) (all : List Word)
-    (frame : Frame tree code texts w lay p part (next ∷ parts) all) (around : Around tree code texts w lay p (next ∷ parts) frame.lower frame.mark frame.control frame.gives)
-    (begins : Begins_with stacks p all) (small : length all ≤ stack_limit) where
+-- The frame of a part that has one around it, with which these words end.
+pub record InnerFrame (tree : PProgram) (code : Code) (texts : Texts) (w : World) (lay : Layout) (p : ℕ) (stacks : Stacks) : Type 0 where
+  pub part : Part
+  pub next : Part
+  pub parts : List Part
+  pub words : List Word
+  pub frame : Frame tree code texts w lay p part (next ∷ parts) words
+  pub around : Around tree code texts w lay p (next ∷ parts) frame.lower frame.mark frame.control frame.gives
+  pub begins : Begins_with stacks p words
+  pub small : length words ≤ stack_limit
+
+module _ (tree : PProgram) (code : Code) (texts : Texts) (w : World) (lay : Layout) (p : ℕ) (stacks : Stacks) (inner : InnerFrame tree code texts w lay p stacks) where
+  open inner use {part, next, parts, words as all, frame, around, begins, small}
+
   abbrev sc : Scopes
   sc = scopes_of tree
 

@@ -1,6 +1,6 @@
 -- Processes come to other states in a world and in its image; and those that wait are able again, whom an event releases.
 use Rattle.std.proofs.Common.{◌≡◌, ◌≢◌, ◌⊎◌, inl, inr, refl, sym, ap, ◌∙◌, subst, ℕ, zero, suc, List, [], ◌∷◌, length, Option, Some, None, true}
-use Rattle.b67_scenes.proofs.Prelude.{slice_set, numbered, set_numbered, PProgram, scopes_of, Process, State, able, lives, World, process_at, or_no_process, with_process, list_in, IsListed, Code, Texts, ProcessState, Able, Image, is_live, woken_number, AwaitsAt, Core, HasCore, length_set_numbered, true_false, same_or_not, numbered_set, numbered_other, Layout, arrays_unchanged, events_unchanged, Living, Pictured, living, dead, PicturesBy, StateIs, ListIs, WaitsAre, HasFacts, Place, waiters_at, list_of}
+use Rattle.b67_scenes.proofs.Prelude.{slice_set, numbered, set_numbered, IsListed, PProgram, scopes_of, list_in, Process, State, able, lives, World, process_at, or_no_process, with_process, Place, Code, waiters_at, list_of, Image, is_live, woken_number, AwaitsAt, ProcessState, Able, Texts, Core, HasCore, length_set_numbered, true_false, same_or_not, numbered_set, numbered_other, arrays_unchanged, events_unchanged, HasFacts, Layout, Living, Pictured, living, dead, PicturesBy, StateIs, ListIs, WaitsAre}
 use Rattle.algol_meaning.specs.World.{set_able, set_all_able}
 use Rattle.b67_table.specs.Image.{with_states}
 use Rattle.b67_table.specs.Writes.{able_again}
@@ -40,8 +40,27 @@ lives_then w m o at k h = by_number (same_or_not k m)
 
 module _ (tree : PProgram) (code : Code) (texts : Texts) (lay : Layout) where
   -- A process comes to another state, in which it lives as well, with this woken number, in an image with these lists and numbers.
-  module _ (w : World) (img : Image) (by : PicturesBy tree code texts w lay img) (m : ℕ) (o : Process) (at : numbered w.processes m ≡ Some o) (alive : lives o.state ≡ true)
-      (facts : HasFacts w) (state : State) (stays : lives state ≡ true) (machine_state : ProcessState) (live : is_live (Some machine_state) ≡ true) (woken : ℕ) (lists : List (List Place)) (numbers : List ℕ) where
+  -- The state of process m changes, and with it its list and its woken number.
+  pub record StateChanges : Type 0 where
+    pub w : World
+    pub img : Image
+    pub by : PicturesBy tree code texts w lay img
+    pub process : ℕ
+    pub old : Process
+    pub at : numbered w.processes process ≡ Some old
+    pub alive : lives old.state ≡ true
+    pub facts : HasFacts w
+    pub state : State
+    pub stays : lives state ≡ true
+    pub machine_state : ProcessState
+    pub live : is_live (Some machine_state) ≡ true
+    pub woken : ℕ
+    pub lists : List (List Place)
+    pub numbers : List ℕ
+
+  module _ (changes : StateChanges) where
+    open changes use {w, img, by, process as m, old as o, at, alive, facts, state, stays, machine_state, live, woken, lists, numbers}
+
     abbrev o' : Process
     o' = record o { state = state; woken = woken }
 
@@ -107,14 +126,17 @@ module _ (tree : PProgram) (code : Code) (texts : Texts) (lay : Layout) where
   -- A process that waits is able, with this woken number, in an image with these lists and numbers, where no event lists it, and it has no list.
   module _ (w : World) (img : Image) (by : PicturesBy tree code texts w lay img) (m : ℕ) (o : Process) (at : numbered w.processes m ≡ Some o) (alive : lives o.state ≡ true)
       (facts : HasFacts w) (woken : ℕ) (lists : List (List Place)) (numbers : List ℕ) where
+    abbrev changes : StateChanges
+    changes = record { w = w; img = img; by = by; process = m; old = o; at = at; alive = alive; facts = facts; state = able; stays = refl; machine_state = Able; live = refl; woken = woken; lists = lists; numbers = numbers }
+
     pub woken_facts : HasFacts (with_process w m (record o { state = able; woken = woken }))
-    woken_facts = state_facts w img by m o at alive facts able refl Able refl woken lists numbers
+    woken_facts = state_facts changes
 
     pub woken_pictured : ((there : Place) → IsListed (waiters_at there img.events) m → ⊥) → list_of m lists ≡ [] → ((r : ℕ) → r ≢ m → list_of r lists ≡ list_of r img.lists) → length numbers ≡ length img.numbers →
         woken_number numbers m ≡ woken → ((r : ℕ) → r ≢ m → woken_number numbers r ≡ woken_number img.numbers r) →
         PicturesBy tree code texts (with_process w m (record o { state = able; woken = woken })) lay (record img { states = set_numbered img.states m Able; lists = lists; numbers = numbers })
     woken_pictured nowhere empty others_listed many numbered_so others_numbered =
-        state_pictured w img by m o at alive facts able refl Able refl woken lists numbers tt (λ there listed. absurd (nowhere there listed))
+        state_pictured changes tt (λ there listed. absurd (nowhere there listed))
         (subst (λ (ats : List Place). ListIs (scopes_of tree) (with_process w m (record o { state = able; woken = woken })) lay [] ats) (sym empty) tt) others_listed many numbered_so others_numbered
 
   -- no event lists these, and they wait for none

@@ -1,6 +1,6 @@
 -- No two instances that stand have their frames at one place, and none has its own where an evaluation has one.
 use Rattle.std.proofs.Common.{◌≡◌, ◌⊎◌, inl, inr, sym, ap, ◌∙◌, subst, ℕ, ◌+◌, ◌≤◌, List, [], ◌∷◌, length, Some, true, false, arith}
-use Rattle.b67_scenes.proofs.Prelude.{numbered, PProgram, scopes_of, Instance, Process, Part, World, is_evaluation, IsWholeInstance, IsOk, IsOwn, Place, Word, Code, place, Image, Yields, Texts, some_same, true_false, Layout, Frame, Around, PicturesBy, IsElsewhere, Lies, lies_around, lies_low, owned_frame}
+use Rattle.b67_scenes.proofs.Prelude.{numbered, PProgram, scopes_of, is_evaluation, Instance, Process, Part, World, IsOk, IsWholeInstance, IsOwn, Word, Place, Code, place, Image, Yields, Texts, some_same, true_false, IsElsewhere, Lies, lies_around, lies_low, owned_frame, Layout, Frame, Around, PicturesBy}
 use Rattle.b67_scenes.proofs.Worlds.{held_of}
 
 module _ (tree : PProgram) (code : Code) (texts : Texts) (w : World) (lay : Layout) (p : ℕ) where

@@ -1,6 +1,6 @@
 -- Where a process finds a variable: in the frame of its instance or of a static parent of that.
 use Rattle.std.proofs.Common.{◌≡◌, ap, ◌∙◌, ℕ, ◌+◌, List, ◌∷◌, length, Some, Ok, arith}
-use Rattle.b67_scenes.proofs.Prelude.{Kind, Named, block_numbered, PProgram, Scopes, scopes_of, use_of, Reference, instance_at, ancestor, BlockIsSeen, Couple, Operator, Placed, Code, word_at, place, display_at, operator_at, Has, Found, found_from, simple_cells, IsVariable, Texts, Slot, Core, Known, CoreAt, IsInReach, IsParent}
+use Rattle.b67_scenes.proofs.Prelude.{block_numbered, PProgram, Scopes, scopes_of, use_of, Kind, Named, Reference, instance_at, ancestor, BlockIsSeen, Couple, Operator, Placed, Code, word_at, place, display_at, operator_at, Found, found_from, simple_cells, IsVariable, Has, Texts, Slot, Core, Known, CoreAt, IsParent, IsInReach}
 use Rattle.b67_segment.specs.Fetching.{fetched}
 use Rattle.b67_segment.proofs.Among.{fetched-spelled}
 use Rattle.b67_scenes.proofs.Led.{named_parent, named_reached, named_shown}

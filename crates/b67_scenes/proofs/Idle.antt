@@ -1,6 +1,6 @@
 -- A process that is able waits for nothing, in a world and in its image.
 use Rattle.std.proofs.Common.{◌≡◌, sym, ◌∙◌, ℕ, [], true, refl}
-use Rattle.b67_scenes.proofs.Prelude.{IsListed, PProgram, State, able, waits_for, waits_any, procures, ended, is_able, World, process_at, list_in, Place, Code, waiters_at, Image, Texts, Layout, PicturesBy}
+use Rattle.b67_scenes.proofs.Prelude.{IsListed, PProgram, list_in, State, able, waits_for, waits_any, procures, ended, is_able, World, process_at, Place, Code, waiters_at, Image, Texts, Layout, PicturesBy}
 use Rattle.b67_scenes.proofs.Showing.{able_alike}
 use Rattle.b67_scenes.proofs.Waiting.{able_nowhere}
 

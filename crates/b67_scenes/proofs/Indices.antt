@@ -1,6 +1,6 @@
 -- What NXLV, NXLN and INDX find on top: the descriptor of an array, by its couple, or that of a row, and under it the index of a subscript.
 use Rattle.std.proofs.Common.{◌≡◌, refl, sym, ap, ◌∙◌, subst, ℕ, ◌+◌, ◌<◌, ◌≤◌, List, [], ◌∷◌, ◌++◌, length, Some, Bool, true, false, Ok, ℤ, arith}
-use Rattle.b67_scenes.proofs.Prelude.{slice_get, Named, PProgram, Scopes, scopes_of, use_of, Sort, number, Reference, Bounds, ArrayCell, array, followed, Word, as_whole, Descriptor, as_irw, Couple, Code, look_seen, frame, Texts, Slot, operand, descriptor, Known, newest, SlotsAre, CoreAt, some_same, AreNested, number_read, Top, top_slot, reference_read, Allotted, DescriptorIs, AreSized, IsArrayOf, named_from, OneSized, one_sized, TwoSized, two_sized, IsInReach, CountsBy}
+use Rattle.b67_scenes.proofs.Prelude.{slice_get, PProgram, Scopes, scopes_of, use_of, Sort, Named, number, Reference, Bounds, ArrayCell, array, followed, Word, as_whole, as_irw, Descriptor, Couple, Code, look_seen, frame, AreNested, Texts, Slot, operand, descriptor, number_read, Known, newest, SlotsAre, CoreAt, some_same, Top, top_slot, reference_read, OneSized, one_sized, TwoSized, two_sized, CountsBy, Allotted, DescriptorIs, AreSized, IsArrayOf, named_from, ElementIsIn, IsInReach}
 use Rattle.algol_meaning.specs.Arrays.{size_of, subscript_place}
 use Rattle.algol_paths.specs.Arrays.{Shape}
 use Rattle.b67_control.specs.Control.{as_descriptor}
@@ -12,7 +12,7 @@ use Rattle.b67_standing.specs.Stepping.{row, reference}
 use Rattle.b67_standing.specs.Standing.{IsLastSubscript}
 use Rattle.b67_rows.proofs.Described.{IsDescriptor, is_descriptor, whole_array, is_whole_array, IsFound, itself, in_cell, through_cell}
 use Rattle.b67_rows.proofs.IndexRows.{with_one, array_itself, array_reached, array_through}
-use Rattle.b67_frames.specs.Arrays.{ElementIsIn, row_copy, IsRow}
+use Rattle.b67_frames.specs.Arrays.{row_copy, IsRow}
 use Rattle.b67_frames.proofs.ElementRows.{array_read, row_copy_read}
 use Rattle.b67_frames.proofs.Knowing.{known_is}
 use Rattle.b67_frames.proofs.Subscripts.{one_bound, two_bounds, only_index, first_index, second_index}
@@ -163,8 +163,22 @@ module _ (tree : PProgram) (code : Code) (texts : Texts) (nested : AreNested (sc
         }
 
     -- .. of two, by the descriptor of a row
-    module _ (j : ℕ) (subscript : ℤ) (below : List Slot) (b c : Bounds) (first_low second_low : ℤ) (counts : CountsBy sort h.cell.bounds (first_low ∷ second_low ∷ [])) (is : h.cell.bounds ≡ b ∷ c ∷ [])
-        (lies : s.stands.slots ≡ descriptor (row n (j ∷ [])) ∷ operand (number (moved_number second_low subscript)) ∷ below) where
+    -- The second subscript of an element, after the first.
+    pub record SecondIndex : Type 0 where
+      pub j : ℕ
+      pub subscript : ℤ
+      pub below : List Slot
+      pub first : Bounds
+      pub second : Bounds
+      pub first_low : ℤ
+      pub second_low : ℤ
+      pub counts : CountsBy sort h.cell.bounds (first_low ∷ second_low ∷ [])
+      pub is : h.cell.bounds ≡ first ∷ second ∷ []
+      pub lies : s.stands.slots ≡ descriptor (row n (j ∷ [])) ∷ operand (number (moved_number second_low subscript)) ∷ below
+
+    module _ (last : SecondIndex) where
+      open last use {j, subscript, below, first as b, second as c, first_low, second_low, counts, is, lies}
+
       two : Two_slots (descriptor (row n (j ∷ []))) (moved_number second_low subscript) below
       two = two_slots (descriptor (row n (j ∷ []))) (moved_number second_low subscript) below lies
 
@@ -243,7 +257,7 @@ module _ (tree : PProgram) (code : Code) (texts : Texts) (nested : AreNested (sc
     by_lows [] subscript below (low ∷ second ∷ []) counts lies = absurd lies
     by_lows (j ∷ []) subscript below (low ∷ second ∷ []) counts lies =
         let both = two_bounds sort h.cell.bounds low second counts in
-        behind_one j subscript below both.0 both.1 low second counts both.2 lies
+        behind_one (record { j = j; subscript = subscript; below = below; first = both.0; second = both.1; first_low = low; second_low = second; counts = counts; is = both.2; lies = lies })
     by_lows (j ∷ k ∷ ks) subscript below (low ∷ second ∷ []) counts lies = absurd lies
     by_lows ks subscript below (low ∷ second ∷ third ∷ lows) counts lies = absurd lies
 

@@ -1,6 +1,6 @@
 -- The way of GO TO down a process's stack: from the innermost part to that of the label's instance, past the frames that are left.
 use Rattle.std.proofs.Common.{◌≡◌, inl, inr, refl, sym, ap, ◌∙◌, subst, ℕ, zero, suc, ◌+◌, ◌<◌, ◌≤◌, List, [], ◌∷◌, ◌++◌, length, take, drop, Some, None, Bool, true, false, Ok, arith, append_assoc, append-nil, length-append}
-use Rattle.b67_scenes.proofs.Prelude.{if◌then◌else◌, ◌==◌, reverse, slice_get, map, nat_tests, numbered, PProgram, Scopes, scopes_of, is_evaluation, own_instances, leave, NamedCell, Instance, Part, Process, World, instance_at, cell_in, by_cell, IsOwn, IsStanding, stack_of, Place, Word, Code, Stacks, stack_limit, Below, place, left_to, Passed, Image, Look, ◌>->◌, look_seen, Yields, Texts, parts_weight, some_same, true_false, same_is, numbered_other, IsSameBut, Layout, ArraysAre, IsInReach, home_of, Framed, Frame, Waits, Around, Owned, Shape, of_own, of_lent, FramesClose, Begins_with, KeepsArrays, Remain, denotes_lasts, owned_frame}
+use Rattle.b67_scenes.proofs.Prelude.{nat_tests, if◌then◌else◌, ◌==◌, reverse, slice_get, map, numbered, PProgram, Scopes, scopes_of, is_evaluation, own_instances, leave, NamedCell, Instance, Part, Process, World, instance_at, cell_in, by_cell, IsOwn, IsStanding, stack_of, Word, Place, Code, Stacks, stack_limit, place, left_to, Passed, Image, Look, ◌>->◌, look_seen, Below, Yields, Texts, some_same, true_false, parts_weight, same_is, numbered_other, IsSameBut, FramesClose, KeepsArrays, Remain, denotes_lasts, Begins_with, owned_frame, Layout, ArraysAre, IsInReach, home_of, Framed, Frame, Waits, Around, Owned, Shape, of_own, of_lent}
 use Rattle.std.specs.Prelude.{nat_eq, nat_lt}
 use Rattle.algol_meaning.specs.Instances.{is_part_of, cut_at}
 use Rattle.algol_standing.proofs.Jumping.{target_is}
@@ -14,7 +14,7 @@ use Rattle.b67_frames.proofs.Closing.{IsClosed}
 use Rattle.b67_frames.proofs.JumpClosing.{after_one, cells_there, AreClosed, none_closed, own_closed, lent_closed}
 use Rattle.b67_frames.proofs.JumpRow.{same_number}
 use Rattle.b67_scenes.proofs.FrameBelow as down
-use Rattle.b67_scenes.proofs.FrameBelow.{leads_down, begins_below}
+use Rattle.b67_scenes.proofs.FrameBelow.{leads_down, begins_below, InnerFrame}
 use Rattle.b67_scenes.proofs.Heights.{own_low}
 use Rattle.b67_scenes.proofs.JumpWorld.{IsAmong, AreHigh, IsHigh, leave_processes, leave_same}
 use Rattle.b67_scenes.proofs.PassedFrames.{IsPassed, ArePassed, passed_further}
@@ -199,8 +199,9 @@ module _ (tree : PProgram) (code : Code) (texts : Texts) (closing : FramesClose)
 
   -- ---- or it is further out
 
-  module _ (part next : Part) (parts : List Part) (words : List Word) (f : FrameOf part (next ∷ parts) words) (a : AroundOf part (next ∷ parts) words f)
-      (begins : Begins_with stacks p words) (small : length words ≤ stack_limit) (back : List Word) (whole : stack ≡ words ++ back) where
+  module _ (inner : InnerFrame tree code texts w lay p stacks) (back : List Word) (whole : stack ≡ inner.words ++ back) where
+    open inner use {part, next, parts, words, frame as f, around as a, small}
+
     abbrev u : Waits tree code texts w lay p next parts f.lower f.mark f.control f.gives
     u = a.0
 
@@ -215,16 +216,16 @@ module _ (tree : PProgram) (code : Code) (texts : Texts) (closing : FramesClose)
         ∙ append_assoc u.below (reverse u.words ++ f.mark ∷ f.control ∷ f.cells) back
 
     height : length f.lower ≡ length u.below + length u.words
-    height = down.height tree code texts w lay p stacks part next parts words f a begins small
+    height = down.height tree code texts w lay p stacks inner
 
     lowest : length u.frame.lower + 2 + length u.frame.cells ≡ length u.below
-    lowest = down.low tree code texts w lay p stacks part next parts words f a begins small
+    lowest = down.low tree code texts w lay p stacks inner
 
     topmost : length f.lower + 2 + length f.cells ≡ length words
-    topmost = down.top tree code texts w lay p stacks part next parts words f a begins small
+    topmost = down.top tree code texts w lay p stacks inner
 
     below_begins : Begins_with stacks p u.below
-    below_begins = begins_below tree code texts w lay p stacks part next parts words f a begins small
+    below_begins = begins_below tree code texts w lay p stacks inner
 
     below_small : length u.below ≤ stack_limit
     below_small = omega (arith, height, topmost, small)
@@ -249,8 +250,8 @@ module _ (tree : PProgram) (code : Code) (texts : Texts) (closing : FramesClose)
           (λ (t : Bool). look_seen stacks (if t then found (record { frames = []; cells = length f.cells }) else (if nat_lt (length f.lower) target_at then chain_broken else left_to (place p (length f.lower)) >-> go_on steps)))
           (eq_not (length f.lower) target_at below_it)
           ∙ ap (λ (t : Bool). look_seen stacks (if t then chain_broken else left_to (place p (length f.lower)) >-> go_on steps)) (not_below (length f.lower) target_at (omega (arith, below_it)))
-          ∙ then_seen stacks (left_to (place p (length f.lower))) (down.below_it tree code texts w lay p stacks part next parts words f a begins small) (go_on steps)
-          (leads_down tree code texts w lay p stacks part next parts words f a begins small)
+          ∙ then_seen stacks (left_to (place p (length f.lower))) (down.below_it tree code texts w lay p stacks inner) (go_on steps)
+          (leads_down tree code texts w lay p stacks inner)
           ∙ ap (λ (c : ℕ). look_seen stacks (passing steps p target_at (record { frame = length u.frame.lower; cells = c }) >-> on_with)) u.cells_are
           ∙ then_seen stacks (passing steps p target_at (record { frame = length u.frame.lower; cells = length u.frame.cells })) (record { frames = way_on.passed; cells = length way_on.frame.cells }) on_with
           (way_on.passes steps (omega (arith, h, height, lowest)))
@@ -414,10 +415,13 @@ module _ (tree : PProgram) (code : Code) (texts : Texts) (closing : FramesClose)
       by true e = here part [] words f a e light
       by false e = absurd (part_outer part [] i e own)
   way (next ∷ parts) part words f a own begins small back whole light =
+      let inner : InnerFrame tree code texts w lay p stacks = record { part = part; next = next; parts = parts; words = words; frame = f; around = a; begins = begins; small = small } in
       by (is_part_of part i) refl
-      (λ within. way parts next a.0.below a.0.frame a.1 within (below_begins part next parts words f a begins small back whole) (below_small part next parts words f a begins small back whole)
-      ((reverse a.0.words ++ f.mark ∷ f.control ∷ f.cells) ++ back) (lower_there part next parts words f a begins small back whole) a.0.light)
+      (λ within. way parts next a.0.below a.0.frame a.1 within (below_begins inner back whole) (below_small inner back whole)
+      ((reverse a.0.words ++ f.mark ∷ f.control ∷ f.cells) ++ back) (lower_there inner back whole) a.0.light)
     where
       by : (t : Bool) → is_part_of part i ≡ t → (IsOwn (next ∷ parts) i → Way next parts a.0.below a.0.frame) → Way part (next ∷ parts) words f
       by true e on = here part (next ∷ parts) words f a e light
-      by false e on = past part next parts words f a begins small back whole e (on (part_outer part (next ∷ parts) i e own))
+      by false e on =
+          let inner : InnerFrame tree code texts w lay p stacks = record { part = part; next = next; parts = parts; words = words; frame = f; around = a; begins = begins; small = small } in
+          past inner back whole e (on (part_outer part (next ∷ parts) i e own))

@@ -1,6 +1,6 @@
 -- The events of the frames that GO TO leaves are closed, and those of all others stay as they were.
 use Rattle.std.proofs.Common.{◌≡◌, ◌⊎◌, inl, inr, refl, ap, ◌∙◌, ℕ, Bool, false, List, [], ◌∷◌, Some, None}
-use Rattle.b67_scenes.proofs.Prelude.{if◌then◌else◌, numbered, PProgram, Scopes, scopes_of, own_instances, leave, EventState, IsListed, Instance, Process, Part, World, with_process, Place, Word, Event, event_at, is_from, closed_from, waiters_at, one_event, Code, Stacks, Passed, Texts, IsOwn, Layout, HasEvent, EventsAre, Frame, FramesClose, IsElsewhere}
+use Rattle.b67_scenes.proofs.Prelude.{if◌then◌else◌, numbered, EventState, IsListed, PProgram, Scopes, scopes_of, own_instances, leave, Instance, Process, Part, World, with_process, IsOwn, Word, Place, Code, Stacks, one_event, Event, event_at, is_from, closed_from, waiters_at, Passed, Texts, FramesClose, IsElsewhere, Layout, HasEvent, EventsAre, Frame}
 use Rattle.b67_frames.proofs.EventsKept.{events_by}
 use Rattle.b67_frames.proofs.EventsLow.{event_outside}
 use Rattle.b67_frames.proofs.JumpClosing.{events_left}

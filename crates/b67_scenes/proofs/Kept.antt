@@ -1,6 +1,6 @@
 -- What an action of one process leaves of the picture of another.
 use Rattle.std.proofs.Common.{◌≡◌, ◌≢◌, Bool, refl, sym, ap, ◌∙◌, subst, ℕ, suc, ◌+◌, ◌≤◌, false, List, [], ◌∷◌, length, Option, Some, arith}
-use Rattle.b67_scenes.proofs.Prelude.{if◌then◌else◌, numbered, set_numbered, block_numbered, PProgram, Scopes, scopes_of, Instance, Part, Process, World, instance_at, or_no_instance, process_at, or_no_process, State, is_evaluation, own_instances, some_depends, IsLow, Word, Code, made_base, Texts, place, Image, Core, HasCore, weight, parts_weight, some_same, Layout, Owned, Frame, Around, Frames, Living, Pictured, living, dead, CoreReaches, ReachesFor, StateIs, ProcessState, numbered_other, StayBelow, owned_frame, same_block, StandOn}
+use Rattle.b67_scenes.proofs.Prelude.{if◌then◌else◌, numbered, set_numbered, block_numbered, PProgram, Scopes, scopes_of, is_evaluation, own_instances, some_depends, Instance, Part, Process, World, instance_at, or_no_instance, process_at, or_no_process, State, IsLow, Word, Code, place, Image, ProcessState, made_base, Texts, Core, HasCore, some_same, weight, parts_weight, numbered_other, StayBelow, owned_frame, same_block, StandOn, Layout, Owned, Frame, Around, Frames, Living, Pictured, living, dead, CoreReaches, ReachesFor, StateIs}
 use Rattle.b67_scenes.specs.Reaches as reaching
 use Rattle.b67_scenes.proofs.Ancestors.{AreLaid}
 use Rattle.b67_scenes.proofs.Staying.{frames_stay, frames_weigh, frames_most}

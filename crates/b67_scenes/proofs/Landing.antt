@@ -1,6 +1,6 @@
 -- A process that has a core at a place from which private operators lead to where the machine stands for what its parts have still to do.
 use Rattle.std.proofs.Common.{◌≡◌, sym, ap, ◌∙◌, subst, ℕ, ◌+◌, ◌≤◌, List, ◌∷◌, ◌++◌, length, Some, arith}
-use Rattle.b67_scenes.proofs.Prelude.{PProgram, Scopes, scopes_of, Process, Part, World, instance_at, segment_of, Registers, place_at, Placed, Code, Texts, stack_limit, place, Image, frame, Slot, ComesTo, Core, size, HasCore, CoreSteps, Known, CoreAt, FragmentsArePerformed, slots_length, weight, Layout, AreKnown, IsInReach, IsChained, Frame, Around, Frames, CriticalIs, TaskIs, innermost_most, Living, CoreReaches, ReachesFor}
+use Rattle.b67_scenes.proofs.Prelude.{PProgram, Scopes, scopes_of, Process, Part, World, instance_at, segment_of, place_at, Registers, Placed, Code, stack_limit, place, Image, frame, Texts, ComesTo, Slot, slots_length, Core, size, HasCore, CoreSteps, Known, CoreAt, FragmentsArePerformed, weight, Layout, AreKnown, IsInReach, IsChained, Frame, Around, Frames, CriticalIs, TaskIs, innermost_most, Living, CoreReaches, ReachesFor}
 use Rattle.b67_scenes.proofs.Paths.{CanClimb}
 use Rattle.b67_cores.specs.Cores.{here}
 use Rattle.b67_cores.specs.Stretches.{Arrives}
@@ -56,7 +56,7 @@ module _ (tree : PProgram) (code : Code) (texts : Texts) (w : World) (lay : Layo
   living_of climb laid fragments p q part outer bound first core l =
       let a : Arrives (scopes_of tree) l.known (context_in tree code texts w part l.frame.gives) code (text_in tree texts w part) (level_in tree w part) (most_in tree w part) bound l.comes.at l.comes.with_slots core =
       fragments.leads (scopes_of tree) l.known (context_in tree code texts w part l.frame.gives) code (text_in tree texts w part) (level_in tree w part) (most_in tree w part) bound l.pc l.comes.at l.slots l.comes.with_slots core l.comes.leads l.at
-      (sees tree code texts w climb lay laid p part outer core.below l.frame l.around core l.chained) l.held l.room in
+      (sees tree code texts w climb lay laid p (record { part = part; outer = outer; words = core.below; frame = l.frame; around = l.around; core = core; chained = l.chained })) l.held l.room in
       let chained_there : IsChained (scopes_of tree) w lay part.instance (names_in tree w part) a.core.registers.display =
       subst (λ d. IsChained (scopes_of tree) w lay part.instance (names_in tree w part) d) (sym (ap (λ (r : Registers). r.display) a.moved.registers)) l.chained in
       let stands : Frames tree code texts w lay p (part ∷ outer) a.core = (
@@ -89,7 +89,7 @@ module _ (tree : PProgram) (code : Code) (texts : Texts) (w : World) (lay : Layo
           slots = l.comes.with_slots;
           held = a.added ++ l.known;
           held_are = known_both (scopes_of tree) w lay (IsInReach w (part ∷ outer)) part.instance a.added l.known
-              (stuffed_known tree code texts w climb lay laid p part outer core.below l.frame l.around core l.chained a.added a.added_are) l.known_are;
+              (stuffed_known tree code texts w climb lay laid p (record { part = part; outer = outer; words = core.below; frame = l.frame; around = l.around; core = core; chained = l.chained }) a.added a.added_are) l.known_are;
           stands = l.comes.stands;
           there = a.at;
           few = a.room;

@@ -1,4 +1,5 @@
 pub mod Prelude
+pub mod TheLaws
 pub mod Staying
 pub mod Stuffed
 pub mod VariableHomes

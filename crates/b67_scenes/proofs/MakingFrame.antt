@@ -1,6 +1,6 @@
 -- The frame of a part that makes what its block declares: after its cells lie descriptors of arrays, and words of events.
 use Rattle.std.proofs.Common.{◌≡◌, ◌≢◌, refl, sym, ap, ◌∙◌, subst, ℕ, ◌+◌, ◌*◌, ◌<◌, ◌≤◌, List, ◌∷◌, ◌++◌, length, Option, Some, Bool, false, arith, append_assoc, length-append}
-use Rattle.b67_scenes.proofs.Prelude.{is_evaluation, IsStanding, get-front, if◌then◌else◌, slice_get, numbered, Block, block_numbered, PProgram, Scopes, scopes_of, NamedCell, Instance, Process, Part, World, instance_at, or_no_instance, with_process, cell_in, resume, Made, all_to_make, KeepsToText, RestsKeepToTheirText, AllIsMadeInOrder, Place, Word, Code, place, most_cells, yields_of, Simple, simple_cells, made_of, Texts, control_words, tokens_around, part_weight, weight, some_same, AreNested, IsText, numbered_set, Allotted, Layout, AreMade, Denotes, Refers, block_controls, controls_count, IsChained, Framed, Frame, Around, Owned, of_own, rows_but, rows_other, made_many, block_few, as_many_controls, controls_many, StandOn, home_on, StayBelow, weight_stays, around_stays, owned_frame, frame_gives, runs_at, level_of, as_many_values}
+use Rattle.b67_scenes.proofs.Prelude.{if◌then◌else◌, slice_get, numbered, Block, block_numbered, level_of, PProgram, Scopes, scopes_of, resume, is_evaluation, NamedCell, Instance, Process, Part, World, instance_at, or_no_instance, with_process, cell_in, Made, all_to_make, KeepsToText, RestsKeepToTheirText, AllIsMadeInOrder, IsStanding, Word, Place, Code, place, most_cells, Simple, simple_cells, made_of, yields_of, AreNested, IsText, Texts, control_words, some_same, tokens_around, part_weight, weight, numbered_set, get-front, rows_but, rows_other, made_many, block_few, as_many_controls, controls_many, StayBelow, weight_stays, around_stays, owned_frame, frame_gives, runs_at, as_many_values, StandOn, home_on, Allotted, Layout, AreMade, Denotes, Refers, block_controls, controls_count, IsChained, Framed, Frame, Around, Owned, of_own}
 use Rattle.algol_meaning.specs.Rest.{done}
 use Rattle.algol_paths.specs.Arrays.{all_left_to_make}
 use Rattle.b67_table.specs.Limits.{most_arrays}
@@ -232,7 +232,13 @@ module _ (tree : PProgram) (code : Code) (texts : Texts) (nested : AreNested (sc
               level_is = framed'.level_is ∙ runs_at part (level_of (block_numbered sc.blocks framed'.instance.block)) own_frame.owns;
               gives = f.gives;
               text = subst (λ (j : ℕ). KeepsToText sc j part'.rest) block_is (keeps.resumed sc ((instance_at w i).block) part.rest done f.text tt);
-              shape = of_own (record { owns = own_frame.owns; framed = framed'; routines = own_frame.routines; items = own_frame.items; making = sym (order.resumed sc ((instance_at w i).block) part.rest done f.text) }) (frame_gives tree code texts w lay p part outer core.below f owns ∙ ap (λ (y : Instance). yields_of (block_numbered sc.blocks y.block).result) (ap or_no_instance framed.is));
+              shape = of_own (record {
+                owns = own_frame.owns;
+                framed = framed';
+                routines = own_frame.routines;
+                items = own_frame.items;
+                making = sym (order.resumed sc ((instance_at w i).block) part.rest done f.text);
+              }) (frame_gives tree code texts w lay p part outer core.below f owns ∙ ap (λ (y : Instance). yields_of (block_numbered sc.blocks y.block).result) (ap or_no_instance framed.is));
             }
 
         -- the parts around stand as they did

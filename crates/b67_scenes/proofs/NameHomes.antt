@@ -1,7 +1,7 @@
 -- Where a process finds the cell of a parameter by name, and the variable to whose cell that has a reference, or the code of the actual that it
 -- names.
 use Rattle.std.proofs.Common.{◌≡◌, ℕ, ◌+◌, ◌∷◌, length, Some, None}
-use Rattle.b67_scenes.proofs.Prelude.{Kind, Named, PProgram, PExpr, Scopes, scopes_of, Reference, Cell, reference, instance_at, cell_at, BlockIsSeen, Place, Word, as_sirw, pcw_word, Couple, Code, word_at, place, Texts, AreNested, value_tag, pcw_refers_nothing, LeadsToVariable, IsActual, Denotes, named_from, NearCell, IsInReach}
+use Rattle.b67_scenes.proofs.Prelude.{PProgram, PExpr, Scopes, scopes_of, Kind, Named, Reference, Cell, reference, instance_at, cell_at, BlockIsSeen, Word, Place, as_sirw, pcw_word, Couple, Code, word_at, place, AreNested, Texts, NearCell, value_tag, pcw_refers_nothing, LeadsToVariable, IsActual, Denotes, named_from, IsInReach}
 use Rattle.algol_meaning.specs.Value as meant
 use Rattle.algol_meaning.specs.Value.{NameCell}
 use Rattle.b67_templates.specs.Cells as wants
@@ -136,5 +136,16 @@ module _ (tree : PProgram) (code : Code) (texts : Texts) (nested : AreNested (sc
     pub name_stands : BlockIsSeen sc ((instance_at w part.instance).block) n → IsFormalName sc (names_in tree w part) n kind couple → NameStands n kind couple
     name_stands seen v =
         let h : NameCellHome n kind couple =
-        cell_home tree code texts nested actor n (wants.by_name kind) couple v.found tt seen v.there v.wanted_is v.level_is v.index_is in
+        cell_home tree code texts nested actor (record {
+          name = n;
+          wanted = wants.by_name kind;
+          couple = couple;
+          found = v.found;
+          refers = tt;
+          is_seen = seen;
+          named_there = v.there;
+          wanted_is = v.wanted_is;
+          level_is = v.level_is;
+          index_is = v.index_is;
+        }) in
         of_cell h h.cell h.cell_is h.denotes

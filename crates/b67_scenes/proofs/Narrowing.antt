@@ -1,6 +1,6 @@
 -- An evaluation of an actual in an instance that has not made all asks for nothing that the block of that is still to make.
 use Rattle.std.proofs.Common.{◌≡◌, ◌⊎◌, inl, inr, ◌∙◌, ℕ, [], length}
-use Rattle.b67_scenes.proofs.Prelude.{PProgram, PBody, Scopes, scopes_of, instance_at, all_to_make, IsSeenAround, InRest, Code, Texts, IsComplete, Owned, Shape, of_own, of_lent, complete_of}
+use Rattle.b67_scenes.proofs.Prelude.{PProgram, PBody, Scopes, scopes_of, instance_at, all_to_make, IsSeenAround, InRest, Code, Texts, complete_of, IsComplete, Owned, Shape, of_own, of_lent}
 use Rattle.b67_scenes.proofs.Scene.{Actor}
 
 module _ (tree : PProgram) (code : Code) (texts : Texts) (actor : Actor tree code texts) where

@@ -1,6 +1,6 @@
 -- A frame that GO TO passes is critical where a live process depends on the instance of one of the parts that it leaves.
 use Rattle.std.proofs.Common.{◌≡◌, ◌⊎◌, inl, inr, refl, sym, ap, ◌∙◌, subst, ℕ, List, [], ◌∷◌, Some, Bool, false}
-use Rattle.b67_scenes.proofs.Prelude.{if◌then◌else◌, ◌||◌, list_any, numbered, PProgram, scopes_of, some_depends, own_instances, Instance, Process, Part, World, IsWholeInstance, IsOk, IsOwn, Place, Word, Code, same_place, place, Passed, Image, live_criticals, Texts, Layout, Frame, Around, IsElsewhere, PicturesBy}
+use Rattle.b67_scenes.proofs.Prelude.{list_any, if◌then◌else◌, ◌||◌, numbered, PProgram, scopes_of, some_depends, own_instances, Instance, Process, Part, World, IsOk, IsWholeInstance, IsOwn, Word, Place, Code, same_place, place, Passed, Image, live_criticals, Texts, IsElsewhere, Layout, Frame, Around, PicturesBy}
 use Rattle.algol_meaning.specs.Critical.{some_depends_on_any}
 use Rattle.b67_table.specs.GoingTo.{passed_frames}
 use Rattle.b67_table.specs.Linkage.{is_critical}

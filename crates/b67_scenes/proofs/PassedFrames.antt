@@ -1,6 +1,6 @@
 -- The frames that GO TO passes: each is that of an own instance, at whose place it lies, or is lent to an evaluation, where no own instance has its own.
 use Rattle.std.proofs.Common.{◌≡◌, ◌⊎◌, inl, inr, sym, ap, ◌∙◌, ℕ, ◌<◌, ◌≤◌, List, [], ◌∷◌, Some, true, false, arith}
-use Rattle.b67_scenes.proofs.Prelude.{numbered, Part, is_evaluation, IsOwn, Place, place, Passed, some_same, Layout}
+use Rattle.b67_scenes.proofs.Prelude.{numbered, is_evaluation, Part, IsOwn, Place, place, Passed, some_same, Layout}
 
 module _ (lay : Layout) (p : ℕ) where
   abbrev pub IsOwnFrame : List Part → Part → ℕ → Type 0

@@ -1,9 +1,8 @@
 -- The first instance on a path of those that are referred to has the first frame on the path down of those that are referred to.
 use Rattle.std.proofs.Common.{◌≡◌, ◌⊎◌, inl, inr, refl, sym, ap, ◌∙◌, subst, ℕ, ◌<◌, ◌≤◌, List, [], ◌∷◌, ◌++◌, Option, Some, Bool, true, false, arith, append_assoc}
-use Rattle.b67_scenes.proofs.Prelude.{if◌then◌else◌, slice_get, numbered, Part, Process, lives, World, is_evaluation, own_instances, Stack, Home, IsInSkeleton, NextIn, FirstOf, SkeletonOk, stack_of, skeleton, IsStanding, stack_forth, home_stands, Place, place, Image, critical_of, some_same, Layout, IsAmongPlaces, FirstDown}
+use Rattle.b67_scenes.proofs.Prelude.{if◌then◌else◌, slice_get, numbered, is_evaluation, own_instances, Part, Process, lives, World, stack_forth, stack_back, home_stands, Stack, Home, IsInSkeleton, NextIn, FirstOf, SkeletonOk, stack_of, skeleton, IsStanding, Place, place, Image, critical_of, some_same, IsAmongPlaces, FirstDown, Layout}
 use Rattle.algol_standing.specs.Skeleton.{Owned, this, further}
 use Rattle.algol_standing.proofs.Firsts.{below_in}
-use Rattle.algol_standing.proofs.Pairs.{stack_back}
 use Rattle.algol_standing.proofs.Standing.{lives as stack_lives}
 use Rattle.b67_rows.proofs.CriticalRow.{LeadsDown, under, across, this_frame, lower_frame}
 use Rattle.b67_frames.proofs.ChoicePaths.{own_both}
@@ -128,8 +127,26 @@ module _ (w : World) (ok : SkeletonOk (skeleton w)) (lay : Layout) (img : Image)
 
   -- ---- at an instance that is not referred to
 
-  module _ (a b c : ℕ) (out : IsInSkeleton refs a → ⊥) (at_next : At b c) (r : ℕ) (y : Process) (x : Part) (outer : List Part) (f : ℕ) (h : Here r y x outer f) (owns : is_evaluation x.purpose ≡ false) (same : x.instance ≡ a)
-      (next : NextIn y.critical (own_instances y.todo) a b) where
+  -- A step down, from the part of a process.
+  record StepsDown : Type 0 where
+    a : ℕ
+    b : ℕ
+    c : ℕ
+    out : IsInSkeleton refs a → ⊥
+    at_next : At b c
+    number : ℕ
+    process : Process
+    part : Part
+    outer : List Part
+    floor : ℕ
+    here : Here number process part outer floor
+    owns : is_evaluation part.purpose ≡ false
+    same : part.instance ≡ a
+    next : NextIn process.critical (own_instances process.todo) a b
+
+  module _ (step : StepsDown) where
+    open step use {a, b, c, out, at_next, number as r, process as y, part as x, outer, floor as f, here as h, owns, same, next}
+
     here_unwanted : IsAmongPlaces wanted (place r f) → ⊥
     here_unwanted = unwanted r y x outer f h (λ owned n. out (subst (λ (i : ℕ). IsInSkeleton refs i) same n))
 
@@ -180,7 +197,22 @@ module _ (w : World) (ok : SkeletonOk (skeleton w)) (lay : Layout) (img : Image)
   walk a c (this n) r y x outer f h owns same =
       let laid : numbered lay.places a ≡ Some (place r f) = subst (λ (i : ℕ). numbered lay.places i ≡ Some (place r f)) same (laid_at x outer f h.tower owns) in
       (place r f, laid, this_frame (to a (place r f) n laid))
-  walk a c (further {b = b} out n first) r y x outer f h owns same = further_down a b c out (walk b c first) r y x outer f h owns same next
+  walk a c (further {b = b} out n first) r y x outer f h owns same = further_down (record {
+    a = a;
+    b = b;
+    c = c;
+    out = out;
+    at_next = walk b c first;
+    number = r;
+    process = y;
+    part = x;
+    outer = outer;
+    floor = f;
+    here = h;
+    owns = owns;
+    same = same;
+    next = next;
+  })
     where
       inside : IsInSkeleton (own_instances y.todo) a
       inside =

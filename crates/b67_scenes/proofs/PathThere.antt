@@ -1,7 +1,7 @@
 -- The frames of each process that lives lie one on the other in an image, and the walk down the path of a process finds the frame of the first
 -- instance there that is referred to.
 use Rattle.std.proofs.Common.{◌≡◌, inl, refl, sym, ap, ◌∙◌, subst, ℕ, ◌+◌, ◌<◌, ◌≤◌, Bool, true, false, List, [], ◌∷◌, ◌++◌, length, Option, Some, arith, append_assoc}
-use Rattle.b67_scenes.proofs.Prelude.{if◌then◌else◌, slice_get, numbered, PProgram, Scopes, scopes_of, Instance, Process, Part, State, lives, World, instance_at, or_no_instance, is_evaluation, own_instances, IsInSkeleton, FirstOf, newest_own, skeleton, stack_of, IsStanding, IsWholeInstance, IsOk, stack_forth, Place, Word, Code, word_at, place, Image, critical_in, get_within as get_below, Texts, Above, steps_stay_above, some_same, true_false, Layout, FrameStands, Around, Frames, HasFacts, facts_of, begins_core, owned_frame, IsAmongPlaces, FirstDown, get-front, get-seam, Living, Pictured, living, dead, PicturesBy, CoreReaches, ReachesFor, CriticalIs}
+use Rattle.b67_scenes.proofs.Prelude.{if◌then◌else◌, slice_get, numbered, PProgram, Scopes, scopes_of, is_evaluation, own_instances, Instance, Process, Part, State, lives, World, instance_at, or_no_instance, stack_forth, IsOk, IsInSkeleton, FirstOf, newest_own, skeleton, stack_of, IsStanding, IsWholeInstance, Word, Place, Code, word_at, get_within as get_below, place, Image, critical_in, Texts, steps_stay_above, Above, some_same, true_false, IsAmongPlaces, FirstDown, get-front, get-seam, HasFacts, facts_of, begins_core, owned_frame, Layout, FrameStands, Around, Frames, CriticalIs, Living, Pictured, living, dead, PicturesBy, CoreReaches, ReachesFor}
 use Rattle.algol_standing.proofs.Left.{references_lie_on_paths}
 use Rattle.b67_rows.proofs.Begun.{numbered_few}
 use Rattle.b67_rows.proofs.Numbers.{get_within}
@@ -37,8 +37,21 @@ module _ (tree : PProgram) (code : Code) (texts : Texts) (w : World) (lay : Layo
 
   -- ---- the frames of a process
 
-  module _ (r : ℕ) (y : Process) (is : numbered w.processes r ≡ Some y) (l : Living tree code texts w lay img r y) (part : Part) (outer : List Part) (todo : y.todo ≡ part ∷ outer)
-      (s : FrameStands tree code texts w lay r part outer l.settled) (a : Around tree code texts w lay r outer s.frame.lower s.frame.mark s.frame.control s.frame.gives) where
+  -- A process that lives, and its innermost part.
+  pub record ProcessThere : Type 0 where
+    pub number : ℕ
+    pub process : Process
+    pub is : numbered w.processes number ≡ Some process
+    pub living : Living tree code texts w lay img number process
+    pub part : Part
+    pub outer : List Part
+    pub todo : process.todo ≡ part ∷ outer
+    pub stands : FrameStands tree code texts w lay number part outer living.settled
+    pub around : Around tree code texts w lay number outer stands.frame.lower stands.frame.mark stands.frame.control stands.frame.gives
+
+  module _ (standing : ProcessThere) where
+    open standing use {number as r, process as y, is, living as l, part, outer, todo, stands as s, around as a}
+
     abbrev high : ℕ
     high = length s.frame.lower
 
@@ -79,7 +92,7 @@ module _ (tree : PProgram) (code : Code) (texts : Texts) (w : World) (lay : Layo
     where
       by_parts : (parts : List Part) → y.todo ≡ parts → (l : Living tree code texts w lay img r y) → Frames tree code texts w lay r parts l.settled → ReachesFor sc w lay r parts l.core l.settled → (f : ℕ) × Tower img.stacks lay r y.todo f
       by_parts [] todo l f reach = absurd f
-      by_parts (part ∷ outer) todo l f reach = (length f.0.frame.lower, frames_tower r y is l part outer todo f.0 f.1 reach)
+      by_parts (part ∷ outer) todo l f reach = (length f.0.frame.lower, frames_tower (record { number = r; process = y; is = is; living = l; part = part; outer = outer; todo = todo; stands = f.0; around = f.1 }) reach)
 
       by_picture : Pictured tree code texts w lay img r y → (f : ℕ) × Tower img.stacks lay r y.todo f
       by_picture (living able_is s l) = by_parts y.todo refl l l.frames l.reaches

@@ -1,6 +1,6 @@
 -- What lies in reach of a part: its instance, and the static parents of that.
 use Rattle.std.proofs.Common.{sym, subst, ℕ, ◌+◌, ◌≤◌, Bool, List, ◌∷◌, length, arith}
-use Rattle.b67_scenes.proofs.Prelude.{if◌then◌else◌, block_numbered, around, level_of, PProgram, Scopes, Part, World, instance_at, ancestor, here, down, IsStanding, IsOnPath, IsWholeInstance, newest_own, skeleton, IsOk, stands_path, OUTER_LEVEL, Word, Code, Texts, length_around, Layout, HasFacts, facts_of, IsInReach, Frame, Shape, of_own, of_lent}
+use Rattle.b67_scenes.proofs.Prelude.{if◌then◌else◌, block_numbered, around, level_of, PProgram, Scopes, Part, World, instance_at, ancestor, stands_path, IsOk, here, down, IsStanding, IsOnPath, IsWholeInstance, newest_own, skeleton, Word, OUTER_LEVEL, Code, Texts, length_around, HasFacts, facts_of, Layout, IsInReach, Frame, Shape, of_own, of_lent}
 use Rattle.algol_standing.proofs.Seen.{ancestors}
 use Rattle.algol_standing.proofs.Standing.{path_on}
 use Rattle.b67_rows.proofs.Numbers.{get_within}

@@ -1,6 +1,6 @@
 -- A plain operator leaves an image of the same world.
 use Rattle.std.proofs.Common.{◌≡◌, ◌≢◌, ◌⊎◌, inl, inr, refl, sym, ap, ◌∙◌, subst, ℕ, ◌<◌, ◌≤◌, List, [], ◌∷◌, length, length-append, Option, Some, None, Bool, true, false, arith}
-use Rattle.b67_scenes.proofs.Prelude.{if◌then◌else◌, numbered, PProgram, scopes_of, Part, Process, lives, World, Place, Code, Texts, stack_at, stack_limit, place_at, BadCode as bad_code, StateIs, Effect, interrupts, Image, is_live, plain, by_registers, stack_length, Core, HasCore, with_core, size, CoreSteps, Above, steps_stay_above, true_false, none_some, some_same, length_set_numbered, same_or_not, numbered_beyond, most_or_more, Layout, CriticalIs, TaskIs, ReachesFor, Living, Pictured, living, dead, PicturesBy}
+use Rattle.b67_scenes.proofs.Prelude.{if◌then◌else◌, numbered, PProgram, scopes_of, Part, Process, lives, World, Place, place_at, Code, stack_at, stack_limit, Effect, interrupts, Image, is_live, plain, by_registers, stack_length, BadCode as bad_code, Texts, steps_stay_above, Core, HasCore, with_core, size, CoreSteps, Above, length_set_numbered, true_false, none_some, some_same, same_or_not, numbered_beyond, most_or_more, Layout, CriticalIs, TaskIs, Living, Pictured, living, dead, PicturesBy, ReachesFor, StateIs}
 use Rattle.b67_table.specs.Outcome.{gives}
 use Rattle.b67_table.specs.Outcome as outcomes
 use Rattle.b67_table.specs.Table.{table, raw}

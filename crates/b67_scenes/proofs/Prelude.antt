@@ -22,18 +22,18 @@ pub use Rattle.algol_meaning.specs.Statements.{items_of, settle_items}
 pub use Rattle.algol_meaning.specs.Value.{ArrayCell, Bounds, Cell, Reference, Value, array, event, number, reference, simple, whole_of}
 pub use Rattle.algol_meaning.specs.World.{Instance, NamedCell, Part, Process, State, World, WorldFault, able, ancestor, by_cell, cell_at, cell_in, cells_with, ended, followed, instance_at, is_able, lives, no_process, or_no_instance, or_no_process, process_at, procures, waits_any, waits_for, with_instance, with_process}
 pub use Rattle.algol_paths.specs.Arrays.{DeclaredArray, Made, all_to_make}
-pub use Rattle.algol_paths.specs.Blocks.{IsInner, BlockIsSeen, IsSeenAround}
+pub use Rattle.algol_paths.specs.Blocks.{BlockIsSeen, IsInner, IsSeenAround}
 pub use Rattle.algol_paths.specs.Laws.{AllIsMadeInOrder, KeepsToText, RestsKeepToTheirText}
 pub use Rattle.algol_paths.specs.Segments.{procedures_before, segment_of}
 pub use Rattle.algol_paths.specs.Texts.{InRest}
 pub use Rattle.algol_calls.specs.Fits.{has_simple}
-pub use Rattle.algol_standing.proofs.Pairs.{map_back, stack_forth}
-pub use Rattle.algol_standing.proofs.Seen.{top_stands}
+pub use Rattle.algol_standing.proofs.Pairs.{home_forth, map_back, stack_back, stack_forth}
+pub use Rattle.algol_standing.proofs.Seen.{parent_path, top_stands}
 pub use Rattle.algol_standing.proofs.Stacks.{numbered_small}
 pub use Rattle.algol_standing.proofs.Standing.{home_stands, stands_path}
 pub use Rattle.algol_standing.specs.Fitting.{IsOk}
 pub use Rattle.algol_standing.specs.Lows.{IsLow}
-pub use Rattle.algol_standing.specs.Skeleton.{FirstOf, Home, IsInSkeleton, SkeletonNext, NextIn, OnPath, Skeleton, SkeletonOk, Stack, down, here}
+pub use Rattle.algol_standing.specs.Skeleton.{FirstOf, Home, IsInSkeleton, NextIn, OnPath, Skeleton, SkeletonNext, SkeletonOk, Stack, down, here}
 pub use Rattle.algol_standing.specs.Worlds.{IsAmongParts, IsNoBlock, IsOnPath, IsOwn, IsStanding, IsWholeInstance, newest_own, referred_in_cells, skeleton, stack_of}
 pub use Rattle.b67_word.specs.Word.{Word, as_whole}
 pub use Rattle.b67_word.specs.declared.Place.{Place}
@@ -67,7 +67,7 @@ pub use Rattle.b67_table.specs.GoingTo.{Passed}
 pub use Rattle.b67_table.specs.Image.{Image, critical_in, critical_of, is_live, woken_number}
 pub use Rattle.b67_table.specs.Limits.{end_of_code, most_cells, most_processes}
 pub use Rattle.b67_table.specs.Linkage.{base_control, control_word, entered_mark}
-pub use Rattle.b67_table.specs.Look.{Look, read_as, look_seen, ◌>->◌}
+pub use Rattle.b67_table.specs.Look.{Look, look_seen, read_as, ◌>->◌}
 pub use Rattle.b67_table.specs.Outcome.{limit, limited}
 pub use Rattle.b67_table.specs.Private.{at_or, display_at, floor, frame}
 pub use Rattle.b67_table.specs.Questions.{live_criticals}
@@ -93,7 +93,7 @@ pub use Rattle.b67_cores.proofs.Staying.{steps_stay_above}
 pub use Rattle.b67_cores.proofs.Taking.{number_read}
 pub use Rattle.b67_cores.specs.Cores.{Core, CoreSteps, HasCore, IsCore, size, with_core}
 pub use Rattle.b67_cores.specs.Slots.{Known, SlotsAre, ValueIs, newest}
-pub use Rattle.b67_cores.specs.Stretches.{Above, CoreBegins, BlocksBegin, CoreAt, FragmentsArePerformed, control_words}
+pub use Rattle.b67_cores.specs.Stretches.{Above, BlocksBegin, CoreAt, CoreBegins, FragmentsArePerformed, control_words}
 pub use Rattle.b67_faithful.proofs.Choices.{length_set_numbered}
 pub use Rattle.b67_faithful.proofs.Contradictions.{none_some, some_same, true_false}
 pub use Rattle.b67_faithful.specs.Faithful.{IsShortSegment}
@@ -113,7 +113,7 @@ pub use Rattle.b67_rows.proofs.Segmented.{segment_low}
 pub use Rattle.b67_rows.proofs.Slotted.{Top, top_slot}
 pub use Rattle.b67_rows.proofs.StackWords.{get-behind, get-front, get-seam, length-stack}
 pub use Rattle.b67_rows.proofs.Texted.{block_keeps, block_makes}
-pub use Rattle.b67_rows.proofs.Touching.{FrameAt, Near, NearCell, NearFrame, below_floor, system_frame}
+pub use Rattle.b67_rows.proofs.Touching.{FrameAt, IsNearStack, Near, NearCell, NearFrame, below_floor, own_stack, system_frame}
 pub use Rattle.b67_rows.proofs.TouchingOperators.{StandsNear}
 pub use Rattle.b67_rows.proofs.Words.{mark_read, pcw_refers_nothing, reference_read, value_tag}
 pub use Rattle.b67_frames.proofs.ArraysKept.{arrays_unchanged, rows_but, rows_other}
@@ -142,9 +142,9 @@ pub use Rattle.b67_frames.proofs.TouchingCalls.{pcw_no_sirw}
 pub use Rattle.b67_frames.proofs.TouchingWords.{AllLead, lead_at}
 pub use Rattle.b67_frames.proofs.Variables.{Holds_value, cell_front, value_of_cell}
 pub use Rattle.b67_frames.proofs.Zeros.{cells_length, zero_word}
-pub use Rattle.b67_frames.specs.Arrays.{Allotted, AreKnown, AreMade, AreSized, ArraysAre, Denotes, DescriptorIs, HasArray, IsActual, IsArrayOf, Layout, LeadsToVariable, named_from}
+pub use Rattle.b67_frames.specs.Arrays.{Allotted, AreKnown, AreMade, AreSized, ArraysAre, Denotes, DescriptorIs, ElementIsIn, HasArray, IsActual, IsArrayOf, Layout, LeadsToVariable, named_from}
 pub use Rattle.b67_frames.specs.Events.{EventsAre, HasEvent}
-pub use Rattle.b67_frames.specs.Frames.{ArePlaced, Around, CellIs, CellsAre, Frame, Framed, Frames, IsChained, IsComplete, IsInReach, IsNarrow, ItemsStand, Owned, Refers, RoutinesStand, Shape, FrameStands, Waits, block_controls, controls_count, home_of, most_around, of_lent, of_own, run_level}
+pub use Rattle.b67_frames.specs.Frames.{ArePlaced, Around, CellIs, CellsAre, Frame, FrameStands, Framed, Frames, IsChained, IsComplete, IsInReach, IsNarrow, ItemsStand, Owned, Refers, RoutinesStand, Shape, Waits, block_controls, controls_count, home_of, most_around, of_lent, of_own, run_level}
 pub use Rattle.b67_scenes.specs.Depending.{CriticalIs, IsEventAt, TaskIs}
 pub use Rattle.b67_scenes.specs.Pictures.{Living, Pictured, PicturesBy, dead, failure_of, innermost_most, living}
 pub use Rattle.b67_scenes.specs.Reaches.{CoreReaches, ReachesFor, none_yet}

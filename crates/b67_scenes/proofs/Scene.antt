@@ -1,6 +1,6 @@
 -- A process that stands at its action.
 use Rattle.std.proofs.Common.{true, ◌≡◌, refl, sym, ap, ◌∙◌, subst, ℕ, ◌+◌, ◌≤◌, List, [], ◌∷◌, length, Some, arith}
-use Rattle.b67_scenes.proofs.Prelude.{numbered, PProgram, scopes_of, Process, Part, World, IsWholeInstance, IsOk, Registers, place_at, Code, Texts, stack_limit, place, Image, frame, display_at, at_or, Core, size, HasCore, weight, some_same, Layout, IsNarrow, FrameStands, Around, Frames, CriticalIs, TaskIs, innermost_most, Living, PicturesBy, lives, StateIs}
+use Rattle.b67_scenes.proofs.Prelude.{numbered, PProgram, scopes_of, Process, Part, World, lives, IsOk, IsWholeInstance, place_at, Registers, Code, stack_limit, place, Image, frame, display_at, at_or, Texts, Core, size, HasCore, some_same, weight, Layout, IsNarrow, FrameStands, Around, Frames, CriticalIs, TaskIs, innermost_most, Living, PicturesBy, StateIs}
 use Rattle.b67_scenes.proofs.Staying.{most_in}
 
 module _ (tree : PProgram) (code : Code) (texts : Texts) (w : World) (lay : Layout) (img : Image) where

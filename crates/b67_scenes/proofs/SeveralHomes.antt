@@ -1,6 +1,6 @@
 -- The cells of several events whose references lie on an intrinsic: in the world and in the image.
 use Rattle.std.proofs.Common.{◌≡◌, inl, inr, refl, sym, ap, ◌∙◌, ℕ, List, [], ◌∷◌, ◌++◌, Option, true, arith, append_assoc, length-append}
-use Rattle.b67_scenes.proofs.Prelude.{map, reverse, Named, PProgram, Scopes, scopes_of, ask, Reference, World, followed, Word, Registers, Event, one_event, Couple, Code, Image, cell_place, AreNested, Texts, Slot, Known, SlotsAre, IsAsked, Top, top_slot, reference_read, named_from, AreFound, ListIs, IsStanding}
+use Rattle.b67_scenes.proofs.Prelude.{map, reverse, PProgram, Scopes, scopes_of, Named, ask, Reference, World, followed, IsStanding, Word, Registers, Couple, Code, one_event, Event, Image, cell_place, AreNested, Texts, Slot, Known, SlotsAre, IsAsked, Top, top_slot, reference_read, AreFound, named_from, ListIs}
 use Rattle.std.specs.Prelude.{is_some}
 use Rattle.b67_events.specs.Events.{is_open}
 use Rattle.b67_table.specs.declared.Cell.{Cell as MachineCell}

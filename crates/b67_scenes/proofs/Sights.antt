@@ -1,13 +1,12 @@
 -- How much a process that stands at its action may look at: of each instance on the path from its newest, all cells but those that another process
 -- is making, and of these the ones that are there.
 use Rattle.std.proofs.Common.{◌≡◌, ◌≢◌, ◌⊎◌, inl, inr, refl, sym, ap, ◌∙◌, subst, ℕ, suc, ◌+◌, ◌<◌, ◌≤◌, List, [], ◌∷◌, length, Some, arith, append-nil}
-use Rattle.b67_scenes.proofs.Prelude.{slice_get, numbered, block_numbered, PProgram, Scopes, scopes_of, Instance, Process, Part, instance_at, own_instances, IsInSkeleton, IsStanding, IsOnPath, IsOwn, stack_of, stack_forth, newest_own, IsWholeInstance, IsLow, top_stands, Word, Code, word_at, place, made_base, Texts, some_same, same_or_not, IsInReach, lies_low, lies_in}
+use Rattle.b67_scenes.proofs.Prelude.{slice_get, numbered, block_numbered, PProgram, Scopes, scopes_of, own_instances, Instance, Process, Part, instance_at, stack_forth, top_stands, IsLow, IsInSkeleton, IsStanding, IsOnPath, IsOwn, stack_of, newest_own, IsWholeInstance, Word, Code, word_at, place, made_base, Texts, some_same, same_or_not, IsNearStack, lies_low, lies_in, IsInReach}
 use Rattle.algol_standing.proofs.Seen.{top_inside}
 use Rattle.b67_scenes.proofs.Finding.{Shows, wholly, but_made, two_words, Found, found_process, word_sees, find}
 use Rattle.b67_scenes.proofs.Scene.{Actor}
 use Rattle.b67_scenes.proofs.Worlds.{own_listed}
 use Rattle.b67_scenes.proofs.Paths.{path_stands}
-use Rattle.b67_rows.proofs.Touching.{IsNearStack}
 use Rattle.b67_scenes.proofs.Depended.{number_is, path_near}
 use Rattle.b67_scenes.proofs.Unseen.{newest_alone}
 

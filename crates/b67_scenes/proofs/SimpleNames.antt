@@ -1,6 +1,6 @@
 -- A name that a block has from its entry on is that of a simple cell of its frame.
 use Rattle.std.proofs.Common.{◌≡◌, ℕ, ◌+◌, Bool, true, false, List, [], ◌∷◌, ◌++◌, Option, Some, None, refl, sym, ap, if◌then◌else◌}
-use Rattle.b67_scenes.proofs.Prelude.{Kind, Named, Block, Scopes, Parameter, same_name, has_simple, Simple, Found, found_from, result_cells_of, variables, parameter_cells, simple_cells, AreTold}
+use Rattle.b67_scenes.proofs.Prelude.{Block, Scopes, Parameter, same_name, Kind, Named, has_simple, Simple, Found, found_from, result_cells_of, variables, parameter_cells, simple_cells, AreTold}
 use Rattle.algol_tree.specs.Plain as tree
 use Rattle.algol_tree.specs.Plain.{PDecls}
 use Rattle.algol_tree.specs.Sorts.{is_named_in}

@@ -1,6 +1,6 @@
 -- The call of START: what lies above the floor of the frame.
 use Rattle.std.proofs.Common.{◌≡◌, refl, sym, ap, ◌∙◌, subst, ℕ, ◌+◌, ◌<◌, ◌≤◌, ◌^◌, List, [], ◌∷◌, ◌++◌, length, Option, Some, None, arith, append_assoc, length-append}
-use Rattle.b67_scenes.proofs.Prelude.{reverse, reverse-append, Named, block_numbered, level_of, PProgram, Scopes, scopes_of, Given, segment_of, Place, Word, Pcw, Fits_pcw, as_irw, pcw_word, as_pcw-pcw_word, Code, word_at, place, gives, most_cells, display_at, frame, Context, code_at, Texts, Slot, intrinsic, mark, given_slots, newest, SlotsAre, FirstDown, Links, AreFit, Taken, taken_words, Top, top_slot, reference_read, pcw_refers_nothing}
+use Rattle.b67_scenes.proofs.Prelude.{reverse-append, reverse, block_numbered, level_of, PProgram, Scopes, scopes_of, Named, Given, segment_of, Word, Place, as_pcw-pcw_word, Fits_pcw, as_irw, pcw_word, Pcw, Code, word_at, place, gives, most_cells, display_at, frame, Context, code_at, Texts, given_slots, Slot, intrinsic, mark, newest, SlotsAre, FirstDown, Links, AreFit, Taken, taken_words, Top, top_slot, reference_read, pcw_refers_nothing}
 use Rattle.std.proofs.lemmas.List.{length-reverse}
 use Rattle.b67_ops.specs.declared.intrinsic.Intrinsic.TheVariants.{Start}
 use Rattle.b67_table.specs.declared.Cell.{Cell}

@@ -1,6 +1,6 @@
 -- What a process that starts another names: all of it is seen from the text of its part.
 use Rattle.std.proofs.Common.{◌≡◌, ◌⊎◌, inl, inr, subst, ℕ, List, [], Option}
-use Rattle.b67_scenes.proofs.Prelude.{Named, PProgram, Scopes, scopes_of, Ask, ask, Given, instance_at, all_to_make, BlockIsSeen, IsSeenAround, IsInner, InRest, IsNoBlock, Code, Texts, IsComplete}
+use Rattle.b67_scenes.proofs.Prelude.{PProgram, Scopes, scopes_of, Named, Ask, ask, Given, instance_at, all_to_make, BlockIsSeen, IsSeenAround, IsInner, InRest, IsNoBlock, Code, Texts, IsComplete}
 use Rattle.algol_meaning.specs.Asks.{starts}
 use Rattle.algol_paths.specs.Texts.{InGivens, InName}
 use Rattle.algol_standing.proofs.Asking.{Sees, rest_sees, bound_sees}

@@ -1,6 +1,6 @@
 -- The first image pictures the first world.
 use Rattle.std.proofs.Common.{◌≡◌, inl, refl, sym, ap, ◌∙◌, subst, ℕ, zero, suc, ◌+◌, ◌-◌, ◌*◌, ◌<◌, ◌≤◌, List, [], ◌∷◌, ◌++◌, length, Some, None, true, false, arith, length-append, append-nil}
-use Rattle.b67_scenes.proofs.Prelude.{map, replicate, not, if◌then◌else◌, slice_get, length-map, numbered, Block, block_numbered, number_at, around, Parameter, same_name, level_of, PProgram, Scopes, scopes_of, items_of, settle_items, Instance, Part, Process, World, able, process_at, fresh_cells, IsStanding, IsWholeInstance, IsOk, ArrayCell, event, EventState, DeclaredArray, RestsKeepToTheirText, AllIsMadeInOrder, procedures_before, segment_of, Word, Pcw, Registers, Rcw, pcw_word, place_at, as_mscw-mscw_word, as_rcw-rcw_word, OUTER_LEVEL, Placed, Spells, Code, Segment, place, base_control, woken_number, yields_of, Simple, parameter_cells, simple_cells, zero_cells, actuals_of, made_of, Texts, context_of, ComesTo, Core, IsCore, HasCore, CoreAt, FragmentsArePerformed, control_words, CoreBegins, BlocksBegin, tokens_around, weight, some_same, none_some, AreTold, AreNested, block_keeps, block_makes, block_few, routines_long, controls_many, Allotted, Layout, HasArray, ArraysAre, block_controls, controls_count, most_around, CellsAre, IsChained, Framed, of_own, facts_of, LeadAll, lead_there, fresh_are, fresh_lead, simple_many, zero_word, cells_length, HasEvent, EventsAre, Pictured, living, ListIs, list_in, list_of, none_yet, Place, get_within}
+use Rattle.b67_scenes.proofs.Prelude.{length-map, map, replicate, not, if◌then◌else◌, slice_get, numbered, EventState, Block, block_numbered, number_at, around, level_of, PProgram, Scopes, scopes_of, Parameter, same_name, list_in, fresh_cells, items_of, settle_items, ArrayCell, event, Instance, Part, Process, World, able, process_at, DeclaredArray, procedures_before, segment_of, IsOk, IsStanding, IsWholeInstance, Word, Place, as_mscw-mscw_word, as_rcw-rcw_word, pcw_word, place_at, Pcw, Rcw, Registers, OUTER_LEVEL, Placed, Spells, Code, Segment, list_of, get_within, place, woken_number, base_control, Simple, parameter_cells, simple_cells, zero_cells, actuals_of, made_of, yields_of, AreTold, AreNested, Texts, context_of, ComesTo, Core, IsCore, HasCore, CoreAt, control_words, CoreBegins, BlocksBegin, some_same, none_some, tokens_around, weight, block_keeps, block_makes, block_few, routines_long, controls_many, facts_of, LeadAll, lead_there, fresh_are, fresh_lead, simple_many, zero_word, cells_length, Allotted, Layout, HasArray, ArraysAre, HasEvent, EventsAre, block_controls, controls_count, most_around, CellsAre, IsChained, Framed, of_own, Pictured, living, none_yet, ListIs}
 use Rattle.std.proofs.lemmas.List.{length-replicate}
 use Rattle.algol_tree.specs.declared.token.Spot.{Spot}
 use Rattle.algol_meaning.specs.World as worlds
@@ -23,6 +23,7 @@ use Rattle.b67_scenes.specs.Pictures.{Pictures}
 use Rattle.b67_scenes.proofs.Ancestors.{all_laid}
 use Rattle.b67_scenes.proofs.Landing.{Landed, living_of}
 use Rattle.b67_scenes.proofs.Paths.{can_climb}
+use Rattle.b67_scenes.proofs.TheLaws.{TheLaws}
 
 abbrev pub first_core : Core
 first_core = record { below = base_frame; words = []; registers = first_registers }
@@ -39,9 +40,10 @@ first_there : (segments : List Segment) → 0 < length segments → (s : Segment
 first_there [] h = absurd (omega (arith, h))
 first_there (s ∷ segments) h = (s, refl)
 
-module _ (tree : PProgram) (code : Code) (names : HasNames tree) (nested : AreNested (scopes_of tree)) (stands : ProgramAt code tree)
-    (fragments : FragmentsArePerformed) (begin : BlocksBegin) (starts : BlocksStart) (keeps : RestsKeepToTheirText) (order : AllIsMadeInOrder)
+module _ (tree : PProgram) (code : Code) (names : HasNames tree) (nested : AreNested (scopes_of tree)) (stands : ProgramAt code tree) (laws : TheLaws) (begin : BlocksBegin) (starts : BlocksStart)
     (ok : IsOk (scopes_of tree) IsWholeInstance (start (scopes_of tree))) where
+  open laws use {fragments, keeps, order}
+
   abbrev sc : Scopes
   sc = scopes_of tree
 
@@ -245,7 +247,13 @@ module _ (tree : PProgram) (code : Code) (names : HasNames tree) (nested : AreNe
           level_is = framed.level_is;
           gives = yields_of block.result;
           text = block_keeps sc 0 keeps (nested.each 0 nested.some);
-          shape = of_own (record { owns = refl; framed = framed; routines = (body.routines, controls_fit text level controls body.cells.0 body.cells.1 body.cells.3); items = (body.start, body.items); making = sym (block_makes sc 0 order (nested.each 0 nested.some)) }) refl;
+          shape = of_own (record {
+            owns = refl;
+            framed = framed;
+            routines = (body.routines, controls_fit text level controls body.cells.0 body.cells.1 body.cells.3);
+            items = (body.start, body.items);
+            making = sym (block_makes sc 0 order (nested.each 0 nested.some));
+          }) refl;
         };
         around = (refl, ap yields_of nested.untyped);
         counted = omega (arith, ap (λ (r : Registers). r.cells) begun.registers, length_cells);

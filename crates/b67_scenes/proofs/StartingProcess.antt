@@ -1,7 +1,7 @@
 -- The picture with a process more, which begins with an instance of its own: the process that has started it goes on, and all others are pictured as
 -- they were.
 use Rattle.std.proofs.Common.{◌≡◌, ◌≢◌, ◌⊎◌, inl, inr, refl, sym, ap, ◌∙◌, subst, ℕ, ◌+◌, ◌<◌, ◌≤◌, List, [], ◌∷◌, ◌++◌, length, Option, Some, None, true, arith, length-append}
-use Rattle.b67_scenes.proofs.Prelude.{numbered, set_numbered, PProgram, Scopes, scopes_of, Instance, Process, able, lives, World, no_process, or_no_process, process_at, list_in, IsListed, Place as MachinePlace, Word, Registers, Code, Texts, stack_at, ProcessState, Able, place, Event, waiters_at, list_of, Image, woken_number, AwaitsAt, most_processes, numbered_within, Core, HasCore, some_same, length_set_numbered, Layout, ArraysAre, EventsAre, rows_but, rows_other, same_or_not, numbered_set, numbered_other, Living, Pictured, living, PicturesBy, StateIs, AreAwaiting, WaitsAre}
+use Rattle.b67_scenes.proofs.Prelude.{numbered, set_numbered, IsListed, PProgram, Scopes, scopes_of, list_in, Instance, Process, able, lives, World, no_process, or_no_process, process_at, Word, Place as MachinePlace, Registers, Code, stack_at, Event, waiters_at, list_of, numbered_within, place, Image, woken_number, most_processes, AwaitsAt, ProcessState, Able, Texts, Core, HasCore, length_set_numbered, some_same, same_or_not, numbered_set, numbered_other, rows_but, rows_other, Layout, ArraysAre, EventsAre, Living, Pictured, living, PicturesBy, StateIs, AreAwaiting, WaitsAre}
 use Rattle.b67_rows.proofs.Begun.{with_process, numbered_else, begun_state, others_stay, other_state, system_kept}
 use Rattle.b67_rows.proofs.Growing.{numbered_last, numbered_before, numbered_earlier}
 use Rattle.b67_scenes.proofs.Kept.{LeavesAlone, AreAlike, pictured_alike}
@@ -54,8 +54,22 @@ pub record HasGoneOn (w : World) (img onward : Image) (p : ℕ) : Type 0 where
   pub many : length onward.regs ≡ length onward.states
   pub others : (k : ℕ) (core : Core) → k ≢ p → HasCore img k core → HasCore onward k core
 
-module _ (tree : PProgram) (code : Code) (texts : Texts) (w : World) (lay : Layout) (img : Image) (by : PicturesBy tree code texts w lay img) (p : ℕ) (q q' : Process) (at : numbered w.processes p ≡ Some q)
-    (made : Instance) (new : Process) (onward : Image) (r : Registers) (words : List Word) (number : r.stack ≡ length w.processes + 1) (room : length w.processes < most_processes) where
+-- Process p goes on, and one is new: its first instance, its stack and its registers.
+pub record Starts (w : World) (p : ℕ) : Type 0 where
+  pub q : Process
+  pub onward_process : Process
+  pub at : numbered w.processes p ≡ Some q
+  pub made : Instance
+  pub new : Process
+  pub onward : Image
+  pub registers : Registers
+  pub words : List Word
+  pub number : registers.stack ≡ length w.processes + 1
+  pub room : length w.processes < most_processes
+
+module _ (tree : PProgram) (code : Code) (texts : Texts) (w : World) (lay : Layout) (img : Image) (by : PicturesBy tree code texts w lay img) (p : ℕ) (starts : Starts w p) where
+  open starts use {q, onward_process as q', at, made, new, onward, registers as r, words, number, room}
+
   abbrev w' : World
   w' = started_world w p q' made new
 

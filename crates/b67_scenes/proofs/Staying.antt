@@ -1,6 +1,6 @@
 -- What a change of the world leaves of the parts of a process: their static parents, their frames, and where they stand.
 use Rattle.std.proofs.Common.{◌≡◌, inl, inr, refl, sym, ap, ◌∙◌, subst, ℕ, ◌+◌, ◌*◌, ◌<◌, ◌≤◌, List, [], ◌∷◌, length, Option, Some, Bool, arith, length-append}
-use Rattle.b67_scenes.proofs.Prelude.{if◌then◌else◌, block_numbered, level_of, PProgram, Scopes, scopes_of, Instance, Part, World, instance_at, or_no_instance, is_evaluation, IsStanding, segment_of, Place, Word, place_at, Placed, Code, place, Yields, Context, Texts, context_of, StandsFor, Core, Known, CoreAt, part_weight, parts_weight, tokens_around, Layout, AreKnown, most_around, IsInReach, IsChained, Shape, of_own, of_lent, Frame, FrameStands, Around, Frames, run_level, StayBelow, same_block, weight_stays, around_stays, innermost_most, in_routine}
+use Rattle.b67_scenes.proofs.Prelude.{if◌then◌else◌, block_numbered, level_of, PProgram, Scopes, scopes_of, is_evaluation, Instance, Part, World, instance_at, or_no_instance, segment_of, IsStanding, Word, Place, place_at, Placed, Code, place, in_routine, Yields, Context, Texts, context_of, StandsFor, Core, Known, CoreAt, part_weight, parts_weight, tokens_around, StayBelow, same_block, weight_stays, around_stays, Layout, AreKnown, most_around, IsInReach, IsChained, Shape, of_own, of_lent, Frame, FrameStands, Around, Frames, run_level, innermost_most}
 use Rattle.b67_frames.proofs.Lying.{here_still, known_after, Stayed, frame_stays, IsOfPart}
 use Rattle.b67_scenes.proofs.Ancestors.{AreLaid, same_place}
 

@@ -1,7 +1,7 @@
 -- The frames of a process's parts after a store into a cell of one of them: of a variable, whose word in the stack is another one, or of an
 -- array, whose word stays.
 use Rattle.std.proofs.Common.{◌≡◌, ◌≢◌, ◌⊎◌, inl, inr, refl, sym, ap, ◌∙◌, subst, ℕ, zero, suc, ◌+◌, ◌<◌, ◌≤◌, List, [], ◌∷◌, ◌++◌, length, Option, Some, None, false, arith, length-append, Bool, true}
-use Rattle.b67_scenes.proofs.Prelude.{slice_get, slice_set, reverse, if◌then◌else◌, numbered, block_numbered, level_of, PProgram, Scopes, scopes_of, same_name, Cell, NamedCell, Instance, Part, World, instance_at, or_no_instance, with_instance, ancestor, cells_with, resume, Made, KeepsToText, segment_of, Place, Word, Code, place, Yields, yields_of, Simple, Wanted, simple_cells, actuals_of, made_of, Texts, context_of, ComesTo, Known, newest, SlotsAre, control_words, parts_weight, some_same, same_or_not, numbered_set, numbered_other, Allotted, Layout, AreMade, AreKnown, CellsAre, block_controls, most_around, IsInReach, home_of, Framed, RoutinesStand, ItemsStand, Frame, Waits, Around, Owned, Shape, of_own, of_lent, run_level, KeepsArrays, Remain, keeps_same, denotes_lasts, HasFacts, IsStandingOrNone, Lies, lies_low, lies_around, StayBelow, around_stays, owned_frame, frame_gives, runs_at, StandOn, home_on, in_routine, is_evaluation, IsInSkeleton, referred_in_cells, IsStanding, IsOnPath, IsOwn, newest_own, as_many_values}
+use Rattle.b67_scenes.proofs.Prelude.{slice_get, slice_set, reverse, if◌then◌else◌, numbered, block_numbered, level_of, PProgram, Scopes, scopes_of, same_name, resume, is_evaluation, Cell, NamedCell, Instance, Part, World, instance_at, or_no_instance, with_instance, ancestor, cells_with, Made, KeepsToText, segment_of, IsInSkeleton, referred_in_cells, IsStanding, IsOnPath, IsOwn, newest_own, Word, Place, Code, place, Simple, Wanted, simple_cells, actuals_of, made_of, in_routine, Yields, yields_of, Texts, context_of, ComesTo, Known, newest, SlotsAre, control_words, some_same, parts_weight, same_or_not, numbered_set, numbered_other, HasFacts, IsStandingOrNone, KeepsArrays, Remain, keeps_same, denotes_lasts, Lies, lies_low, lies_around, StayBelow, around_stays, owned_frame, frame_gives, runs_at, as_many_values, StandOn, home_on, Allotted, Layout, AreMade, AreKnown, CellsAre, block_controls, most_around, IsInReach, home_of, Framed, RoutinesStand, ItemsStand, Frame, Waits, Around, Owned, Shape, of_own, of_lent, run_level}
 use Rattle.algol_meaning.specs.Rest.{Answer}
 use Rattle.b67_standing.specs.Standing.{Gives, pushed}
 use Rattle.b67_rows.proofs.StackWords.{length-set}
@@ -119,13 +119,29 @@ pub record ChangedCells (ss : List Simple) (rows : List Allotted) (cells before 
   pub has : cells ≡ simple ++ arrays
 
 -- The instance's frame lies so high in the stack of process p. A word that is stored lies so far above the frame's two words, at the place k.
-module _ (tree : PProgram) (code : Code) (texts : Texts) (w : World) (lay : Layout) (p : ℕ) (i : ℕ) (x : Instance) (at : numbered w.instances i ≡ Some x) (with_cells : List NamedCell)
-    (high : ℕ) (laid : numbered lay.places i ≡ Some (place p high)) (far k : ℕ) (place_is : k ≡ high + 2 + far) (word : Option Word) (many : length with_cells ≡ length x.cells)
-    (short : IsStored word → far < length (simple_cells (scopes_of tree) (block_numbered (scopes_of tree).blocks x.block))) (keeps : KeepsArrays (scopes_of tree) w (stored_world w i x at with_cells) lay lay i)
-    (facts : HasFacts w) (fewer : (r : ℕ) → IsInSkeleton (referred_in_cells with_cells) r → IsInSkeleton (referred_in_cells x.cells) r)
-    (changes : (simple : List NamedCell) (values : List Word) (arrays : List NamedCell) (declared : List Made) (descriptors : List Word) →
-    CellsAre (simple_cells (scopes_of tree) (block_numbered (scopes_of tree).blocks x.block)) simple values → AreMade declared arrays (lay.rows i) descriptors → x.cells ≡ simple ++ arrays →
-    ChangedCells (simple_cells (scopes_of tree) (block_numbered (scopes_of tree).blocks x.block)) (lay.rows i) with_cells simple values (put word values far) declared descriptors) where
+-- What is stored: the instance, whose frame lies so high in the stack of process p, has these cells after it. A word that is stored lies so far
+-- above the two words of the frame.
+pub record CellStore (tree : PProgram) (w : World) (lay : Layout) (p : ℕ) : Type 0 where
+  pub i : ℕ
+  pub x : Instance
+  pub at : numbered w.instances i ≡ Some x
+  pub with_cells : List NamedCell
+  pub high : ℕ
+  pub laid : numbered lay.places i ≡ Some (place p high)
+  pub far : ℕ
+  pub up : ℕ
+  pub place_is : up ≡ high + 2 + far
+  pub word : Option Word
+  pub many : length with_cells ≡ length x.cells
+  pub short : IsStored word → far < length (simple_cells (scopes_of tree) (block_numbered (scopes_of tree).blocks x.block))
+  pub keeps : KeepsArrays (scopes_of tree) w (stored_world w i x at with_cells) lay lay i
+  pub facts : HasFacts w
+  pub fewer : (r : ℕ) → IsInSkeleton (referred_in_cells with_cells) r → IsInSkeleton (referred_in_cells x.cells) r
+  pub changes : (simple : List NamedCell) (values : List Word) (arrays : List NamedCell) (declared : List Made) (descriptors : List Word) → CellsAre (simple_cells (scopes_of tree) (block_numbered (scopes_of tree).blocks x.block)) simple values → AreMade declared arrays (lay.rows i) descriptors → x.cells ≡ simple ++ arrays → ChangedCells (simple_cells (scopes_of tree) (block_numbered (scopes_of tree).blocks x.block)) (lay.rows i) with_cells simple values (put word values far) declared descriptors
+
+module _ (tree : PProgram) (code : Code) (texts : Texts) (w : World) (lay : Layout) (p : ℕ) (store : CellStore tree w lay p) where
+  open store use {i, x, at, with_cells, high, laid, far, up as k, place_is, word, many, short, keeps, facts, fewer, changes}
+
   abbrev sc : Scopes
   sc = scopes_of tree
 

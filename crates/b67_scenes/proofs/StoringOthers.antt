@@ -1,22 +1,18 @@
 -- A store into a cell of a frame of a process, by whatever process: the one whose frame it is lives on after it, with the word in its stack below its
 -- floor, on its way to where it stands or there; and all others are pictured as they were.
 use Rattle.std.proofs.Common.{◌≡◌, ◌≢◌, ◌⊎◌, inl, inr, refl, sym, ap, ◌∙◌, subst, ℕ, ◌+◌, ◌<◌, ◌≤◌, List, [], ◌∷◌, ◌++◌, length, Option, Some, arith}
-use Rattle.b67_scenes.proofs.Prelude.{numbered, block_numbered, level_of, PProgram, Scopes, scopes_of, NamedCell, Instance, Part, Process, World, instance_at, process_at, with_process, Made, segment_of, Word, Code, stack_at, ProcessState, place, Image, frame, simple_cells, Texts, context_of, StandsFor, Core, HasCore, CoreSteps, newest, SlotsAre, CoreAt, Above, steps_stay_above, length_set_numbered, same_or_not, Layout, AreMade, ArraysAre, EventsAre, CellsAre, most_around, IsChained, FrameStands, Around, Frames, run_level, HasFacts, KeepsArrays, StayBelow, innermost_most, Living, Pictured, living, dead, PicturesBy, WaitsAre, ReachesFor, in_routine, Yields, is_evaluation, IsInSkeleton, referred_in_cells, IsOwn, weight, parts_weight, place_at, StateIs}
+use Rattle.b67_scenes.proofs.Prelude.{numbered, block_numbered, level_of, PProgram, Scopes, scopes_of, is_evaluation, Instance, Part, Process, World, instance_at, process_at, with_process, segment_of, IsOwn, Word, place_at, Code, stack_at, place, Image, frame, ProcessState, in_routine, Yields, Texts, context_of, StandsFor, steps_stay_above, Core, HasCore, CoreSteps, newest, SlotsAre, CoreAt, Above, length_set_numbered, weight, parts_weight, same_or_not, StayBelow, Layout, ArraysAre, EventsAre, most_around, IsChained, FrameStands, Around, Frames, run_level, innermost_most, Living, Pictured, living, dead, PicturesBy, ReachesFor, StateIs, WaitsAre}
 use Rattle.b67_cores.specs.Cores.{over}
 use Rattle.b67_scenes.proofs.Kept.{LeavesAlone, reach_alone, alike_but, pictured_alike}
 use Rattle.b67_scenes.proofs.Stage.{process_is, comes_by}
 use Rattle.b67_scenes.proofs.Staying.{IsAsHeavy, same_weight, frames_stay}
 use Rattle.b67_scenes.proofs.Tasks.{EventsStay, task_stays, state_stays, events_kept, events_beside}
-use Rattle.b67_scenes.proofs.StoringFrames.{IsStored, put, length_put, put_first, changed, stored_world, others_at, same_of, same_ancestors, as_heavy, ChangedCells, Stored, known_stored, onward_from, laid_from, frame_stored}
+use Rattle.b67_scenes.proofs.StoringFrames.{IsStored, put, length_put, put_first, changed, stored_world, others_at, same_of, same_ancestors, as_heavy, Stored, known_stored, onward_from, laid_from, frame_stored, CellStore}
 
 -- The instance's frame lies so high in the stack of process p. A word that is stored lies so far above the frame's two words, at the place k.
-module _ (tree : PProgram) (code : Code) (texts : Texts) (w : World) (lay : Layout) (p : ℕ) (i : ℕ) (x : Instance) (at : numbered w.instances i ≡ Some x) (with_cells : List NamedCell)
-    (high : ℕ) (laid : numbered lay.places i ≡ Some (place p high)) (far k : ℕ) (place_is : k ≡ high + 2 + far) (word : Option Word) (many : length with_cells ≡ length x.cells)
-    (short : IsStored word → far < length (simple_cells (scopes_of tree) (block_numbered (scopes_of tree).blocks x.block))) (keeps : KeepsArrays (scopes_of tree) w (stored_world w i x at with_cells) lay lay i)
-    (facts : HasFacts w) (fewer : (r : ℕ) → IsInSkeleton (referred_in_cells with_cells) r → IsInSkeleton (referred_in_cells x.cells) r)
-    (changes : (simple : List NamedCell) (values : List Word) (arrays : List NamedCell) (declared : List Made) (descriptors : List Word) →
-    CellsAre (simple_cells (scopes_of tree) (block_numbered (scopes_of tree).blocks x.block)) simple values → AreMade declared arrays (lay.rows i) descriptors → x.cells ≡ simple ++ arrays →
-    ChangedCells (simple_cells (scopes_of tree) (block_numbered (scopes_of tree).blocks x.block)) (lay.rows i) with_cells simple values (put word values far) declared descriptors) where
+module _ (tree : PProgram) (code : Code) (texts : Texts) (w : World) (lay : Layout) (p : ℕ) (store : CellStore tree w lay p) where
+  open store use {i, x, at, with_cells, up as k, place_is, word, many, keeps}
+
   abbrev sc : Scopes
   sc = scopes_of tree
 
@@ -32,8 +28,8 @@ module _ (tree : PProgram) (code : Code) (texts : Texts) (w : World) (lay : Layo
 
   module _ (part : Part) (outer : List Part) (core : Core) (s : FrameStands tree code texts w lay p part outer core) (a : Around tree code texts w lay p outer s.frame.lower s.frame.mark s.frame.control s.frame.gives)
       (own : IsOwn (part ∷ outer) i) where
-    g : Stored tree code texts w lay p i x at with_cells high laid far k place_is word many short keeps facts fewer changes part outer core.below s.frame
-    g = frame_stored tree code texts w lay p i x at with_cells high laid far k place_is word many short keeps facts fewer changes part outer core.below s.frame a own
+    g : Stored tree code texts w lay p store part outer core.below s.frame
+    g = frame_stored tree code texts w lay p store part outer core.below s.frame a own
 
     block_is : (instance_at w part.instance).block ≡ (instance_at w' part.instance).block
     block_is = same_of w i x at with_cells (λ (y : Instance). y.block) refl part.instance
@@ -74,7 +70,7 @@ module _ (tree : PProgram) (code : Code) (texts : Texts) (w : World) (lay : Layo
           pc = s.pc;
           slots = s.slots;
           held = s.held;
-          held_are = known_stored tree code texts w lay p i x at with_cells high laid far k place_is word many short keeps facts fewer changes (part ∷ outer) part.instance s.held s.held_are;
+          held_are = known_stored tree code texts w lay p store (part ∷ outer) part.instance s.held s.held_are;
           stands = subst (λ (m : ℕ). StandsFor sc (in_routine g.frame.gives (context_of code texts sc m)) (texts.placed (segment_of sc.blocks m)) (run_level (is_evaluation part.purpose) (level_of (block_numbered sc.blocks m))) (most_around tree m) part.rest s.pc s.slots) block_is
               (subst (λ (y : Yields). StandsFor sc (in_routine y (context_of code texts sc ((instance_at w part.instance).block))) (texts.placed (segment_of sc.blocks ((instance_at w part.instance).block))) level
               (most_around tree ((instance_at w part.instance).block)) part.rest s.pc s.slots) (sym g.gives) s.stands);
@@ -110,13 +106,13 @@ module _ (tree : PProgram) (code : Code) (texts : Texts) (w : World) (lay : Layo
           (above.same (put word l.core.below k) (length_put word l.core.below k))
 
       stay_on : StayBelow sc w' after lay lay p (length (put word l.settled.below k))
-      stay_on = record { on = onward_from tree code texts w lay p i x at with_cells high laid far k place_is word many short keeps facts fewer changes after refl alone.on; instances = λ j n y e mine there lower. e; rows = λ j n y e mine there lower. refl }
+      stay_on = record { on = onward_from tree code texts w lay p store after refl alone.on; instances = λ j n y e mine there lower. e; rows = λ j n y e mine there lower. refl }
 
       frames_after : (parts : List Part) → IsOwn parts i → Frames tree code texts w lay p parts l.settled → Frames tree code texts after lay p parts (stored_core l.settled)
       unfolding stands_stored g
       frames_after [] mine f = absurd f
       frames_after (part ∷ outer) mine f =
-          frames_stay tree code texts w' after lay lay p (length (put word l.settled.below k)) stay_on (laid_from tree code texts w lay p i x at with_cells high laid far k place_is word many short keeps facts fewer changes alone.laid) (part ∷ outer) (stored_core l.settled) (omega arith)
+          frames_stay tree code texts w' after lay lay p (length (put word l.settled.below k)) stay_on (laid_from tree code texts w lay p store alone.laid) (part ∷ outer) (stored_core l.settled) (omega arith)
           (stands_stored part outer l.settled f.0 f.1 mine, (g part outer l.settled f.0 f.1 mine).around)
 
       reaches_after : (parts : List Part) → o.todo ≡ parts → Frames tree code texts w lay p parts l.settled → ReachesFor sc w lay p parts l.core l.settled → ReachesFor sc after lay p parts (stored_core l.core) (stored_core l.settled)

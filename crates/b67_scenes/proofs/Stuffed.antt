@@ -1,6 +1,6 @@
 -- The references that STFF made are known: each display register names the frame of a static parent, that of its level the part's own.
 use Rattle.std.proofs.Common.{◌≡◌, refl, sym, ap, ◌∙◌, subst, ℕ, ◌+◌, ◌-◌, ◌≤◌, List, [], ◌∷◌, ◌++◌, Option, Some, arith}
-use Rattle.b67_scenes.proofs.Prelude.{PProgram, Scopes, scopes_of, use_of, Part, World, ancestor, IsStanding, newest_own, Place, Word, place_at, cell_word, Couple, OUTER_LEVEL, Code, Context, Texts, Core, Known, Layout, AreKnown, IsInReach, IsChained, Frame, Around}
+use Rattle.b67_scenes.proofs.Prelude.{PProgram, Scopes, scopes_of, use_of, Part, World, ancestor, IsStanding, newest_own, Word, Place, place_at, Couple, OUTER_LEVEL, Code, cell_word, Context, Texts, Core, Known, Layout, AreKnown, IsInReach, IsChained, Frame, Around}
 use Rattle.std.specs.Prelude.{IsSome}
 use Rattle.b67_standing.specs.Stepping.{HeldWord, Stuffable, of_array, of_variable, of_event, of_actual}
 use Rattle.b67_cores.specs.Stretches.{Sees, IsStuffed, AreStuffed}
@@ -16,9 +16,19 @@ pub known_both : (sc : Scopes) (w : World) (lay : Layout) (Stand : ℕ → Type 
 known_both sc w lay Stand i [] known more are = are
 known_both sc w lay Stand i (x ∷ added) known more are = (more.0, known_both sc w lay Stand i added known more.1 are)
 
-module _ (tree : PProgram) (code : Code) (texts : Texts) (w : World) (climb : CanClimb (scopes_of tree) w) (lay : Layout) (laid : AreLaid w lay) (p : ℕ) (part : Part) (outer : List Part) (words : List Word) (f : Frame tree code texts w lay p part outer words)
-    (a : Around tree code texts w lay p outer f.lower f.mark f.control f.gives) (core : Core)
-    (chained : IsChained (scopes_of tree) w lay part.instance (names_in tree w part) core.registers.display) where
+-- The frame of a part, and the core whose display shows it.
+pub record FrameShown (tree : PProgram) (code : Code) (texts : Texts) (w : World) (lay : Layout) (p : ℕ) : Type 0 where
+  pub part : Part
+  pub outer : List Part
+  pub words : List Word
+  pub frame : Frame tree code texts w lay p part outer words
+  pub around : Around tree code texts w lay p outer frame.lower frame.mark frame.control frame.gives
+  pub core : Core
+  pub chained : IsChained (scopes_of tree) w lay part.instance (names_in tree w part) core.registers.display
+
+module _ (tree : PProgram) (code : Code) (texts : Texts) (w : World) (climb : CanClimb (scopes_of tree) w) (lay : Layout) (laid : AreLaid w lay) (p : ℕ) (frame_there : FrameShown tree code texts w lay p) where
+  open frame_there use {part, outer, words, frame as f, around as a, core, chained}
+
   abbrev sc : Scopes
   sc = scopes_of tree
 

@@ -1,6 +1,6 @@
 -- A process's critical place and the places of the events of its task and of its wait stay where places stay and events stay events.
 use Rattle.std.proofs.Common.{◌≡◌, ◌≢◌, ◌⊎◌, inl, inr, refl, sym, ap, ◌∙◌, subst, ℕ, ◌+◌, List, [], ◌∷◌, ◌++◌, Option, Some, None, Bool, true, false}
-use Rattle.b67_scenes.proofs.Prelude.{if◌then◌else◌, numbered, block_numbered, Scopes, same_name, Reference, event, EventState, State, able, waits_for, waits_any, procures, ended, NamedCell, Instance, World, instance_at, or_no_instance, cell_in, Place, ProcessState, Able, WaitsFor, WaitsAny, Procures, Ended, place, made_of, made_from, made_base, same_or_not, IsSameBut, Layout, KeepsArrays, CriticalIs, IsEventAt, TaskIs, StateIs}
+use Rattle.b67_scenes.proofs.Prelude.{if◌then◌else◌, numbered, EventState, block_numbered, Scopes, same_name, Reference, event, State, able, waits_for, waits_any, procures, ended, NamedCell, Instance, World, instance_at, or_no_instance, cell_in, Place, place, ProcessState, Able, WaitsFor, WaitsAny, Procures, Ended, made_of, made_from, made_base, same_or_not, IsSameBut, KeepsArrays, Layout, CriticalIs, IsEventAt, TaskIs, StateIs}
 
 -- the frames of instances are where they were
 abbrev pub PlacesStay : Layout → Layout → Type 0

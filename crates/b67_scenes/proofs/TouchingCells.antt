@@ -1,6 +1,6 @@
 -- Where a process finds what an action reads: the operand in the cell of a variable or a result, and the control word of a procedure.
 use Rattle.std.proofs.Common.{◌≡◌, refl, sym, ap, ◌∙◌, subst, ℕ, suc, ◌+◌, ◌≤◌, List, [], ◌∷◌, ◌++◌, length, Option, Some, None, false, arith, lit<, ◌<◌}
-use Rattle.b67_scenes.proofs.Prelude.{is_evaluation, slice_get, reverse, Kind, Named, Block, block_numbered, number_at, level_of, PProgram, Scopes, scopes_of, use_of, NamedCell, Instance, instance_at, or_no_instance, ancestor, BlockIsSeen, procedures_before, segment_of, Place, Word, Pcw, Fits_pcw, as_pcw, as_sirw, pcw_word, as_pcw-pcw_word, Couple, Code, words_of, word_at, place, display_at, get_within, Simple, result_cells_of, variables, parameter_cells, simple_cells, procedures, made_base, IsVariable, code_at, Texts, control_words, AreNested, words_are, get-front, get-behind, length_around, NearCell, value_tag, CellsAre, block_controls, Framed, Owned, owned_frame, Holds_value, value_of_cell, as_many_values}
+use Rattle.b67_scenes.proofs.Prelude.{slice_get, reverse, Block, block_numbered, number_at, level_of, PProgram, Scopes, scopes_of, use_of, Kind, Named, is_evaluation, NamedCell, Instance, instance_at, or_no_instance, ancestor, BlockIsSeen, procedures_before, segment_of, Word, Place, as_pcw-pcw_word, Fits_pcw, as_pcw, as_sirw, pcw_word, Pcw, Couple, Code, words_of, word_at, get_within, place, display_at, Simple, result_cells_of, variables, parameter_cells, simple_cells, procedures, made_base, IsVariable, code_at, AreNested, Texts, control_words, length_around, words_are, get-front, get-behind, NearCell, value_tag, owned_frame, as_many_values, Holds_value, value_of_cell, CellsAre, block_controls, Framed, Owned}
 use Rattle.b67_control.proofs.ControlLaws.{as_sirw-other}
 use Rattle.b67_templates.specs.Cells as wants
 use Rattle.b67_templates.specs.Cells.{IsProcedure}

@@ -1,12 +1,11 @@
 -- The processes of a picture: each has its own stack, and the marks below its floor lead to frames below floors.
 use Rattle.std.proofs.Common.{◌≡◌, refl, sym, ap, ◌∙◌, ℕ, ◌+◌, ◌<◌, ◌≤◌, List, [], ◌∷◌, length, Option, Some, None, true, arith}
-use Rattle.b67_scenes.proofs.Prelude.{slice_get, reverse, numbered, PProgram, scopes_of, Process, Part, lives, World, Place, Word, Registers, place_at, Code, words_of, word_at, place, Image, is_live, display_at, at_or, frame, floor, Lives, numbered_within, Texts, Above, steps_stay_above, some_same, true_false, AreNested, numbered_beyond, words_are, get-front, FrameAt, system_frame, Layout, FrameStands, Around, Frames, IsWholeInstance, IsOk, facts_of, AllLead, lead_at, Living, Pictured, living, dead, PicturesBy}
+use Rattle.b67_scenes.proofs.Prelude.{slice_get, reverse, numbered, PProgram, scopes_of, Process, Part, lives, World, IsOk, IsWholeInstance, Word, Place, place_at, Registers, Code, words_of, word_at, numbered_within, place, Image, is_live, display_at, at_or, frame, floor, Lives, AreNested, Texts, steps_stay_above, Above, some_same, true_false, numbered_beyond, words_are, get-front, FrameAt, system_frame, IsNearStack, facts_of, AllLead, lead_at, Layout, FrameStands, Around, Frames, Living, Pictured, living, dead, PicturesBy}
 use Rattle.b67_table.specs.Privacy.{RegistersStay}
 use Rattle.b67_cores.specs.Cores.{stack_of}
 use Rattle.b67_cores.proofs.Performing.{steps_keep}
 use Rattle.b67_footprints.specs.Laws.{HaveOwnStacks}
 use Rattle.b67_rows.proofs.Numbers.{get_within}
-use Rattle.b67_rows.proofs.Touching.{IsNearStack}
 use Rattle.b67_scenes.proofs.Depended.{Has, own_has, path_has, up_path, frames_near}
 use Rattle.b67_scenes.proofs.Worlds.{placed_of}
 use Rattle.b67_frames.proofs.TouchingWords.{LinksTo, below_leads}

@@ -1,11 +1,11 @@
 -- A process that stands at its action: near are the frames to which marks and its display lead.
 use Rattle.std.proofs.Common.{◌≡◌, ◌⊎◌, inl, inr, refl, ◌∷◌, sym, ap, ◌∙◌, ℕ, ◌+◌, ◌-◌, ◌<◌, ◌≤◌, List, Some, Ok, arith}
-use Rattle.b67_scenes.proofs.Prelude.{is_evaluation, slice_get, PProgram, Scopes, scopes_of, instance_at, ancestor, Place, Word, Mscw, as_mscw, Operator, OUTER_LEVEL, Placed, Code, words_or, words_of, word_at, system_stack, critical_in, critical_of, display_at, floor, operator_at, Has, Texts, some_same, none_some, AreNested, most_or_more, words_are, Near, below_floor, NearFrame, FrameAt, system_frame, StandsNear, facts_of, newest_own, IsOnPath, IsStanding, AllLead, lead_at}
+use Rattle.b67_scenes.proofs.Prelude.{slice_get, PProgram, Scopes, scopes_of, is_evaluation, instance_at, ancestor, newest_own, IsOnPath, IsStanding, Word, Place, as_mscw, Mscw, Operator, OUTER_LEVEL, Placed, Code, words_or, words_of, word_at, system_stack, critical_in, critical_of, display_at, floor, operator_at, Has, AreNested, Texts, some_same, none_some, most_or_more, words_are, Near, below_floor, NearFrame, FrameAt, system_frame, own_stack, StandsNear, facts_of, AllLead, lead_at}
 use Rattle.b67_table.specs.declared.Class.TheVariants as classes
 use Rattle.b67_table.specs.Chains.{link_of}
 use Rattle.b67_table.specs.Table.{class_at}
 use Rattle.b67_cores.specs.Cores.{stack_of}
-use Rattle.b67_rows.proofs.Touching.{own_stack, system, own_frame, IsNear, NamesNear}
+use Rattle.b67_rows.proofs.Touching.{system, own_frame, IsNear, NamesNear}
 use Rattle.b67_rows.proofs.TouchingOperators.{privately, acting}
 use Rattle.b67_frames.proofs.Lying.{runs_near}
 use Rattle.b67_scenes.proofs.Depended.{Has as HasNear, own_has, path_has, up_path as parents_path, frames_near}

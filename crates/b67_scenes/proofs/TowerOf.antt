@@ -1,6 +1,6 @@
 -- The frames of a process's parts lie one on the other, and their marks lead down.
 use Rattle.std.proofs.Common.{◌≡◌, refl, sym, ap, ◌∙◌, subst, ℕ, ◌+◌, ◌<◌, ◌≤◌, List, [], ◌∷◌, ◌++◌, length, Some, false, Ok, arith}
-use Rattle.b67_scenes.proofs.Prelude.{reverse, numbered, PProgram, Scopes, scopes_of, Part, World, is_evaluation, Word, as_mscw, as_rcw, Code, Stacks, word_at, stack_limit, place, frame_below, read_as, look_seen, Yields, Texts, newest, slots_length, entered_to, newest_low, length-stack, Layout, Frame, Waits, Around, Begins_with, begins_front, mark_there, control_there, owned_frame}
+use Rattle.b67_scenes.proofs.Prelude.{reverse, numbered, PProgram, Scopes, scopes_of, is_evaluation, Part, World, Word, as_mscw, as_rcw, Code, Stacks, word_at, stack_limit, place, frame_below, read_as, look_seen, Yields, Texts, slots_length, newest, entered_to, newest_low, length-stack, Begins_with, begins_front, mark_there, control_there, owned_frame, Layout, Frame, Waits, Around}
 use Rattle.b67_rows.proofs.Marks.{Above, under_seen}
 use Rattle.b67_scenes.proofs.Staying.{level_in, frame_low}
 use Rattle.b67_scenes.proofs.Towers.{Tower, base, above}
@@ -16,8 +16,22 @@ module _ (tree : PProgram) (code : Code) (texts : Texts) (w : World) (lay : Layo
 
   -- ---- under a frame lies that of the part around
 
-  module _ (next : Part) (parts : List Part) (lower : List Word) (mark control : Word) (wanted : Yields) (u : Waits tree code texts w lay p next parts lower mark control wanted)
-      (marked : word_at stacks (place p (length lower)) ≡ Some mark) (begins : Begins_with stacks p lower) (small : length lower ≤ stack_limit) where
+  -- The part that waits for what is above it, and the words of its frame.
+  pub record WaitsBelow : Type 0 where
+    pub next : Part
+    pub parts : List Part
+    pub lower : List Word
+    pub mark : Word
+    pub control : Word
+    pub wanted : Yields
+    pub waiting : Waits tree code texts w lay p next parts lower mark control wanted
+    pub marked : word_at stacks (place p (length lower)) ≡ Some mark
+    pub begins : Begins_with stacks p lower
+    pub small : length lower ≤ stack_limit
+
+  module _ (under : WaitsBelow) where
+    open under use {next, parts, lower, control, waiting as u, marked, begins, small}
+
     abbrev home : ℕ
     home = length u.frame.lower
 
@@ -83,10 +97,11 @@ module _ (tree : PProgram) (code : Code) (texts : Texts) (w : World) (lay : Layo
       let bottom : length lower ≡ 0 = ap length a.0 in
       subst (λ (n : ℕ). Tower stacks lay p (part ∷ []) n) (sym bottom) (base owns (subst (λ (n : ℕ). numbered lay.places part.instance ≡ Some (place p n)) bottom (laid owns)))
   tower_around (next ∷ parts) lower mark control wanted a part owns laid marked begins small =
-      let low = next_low next parts lower mark control wanted a.0 marked begins small in
-      above laid (leads_under next parts lower mark control wanted a.0 marked begins small) low
+      let under : WaitsBelow = record { next = next; parts = parts; lower = lower; mark = mark; control = control; wanted = wanted; waiting = a.0; marked = marked; begins = begins; small = small } in
+      let low = next_low under in
+      above laid (leads_under under) low
       (tower_around parts a.0.frame.lower a.0.frame.mark a.0.frame.control a.0.frame.gives a.1 next owns (λ owned. frame_laid next parts a.0.below a.0.frame owned)
-      (next_marked next parts lower mark control wanted a.0 marked begins small) (begins_next next parts lower mark control wanted a.0 marked begins small) (omega (arith, low, small)))
+      (next_marked under) (begins_next under) (omega (arith, low, small)))
 
   -- the innermost part's frame, whose mark and what lies below it is there
   pub tower_of : (part : Part) (outer : List Part) (words : List Word) (f : Frame tree code texts w lay p part outer words) → Around tree code texts w lay p outer f.lower f.mark f.control f.gives → LastOwns (part ∷ outer) →

@@ -1,6 +1,6 @@
 -- The frames of a process's parts, one on the other, along which the marks lead down.
 use Rattle.std.proofs.Common.{◌≡◌, ◌⊎◌, inl, inr, refl, sym, ap, ◌∙◌, subst, ℕ, ◌<◌, ◌≤◌, List, [], ◌∷◌, ◌++◌, Some, Bool, true, false, Ok, arith, append_assoc}
-use Rattle.b67_scenes.proofs.Prelude.{if◌then◌else◌, numbered, Part, is_evaluation, own_instances, IsInSkeleton, Place, Stacks, place, frame_below, look_seen, some_same, Layout}
+use Rattle.b67_scenes.proofs.Prelude.{if◌then◌else◌, numbered, is_evaluation, own_instances, Part, IsInSkeleton, Place, Stacks, place, frame_below, look_seen, some_same, Layout}
 
 -- the instances of some parts and of those around them
 pub own_either : (newer parts : List Part) (i : ℕ) → IsInSkeleton (own_instances (newer ++ parts)) i → IsInSkeleton (own_instances newer) i ⊎ IsInSkeleton (own_instances parts) i

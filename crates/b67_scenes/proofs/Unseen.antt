@@ -1,6 +1,6 @@
 -- The newest instance of a stack, on which no live process depends, lies on no other's path.
 use Rattle.std.proofs.Common.{◌≡◌, ◌⊎◌, inl, inr, ℕ, ◌||◌, List, [], ◌∷◌, Option, Some, false, refl, sym, ap, ◌∙◌, subst, arith}
-use Rattle.b67_scenes.proofs.Prelude.{slice_get, numbered, Scopes, Process, World, own_instances, some_depends, Stack, Home, Skeleton, IsInSkeleton, NextIn, SkeletonNext, OnPath, SkeletonOk, stack_of, skeleton, IsOnPath, IsWholeInstance, IsOk, home_stands, stack_forth}
+use Rattle.b67_scenes.proofs.Prelude.{slice_get, numbered, Scopes, own_instances, some_depends, Process, World, stack_forth, home_stands, IsOk, Stack, Home, Skeleton, IsInSkeleton, NextIn, SkeletonNext, OnPath, SkeletonOk, stack_of, skeleton, IsOnPath, IsWholeInstance}
 use Rattle.algol_standing.specs.Skeleton as skeletons
 use Rattle.algol_standing.specs.Skeleton.{Owned, AreFree}
 use Rattle.algol_standing.proofs.Lists.{some_same}

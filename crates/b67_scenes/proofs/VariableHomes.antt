@@ -1,6 +1,6 @@
 -- Where a process finds the variable to whose cell a reference leads: in the frame of an instance in reach, in whatever stack.
 use Rattle.std.proofs.Common.{◌≡◌, sym, ap, ◌∙◌, subst, ℕ, ◌+◌, List, ◌∷◌, length, Some, arith, ◌<◌}
-use Rattle.b67_scenes.proofs.Prelude.{slice_get, Kind, block_numbered, PProgram, Scopes, scopes_of, Value, Reference, simple, NamedCell, Instance, instance_at, or_no_instance, cell_at, cell_in, Word, Code, word_at, place, get_within, HasKind, Simple, Found, found_from, simple_cells, Wanted, Texts, ValueIs, get-front, CellIs, IsInReach, Framed, cell_front, Holds_value, value_of_cell, as_many_values}
+use Rattle.b67_scenes.proofs.Prelude.{slice_get, block_numbered, PProgram, Scopes, scopes_of, Kind, Value, Reference, simple, NamedCell, Instance, instance_at, or_no_instance, cell_at, cell_in, Word, Code, word_at, get_within, place, Simple, Found, found_from, simple_cells, Wanted, HasKind, Texts, ValueIs, get-front, as_many_values, cell_front, Holds_value, value_of_cell, CellIs, IsInReach, Framed}
 use Rattle.b67_templates.specs.Cells as wants
 use Rattle.b67_frames.proofs.Variables.{Cell_of, variable_cell}
 use Rattle.b67_scenes.proofs.Scene.{Actor}

@@ -1,6 +1,6 @@
 -- What processes wait for, and their woken numbers, stay where places stay and events stay events.
 use Rattle.std.proofs.Common.{◌≡◌, ◌≢◌, ◌⊎◌, inl, inr, refl, sym, ap, ◌∙◌, subst, ℕ, zero, suc, List, [], ◌∷◌, length, Option, Some, None, Bool, true, false}
-use Rattle.b67_scenes.proofs.Prelude.{if◌then◌else◌, slice_get, slice_set, numbered, set_numbered, IsListed, Scopes, Reference, Process, World, process_at, or_no_process, list_in, Place, Event, event_at, waiters_at, list_of, same_place, is_from, closed_from, one_event, same_place-self, ProcessState, Able, WaitsFor, WaitsAny, Procures, Ended, Image, woken_number, AwaitsAt, length_set_numbered, some_same, same_or_not, numbered_set, numbered_other, Layout, AreAwaiting, ListIs, WaitsAre}
+use Rattle.b67_scenes.proofs.Prelude.{if◌then◌else◌, slice_get, slice_set, numbered, set_numbered, IsListed, Scopes, list_in, Reference, Process, World, process_at, or_no_process, Place, one_event, same_place-self, Event, event_at, waiters_at, list_of, same_place, is_from, closed_from, Image, woken_number, AwaitsAt, ProcessState, Able, WaitsFor, WaitsAny, Procures, Ended, length_set_numbered, some_same, same_or_not, numbered_set, numbered_other, Layout, AreAwaiting, ListIs, WaitsAre}
 use Rattle.b67_events.specs.Events.{state_of, with_list, event_opened, fresh}
 use Rattle.b67_events.proofs.Listed.{same_place-true}
 use Rattle.b67_events.proofs.OfSeveral.{list-own}
