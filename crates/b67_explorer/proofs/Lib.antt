@@ -1,4 +1,5 @@
 mod Performed
+mod Fitting
 mod Followed
 mod Owned
 mod Touched

@@ -1,5 +1,5 @@
 -- Entries that a machine says to be local, and that no outcome is lost by them.
-use Rattle.std.proofs.Common.{◌≡◌, ◌⊎◌, inl, inr, refl, sym, ap, subst, ◌∙◌, ℕ, ◌≤◌, leb, true, false, List, Option, Some, None, Result, Ok, arith}
+use Rattle.std.proofs.Common.{◌≡◌, ◌⊎◌, inl, inr, refl, sym, ap, subst, ◌∙◌, ℕ, ◌≤◌, leb, true, false, Option, Some, None, Result, Ok, arith}
 use Rattle.std.specs.Prelude.{nat_lt}
 use Rattle.std.proofs.lemmas.Bool.{leb-true}
 use Rattle.std.proofs.lemmas.Bool.Decides.{nat_tests}
@@ -13,18 +13,13 @@ use Rattle.b67_ops.specs.declared.Operator.TheVariants as ops
 use Rattle.b67_ops.specs.declared.BadCode.{BadCode}
 use Rattle.b67_ops.specs.declared.BranchKind.{BranchKind}
 use Rattle.b67_ops.specs.declared.BranchKind.TheVariants.{Brun}
-use Rattle.b67_table.specs.declared.ProcessState.{ProcessState}
 use Rattle.b67_table.specs.declared.Private.{Private}
 use Rattle.b67_table.specs.Table.{operator_at}
-use Rattle.b67_table.proofs.Waking.{able_live}
-use Rattle.b67_table.specs.Image.{Image, private_of, is_able, is_live}
+use Rattle.b67_table.specs.Image.{Image, private_of}
 use Rattle.b67_table.specs.Ending.{may_act}
-use Rattle.b67_table.specs.Runs.{Plains, stay, go}
 use Rattle.b67_table.specs.Valid.{IsValid}
 use Rattle.b67_private.specs.Parts.{PlainParts}
 use Rattle.b67_machine.specs.Parts.{part_by, private_part}
-use Rattle.b67_machine.specs.Kept.{MachineModel}
-use Rattle.b67_machine.specs.Stepping.{MachineGoes}
 use Rattle.b67_faithful.specs.Faithful.{Faithful}
 use Rattle.b67_outcomes.specs.Settling.{LocalsPass, EntryPassesBy, both, ends}
 use Rattle.b67_settling.specs.Local.{IsLocal, StacksStayOwn, Turns, always, ReadsCell, StoresCell}
@@ -33,24 +28,6 @@ use Rattle.b67_settling.specs.Laws as laws
 use Rattle.b67_settling.proofs.Earlier.{local_entries_pass}
 use Rattle.b67_settling.proofs.Turning.{turns_are_local}
 use Rattle.b67_settling.proofs.Reading.{reads_are_local, stores_are_local}
-
--- ---- no operator
-
-nothing : (code : Code) (p n : ℕ) (a b : Image) → n ≤ 0 → Plains code p a n b → b ≡ a
-nothing code p n a b none stay = refl
-nothing code p n a b none (go {n = k} e t rest) = absurd (omega (arith, none))
-
--- a machine that has performed none stands where it stood
-pub stands_still : (old new : MachineModel) (p n : ℕ) → n ≤ 0 → MachineGoes old p n new → new.image ≡ old.image
-stands_still old new p n none g = nothing old.code p n old.image new.image none g.performed
-
-pub same_code : (old new : MachineModel) (p n : ℕ) → MachineGoes old p n new → new.code ≡ old.code
-same_code old new p n g = ap (λ (k : MachineModel). k.code) g.others
-
--- and a process that was able lives there
-pub still_lives : (old new : MachineModel) (p n : ℕ) → MachineGoes old p n new → is_able (numbered old.image.states p) ≡ true → is_live (numbered new.image.states p) ≡ true
-still_lives old new p n g able =
-    subst (λ (states : List ProcessState). is_live (numbered states p) ≡ true) (sym g.states) (able_live (numbered old.image.states p) able)
 
 -- ---- a local entry
 

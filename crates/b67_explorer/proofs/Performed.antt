@@ -11,18 +11,16 @@ use Rattle.b67_listing.specs.Listings.{IsListable}
 use Rattle.b67_list.specs.Numbered.{numbered}
 use Rattle.b67_table.specs.Image.{Image, is_able}
 use Rattle.b67_table.specs.Ending.{ImageEnd, image_end, goes_on, may_act, failed}
-use Rattle.b67_table.specs.Ending as image_ends
 use Rattle.b67_table.specs.Outcome.{gives, faults, limit}
 use Rattle.b67_table.specs.Runs.{Plains, acts, fails, RunEntry}
 use Rattle.b67_table.specs.Runs as runs
-use Rattle.b67_table.specs.Table.{table, plain, length_in}
+use Rattle.b67_table.specs.Table.{table, plain}
 use Rattle.b67_action.specs.declared.done.Done.{Done}
 use Rattle.b67_action.specs.declared.done.Done.TheVariants as dones
 use Rattle.b67_machine.specs.declared.entry.Performed.{Performed}
 use Rattle.b67_machine.specs.declared.reads.End.{End}
-use Rattle.b67_machine.specs.declared.reads.End.TheVariants as ends
 use Rattle.b67_machine.specs.Kept.{MachineModel}
-use Rattle.b67_machine.specs.Reads.{machine_end_by, limit_end, machine_end, end_shown, shown_end}
+use Rattle.b67_machine.specs.Reads.{machine_end, end_shown, shown_end}
 use Rattle.b67_machine.specs.declared.entries.Entered.{Entered}
 use Rattle.b67_machine.specs.Entries.{stay, go, PerformsEntries}
 use Rattle.b67_machine.specs.Entries as machine
@@ -109,7 +107,7 @@ code_by old p done new s = by old.lacked s
     by false x = x.code
 
 -- an entry leaves the code
-performed_code : (old : MachineModel) (p most : ℕ) (performed : Performed) (new : MachineModel) → may_act old.image p ≡ true → MachinePerforms old p most performed new → new.code ≡ old.code
+pub performed_code : (old : MachineModel) (p most : ℕ) (performed : Performed) (new : MachineModel) → may_act old.image p ≡ true → MachinePerforms old p most performed new → new.code ≡ old.code
 performed_code old p most performed new may k = by performed.done k.then ∙ same_code old p performed.plain k.between may k.plains
   where
     by : (o : Option Done) → MachineFollows k.between p performed.plain most o new → new.code ≡ k.between.code
@@ -123,7 +121,7 @@ pub record Repeated (p k : ℕ) (old new : MachineModel) : Type 0 where
   pub entered : Repeats old.code p k old.image new.image
 
 -- those that went on
-repeated : (p most : ℕ) (old new : MachineModel) (letters : List Letter) (operators : ℕ) → may_act old.image p ≡ true → machine.EntriesFollow p most old letters operators new
+pub repeated : (p most : ℕ) (old new : MachineModel) (letters : List Letter) (operators : ℕ) → may_act old.image p ≡ true → machine.EntriesFollow p most old letters operators new
     → Repeated p (length letters) old new
 repeated p most old new letters operators may stay = record { code = refl; may = may; entered = entering.none }
 repeated p most old new letters operators may (go {b = b} {ls = ls} {l = l} {m = m} {k = k} enters more) =
@@ -168,23 +166,6 @@ is_able_there img p e = by (image_end img) e
     by : (o : Option ImageEnd) → goes_on o (is_able (numbered img.states p)) ≡ true → is_able (numbered img.states p) ≡ true
     by None f = f
     by (Some x) f = absurd (true≢false (sym f))
-
--- how many words a machine at the stack limit says
-pub words_said : (m : MachineModel) (p q words : ℕ) → m.limit ≡ Some p → machine_end m ≡ Some (ends.StackLimit q words) → words ≡ length_in (numbered m.image.regs p)
-words_said m p q words at e = by (image_end m.image) e
-  where
-    words_of : Option End → ℕ
-    words_of None = words
-    words_of (Some ends.Finished) = words
-    words_of (Some (ends.Fault kind r)) = words
-    words_of (Some ends.AllWaiting) = words
-    words_of (Some (ends.StackLimit r w)) = w
-
-    by : (o : Option ImageEnd) → machine_end_by o m ≡ Some (ends.StackLimit q words) → words ≡ length_in (numbered m.image.regs p)
-    by (Some image_ends.finished) f = cc
-    by (Some (image_ends.faulted kind r)) f = cc
-    by (Some image_ends.all_waiting) f = cc
-    by None f = ap words_of (sym f ∙ ap (λ (o : Option ℕ). limit_end o m.image.regs) at)
 
 -- a process may act where the image has no end and it is able
 pub may_then : (img : Image) (p : ℕ) (end : Option End) (none able : Bool) → is_some end ≡ not none → none ≡ true → end ≡ shown_end (image_end img)

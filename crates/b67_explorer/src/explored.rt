@@ -1,9 +1,9 @@
 //! The outcomes of a code, as a text.
 ghost use Rattle.std.specs.Prelude.{◌≡◌, ◌≤◌, IfOk};
 ghost use Rattle.algol_tree.specs.Plain.{PProgram};
-ghost use Rattle.b67_schedule.specs.Schedules.{most_in_schedule};
 ghost use Rattle.b67_settling.specs.Local.{StacksStayOwn};
 ghost use Rattle.b67_faithful.specs.Faithful.{Faithful};
+ghost use Rattle.b67_outcomes.specs.declared.found.TheConstants.{MOST_KEPT};
 ghost use Rattle.b67_outcomes_all.specs.Outcomes.{TellsOutcomes};
 ghost use Rattle.b67_explorer.specs.Texts.{IsTextOf};
 
@@ -44,13 +44,14 @@ fn text_of(alloc: Global, found: &Found, book: &Book) -> Result<Explored, AllocE
     Ok(Explored { text, cut })
 }
 
-/// The outcomes of the source of a code, where at most so many states are kept: from 1 on, and no more than a schedule may have entries.
-/// `Err` comes where memory runs out. The same answer stands for what comes of no source that memory holds: more than 900,000,000 steps
-/// ([`MOST_STEPS`](b67_outcomes::MOST_STEPS)); more than 2^63 operators of a process in one schedule, or 2^32 plain ones before an action; an operator that meets an ill-tagged word, which
-/// no faithful code has; and an entry that is asked of a machine whose run has an end.
+/// The outcomes of the source of a code, where at most so many states are kept: from 1 to [`MOST_KEPT`](b67_outcomes::MOST_KEPT).
+///
+/// # Errors
+///
+/// Memory ran out; nothing else is answered so.
 pub fn outcomes(alloc: Global, code: Code, most: u32) -> Result<Explored, AllocError>
     requires some { 1 ≤ most }
-    requires few { most ≤ most_in_schedule }
+    requires few { most ≤ MOST_KEPT }
     requires faithful { (tree : PProgram) × Faithful tree code }
     requires stacks { StacksStayOwn code }
     ensures { IfOk result (λ answer. (tree : PProgram) → Faithful tree code → TellsOutcomes tree most answer.text.items answer.cut) }

@@ -1,9 +1,11 @@
 //! The machine, as it is searched.
-ghost use Rattle.std.specs.Prelude.{◌≡◌, ◌≤◌, true, false, Some, IfOk};
+ghost use Rattle.std.specs.Prelude.{◌≡◌, ℕ, suc, ◌+◌, ◌≤◌, true, false, Some, IfOk};
+ghost use Rattle.algol_tree.specs.Plain.{PProgram};
 ghost use Rattle.b67_table.specs.Ending.{may_act};
 ghost use Rattle.b67_table.specs.Image.{Image};
-ghost use Rattle.b67_outcomes.specs.Entering.{ProcessEnters, IsProcessNumber, Repeats};
-ghost use Rattle.b67_explorer.specs.Entries.{entered_by};
+ghost use Rattle.b67_faithful.specs.Faithful.{Faithful};
+ghost use Rattle.b67_outcomes.specs.Entering.{ProcessEnters, IsProcessNumber, IsReached, Repeats};
+ghost use Rattle.b67_explorer.specs.Entries.{entered_by, EntriesFit, HasCome, IsAtLimit};
 
 use crate::local::is_own;
 use b67_action::Done;
@@ -22,76 +24,67 @@ pub struct Explorer<C: Again> {
     pub part: Private,
 }
 
-// So many operators of a process are counted at most.
-pub const MOST_COUNT: u64 = 9_223_372_036_854_775_807;
-
 // So many entries are performed at once at most.
 const MOST_AT_ONCE: usize = 256;
 
-// Whether an entry was performed, or the process came to the stack limit, by what the operator after its plain ones came to; none where
-// neither is so.
-fn entered_by(done: Option<Done>) -> Option<bool>
-    ensures { result ≡ entered_by done }
+// Whether an entry was performed, or the process came to the stack limit, by what the operator after its plain ones came to. `Err` comes where
+// memory lacks.
+fn entered_by(done: Option<Done>) -> Result<bool, AllocError>
+    requires { HasCome done }
+    ensures { IfOk result (λ entered. entered_by done ≡ Some entered) }
 {
     match done {
-        Some(Done::Went | Done::Waits | Done::Ended | Done::Fault(_)) => Some(true),
-        Some(Done::StackLimit) => Some(false),
-        Some(Done::Interrupt(_) | Done::NoMemory) | None => None,
+        Some(Done::Went | Done::Waits | Done::Ended | Done::Fault(_)) => Ok(true),
+        Some(Done::StackLimit) => Ok(false),
+        Some(Done::NoMemory) => Err(AllocError),
+        Some(Done::Interrupt(_)) | None => unreachable!(),
     }
-}
-
-// Tests that an entry was performed, by what the operator after its plain ones came to.
-fn is_entered(done: Option<Done>) -> bool
-    ensures { result ≡ true → entered_by done ≡ Some true }
-{
-    matches!(entered_by(done), Some(true))
 }
 
 impl<C: Again> Explorer<C> {
     /// Performs an entry of the process, which may act. It answers whether the entry was performed; it is not where the process comes to the
-    /// stack limit before its action.
+    /// stack limit before its action. `Err` comes where memory runs out.
     ///
-    /// Where a machine has come to the stack limit, it is begun again first. An entry has no more plain operators than its segment has
-    /// syllables, and no run that is searched has as many operators as can't be counted.
+    /// An entry has no more plain operators than its segment has syllables, and no operator is ill-tagged, since the code is that of a source.
     pub fn go(&mut self, process: u32) -> Result<bool, AllocError>
         requires may { may_act self.old.machine.image process ≡ true }
+        requires known { (tree : PProgram) × Faithful tree self.old.machine.code }
+        requires reached { IsReached self.old.machine.code self.old.machine.image }
+        requires room { (k : ℕ) × EntriesFit self.old.machine (suc k) }
         ensures code { self.new.machine.code ≡ self.old.machine.code }
         ensures number { IsProcessNumber process }
         ensures entered { IfOk result (λ entered. ProcessEnters self.old.machine.code process self.old.machine.image entered self.new.machine.image) }
-        ensures limit { IfOk result (λ entered. entered ≡ false → self.new.machine.limit ≡ Some process) }
+        ensures room { IfOk result (λ entered. entered ≡ true → (k : ℕ) → EntriesFit self.old.machine (suc k) → EntriesFit self.new.machine k) }
+        ensures limit { IfOk result (λ entered. entered ≡ false → IsAtLimit self.new.machine process) }
     {
         let _last = self.machine.last_process();
-        if self.machine.end().is_some() || self.machine.count(process) > MOST_COUNT {
-            return Err(AllocError);
-        }
         let performed = self.machine.perform_entry(process, u32::MAX);
-        match entered_by(performed.done) {
-            Some(entered) => Ok(entered),
-            None => Err(AllocError),
-        }
+        entered_by(performed.done)
     }
 
     // Performs entries of the process, one after another, where it has so many: at most these, and one at least. It answers how many.
     fn go_some(&mut self, process: u32, most: usize) -> Result<usize, AllocError>
         requires some { 1 ≤ most }
         requires has { (img : Image) × Repeats self.old.machine.code process most self.old.machine.image img }
+        requires known { (tree : PProgram) × Faithful tree self.old.machine.code }
+        requires reached { IsReached self.old.machine.code self.old.machine.image }
+        requires room { (k : ℕ) × EntriesFit self.old.machine (most + k) }
         ensures code { self.new.machine.code ≡ self.old.machine.code }
         ensures some { IfOk result (λ count. 1 ≤ count) }
         ensures within { IfOk result (λ count. count ≤ most) }
         ensures entered { IfOk result (λ count. Repeats self.old.machine.code process count self.old.machine.image self.new.machine.image) }
+        ensures room { IfOk result (λ count. (k : ℕ) → EntriesFit self.old.machine (count + k) → EntriesFit self.new.machine k) }
     {
-        if self.machine.end().is_some() || self.machine.count(process) > MOST_COUNT {
-            return Err(AllocError);
-        }
         let mut letters = [Letter::Read; MOST_AT_ONCE];
         let room = MOST_AT_ONCE.min(most);
         let entered = self
             .machine
             .perform_entries(process, &mut letters[..room], u32::MAX);
-        if !is_entered(entered.last.done) {
-            return Err(AllocError);
+        if entered_by(entered.last.done)? {
+            Ok(entered.entries as usize + 1)
+        } else {
+            unreachable!()
         }
-        Ok(entered.entries as usize + 1)
     }
 }
 
@@ -100,9 +93,16 @@ impl<C: Again> Walker for Explorer<C> {
 
     ghost image = { λ e. e.machine.image };
 
+    ghost use Rattle.algol_tree.specs.Plain.{PProgram};
+    ghost use Rattle.b67_faithful.specs.Faithful.{Faithful};
     ghost use Rattle.b67_explorer.specs.Cells.{IsLocalThere};
+    ghost use Rattle.b67_explorer.specs.Entries.{EntriesFit};
+
+    ghost Known = { λ code. (tree : PProgram) × Faithful tree code };
 
     ghost Local = { IsLocalThere };
+
+    ghost Room = { λ e k. EntriesFit e.machine k };
 
     fn restart(&mut self) -> Result<(), AllocError> {
         self.machine.restart()
@@ -130,7 +130,7 @@ impl<C: Again> Walker for Explorer<C> {
     }
 
     fn is_local(&mut self, process: u32) -> Result<bool, AllocError> {
-        Ok(is_own(&mut self.machine, &mut self.part, process))
+        Ok(is_own(&self.machine, &mut self.part, process))
     }
 
     fn same(&self, other: &Explorer<C>) -> bool {

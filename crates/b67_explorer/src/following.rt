@@ -1,5 +1,7 @@
 //! The machine, as it follows a schedule.
-ghost use Rattle.std.specs.Prelude.{◌≡◌};
+ghost use Rattle.std.specs.Prelude.{◌≡◌, ℕ, Some};
+ghost use Rattle.b67_machine.specs.declared.reads.End.TheVariants as ends;
+ghost use Rattle.b67_explorer.specs.Entries.{IsLimitEnd};
 ghost use Rattle.b67_explorer.specs.Following.{words_of_ends};
 
 use crate::Explorer;
@@ -29,6 +31,17 @@ fn words_of_end(end: Option<End>) -> Option<EndWords>
     }
 }
 
+// How many words the stack has where the end is the stack limit.
+fn words_at(end: Option<End>) -> u32
+    requires { IsLimitEnd end }
+    ensures { (process words : ℕ) → end ≡ Some (ends.StackLimit process words) → result ≡ words }
+{
+    match end {
+        Some(End::StackLimit { process: _, words }) => words,
+        Some(End::Finished | End::Fault { .. } | End::AllWaiting) | None => unreachable!(),
+    }
+}
+
 // The outcome that a report says.
 fn outcome_of(alloc: Global, report: Report) -> Outcome
     ensures output { result.output ≡ report.output }
@@ -46,8 +59,6 @@ impl<C: Again> Teller for Explorer<C> {
     ghost use Rattle.b67_faithful.specs.Faithful.{Faithful};
     ghost use Rattle.b67_outcomes_all.specs.Outcomes.{IsReplayed};
 
-    ghost Known = { λ code. (tree : PProgram) × Faithful tree code };
-
     ghost Explained = { λ code given o. (tree : PProgram) → Faithful tree code → IsReplayed tree given o };
 
     fn end(&self) -> Option<EndWords> {
@@ -60,12 +71,9 @@ impl<C: Again> Teller for Explorer<C> {
 
     fn stop(&mut self, process: u32) -> Result<u32, AllocError> {
         if self.go(process)? {
-            return Err(AllocError);
+            unreachable!();
         }
-        match self.machine.end() {
-            Some(End::StackLimit { process: _, words }) => Ok(words),
-            _ => Err(AllocError),
-        }
+        Ok(words_at(self.machine.end()))
     }
 
     fn replay(&mut self, alloc: Global, given: &Given) -> Result<Outcome, AllocError> {

@@ -8,7 +8,6 @@ ghost use Rattle.b67_settling.specs.Local.{Turns};
 ghost use Rattle.b67_explorer.specs.Cells.{AccessesOwn, IsLocalThere};
 
 use crate::cells::accesses_own;
-use crate::explorer::MOST_COUNT;
 use b67_again::Again;
 use b67_load::first_registers;
 use b67_machine::Machine;
@@ -55,16 +54,11 @@ fn is_own_next<C: Again>(machine: &Machine<C>, part: &Private, process: u32) -> 
 
 /// Tests that the next entry of a process that may act is local: its plain operators lead to a branch that does not go forward, or to a cell of its own
 /// stack, on which nobody depends. They are performed on a copy of its private part.
-pub fn is_own<C: Again>(machine: &mut Machine<C>, part: &mut Private, process: u32) -> bool
-    requires may { may_act machine.old.image process ≡ true }
-    ensures code { machine.new.code ≡ machine.old.code }
-    ensures stays { machine.new.image ≡ machine.old.image }
-    ensures is { result ≡ true → IsLocalThere machine.old.code machine.old.image process }
+pub fn is_own<C: Again>(machine: &Machine<C>, part: &mut Private, process: u32) -> bool
+    requires may { may_act machine.now.image process ≡ true }
+    requires valid { IsValid machine.now.code machine.now.image }
+    ensures { result ≡ true → IsLocalThere machine.now.code machine.now.image process }
 {
-    if machine.end().is_some() || machine.count(process) > MOST_COUNT {
-        return false;
-    }
-    let _none = machine.perform_plain(process, 0);
     machine.copy_private(process, part);
     let _plain = burst(part, machine.code(), None, u32::MAX);
     is_own_next(machine, part, process)

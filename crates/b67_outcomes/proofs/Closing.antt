@@ -13,9 +13,10 @@ use Rattle.b67_outcomes.specs.declared.found.Step.{Step}
 use Rattle.b67_outcomes.specs.declared.found.State.{State}
 use Rattle.b67_outcomes.specs.declared.found.Limit.{Limit}
 use Rattle.b67_outcomes.specs.declared.found.Found.{Found}
+use Rattle.b67_outcomes.specs.declared.found.TheConstants.{MOST_KEPT}
 use Rattle.b67_outcomes.specs.Entering.{HistoryLeadsTo}
 use Rattle.b67_outcomes.specs.Settling.{Last, ended, stopped, LastComes, at_end, at_limit, after, LocalsPass}
-use Rattle.b67_outcomes.specs.Finding.{History, first, IsLed, IsKept, IsEndKept, IsStopKept, IsSearched, FoundGrows, IsArrived, IsFollowed, IsExpanded, AreNoted, AreAll}
+use Rattle.b67_outcomes.specs.Finding.{History, first, IsLed, IsKept, IsEndKept, IsStopKept, IsSearched, FoundGrows, IsArrived, IsFollowed, IsExpanded, IsClosed, AreNoted, AreAll}
 use Rattle.b67_outcomes.proofs.Determined.{led_one}
 use Rattle.b67_outcomes.proofs.Histories.{history_one, led_none, led_more}
 use Rattle.b67_outcomes.proofs.Keeping.{followed_stays, expanded_stays}
@@ -87,15 +88,17 @@ first_led code steps k none within =
     let zero_is : k ≡ 0 = omega (arith, within, ap (λ (z : List Step). length z) none) in
     subst (λ (n : ℕ). IsLed code steps n) (sym zero_is) (record { history = []; image = _; is = first; leads = led_none code })
 
-pub begun_searched : (code : Code) (most : ℕ) (found : Found) → found.steps.items ≡ [] → found.states.items ≡ [] → found.limits.items ≡ []
-    → found.cut ≡ false → IsSearched code most found
-begun_searched code most found steps states limits cut =
+pub begun_searched : (code : Code) (most : ℕ) (found : Found) → most ≤ MOST_KEPT → found.steps.items ≡ [] → found.states.items ≡ []
+    → found.limits.items ≡ [] → found.cut ≡ false → IsSearched code most found
+begun_searched code most found most_few steps states limits cut =
     record {
       led = λ k within. first_led code found.steps.items k steps within;
       states = λ k s e. absurd (none-some s (sym (ap (λ (z : List State). slice_get z k) states) ∙ e));
       stops = λ k l e. absurd (none-some l (sym (ap (λ (z : List Limit). slice_get z k) limits) ∙ e));
+      after = λ k l e. absurd (none-some l (sym (ap (λ (z : List Limit). slice_get z k) limits) ∙ e));
       short = omega (arith, ap (λ (z : List Step). length z) steps);
       few = omega (arith, ap (λ (z : List State). length z) states);
+      most_few = most_few;
       cause = λ e. absurd (true≢false (sym e ∙ cut));
     }
 
@@ -107,6 +110,20 @@ all_noted code Local found all k p s h img quiet there is leads may stops =
     let x = all k s there in
     let f = x.each p in
     f.stops img quiet (subst (λ (g : List ℕ). HistoryLeadsTo code g img) (history_one found.steps.items s.number h x.history is x.is) leads) may stops
+
+-- ---- each entry
+
+-- the search has come to where each entry leads
+pub closed : (code : Code) (Local : Image → ℕ → Type 0) (found : Found) → found.cut ≡ false → IsArrived code Local found first_image
+    → ((k : ℕ) (s : State) → slice_get found.states.items k ≡ Some s → IsExpanded code Local found s.number) → IsClosed code Local found
+closed code Local found whole x all =
+    record {
+      first = x;
+      each = λ k p n s h a b there is leads e.
+          let y = all k s there in
+          let f = y.each p in
+          f.entries whole a b n (subst (λ (g : List ℕ). HistoryLeadsTo code g a) (history_one found.steps.items s.number h y.history is y.is) leads) e;
+    }
 
 -- ---- all
 

@@ -11,7 +11,6 @@ use Rattle.b67_table.specs.Image.{Image}
 use Rattle.b67_table.specs.Beginning.{first_image}
 use Rattle.b67_table.specs.Ending.{may_act}
 use Rattle.b67_table.specs.Runs.{RunEntry, Runs, begin, entry}
-use Rattle.b67_outcomes.specs.declared.found.TheConstants.{MOST_STEPS}
 use Rattle.b67_outcomes.specs.declared.found.Step.{Step}
 use Rattle.b67_outcomes.specs.Entering.{ProcessEnters, IsProcessNumber, HistoryLeadsTo, HistoryLeads}
 use Rattle.b67_outcomes.specs.Finding.{History, first, later, IsLed, NumberIsAt, IsAfter, AreLed, before_of, HoldsPath}
@@ -185,6 +184,11 @@ entered : (code : Code) (p : ℕ) (a b : Image) (r : Bool) (n : ℕ) (c : Image)
 entered code p a b true n c x e = entry_one code p a c b n x.0 e x.1
 entered code p a b false n c s e = no_entry code p a b c n _ s e
 
+-- where the process has an entry it is performed
+is_entered : (code : Code) (p : ℕ) (a b : Image) (r : Bool) (n : ℕ) (c : Image) → ProcessEnters code p a r b → RunEntry code p a n c → r ≡ true
+is_entered code p a b true n c x e = refl
+is_entered code p a b false n c s e = no_entry code p a b c n _ s e
+
 -- and stands after it then
 pub next_led : (code : Code) (h : List ℕ) (i left p : ℕ) (a b : Image) (r : Bool) → suc i ≡ left → HistoryLeads code h → slice_get h i ≡ Some p
     → HistoryLeadsTo code (drop left h) a → ProcessEnters code p a r b → HistoryLeadsTo code (drop i h) b
@@ -287,7 +291,13 @@ pub path_may : (code : Code) (steps : List Step) (n : ℕ) (path : List ℕ) (i 
     → IsAfter code steps n (take i path) a → may_act a (get_or path i 0) ≡ true
 path_may code steps n path i img a below x here = let e = entry_after code steps n path i img a below x here in e.2.may
 
--- and stands after it then
+-- it is performed
+pub path_entered : (code : Code) (steps : List Step) (n : ℕ) (path : List ℕ) (i : ℕ) (img a b : Image) (r : Bool) → i < length path
+    → IsAfter code steps n path img → IsAfter code steps n (take i path) a → ProcessEnters code (get_or path i 0) a r b → r ≡ true
+path_entered code steps n path i img a b r below x here e =
+    let y = entry_after code steps n path i img a below x here in is_entered code (get_or path i 0) a b r y.1 y.0 e y.2
+
+-- and the machine stands after it then
 pub path_after : (code : Code) (steps : List Step) (n : ℕ) (path : List ℕ) (i : ℕ) (img a b : Image) (r : Bool) → i < length path
     → IsAfter code steps n path img → IsAfter code steps n (take i path) a → ProcessEnters code (get_or path i 0) a r b → IsAfter code steps n (take (i + 1) path) b
 path_after code steps n path i img a b r below x here e =
@@ -316,8 +326,8 @@ new_led code xs s h led is leads k within =
     k (omega (arith, within, length_push xs s))
 
 -- no entry yet
-pub held_none : (steps : List Step) (number : ℕ) → length steps ≤ MOST_STEPS → HoldsPath steps number [] number steps
-held_none steps number short =
+pub held_none : (steps : List Step) (number : ℕ) → HoldsPath steps number [] number steps
+held_none steps number =
     record {
       more = [];
       steps = sym (append-nil steps);
@@ -325,14 +335,13 @@ held_none steps number short =
       chained = λ k s e. absurd (none-some s e);
       at_is = refl;
       is = λ h is. is;
-      short = short;
       led = λ code h img is l led. led;
     }
 
 -- a step more
 pub held_next : (old steps longer : List Step) (number at : ℕ) (path : List ℕ) (s : Step) → HoldsPath old number path at steps → s.before ≡ at
-    → longer ≡ steps ++ s ∷ [] → length steps < MOST_STEPS → HoldsPath old number (path ++ s.process ∷ []) (suc (length steps)) longer
-held_next old steps longer number at path s x before same room =
+    → longer ≡ steps ++ s ∷ [] → HoldsPath old number (path ++ s.process ∷ []) (suc (length steps)) longer
+held_next old steps longer number at path s x before same =
     subst (λ (z : List Step). HoldsPath old number (path ++ s.process ∷ []) (suc (length steps)) z) (sym same)
     record {
       more = x.more ++ s ∷ [];
@@ -343,7 +352,6 @@ held_next old steps longer number at path s x before same room =
       is = λ h is.
           subst (λ (z : List ℕ). History (steps ++ s ∷ []) (suc (length steps)) z) (sym (path_end path s.process h))
           (new_history steps s (reverse path ++ h) (there h is));
-      short = omega (arith, room, length_push steps s);
       led = λ code h img is l led.
           let longer_led = subst (λ (z : List ℕ). HistoryLeadsTo code z img) (path_end path s.process h) l in
           let before_led = rest_leads code (s.process ∷ []) (reverse path ++ h) longer_led.0 img longer_led.1 in

@@ -1,19 +1,20 @@
 -- What is kept and noted stays so, and what is kept besides comes of runs too.
-use Rattle.std.proofs.Common.{◌≡◌, refl, sym, ap, subst, ◌∙◌, ℕ, zero, suc, ◌+◌, ◌<◌, ◌≤◌, true, false, List, [], ◌∷◌, ◌++◌, length, reverse, Some, true≢false, append_assoc, append-nil, arith}
+use Rattle.std.proofs.Common.{◌≡◌, ◌⊎◌, inl, inr, refl, sym, ap, subst, ◌∙◌, ℕ, zero, suc, ◌+◌, ◌*◌, ◌<◌, ◌≤◌, true, false, List, [], ◌∷◌, ◌++◌, length, reverse, Some, true≢false, append_assoc, append-nil, arith}
 use Rattle.std.specs.Prelude.{slice_get}
-use Rattle.std.proofs.lemmas.List.{length_push, length-append}
+use Rattle.std.proofs.lemmas.List.{length_push, length-append, length-map}
 use Rattle.std.proofs.lemmas.Option.{same_Some, none-some}
 use Rattle.b67_segment.specs.declared.code.Code.{Code}
 use Rattle.b67_table.specs.Image.{Image}
 use Rattle.b67_table.specs.Ending.{may_act}
 use Rattle.b67_table.specs.Runs.{RunEntry}
 use Rattle.b67_outcomes.specs.declared.found.TheConstants.{MOST_STEPS}
+use Rattle.b67_outcomes.specs.declared.follow.TheConstants.{FREE_STEPS, STEPS_OF_STATE, MOST_SETTLED}
 use Rattle.b67_outcomes.specs.declared.found.Step.{Step}
 use Rattle.b67_outcomes.specs.declared.found.State.{State}
 use Rattle.b67_outcomes.specs.declared.found.Limit.{Limit}
 use Rattle.b67_outcomes.specs.declared.found.Found.{Found}
 use Rattle.b67_outcomes.specs.Entering.{ProcessEnters, Stops, HistoryLeadsTo}
-use Rattle.b67_outcomes.specs.Finding.{History, NumberIsAt, IsAfter, AreLed, AreStates, IsKept, IsStop, IsNoted, IsSearched, HoldsState, FoundGrows, IsArrived, IsFollowed, IsExpanded}
+use Rattle.b67_outcomes.specs.Finding.{History, NumberIsAt, IsAfter, IsState, AreLed, AreStates, before_of, IsKept, IsStop, IsNoted, steps_for, IsSearched, HoldsState, FoundGrows, IsArrived, IsFollowed, IsExpanded}
 use Rattle.b67_outcomes.proofs.Determined.{entry_one, no_entry, led_one}
 use Rattle.b67_outcomes.proofs.Histories.{history_within, history_stays, stays, last_is}
 
@@ -143,6 +144,12 @@ same_grows old new steps states limits cut =
       cut = cut;
     }
 
+short_so : (old new : Found) → new.steps.items ≡ old.steps.items → new.states.items ≡ old.states.items
+    → length old.steps.items ≤ steps_for (length old.states.items) → length new.steps.items ≤ steps_for (length new.states.items)
+short_so old new steps states short =
+    subst (λ (z : List Step). length z ≤ steps_for (length new.states.items)) (sym steps)
+    (subst (λ (z : List State). length old.steps.items ≤ steps_for (length z)) (sym states) short)
+
 pub same_searched : (code : Code) (most : ℕ) (old new : Found) → IsSearched code most old → new.steps.items ≡ old.steps.items
     → new.states.items ≡ old.states.items → new.limits.items ≡ old.limits.items → (new.cut ≡ true → length old.states.items ≡ most)
     → IsSearched code most new
@@ -153,8 +160,10 @@ same_searched code most old new s steps states limits cause =
           subst (λ (z : List Step). AreStates z new.states.items) (sym steps)
           (subst (λ (z : List State). AreStates old.steps.items z) (sym states) s.states);
       stops = λ k x e. subst (λ (z : List Step). IsStop code z x) (sym steps) (s.stops k x (sym (ap (λ (z : List Limit). slice_get z k) limits) ∙ e));
-      short = subst (λ (z : List Step). length z ≤ MOST_STEPS) (sym steps) s.short;
+      after = λ k x e. subst (λ (z : List State). IsState z x.state) (sym states) (s.after k x (sym (ap (λ (z : List Limit). slice_get z k) limits) ∙ e));
+      short = short_so old new steps states s.short;
       few = subst (λ (z : List State). length z ≤ most) (sym states) s.few;
+      most_few = s.most_few;
       cause = λ e. subst (λ (z : List State). length z ≡ most) (sym states) (cause e);
     }
 
@@ -185,8 +194,8 @@ stop_of code steps l h here quiet is leads may stops = record { history = h; ima
 
 pub noted_searched : (code : Code) (most : ℕ) (old new : Found) (l : Limit) (h : List ℕ) (here quiet : Image) → IsSearched code most old
     → new.steps.items ≡ old.steps.items → new.states.items ≡ old.states.items → new.limits.items ≡ old.limits.items ++ l ∷ [] → new.cut ≡ old.cut
-    → History old.steps.items l.state h → HistoryLeadsTo code h here → may_act here l.process ≡ true → Stops code l.process here quiet → IsSearched code most new
-noted_searched code most old new l h here quiet s steps states limits cut is leads may stops =
+    → IsState old.states.items l.state → History old.steps.items l.state h → HistoryLeadsTo code h here → may_act here l.process ≡ true → Stops code l.process here quiet → IsSearched code most new
+noted_searched code most old new l h here quiet s steps states limits cut state is leads may stops =
     record {
       led = subst (λ (z : List Step). AreLed code z) (sym steps) s.led;
       states =
@@ -196,10 +205,38 @@ noted_searched code most old new l h here quiet s steps states limits cut is lea
           subst (λ (z : List Step). IsStop code z x) (sym steps)
           (last_or old.limits.items l x k (λ (y : Limit). IsStop code old.steps.items y) s.stops
           (stop_of code old.steps.items l h here quiet is leads may stops) (sym (ap (λ (z : List Limit). slice_get z k) limits) ∙ e));
-      short = subst (λ (z : List Step). length z ≤ MOST_STEPS) (sym steps) s.short;
+      after = λ k x e.
+          subst (λ (z : List State). IsState z x.state) (sym states)
+          (last_or old.limits.items l x k (λ (y : Limit). IsState old.states.items y.state) s.after state (sym (ap (λ (z : List Limit). slice_get z k) limits) ∙ e));
+      short = short_so old new steps states s.short;
       few = subst (λ (z : List State). length z ≤ most) (sym states) s.few;
+      most_few = s.most_few;
       cause = λ e. subst (λ (z : List State). length z ≡ most) (sym states) (s.cause (sym cut ∙ e));
     }
+
+-- ---- how many steps there are
+
+-- for so many states there are no more than may be kept
+pub steps_few : (code : Code) (most : ℕ) (found : Found) → IsSearched code most found → length found.steps.items ≤ MOST_STEPS
+steps_few code most found s = let short = s.short in let few = s.few in let most_few = s.most_few in omega (arith, short, few, most_few)
+
+-- a number that has a history is one of them
+pub number_few : (code : Code) (most number : ℕ) (found : Found) (h : List ℕ) → IsSearched code most found → History found.steps.items number h → number ≤ MOST_STEPS
+number_few code most number found h s is =
+    let few = steps_few code most found s in let within = history_within found.steps.items number h is in omega (arith, few, within)
+
+-- how many entries may be settled at once
+abbrev pub MaySettle : ℕ → ℕ → ℕ → Type 0
+MaySettle room steps states = (room ≡ 0) ⊎ ((room ≡ MOST_SETTLED) × (steps ≤ FREE_STEPS + STEPS_OF_STATE * states))
+
+pub settled_few : (room steps states : ℕ) → MaySettle room steps states → room ≤ MOST_SETTLED
+settled_few room steps states (inl none) = omega (arith, none)
+settled_few room steps states (inr some) = let is = some.0 in omega (arith, is)
+
+-- the steps of an entry and of what is settled after it are within those for a state more
+pub steps_fit : (room steps states path : ℕ) → MaySettle room steps states → steps ≤ steps_for states → path ≤ 1 + room → steps + path ≤ steps_for (states + 1)
+steps_fit room steps states path (inl none) short few = omega (arith, none, short, few)
+steps_fit room steps states path (inr some) short few = let is = some.0 in let within = some.1 in omega (arith, is, within, short, few)
 
 -- ---- a state is kept
 
@@ -215,9 +252,29 @@ held_grows old new number path at x =
       cut = λ e. sym x.cut ∙ e;
     }
 
+-- a path has as many steps as entries
+held_length : (old : Found) (number : ℕ) (path : List ℕ) (at : ℕ) (new : Found) → HoldsState old number path at new
+    → length new.steps.items ≡ length old.steps.items + length path
+held_length old number path at new x =
+    let longer = ap (λ (z : List Step). length z) x.path_held.steps ∙ length-append old.steps.items x.path_held.more in
+    let same = sym (length-map x.path_held.more (λ (z : Step). z.process)) ∙ ap (λ (z : List ℕ). length z) x.path_held.entries in
+    omega (arith, longer, same)
+
+-- and ends in a number that is greater by them at least
+pub held_further : (old : Found) (number : ℕ) (path : List ℕ) (at : ℕ) (new : Found) → HoldsState old number path at new → number ≤ length old.steps.items
+    → number + length path ≤ at
+held_further old number path at new x within =
+    let same = sym (length-map x.path_held.more (λ (z : Step). z.process)) ∙ ap (λ (z : List ℕ). length z) x.path_held.entries in
+    by (length x.path_held.more) same x.path_held.at_is
+  where
+    by : (more : ℕ) → more ≡ length path → at ≡ before_of number (length old.steps.items) more → number + length path ≤ at
+    by zero same is = omega (arith, same, is)
+    by (suc more) same is = omega (arith, same, is, within)
+
 pub held_searched : (code : Code) (most : ℕ) (old new : Found) (number : ℕ) (path : List ℕ) (at : ℕ) (there : Image) → IsSearched code most old
-    → HoldsState old number path at new → IsAfter code old.steps.items number path there → length old.states.items < most → IsSearched code most new
-held_searched code most old new number path at there s x after room =
+    → HoldsState old number path at new → IsAfter code old.steps.items number path there → length old.states.items < most
+    → length old.steps.items + length path ≤ steps_for (length old.states.items + 1) → IsSearched code most new
+held_searched code most old new number path at there s x after room fits =
     let longer : length new.steps.items ≡ length old.steps.items + length x.path_held.more =
     ap (λ (z : List Step). length z) x.path_held.steps ∙ length-append old.steps.items x.path_held.more in
     let one_more : length new.states.items ≡ length old.states.items + 1 =
@@ -240,8 +297,12 @@ held_searched code most old new number path at there s x after room =
             may = was.may;
             stops = was.stops;
           };
-      short = x.path_held.short;
+      after = λ k y e.
+          let was = s.after k y (sym (ap (λ (z : List Limit). slice_get z k) x.limits) ∙ e) in
+          (was.0, was.1, ap (λ (z : List State). slice_get z was.0) x.states ∙ stays old.states.items (x.state ∷ []) was.0 was.1 was.2, was.3);
+      short = subst (λ (n : ℕ). length new.steps.items ≤ steps_for n) (sym one_more) (omega (arith, fits, held_length old number path at new x));
       few = omega (arith, room, one_more);
+      most_few = s.most_few;
       cause = λ e. let full = s.cause (sym x.cut ∙ e) in absurd (omega (arith, full, room));
     }
 

@@ -9,8 +9,9 @@ use Rattle.b67_outcomes.specs.declared.found.Step.{Step}
 use Rattle.b67_outcomes.specs.declared.found.State.{State}
 use Rattle.b67_outcomes.specs.declared.found.Found.{Found}
 use Rattle.b67_outcomes.specs.Settling.{CanSettle, ImageSettles, rest, settle}
-use Rattle.b67_outcomes.specs.Finding.{History, AreLed, AreStates}
-use Rattle.b67_outcomes.specs.Kept.{IsNext, AreKept, IsStateNext, IsTree, GoesOn, IsBegun}
+use Rattle.b67_outcomes.specs.Entering.{HistoryLeadsTo}
+use Rattle.b67_outcomes.specs.Finding.{History, AreLed, AreStates, IsArrived, IsClosed}
+use Rattle.b67_outcomes.specs.Kept.{IsNext, AreKept, SettlesAmong, AreClosed, IsStateNext, IsTree, GoesOn, IsBegun}
 use Rattle.b67_outcomes.proofs.Histories.{history_one}
 use Rattle.b67_outcomes.proofs.Apart.{number_one, state_one}
 
@@ -69,6 +70,30 @@ module _ (code : Code) (Local : Image → ℕ → Type 0) (found : Found) (histo
             state_one found.states.items tree.growing j k s.0 t.0 s.1 t.1 (number_one found.steps.items tree.once s.0.number t.0.number h h s.2 t.2 refl);
       }
 
+-- where the search has come to the end of each entry, so have these
+module _ (code : Code) (Local : Image → ℕ → Type 0) (found : Found) (histories : List (List ℕ))
+    (x : IsHistoryOf found.steps.items found.states.items histories) (all : IsClosed code Local found) where
+  among : (img : Image) → IsArrived code Local found img → SettlesAmong code Local histories img
+  among img a =
+      let own = x.history a.kept.state.0 a.kept.state.1 a.kept.state.2 in
+      let is = subst (λ (n : ℕ). History found.steps.items n own.0) a.kept.state.3 own.2 in
+      record {
+        settled = a.settled;
+        image = a.image;
+        settles = a.settles;
+        place = a.kept.state.0;
+        history = own.0;
+        there = own.1;
+        leads = subst (λ (h : List ℕ). HistoryLeadsTo code h a.image) (history_one found.steps.items a.kept.number a.kept.history own.0 a.kept.is is) a.kept.leads;
+      }
+
+  pub are_closed : AreClosed code Local histories
+  are_closed =
+      record {
+        first = among first_image all.first;
+        each = λ k p n h a b there leads e. let s = x.state k h there in among b (all.each k p n s.0 h a b s.1 s.2 leads e);
+      }
+
 -- ---- which entries can be performed at once
 
 module _ (code : Code) (Local Also : Image → ℕ → Type 0) (more : (img : Image) (p : ℕ) → Local img p → Also img p) where
@@ -99,6 +124,22 @@ module _ (code : Code) (Local Also : Image → ℕ → Type 0) (more : (img : Im
   next_so : (histories : List (List ℕ)) (k : ℕ) (h : List ℕ) → IsNext code Local histories k h → IsNext code Also histories k h
   next_so histories zero h begun = begun_so h begun
   next_so histories (suc k) h (j, g, order, there, goes) = (j, g, order, there, goes_so g h goes)
+
+  among_so : (histories : List (List ℕ)) (img : Image) → SettlesAmong code Local histories img → SettlesAmong code Also histories img
+  among_so histories img x =
+      record {
+        settled = x.settled;
+        image = x.image;
+        settles = settles_so img x.image x.settled x.settles;
+        place = x.place;
+        history = x.history;
+        there = x.there;
+        leads = x.leads;
+      }
+
+  pub closed_so : (histories : List (List ℕ)) → AreClosed code Local histories → AreClosed code Also histories
+  closed_so histories x =
+      record { first = among_so histories first_image x.first; each = λ k p n h a b there leads e. among_so histories b (x.each k p n h a b there leads e) }
 
   pub kept_so : (histories : List (List ℕ)) → AreKept code Local histories → AreKept code Also histories
   kept_so histories x = record { some = x.some; each = λ k h e. next_so histories k h (x.each k h e); different = x.different }

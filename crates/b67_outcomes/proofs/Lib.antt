@@ -1,9 +1,10 @@
 pub mod Determined
 pub mod Histories
+pub mod Rooms
 pub mod Repeating
 pub mod Passing
 mod Only
-mod Keeping
+pub mod Keeping
 mod Closing
 pub mod Apart
 mod Trees

@@ -1,10 +1,11 @@
 -- What an entry of a process leads to, and what a history of entries.
-use Rattle.std.specs.Prelude.{◌≡◌, ℕ, suc, ◌<◌, ◌≤◌, ◌^◌, Bool, true, false, List}
+use Rattle.std.specs.Prelude.{◌≡◌, ℕ, suc, ◌+◌, ◌<◌, ◌≤◌, ◌^◌, Bool, true, false, List}
 use Rattle.b67_segment.specs.declared.code.Code.{Code}
 use Rattle.b67_table.specs.Image.{Image}
 use Rattle.b67_table.specs.Outcome.{limit}
 use Rattle.b67_table.specs.Table.{table}
 use Rattle.b67_table.specs.Runs.{Runs, RunEntry, Plains}
+use Rattle.b67_outcomes.specs.declared.found.TheConstants.{MOST_ENTRIES}
 
 -- the number of a process is from 1 on, and has 16 bits
 abbrev pub IsProcessNumber : ℕ → Type 0
@@ -25,6 +26,12 @@ ProcessEnters code p a false b = Stops code p a b
 pub data Repeats (code : Code) (p : ℕ) : ℕ → Image → Image → Type 0 where
   none : {a : Image} → Repeats code p 0 a a
   again : {k n : ℕ} {a b c : Image} → Repeats code p k a b → RunEntry code p b n c → Repeats code p (suc k) a c
+
+-- where no more than so many entries were performed, there is room for all others of a history
+pub record HasRoom (Room : ℕ → Type 0) (performed : ℕ) : Type 0 where
+  pub left : ℕ
+  pub is : Room left
+  pub enough : MOST_ENTRIES ≤ left + performed
 
 -- the run of a history leads to the image
 abbrev pub HistoryLeadsTo : Code → List ℕ → Image → Type 0

@@ -1,11 +1,13 @@
 -- What a search for everything to which runs lead has found, and when that is all.
-use Rattle.std.specs.Prelude.{◌≡◌, ℕ, zero, suc, ◌+◌, ◌<◌, ◌≤◌, true, false, List, [], ◌∷◌, ◌++◌, length, map, reverse, Option, None, Some, slice_get}
+use Rattle.std.specs.Prelude.{◌≡◌, ℕ, zero, suc, ◌+◌, ◌*◌, ◌<◌, ◌≤◌, true, false, List, [], ◌∷◌, ◌++◌, length, map, reverse, Option, None, Some, slice_get}
 use Rattle.b67_segment.specs.declared.code.Code.{Code}
 use Rattle.b67_table.specs.Image.{Image}
+use Rattle.b67_table.specs.Beginning.{first_image}
 use Rattle.b67_table.specs.Ending.{ImageEnd, image_end, may_act}
 use Rattle.b67_table.specs.Table.{stack_length}
 use Rattle.b67_table.specs.Runs.{Runs, RunEntry}
-use Rattle.b67_outcomes.specs.declared.found.TheConstants.{MOST_STEPS}
+use Rattle.b67_outcomes.specs.declared.found.TheConstants.{MOST_KEPT}
+use Rattle.b67_outcomes.specs.declared.follow.TheConstants.{FREE_STEPS, STEPS_OF_STATE, MOST_SETTLED}
 use Rattle.b67_outcomes.specs.declared.found.Step.{Step}
 use Rattle.b67_outcomes.specs.declared.found.State.{State}
 use Rattle.b67_outcomes.specs.declared.found.Limit.{Limit}
@@ -92,6 +94,10 @@ pub record IsStop (code : Code) (steps : List Step) (l : Limit) : Type 0 where
 abbrev pub AreStops : Code → List Step → List Limit → Type 0
 AreStops code steps limits = (k : ℕ) (l : Limit) → slice_get limits k ≡ Some l → IsStop code steps l
 
+-- each that is noted is after a state
+abbrev pub AreAfterStates : List State → List Limit → Type 0
+AreAfterStates states limits = (k : ℕ) (l : Limit) → slice_get limits k ≡ Some l → IsState states l.state
+
 -- it is noted that the process does so after the history
 abbrev pub IsNoted : List Limit → ℕ → ℕ → Type 0
 IsNoted limits number p = (k : ℕ) × (l : Limit) × (slice_get limits k ≡ Some l) × (l.state ≡ number) × (l.process ≡ p)
@@ -104,13 +110,19 @@ AreNoted code found =
 
 -- ---- the search
 
--- All that is kept comes of runs, and there are at most so many states; a search that was cut has as many.
+-- so many steps are kept at most with so many states
+abbrev pub steps_for : ℕ → ℕ
+steps_for states = FREE_STEPS + STEPS_OF_STATE * states + MOST_SETTLED + 1
+
+-- All that is kept comes of runs, and there are at most so many states, and steps for them; a search that was cut has as many.
 pub record IsSearched (code : Code) (most : ℕ) (found : Found) : Type 0 where
   pub led : AreLed code found.steps.items
   pub states : AreStates found.steps.items found.states.items
   pub stops : AreStops code found.steps.items found.limits.items
-  pub short : length found.steps.items ≤ MOST_STEPS
+  pub after : AreAfterStates found.states.items found.limits.items
+  pub short : length found.steps.items ≤ steps_for (length found.states.items)
   pub few : length found.states.items ≤ most
+  pub most_few : most ≤ MOST_KEPT
   pub cause : found.cut ≡ true → length found.states.items ≡ most
 
 -- after which history the step at this place of a path stands, where there were so many steps before the path: the first after that of the number, each
@@ -132,7 +144,6 @@ pub record HoldsPath (old : List Step) (number : ℕ) (path : List ℕ) (at : �
   pub chained : AreChained number (length old) more
   pub at_is : at ≡ before_of number (length old) (length more)
   pub is : (history : List ℕ) → History old number history → History new at (reverse path ++ history)
-  pub short : length new ≤ MOST_STEPS
   pub led : (code : Code) (history : List ℕ) (img : Image) → History old number history → HistoryLeadsTo code (reverse path ++ history) img → AreLed code old
       → AreLed code new
 
@@ -173,6 +184,12 @@ module _ (code : Code) (Local : Image → ℕ → Type 0) where
     pub history : List ℕ
     pub is : History found.steps.items number history
     pub each : (p : ℕ) → IsFollowed found number history p
+
+  -- the search has come to where the first image settles, and to where each image does to which an entry leads after a state
+  pub record IsClosed (found : Found) : Type 0 where
+    pub first : IsArrived found first_image
+    pub each : (k p n : ℕ) (s : State) (history : List ℕ) (a b : Image) → slice_get found.states.items k ≡ Some s → History found.steps.items s.number history
+        → HistoryLeadsTo code history a → RunEntry code p a n b → IsArrived found b
 
 -- the last process that may act, where one may
 abbrev pub IsLastAble : Image → Option ℕ → Type 0

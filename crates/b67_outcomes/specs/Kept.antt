@@ -3,6 +3,7 @@ use Rattle.std.specs.Prelude.{◌≡◌, ℕ, zero, suc, ◌<◌, ◌≤◌, Lis
 use Rattle.b67_segment.specs.declared.code.Code.{Code}
 use Rattle.b67_table.specs.Image.{Image}
 use Rattle.b67_table.specs.Beginning.{first_image}
+use Rattle.b67_table.specs.Runs.{RunEntry}
 use Rattle.b67_outcomes.specs.declared.found.Step.{Step}
 use Rattle.b67_outcomes.specs.declared.found.State.{State}
 use Rattle.b67_outcomes.specs.declared.found.Found.{Found}
@@ -70,6 +71,21 @@ module _ (code : Code) (Local : Image → ℕ → Type 0) where
     pub some : 1 ≤ length histories
     pub each : (k : ℕ) (h : List ℕ) → slice_get histories k ≡ Some h → IsNext histories k h
     pub different : (j k : ℕ) (h : List ℕ) → slice_get histories j ≡ Some h → slice_get histories k ≡ Some h → j ≡ k
+
+  -- by entries that can be performed at once the image leads to that of one of these histories
+  pub record SettlesAmong (histories : List (List ℕ)) (img : Image) : Type 0 where
+    pub settled : List ℕ
+    pub image : Image
+    pub settles : ImageSettles code Local img settled image
+    pub place : ℕ
+    pub history : List ℕ
+    pub there : slice_get histories place ≡ Some history
+    pub leads : HistoryLeadsTo code history image
+
+  -- so it is with the first image, and with each to which an entry leads after one of these histories
+  pub record AreClosed (histories : List (List ℕ)) : Type 0 where
+    pub first : SettlesAmong histories first_image
+    pub each : (k p n : ℕ) (h : List ℕ) (a b : Image) → slice_get histories k ≡ Some h → HistoryLeadsTo code h a → RunEntry code p a n b → SettlesAmong histories b
 
   -- ---- states
 

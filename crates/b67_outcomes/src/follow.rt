@@ -1,9 +1,10 @@
 // A process is followed from a state.
-ghost use Rattle.std.specs.Prelude.{◌≡◌, ◌⊎◌, ℕ, ◌+◌, List, false, true, IfOk, IfSome};
+ghost use Rattle.std.specs.Prelude.{◌≡◌, ◌⊎◌, ℕ, ◌+◌, ◌*◌, ◌<◌, ◌≤◌, ◌^◌, List, false, true, length, IfOk, IfSome};
 ghost use Rattle.b67_table.specs.Ending.{may_act};
 ghost use Rattle.b67_outcomes.specs.Finding.{FoundGrows, History, IsAfter, IsArrived, NumberIsAt, IsFollowed, IsSearched, IsState};
 ghost use Rattle.b67_outcomes.specs.Kept.{IsHeld, IsReady, IsSame, IsTree};
-ghost use Rattle.b67_outcomes.specs.declared.follow.TheConstants.{MOST_SETTLED};
+ghost use Rattle.b67_outcomes.specs.Entering.{HasRoom};
+ghost use Rattle.b67_outcomes.specs.declared.follow.TheConstants.{FREE_STEPS, MOST_SETTLED, STEPS_OF_STATE};
 
 use crate::buckets::Buckets;
 use crate::keep::{is_kept, keep};
@@ -22,9 +23,10 @@ const STEPS_OF_STATE: usize = 3;
 
 // How many entries may be settled at once: none where there are too many steps for the states.
 fn room_of(found: &Found) -> u32
-    ensures { (result ≡ 0) ⊎ (result ≡ MOST_SETTLED) }
+    requires { length found.now.states.items < 2 ^ 32 }
+    ensures { (result ≡ 0) ⊎ ((result ≡ MOST_SETTLED) × (length found.now.steps.items ≤ FREE_STEPS + STEPS_OF_STATE * length found.now.states.items)) }
 {
-    if found.steps.len() / STEPS_OF_STATE > FREE_STEPS / STEPS_OF_STATE + found.states.len() {
+    if found.steps.len() > FREE_STEPS + STEPS_OF_STATE * found.states.len() {
         0
     } else {
         MOST_SETTLED
@@ -44,13 +46,17 @@ pub fn arrive<W: Walker>(
     most: u32,
 ) -> Result<Option<u32>, AllocError>
     requires codes { W.code second.old ≡ W.code walker.old }
+    requires known { W.Known (W.code walker.old) }
     requires searched { IsSearched (W.code walker.old) most found.old }
     requires stands { IsAfter (W.code walker.old) found.old.steps.items number path.old.items (W.image walker.old) }
+    requires room { HasRoom (W.Room walker.old) (number + length path.old.items) }
+    requires short { length path.old.items ≤ 1 }
     ensures code { W.code walker.new ≡ W.code walker.old }
     ensures second { W.code second.new ≡ W.code second.old }
     ensures grows { IfOk result (λ u. FoundGrows found.old found.new) }
     ensures searched { IfOk result (λ u. IsSearched (W.code walker.old) most found.new) }
     ensures stands { IfOk result (λ at. IfSome at (λ number. NumberIsAt (W.code walker.old) found.new.steps.items number (W.image walker.new))) }
+    ensures room { IfOk result (λ at. IfSome at (HasRoom (W.Room walker.new))) }
     ensures keeps { IfOk result (λ u. IsSame most found.old found.new ⊎ IsHeld (W.code walker.old) (W.Local (W.code walker.old)) found.old number path.old.items (W.image walker.old) found.new) }
     ensures arrived { IfOk result (λ u. found.new.cut ≡ false → IsArrived (W.code walker.old) (W.Local (W.code walker.old)) found.new (W.image walker.old)) }
 {
@@ -86,8 +92,10 @@ pub fn find<W: Walker>(
     most: u32,
 ) -> Result<Option<u32>, AllocError>
     requires codes { W.code second.old ≡ W.code walker.old }
+    requires known { W.Known (W.code walker.old) }
     requires searched { IsSearched (W.code walker.old) most found.old }
     requires stands { NumberIsAt (W.code walker.old) found.old.steps.items number (W.image walker.old) }
+    requires room { HasRoom (W.Room walker.old) number }
     requires may { may_act (W.image walker.old) process ≡ true }
     requires state { IsState found.old.states.items number }
     requires tree { IsTree (W.code walker.old) (W.Local (W.code walker.old)) found.old × IsReady found.old number process }
@@ -96,6 +104,7 @@ pub fn find<W: Walker>(
     ensures grows { IfOk result (λ u. FoundGrows found.old found.new) }
     ensures searched { IfOk result (λ u. IsSearched (W.code walker.old) most found.new) }
     ensures stands { IfOk result (λ at. IfSome at (λ number. NumberIsAt (W.code walker.old) found.new.steps.items number (W.image walker.new))) }
+    ensures room { IfOk result (λ at. IfSome at (HasRoom (W.Room walker.new))) }
     ensures tree { IfOk result (λ u. IsTree (W.code walker.old) (W.Local (W.code walker.old)) found.new × IsReady found.new number (process + 1)) }
     ensures followed { IfOk result (λ u. (history : List ℕ) → History found.old.steps.items number history → IsFollowed (W.code walker.old) (W.Local (W.code walker.old)) found.new number history process) }
 {
@@ -126,8 +135,10 @@ pub fn follow<W: Walker>(
     most: u32,
 ) -> Result<(), AllocError>
     requires codes { W.code second.old ≡ W.code walker.old }
+    requires known { W.Known (W.code walker.old) }
     requires searched { IsSearched (W.code walker.old) most found.old }
     requires stands { NumberIsAt (W.code walker.old) found.old.steps.items number (W.image walker.old) }
+    requires room { HasRoom (W.Room walker.old) number }
     requires state { IsState found.old.states.items number }
     requires tree { IsTree (W.code walker.old) (W.Local (W.code walker.old)) found.old × IsReady found.old number process }
     ensures code { W.code walker.new ≡ W.code walker.old }
@@ -135,6 +146,7 @@ pub fn follow<W: Walker>(
     ensures grows { IfOk result (λ u. FoundGrows found.old found.new) }
     ensures searched { IfOk result (λ u. IsSearched (W.code walker.old) most found.new) }
     ensures stands { IfOk result (λ u. NumberIsAt (W.code walker.old) found.new.steps.items number (W.image walker.new)) }
+    ensures room { IfOk result (λ u. HasRoom (W.Room walker.new) number) }
     ensures tree { IfOk result (λ u. IsTree (W.code walker.old) (W.Local (W.code walker.old)) found.new × IsReady found.new number (process + 1)) }
     ensures followed { IfOk result (λ u. (history : List ℕ) → History found.old.steps.items number history → IsFollowed (W.code walker.old) (W.Local (W.code walker.old)) found.new number history process) }
 {

@@ -3,6 +3,12 @@
 /// The most steps that are kept: fewer than a schedule may have entries.
 pub const MOST_STEPS: usize = 900_000_000;
 
+/// The most states that a search may be told to keep: with so many there are no more steps than that.
+pub const MOST_KEPT: u32 = 299_000_000;
+
+/// The most entries that are performed on a machine after it was begun: those of a history that is kept, and of a path that goes on from it.
+pub const MOST_ENTRIES: usize = 900_001_000;
+
 /// An entry of `process` after the history of number `before`. The history without entries has the number 0, and the step at place k is the
 /// last entry of the history of number k + 1.
 #[derive(Clone, Copy)]

@@ -4,7 +4,6 @@ ghost use Rattle.b67_outcomes.specs.declared.found.TheConstants.{MOST_STEPS};
 ghost use Rattle.b67_outcomes.specs.Finding.{AreLed, AreStates, HoldsPath, HoldsState, IsKept};
 
 use crate::buckets::Buckets;
-use crate::found::MOST_STEPS;
 use crate::walking::walk;
 use crate::{Found, State, Step, Walker};
 use std::alloc::{AllocError, Global};
@@ -19,8 +18,10 @@ pub fn is_kept<W: Walker>(
     newest: u32,
 ) -> Result<bool, AllocError>
     requires codes { W.code second.old ≡ W.code walker.now }
+    requires known { W.Known (W.code walker.now) }
     requires led { AreLed (W.code walker.now) steps.now }
     requires states { AreStates steps.now states.now }
+    requires short { length steps.now ≤ MOST_STEPS }
     ensures code { W.code second.new ≡ W.code second.old }
     ensures kept { IfOk result (λ kept. kept ≡ true → IsKept (W.code walker.now) steps.now states.now (W.image walker.now)) }
 {
@@ -44,15 +45,12 @@ pub fn is_kept<W: Walker>(
 
 // Adds the entries of a path, which goes on from the history of this number, and answers the number of its end.
 fn add_steps(steps: &mut Vec<Step>, number: u32, path: &[u32]) -> Result<u32, AllocError>
-    requires short { length steps.old.items ≤ MOST_STEPS }
+    requires short { length steps.old.items + length path.now ≤ MOST_STEPS }
     ensures { IfOk result (λ at. HoldsPath steps.old.items number path.now at steps.new.items) }
 {
     let mut at = number;
     let mut done = 0;
     'entries: while done < path.len() {
-        if steps.len() >= MOST_STEPS {
-            return Err(AllocError);
-        }
         steps.push(Step {
             before: at,
             process: path[done],
@@ -71,7 +69,7 @@ pub fn keep(
     path: &[u32],
     hash: u64,
 ) -> Result<u32, AllocError>
-    requires short { length found.old.steps.items ≤ MOST_STEPS }
+    requires short { length found.old.steps.items + length path.now ≤ MOST_STEPS }
     requires few { length found.old.states.items + 1 < 2 ^ 32 }
     ensures held { IfOk result (λ at. HoldsState found.old number path.now at found.new) }
 {

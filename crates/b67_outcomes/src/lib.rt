@@ -15,7 +15,7 @@ mod settling;
 mod walker;
 mod walking;
 
-pub use found::{Found, Limit, MOST_STEPS, State, Step};
+pub use found::{Found, Limit, MOST_ENTRIES, MOST_KEPT, MOST_STEPS, State, Step};
 pub use search::explore;
 pub use walker::Walker;
 pub use walking::{history_of, perform};

@@ -1,8 +1,10 @@
 // The search.
 ghost use Rattle.std.specs.Prelude.{◌≡◌, ◌≤◌, [], false, true, length, IfOk, IfSome, Some};
 ghost use Rattle.b67_table.specs.Beginning.{first_image};
-ghost use Rattle.b67_outcomes.specs.Finding.{AreAll, AreNoted, FoundGrows, IsArrived, NumberIsAt, IsExpanded, IsLastAble, IsLed, IsSearched, IsState};
+ghost use Rattle.b67_outcomes.specs.Finding.{AreAll, AreNoted, FoundGrows, IsArrived, NumberIsAt, IsClosed, IsExpanded, IsLastAble, IsLed, IsSearched, IsState};
 ghost use Rattle.b67_outcomes.specs.Kept.{AreNotExpanded, AreOpen, IsReady, IsTree};
+ghost use Rattle.b67_outcomes.specs.declared.found.TheConstants.{MOST_ENTRIES, MOST_KEPT};
+ghost use Rattle.b67_outcomes.specs.Entering.{HasRoom};
 ghost use Rattle.b67_outcomes.specs.Settling.{LocalsPass};
 
 use crate::buckets::Buckets;
@@ -43,10 +45,14 @@ fn stand<W: Walker>(
     at: Option<u32>,
     number: u32,
 ) -> Result<(), AllocError>
+    requires known { W.Known (W.code walker.old) }
     requires led { IsLed (W.code walker.old) steps.now number }
     requires there { IfSome at (λ number. NumberIsAt (W.code walker.old) steps.now number (W.image walker.old)) }
+    requires room { IfSome at (HasRoom (W.Room walker.old)) }
+    requires short { number ≤ MOST_ENTRIES }
     ensures code { W.code walker.new ≡ W.code walker.old }
     ensures at { IfOk result (λ u. NumberIsAt (W.code walker.old) steps.now number (W.image walker.new)) }
+    ensures room { IfOk result (λ u. HasRoom (W.Room walker.new) number) }
 {
     if is_at(at, number) {
         return Ok(());
@@ -68,16 +74,19 @@ fn expand<W: Walker>(
     most: u32,
 ) -> Result<Option<u32>, AllocError>
     requires codes { W.code second.old ≡ W.code walker.old }
+    requires known { W.Known (W.code walker.old) }
     requires searched { IsSearched (W.code walker.old) most found.old }
     requires there { number ≤ length found.old.steps.items }
     requires state { IsState found.old.states.items number }
     requires tree { IsTree (W.code walker.old) (W.Local (W.code walker.old)) found.old × IsReady found.old number 0 }
     requires stands { IfSome at (λ number. NumberIsAt (W.code walker.old) found.old.steps.items number (W.image walker.old)) }
+    requires room { IfSome at (HasRoom (W.Room walker.old)) }
     ensures code { W.code walker.new ≡ W.code walker.old }
     ensures second { W.code second.new ≡ W.code second.old }
     ensures grows { IfOk result (λ u. FoundGrows found.old found.new) }
     ensures searched { IfOk result (λ u. IsSearched (W.code walker.old) most found.new) }
     ensures stands { IfOk result (λ at. IfSome at (λ number. NumberIsAt (W.code walker.old) found.new.steps.items number (W.image walker.new))) }
+    ensures room { IfOk result (λ at. IfSome at (HasRoom (W.Room walker.new))) }
     ensures tree { IfOk result (λ u. IsTree (W.code walker.old) (W.Local (W.code walker.old)) found.new × AreOpen found.new number) }
     ensures expanded { IfOk result (λ u. IsExpanded (W.code walker.old) (W.Local (W.code walker.old)) found.new number) }
 {
@@ -109,6 +118,7 @@ fn begin<W: Walker>(
     most: u32,
 ) -> Result<Option<u32>, AllocError>
     requires codes { W.code second.old ≡ W.code walker.old }
+    requires known { W.Known (W.code walker.old) }
     requires searched { IsSearched (W.code walker.old) most found.old }
     requires empty { path.old.items ≡ [] }
     requires some { 1 ≤ most }
@@ -118,6 +128,7 @@ fn begin<W: Walker>(
     ensures second { W.code second.new ≡ W.code second.old }
     ensures searched { IfOk result (λ u. IsSearched (W.code walker.old) most found.new) }
     ensures stands { IfOk result (λ at. IfSome at (λ number. NumberIsAt (W.code walker.old) found.new.steps.items number (W.image walker.new))) }
+    ensures room { IfOk result (λ at. IfSome at (HasRoom (W.Room walker.new))) }
     ensures arrived { IfOk result (λ u. found.new.cut ≡ false → IsArrived (W.code walker.old) (W.Local (W.code walker.old)) found.new first_image) }
     ensures tree { IfOk result (λ u. IsTree (W.code walker.old) (W.Local (W.code walker.old)) found.new × AreNotExpanded found.new 0 × (1 ≤ length found.new.states.items)) }
 {
@@ -126,11 +137,12 @@ fn begin<W: Walker>(
 }
 
 /// The states to which runs lead, at most so many of them, and where a process comes to the stack limit after them. After each entry those are performed
-/// that can be performed at once. Where these are local indeed and the search is not cut, the end of each run is that of a state with
-/// the same output, and where a process comes to the stack limit after a run, it does so after one of these. The states have different histories, and
-/// each goes on from the one by whose expansion it was found; where a process comes to the stack limit after a state, that is noted.
+/// that can be performed at once. Where the search is not cut, each entry after a state leads to where such entries lead to a state again. Where these are local
+/// indeed, too, the end of each run is that of a state with the same output, and where a process comes to the stack limit after a run, it does so after one of
+/// these. The states have different histories, and each goes on from the one by whose expansion it was found; where a process comes to the stack limit after
+/// a state, that is noted.
 ///
-/// `Err` comes where memory runs out, where there would be more than [`MOST_STEPS`](crate::MOST_STEPS) steps, and where the machine answers so.
+/// `Err` comes where memory runs out, and where the machine answers so.
 pub fn explore<W: Walker>(
     alloc: Global,
     walker: &mut W,
@@ -138,11 +150,14 @@ pub fn explore<W: Walker>(
     most: u32,
 ) -> Result<Found, AllocError>
     requires codes { W.code second.old ≡ W.code walker.old }
+    requires known { W.Known (W.code walker.old) }
     requires some { 1 ≤ most }
+    requires few { most ≤ MOST_KEPT }
     ensures code { W.code walker.new ≡ W.code walker.old }
     ensures searched { IfOk result (IsSearched (W.code walker.old) most) }
     ensures kept { IfOk result (λ found. IsTree (W.code walker.old) (W.Local (W.code walker.old)) found × (1 ≤ length found.states.items)) }
     ensures noted { IfOk result (AreNoted (W.code walker.old)) }
+    ensures closed { IfOk result (λ found. found.cut ≡ false → IsClosed (W.code walker.old) (W.Local (W.code walker.old)) found) }
     ensures all { IfOk result (λ found. LocalsPass (W.code walker.old) (W.Local (W.code walker.old)) → found.cut ≡ false → AreAll (W.code walker.old) found) }
 {
     let mut found = Found {

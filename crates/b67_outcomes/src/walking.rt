@@ -1,7 +1,8 @@
 // From a state that is kept back to its schedule, and from there to its image.
-ghost use Rattle.std.specs.Prelude.{◌≡◌, ◌-◌, ◌<◌, ◌≤◌, ◌++◌, ℕ, List, drop, get_or, length, replicate, IfOk, All, Some, slice_get};
+ghost use Rattle.std.specs.Prelude.{◌≡◌, ◌+◌, ◌-◌, ◌<◌, ◌≤◌, ◌++◌, ℕ, List, drop, get_or, length, replicate, IfOk, All, Some, slice_get};
 ghost use Rattle.b67_table.specs.Image.{Image};
-ghost use Rattle.b67_outcomes.specs.Entering.{IsProcessNumber, HistoryLeadsTo, HistoryLeads};
+ghost use Rattle.b67_outcomes.specs.declared.found.TheConstants.{MOST_ENTRIES};
+ghost use Rattle.b67_outcomes.specs.Entering.{HasRoom, IsProcessNumber, HistoryLeadsTo, HistoryLeads};
 ghost use Rattle.b67_outcomes.specs.Finding.{History, IsAfter, NumberIsAt, IsLed};
 
 use crate::{Step, Walker};
@@ -52,9 +53,12 @@ fn times(history: &[u32], left: usize) -> usize
 
 /// Performs a history from the beginning, the entries of one process that follow one another at once.
 pub fn perform<W: Walker>(walker: &mut W, history: &[u32]) -> Result<(), AllocError>
+    requires known { W.Known (W.code walker.old) }
     requires leads { HistoryLeads (W.code walker.old) history.now }
+    requires short { length history.now ≤ MOST_ENTRIES }
     ensures code { W.code walker.new ≡ W.code walker.old }
     ensures led { IfOk result (λ u. HistoryLeadsTo (W.code walker.old) history.now (W.image walker.new)) }
+    ensures room { IfOk result (λ u. HasRoom (W.Room walker.new) (length history.now)) }
     ensures numbers { IfOk result (λ u. All IsProcessNumber history.now) }
 {
     walker.restart()?;
@@ -74,9 +78,12 @@ pub fn walk<W: Walker>(
     steps: &[Step],
     number: u32,
 ) -> Result<(), AllocError>
+    requires known { W.Known (W.code walker.old) }
     requires led { IsLed (W.code walker.old) steps.now number }
+    requires short { number ≤ MOST_ENTRIES }
     ensures code { W.code walker.new ≡ W.code walker.old }
     ensures at { IfOk result (λ u. NumberIsAt (W.code walker.old) steps.now number (W.image walker.new)) }
+    ensures room { IfOk result (λ u. HasRoom (W.Room walker.new) number) }
 {
     let history = history_of(alloc, steps, number)?;
     perform(walker, history.as_slice())
@@ -90,9 +97,12 @@ pub fn walk_on<W: Walker>(
     number: u32,
     path: &[u32],
 ) -> Result<(), AllocError>
+    requires known { W.Known (W.code walker.old) }
     requires leads { (img : Image) × IsAfter (W.code walker.old) steps.now number path.now img }
+    requires short { number + length path.now ≤ MOST_ENTRIES }
     ensures code { W.code walker.new ≡ W.code walker.old }
     ensures after { IfOk result (λ u. IsAfter (W.code walker.old) steps.now number path.now (W.image walker.new)) }
+    ensures room { IfOk result (λ u. HasRoom (W.Room walker.new) (number + length path.now)) }
 {
     walk(alloc, walker, steps, number)?;
     let mut done = 0;

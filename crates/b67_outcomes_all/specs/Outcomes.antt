@@ -1,5 +1,5 @@
 -- Everything that a source can print: its outcomes, each with a schedule, and when they are all.
-use Rattle.std.specs.Prelude.{◌≡◌, ◌⊎◌, ℕ, ◌+◌, ◌<◌, ◌≤◌, Bool, true, false, List, [], ◌∷◌, ◌++◌, length, reverse, All, Contains, Some}
+use Rattle.std.specs.Prelude.{◌≡◌, ◌⊎◌, ℕ, ◌+◌, ◌<◌, ◌≤◌, Bool, true, false, List, [], ◌∷◌, ◌++◌, length, reverse, All, Contains, Some, slice_get}
 use Rattle.b67_limits.specs.declared.TheConstants.{MOST_BUDGET}
 use Rattle.b67_list.specs.Numbered.{numbered}
 use Rattle.algol_tree.specs.Plain.{PProgram}
@@ -11,6 +11,7 @@ use Rattle.b67_table.specs.Ending.{may_act}
 use Rattle.b67_table.specs.Table.{length_in}
 use Rattle.b67_table.specs.Runs.{TableRun}
 use Rattle.b67_schedule.specs.declared.reading.Given.{Given}
+use Rattle.b67_schedule.specs.Giving.{given_entries}
 use Rattle.b67_report.specs.declared.Report.{Report}
 use Rattle.b67_report.specs.declared.EndWords.{EndWords}
 use Rattle.b67_report.specs.declared.EndWords.TheVariants as ends
@@ -25,9 +26,9 @@ use Rattle.b67_outcomes.specs.declared.found.Found.{Found}
 use Rattle.b67_settling.specs.Local.{IsLocal}
 use Rattle.b67_outcomes.specs.Entering.{Stops}
 use Rattle.b67_outcomes.specs.Finding.{AreAll}
-use Rattle.b67_outcomes.specs.Kept.{AreKept}
+use Rattle.b67_outcomes.specs.Kept.{AreKept, AreClosed}
 use Rattle.b67_teller.specs.Following.{IsOutcomeEnd, EndsAs, StopsAs}
-use Rattle.b67_teller.specs.Books.{AreTold, IsTooLong}
+use Rattle.b67_teller.specs.Books.{GoesAfter, AreTold, IsTooLong}
 
 -- ---- one outcome
 
@@ -103,12 +104,23 @@ pub record Telling : Type 0 where
   pub states : ℕ
   pub cut : Bool
 
--- with another outcome the text would be too long
-pub record IsFull (tree : PProgram) (told : List Told) : Type 0 where
+-- with the other outcome of the schedule the text would be too long
+pub record IsFull (tree : PProgram) (told : List Told) (schedule : List ℕ) : Type 0 where
   pub item : Told
+  pub schedule_is : given_entries item.schedule ≡ schedule
   pub confirmed : Confirms tree item.schedule item.outcome
   pub other : OutcomeIsTold told item.outcome → ⊥
   pub long : MOST_TEXT_BYTES < length (told_texts told) + length (told_text item)
+
+-- An outcome of one of these histories, or of a process that comes to the stack limit after one, is left out: it is not told, and its schedule is too
+-- long for a replay, or the text would be too long with it.
+pub record OneIsLeftOut (tree : PProgram) (code : Code) (histories : List (List ℕ)) (told : List Told) : Type 0 where
+  pub place : ℕ
+  pub history : List ℕ
+  pub there : slice_get histories place ≡ Some history
+  pub schedule : List ℕ
+  pub after : GoesAfter history schedule
+  pub left : IsTooLong code told schedule ⊎ IsFull tree told schedule
 
 -- what comes of a history, its last entry first, is told: the outcome of its image, where that has an end, and that of each stack limit to which a process
 -- comes after it
@@ -117,9 +129,9 @@ pub record IsHistoryTold (code : Code) (told : List Told) (history : List ℕ) :
   pub stopped : (p : ℕ) (o : Outcome) → StopsAs code (reverse (p ∷ history)) o → OutcomeIsTold told o
 
 -- These are outcomes of the source, each confirmed by a replay; they differ; their text is not too long. As many states were kept as is said, and at most
--- so many: each has a history, and no two have the same; and what comes of each is told, unless an outcome was left out. Where nothing was cut these
--- are all outcomes. Where something was, the most states were kept, or an outcome was left out: its schedule is too long for a replay, or the text would
--- be too long with it.
+-- so many: each has a history, and no two have the same. Each entry after one of them leads to where entries that can be performed at once lead to the
+-- image of one again, unless the most states were kept and that is said. What comes of each is told, unless an outcome of one was left out. Where
+-- nothing was cut these are all outcomes. Where something was, the most states were kept, or an outcome of one was left out.
 pub record AreOutcomes (tree : PProgram) (most : ℕ) (t : Telling) : Type 0 where
   pub code : Code
   pub faithful : Faithful tree code
@@ -130,9 +142,10 @@ pub record AreOutcomes (tree : PProgram) (most : ℕ) (t : Telling) : Type 0 whe
   pub kept : AreKept code (IsLocal code) histories
   pub states : t.states ≡ length histories
   pub few : t.states ≤ most
-  pub told : All (IsHistoryTold code t.told) histories ⊎ IsTooLong code t.told ⊎ IsFull tree t.told
+  pub closed : ((t.cut ≡ true) × (t.states ≡ most)) ⊎ AreClosed code (IsLocal code) histories
+  pub told : All (IsHistoryTold code t.told) histories ⊎ OneIsLeftOut tree code histories t.told
   pub all : t.cut ≡ false → AreAllOutcomes tree code (outcomes_in t.told)
-  pub cause : t.cut ≡ true → (t.states ≡ most) ⊎ IsTooLong code t.told ⊎ IsFull tree t.told
+  pub cause : t.cut ≡ true → (t.states ≡ most) ⊎ OneIsLeftOut tree code histories t.told
 
 -- the text that tells outcomes of the source, and whether some may be missing
 pub record TellsOutcomes (tree : PProgram) (most : ℕ) (text : List ℕ) (cut : Bool) : Type 0 where

@@ -1,5 +1,5 @@
 -- What is told stays told, and each outcome once.
-use Rattle.std.proofs.Common.{◌≡◌, refl, sym, ap, subst, ◌∙◌, ℕ, zero, suc, ◌+◌, ◌<◌, ◌≤◌, false, true≢false, List, [], ◌∷◌, ◌++◌, length, append_assoc, append-nil, Contains, Some, arith, inl, inr}
+use Rattle.std.proofs.Common.{◌≡◌, refl, sym, ap, subst, ◌∙◌, ℕ, zero, suc, ◌+◌, ◌<◌, ◌≤◌, false, true≢false, List, [], ◌∷◌, ◌++◌, length, reverse, append_assoc, append-nil, Contains, Some, arith, inl, inr}
 use Rattle.std.specs.Prelude.{◌⊎◌, slice_get}
 use Rattle.std.specs.List.{All}
 use Rattle.std.proofs.lemmas.Bool.{cases_lt}
@@ -9,6 +9,7 @@ use Rattle.std.proofs.lemmas.List.Elements.{All-push, Contains-append_left, Cont
 use Rattle.std.proofs.lemmas.Option.{same_Some, none-some, slice_get_within}
 use Rattle.b67_segment.specs.declared.code.Code.{Code}
 use Rattle.b67_schedule.specs.declared.reading.Given.{Given}
+use Rattle.b67_schedule.specs.Giving.{given_entries}
 use Rattle.b67_told.specs.declared.TheConstants.{MOST_TEXT_BYTES}
 use Rattle.b67_told.specs.declared.Outcome.{Outcome}
 use Rattle.b67_told.specs.declared.Told.{Told}
@@ -17,9 +18,10 @@ use Rattle.b67_told.specs.Texts.{told_text, told_texts}
 use Rattle.b67_outcomes.specs.declared.found.State.{State}
 use Rattle.b67_outcomes.specs.declared.found.Limit.{Limit}
 use Rattle.b67_outcomes.specs.declared.found.Found.{Found}
+use Rattle.b67_outcomes.specs.Finding.{History, IsState}
 use Rattle.b67_teller.specs.declared.book.Book.{Book}
 use Rattle.b67_teller.specs.Following.{IsLong}
-use Rattle.b67_teller.specs.Books.{IsConfirmed, IsTooLong, IsFull, IsBook, HasOther, BookGrows, IsAdded, IsStateTold, IsLimitTold, AreLimitsTold}
+use Rattle.b67_teller.specs.Books.{IsScheduleOf, IsConfirmed, IsLeftOut, IsBook, HasCause, HasOther, BookGrows, IsAdded, IsHistoryWith, IsStateTold, IsLimitTold, AreLimitsTold}
 
 -- ---- what was told
 
@@ -96,43 +98,44 @@ contained (z ∷ told) (suc k) y e = let c = contained told k y e in (suc c.0, l
 -- ---- one more outcome
 
 module _ (E : Code → Given → Outcome → Type 0) (code : Code) where
-  pub book_begun : (b : Book) → b.told.items ≡ [] → b.text.items ≡ [] → b.cut ≡ false → IsBook E code b
-  book_begun b told text cut =
+  pub book_begun : (b : Book) → b.told.items ≡ [] → b.text.items ≡ [] → IsBook E code b
+  book_begun b told text =
       record {
         confirmed = subst (λ (z : List Told). All (IsConfirmed E code) z) (sym told) (λ k d below. absurd (omega (arith, below)));
         different = λ j k x y less at e. absurd (none-some x (sym (ap (λ (z : List Told). slice_get z j) told) ∙ at));
         text = text ∙ sym (ap told_texts told);
         short = let none = ap (λ (z : List ℕ). length z) text in omega (arith, none);
-        cause = λ e. absurd (true≢false (sym e ∙ cut));
       }
 
-  -- one that is left out
-  pub book_cut : (old new : Book) → IsBook E code old → new.told.items ≡ old.told.items → new.text.items ≡ old.text.items
-      → IsTooLong code old.told.items ⊎ IsFull E code old.told.items → IsBook E code new
-  book_cut old new b told text cause =
+  pub none_left : (found : Found) (b : Book) → b.cut ≡ false → HasCause E code found b
+  none_left found b cut = λ e. absurd (true≢false (sym e ∙ cut))
+
+  -- where one is left out, the others are told as they were
+  pub book_same : (old new : Book) → IsBook E code old → new.told.items ≡ old.told.items → new.text.items ≡ old.text.items → IsBook E code new
+  book_same old new b told text =
       record {
         confirmed = subst (λ (z : List Told). All (IsConfirmed E code) z) (sym told) b.confirmed;
         different = subst (λ (z : List Told). AreDifferent z) (sym told) b.different;
         text = text ∙ b.text ∙ sym (ap told_texts told);
         short = let same = ap (λ (z : List ℕ). length z) text in let short = b.short in omega (arith, same, short);
-        cause = λ e. subst (λ (z : List Told). IsTooLong code z ⊎ IsFull E code z) (sym told) cause;
       }
 
-  pub left_out : (old new : Book) (x : Told) → IsBook E code old → IsConfirmed E code x → (OutcomeIsTold old.told.items x.outcome → ⊥)
-      → IsAdded old.told.items old.text.items x new.told.items new.text.items false → IsBook E code new
-  left_out old new x b confirmed other a =
+  -- it is left out since the text would be too long with it
+  pub full_out : (old : Book) (told : List Told) (text : List ℕ) (x : Told) → IsBook E code old → IsConfirmed E code x → (OutcomeIsTold old.told.items x.outcome → ⊥)
+      → IsAdded old.told.items old.text.items x told text false → IsLeftOut E code told (given_entries x.schedule)
+  full_out old told text x b confirmed other a =
       let long = a.2 in
       let same = ap (λ (z : List ℕ). length z) b.text in
-      book_cut old new b a.0 a.1 (inr (record { item = x; confirmed = confirmed; other = other; long = omega (arith, long, same) }))
+      subst (λ (z : List Told). IsLeftOut E code z (given_entries x.schedule)) (sym a.0)
+      (inr (record { item = x; schedule_is = refl; confirmed = confirmed; other = other; long = omega (arith, long, same) }))
 
-  pub book_spent : (old new : Book) (schedule : List ℕ) → IsBook E code old → new.told.items ≡ old.told.items → new.text.items ≡ old.text.items
-      → HasOther code schedule old.told.items → IsLong code schedule → IsBook E code new
-  book_spent old new schedule b told text h long =
-      book_cut old new b told text (inl (record { schedule = schedule; outcome = h.outcome; has = h.has; other = h.other; long = long }))
+  -- or since its schedule is too long
+  pub long_out : (told : List Told) (schedule : List ℕ) → HasOther code schedule told → IsLong code schedule → IsLeftOut E code told schedule
+  long_out told schedule h long = inl (record { outcome = h.outcome; has = h.has; other = h.other; long = long })
 
   pub book_added : (old new : Book) (x : Told) → IsBook E code old → new.told.items ≡ old.told.items ++ x ∷ [] → new.text.items ≡ old.text.items ++ told_text x
-      → length new.text.items ≤ MOST_TEXT_BYTES → new.cut ≡ false → IsConfirmed E code x → (OutcomeIsTold old.told.items x.outcome → ⊥) → IsBook E code new
-  book_added old new x b told text short cut confirmed other =
+      → length new.text.items ≤ MOST_TEXT_BYTES → IsConfirmed E code x → (OutcomeIsTold old.told.items x.outcome → ⊥) → IsBook E code new
+  book_added old new x b told text short confirmed other =
       record {
         confirmed = subst (λ (z : List Told). All (IsConfirmed E code) z) (sym told) (All-push (IsConfirmed E code) old.told.items x b.confirmed confirmed);
         different = λ j k y z less at e.
@@ -142,7 +145,6 @@ module _ (E : Code → Given → Outcome → Type 0) (code : Code) where
             text ∙ ap (λ (z : List ℕ). z ++ told_text x) b.text ∙ ap (λ (z : List ℕ). told_texts old.told.items ++ z) (sym (append-nil (told_text x)))
             ∙ sym (flat_map-append (λ (y : Told). told_text y) old.told.items (x ∷ [])) ∙ sym (ap told_texts told);
         short = short;
-        cause = λ e. absurd (true≢false (sym e ∙ cut));
       }
     where
       differ : (j k : ℕ) (y z : Told) → j < k → (slice_get old.told.items j ≡ Some y) ⊎ ((j ≡ length old.told.items) × (x ≡ y))
@@ -152,6 +154,34 @@ module _ (E : Code → Given → Outcome → Type 0) (code : Code) where
       differ j k y z less (inr f) (inr g) = let at = f.0 in let also = g.0 in absurd (omega (arith, less, at, also))
       differ j k y z less (inl f) (inr g) = λ same.
           other (subst (λ (o : Outcome). OutcomeIsTold old.told.items o) (same ∙ sym (ap (λ (w : Told). w.outcome) g.1)) (contained old.told.items j y f))
+
+-- ---- where a schedule is of
+
+-- that of a state
+pub state_schedule : (found : Found) (number : ℕ) (h schedule : List ℕ) → IsState found.states.items number → History found.steps.items number h
+    → schedule ≡ reverse h → IsScheduleOf found schedule
+state_schedule found number h schedule x is e =
+    record {
+      place = x.0;
+      state = x.1;
+      there = x.2;
+      history = h;
+      is = subst (λ (n : ℕ). History found.steps.items n h) (sym x.3) is;
+      after = inl e;
+    }
+
+-- that of a stack limit after one
+pub limit_schedule : (found : Found) (l : Limit) (h schedule : List ℕ) → IsState found.states.items l.state → IsHistoryWith found.steps.items l h
+    → schedule ≡ reverse h → IsScheduleOf found schedule
+limit_schedule found l h schedule x with e =
+    record {
+      place = x.0;
+      state = x.1;
+      there = x.2;
+      history = with.0;
+      is = subst (λ (n : ℕ). History found.steps.items n with.0) (sym x.3) with.1;
+      after = inr (l.process, e ∙ ap reverse with.2);
+    }
 
 -- the one that was added is told
 pub now_told : (told new : List Told) (x : Told) → new ≡ told ++ x ∷ [] → OutcomeIsTold new x.outcome

@@ -1,5 +1,5 @@
 -- From one history of a state to all that is told of it.
-use Rattle.std.proofs.Common.{◌≡◌, refl, sym, ap, ap₂, subst, ◌∙◌, ℕ, suc, ◌-◌, ◌<◌, ◌≤◌, true, List, ◌∷◌, length, reverse, Option, Some, None, Result, Ok, Err, arith, inl, inr}
+use Rattle.std.proofs.Common.{◌≡◌, refl, sym, ap, ap₂, subst, ◌∙◌, ℕ, suc, ◌-◌, ◌≤◌, true, List, ◌∷◌, length, reverse, Option, Some, None, Result, Ok, Err, arith, inl, inr}
 use Rattle.std.specs.Prelude.{IfOk, slice_get}
 use Rattle.std.proofs.lemmas.Option.{same_Some, none-some, slice_get_within}
 use Rattle.b67_list.specs.Numbered.{numbered}
@@ -14,6 +14,7 @@ use Rattle.b67_report.specs.declared.EndWords.TheVariants as ends
 use Rattle.b67_told.specs.declared.Outcome.{Outcome}
 use Rattle.b67_told.specs.declared.Told.{Told}
 use Rattle.b67_told.specs.Telling.{OutcomeIsTold}
+use Rattle.b67_outcomes.specs.declared.found.TheConstants.{MOST_STEPS}
 use Rattle.b67_outcomes.specs.declared.found.Step.{Step}
 use Rattle.b67_outcomes.specs.declared.found.Limit.{Limit}
 use Rattle.b67_outcomes.specs.declared.found.Found.{Found}
@@ -139,14 +140,23 @@ limit_may code steps l h here s is leads =
     subst (λ (x : Image). may_act x l.process ≡ true)
     (led_one code h s.image here (subst (λ (z : List ℕ). HistoryLeadsTo code z s.image) (history_one steps l.state s.history h s.is is) s.leads) leads) s.may
 
-pub short_with : (steps : List Step) (l : Limit) (history : List ℕ) → IsHistoryWith steps l history → length steps < most_in_schedule → length history ≤ most_in_schedule
+-- and comes to it there
+pub limit_stops : (code : Code) (steps : List Step) (l : Limit) (h : List ℕ) (here : Image) → IsStop code steps l → History steps l.state h
+    → HistoryLeadsTo code h here → (quiet : Image) × Stops code l.process here quiet
+limit_stops code steps l h here s is leads = (
+  s.quiet,
+  subst (λ (x : Image). Stops code l.process x s.quiet)
+      (led_one code h s.image here (subst (λ (z : List ℕ). HistoryLeadsTo code z s.image) (history_one steps l.state s.history h s.is is) s.leads) leads) s.stops,
+)
+
+pub short_with : (steps : List Step) (l : Limit) (history : List ℕ) → IsHistoryWith steps l history → length steps ≤ MOST_STEPS → length history ≤ most_in_schedule
 short_with steps l history is few =
     let short = history_short steps l.state is.0 is.1 in
     let within = history_within steps l.state is.0 is.1 in
     let size = ap (λ (z : List ℕ). length z) is.2 in
     omega (arith, short, within, size, few)
 
-pub short_of : (steps : List Step) (number : ℕ) (history : List ℕ) → History steps number history → length steps < most_in_schedule → length history ≤ most_in_schedule
+pub short_of : (steps : List Step) (number : ℕ) (history : List ℕ) → History steps number history → length steps ≤ MOST_STEPS → length history ≤ most_in_schedule
 short_of steps number history is few =
     let short = history_short steps number history is in
     let within = history_within steps number history is in

@@ -1,9 +1,10 @@
 -- What is told of what a search has found.
-use Rattle.std.specs.Prelude.{◌≡◌, ◌⊎◌, ℕ, ◌+◌, ◌<◌, ◌≤◌, Bool, true, false, List, [], ◌∷◌, ◌++◌, length, All, Option, Some, None, slice_get}
+use Rattle.std.specs.Prelude.{◌≡◌, ◌⊎◌, ℕ, ◌+◌, ◌<◌, ◌≤◌, Bool, true, false, List, [], ◌∷◌, ◌++◌, length, reverse, All, Option, Some, None, slice_get}
 use Rattle.b67_segment.specs.declared.code.Code.{Code}
 use Rattle.b67_table.specs.Image.{Image}
 use Rattle.b67_table.specs.Ending.{ImageEnd, image_end}
 use Rattle.b67_schedule.specs.declared.reading.Given.{Given}
+use Rattle.b67_schedule.specs.Giving.{given_entries}
 use Rattle.b67_report.specs.declared.EndWords.{EndWords}
 use Rattle.b67_told.specs.declared.TheConstants.{MOST_TEXT_BYTES}
 use Rattle.b67_told.specs.declared.Outcome.{Outcome}
@@ -19,11 +20,25 @@ use Rattle.b67_outcomes.specs.Finding.{History}
 use Rattle.b67_teller.specs.declared.book.Book.{Book}
 use Rattle.b67_teller.specs.Following.{IsLong, HasOutcome, IsOutcomeEnd, ended_outcome, stopped_outcome}
 
+-- ---- schedules
+
+-- the schedule is that of a history, its last entry first, or has one entry more
+abbrev pub GoesAfter : List ℕ → List ℕ → Type 0
+GoesAfter history schedule = (schedule ≡ reverse history) ⊎ ((p : ℕ) × (schedule ≡ reverse (p ∷ history)))
+
+-- it is that of a state, or of a process that comes to the stack limit after one
+pub record IsScheduleOf (found : Found) (schedule : List ℕ) : Type 0 where
+  pub place : ℕ
+  pub state : State
+  pub there : slice_get found.states.items place ≡ Some state
+  pub history : List ℕ
+  pub is : History found.steps.items state.number history
+  pub after : GoesAfter history schedule
+
 -- ---- what is told
 
--- a schedule with another outcome has too many operators for a replay
-pub record IsTooLong (code : Code) (told : List Told) : Type 0 where
-  pub schedule : List ℕ
+-- the schedule with another outcome has too many operators for a replay
+pub record IsTooLong (code : Code) (told : List Told) (schedule : List ℕ) : Type 0 where
   pub outcome : Outcome
   pub has : HasOutcome code schedule outcome
   pub other : OutcomeIsTold told outcome → ⊥
@@ -35,21 +50,34 @@ module _ (Explained : Code → Given → Outcome → Type 0) (code : Code) where
     pub explained : Explained code x.schedule x.outcome
     pub own : IsOutcomeEnd x.outcome.end
 
-  -- with another outcome the text would be too long
-  pub record IsFull (told : List Told) : Type 0 where
+  -- with the other outcome of the schedule the text would be too long
+  pub record IsFull (told : List Told) (schedule : List ℕ) : Type 0 where
     pub item : Told
+    pub schedule_is : given_entries item.schedule ≡ schedule
     pub confirmed : IsConfirmed item
     pub other : OutcomeIsTold told item.outcome → ⊥
     pub long : MOST_TEXT_BYTES < length (told_texts told) + length (told_text item)
 
-  -- Each outcome is confirmed, and told once; the text is theirs, and not too long. Where one was left out, its schedule is too long for a
-  -- replay, or the text would be too long with it.
+  -- the outcome of the schedule is left out: it is not told, and the schedule is too long for a replay, or the text would be too long with it
+  abbrev pub IsLeftOut : List Told → List ℕ → Type 0
+  IsLeftOut told schedule = IsTooLong code told schedule ⊎ IsFull told schedule
+
+  -- Each outcome is confirmed, and told once; the text is theirs, and not too long.
   pub record IsBook (book : Book) : Type 0 where
     pub confirmed : All IsConfirmed book.told.items
     pub different : AreDifferent book.told.items
     pub text : book.text.items ≡ told_texts book.told.items
     pub short : length book.text.items ≤ MOST_TEXT_BYTES
-    pub cause : book.cut ≡ true → IsTooLong code book.told.items ⊎ IsFull book.told.items
+
+  -- an outcome of what the search has found is left out
+  pub record LeavesOut (found : Found) (told : List Told) : Type 0 where
+    pub schedule : List ℕ
+    pub of_found : IsScheduleOf found schedule
+    pub left : IsLeftOut told schedule
+
+  -- so it is where an outcome was left out
+  abbrev pub HasCause : Found → Book → Type 0
+  HasCause found book = book.cut ≡ true → LeavesOut found book.told.items
 
 -- what was told is so still, and what was cut is
 pub record BookGrows (old new : Book) : Type 0 where

@@ -4,7 +4,7 @@ ghost use Rattle.b67_schedule.specs.Giving.{HasRuns, given_entries};
 ghost use Rattle.b67_told.specs.declared.Outcome.{Outcome as TheOutcome};
 ghost use Rattle.b67_told.specs.Telling.{IsOfOne, OutcomeIsTold};
 ghost use Rattle.b67_teller.specs.Following.{HasOutcome};
-ghost use Rattle.b67_teller.specs.Books.{IsBook, BookGrows, HasOther, IsAdded};
+ghost use Rattle.b67_teller.specs.Books.{IsBook, BookGrows, HasOther, IsAdded, IsLeftOut};
 
 use crate::Teller;
 use b67_report::EndWords;
@@ -55,6 +55,7 @@ pub fn note<T: Teller>(
     ensures code { T.code teller.new ≡ T.code teller.old }
     ensures grows { IfOk result (λ u. BookGrows book.old book.new) }
     ensures book { IfOk result (λ u. IsBook T.Explained (T.code teller.old) book.new) }
+    ensures cause { IfOk result (λ u. book.new.cut ≡ true → IsLeftOut T.Explained (T.code teller.old) book.new.told.items (given_entries given)) }
     ensures told { IfOk result (λ u. book.new.cut ≡ false → (o : TheOutcome) → HasOutcome (T.code teller.old) (given_entries given) o → OutcomeIsTold book.new.told.items o) }
 {
     let outcome = teller.replay(alloc, &given)?;

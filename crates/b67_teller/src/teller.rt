@@ -8,7 +8,7 @@ use std::alloc::{AllocError, Global};
 
 /// A machine that performs entries, tells what was printed and how its run ended, and follows a schedule as a replay does.
 pub trait Teller: Walker {
-    ghost use Rattle.std.specs.Prelude.{◌≡◌, true, IfOk};
+    ghost use Rattle.std.specs.Prelude.{◌≡◌, ℕ, suc, true, IfOk};
     ghost use Rattle.b67_list.specs.Numbered.{numbered};
     ghost use Rattle.b67_segment.specs.declared.code.Code.{Code};
     ghost use Rattle.b67_table.specs.Image.{Image};
@@ -20,9 +20,6 @@ pub trait Teller: Walker {
     ghost use Rattle.b67_told.specs.Telling.{IsOfOne};
     ghost use Rattle.b67_outcomes.specs.Entering.{IsProcessNumber, IsReached, Stops};
     ghost use Rattle.b67_teller.specs.Following.{Followed, end_words_in};
-
-    /// What is known of the code.
-    ghost Known: { Code → Type 0 };
 
     /// What a replay of a schedule says of its outcome.
     ghost Explained: { Code → TheGiven → TheOutcome → Type 0 };
@@ -40,6 +37,9 @@ pub trait Teller: Walker {
     fn stop(&mut self, process: u32) -> Result<u32, AllocError>
         requires may { may_act (Self.image self.old) process ≡ true }
         requires reached { IsReached (Self.code self.old) (Self.image self.old) }
+        requires known { Self.Known (Self.code self.old) }
+        requires stops { (quiet : Image) × Stops (Self.code self.old) process (Self.image self.old) quiet }
+        requires room { (k : ℕ) × Self.Room self.old (suc k) }
         ensures code { Self.code self.new ≡ Self.code self.old }
         ensures number { IsProcessNumber process }
         ensures words { IfOk result (λ words. (quiet : Image) → Stops (Self.code self.old) process (Self.image self.old) quiet → words ≡ length_in (numbered quiet.regs process)) };

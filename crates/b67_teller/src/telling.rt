@@ -1,13 +1,13 @@
 //! The outcomes of states and of stack limits.
 ghost use Rattle.std.specs.Prelude.{◌≡◌, ◌<◌, ◌≤◌, ◌∷◌, ℕ, true, false, length, slice_get, All, IfOk, Some};
 ghost use Rattle.b67_list.specs.Numbered.{numbered};
-ghost use Rattle.b67_schedule.specs.Schedules.{most_in_schedule};
 ghost use Rattle.b67_table.specs.Image.{Image};
 ghost use Rattle.b67_table.specs.Ending.{may_act};
 ghost use Rattle.b67_table.specs.Table.{length_in};
+ghost use Rattle.b67_outcomes.specs.declared.found.TheConstants.{MOST_ENTRIES, MOST_STEPS};
 ghost use Rattle.b67_outcomes.specs.Entering.{IsProcessNumber, HistoryLeads, HistoryLeadsTo, Stops};
-ghost use Rattle.b67_outcomes.specs.Finding.{AreLed, AreStates, AreStops, IsStop};
-ghost use Rattle.b67_teller.specs.Books.{IsBook, BookGrows, IsStateTold, IsLimitTold, AreLimitsTold, IsSettled, IsOpen, AreTold};
+ghost use Rattle.b67_outcomes.specs.Finding.{AreAfterStates, AreLed, AreStates, AreStops, IsState, IsStop};
+ghost use Rattle.b67_teller.specs.Books.{IsBook, BookGrows, HasCause, IsStateTold, IsLimitTold, AreLimitsTold, IsSettled, IsOpen, AreTold};
 
 use crate::Teller;
 use crate::book::{Book, note};
@@ -59,12 +59,15 @@ fn tell_state<T: Teller>(
 ) -> Result<(), AllocError>
     requires known { T.Known (T.code teller.old) }
     requires led { AreLed (T.code teller.old) found.now.steps.items }
-    requires few { length found.now.steps.items < most_in_schedule }
+    requires few { length found.now.steps.items ≤ MOST_STEPS }
     requires there { number ≤ length found.now.steps.items }
+    requires state { IsState found.now.states.items number }
     requires book { IsBook T.Explained (T.code teller.old) book.old }
+    requires cause { HasCause T.Explained (T.code teller.old) found.now book.old }
     ensures code { T.code teller.new ≡ T.code teller.old }
     ensures grows { IfOk result (λ u. BookGrows book.old book.new) }
     ensures book { IfOk result (λ u. IsBook T.Explained (T.code teller.old) book.new) }
+    ensures cause { IfOk result (λ u. HasCause T.Explained (T.code teller.old) found.now book.new) }
     ensures told { IfOk result (λ u. book.new.cut ≡ false → IsStateTold (T.code teller.old) found.now book.new.told.items number) }
 {
     if book.cut {
@@ -89,8 +92,11 @@ fn tell_state<T: Teller>(
 
 // How many words the stack of the process has where it comes to the stack limit after these entries. The machine stands after them again.
 fn words_at<T: Teller>(teller: &mut T, history: &[u32], process: u32) -> Result<u32, AllocError>
+    requires known { T.Known (T.code teller.old) }
     requires leads { HistoryLeads (T.code teller.old) history.now }
+    requires short { length history.now < MOST_ENTRIES }
     requires may { (img : Image) → HistoryLeadsTo (T.code teller.old) history.now img → may_act img process ≡ true }
+    requires stops { (img : Image) → HistoryLeadsTo (T.code teller.old) history.now img → (quiet : Image) × Stops (T.code teller.old) process img quiet }
     ensures code { T.code teller.new ≡ T.code teller.old }
     ensures led { IfOk result (λ words. HistoryLeadsTo (T.code teller.old) history.now (T.image teller.new)) }
     ensures numbers { IfOk result (λ words. All IsProcessNumber history.now) }
@@ -126,11 +132,14 @@ fn tell_limit<T: Teller>(
 ) -> Result<(), AllocError>
     requires known { T.Known (T.code teller.old) }
     requires stop { IsStop (T.code teller.old) found.now.steps.items limit }
-    requires few { length found.now.steps.items < most_in_schedule }
+    requires state { IsState found.now.states.items limit.state }
+    requires cause { HasCause T.Explained (T.code teller.old) found.now book.old }
+    requires few { length found.now.steps.items ≤ MOST_STEPS }
     requires book { IsBook T.Explained (T.code teller.old) book.old }
     ensures code { T.code teller.new ≡ T.code teller.old }
     ensures grows { IfOk result (λ u. BookGrows book.old book.new) }
     ensures book { IfOk result (λ u. IsBook T.Explained (T.code teller.old) book.new) }
+    ensures cause { IfOk result (λ u. HasCause T.Explained (T.code teller.old) found.now book.new) }
     ensures told { IfOk result (λ u. book.new.cut ≡ false → IsLimitTold (T.code teller.old) found.now book.new.told.items limit) }
 {
     if book.cut {
@@ -165,7 +174,9 @@ fn tell_limits<T: Teller>(
 ) -> Result<(), AllocError>
     requires known { T.Known (T.code teller.old) }
     requires stops { AreStops (T.code teller.old) found.now.steps.items found.now.limits.items }
-    requires few { length found.now.steps.items < most_in_schedule }
+    requires after { AreAfterStates found.now.states.items found.now.limits.items }
+    requires cause { HasCause T.Explained (T.code teller.old) found.now book.old }
+    requires few { length found.now.steps.items ≤ MOST_STEPS }
     requires order { from ≤ to }
     requires within { to ≤ length found.now.limits.items }
     requires book { IsBook T.Explained (T.code teller.old) book.old }
@@ -173,6 +184,7 @@ fn tell_limits<T: Teller>(
     ensures code { T.code teller.new ≡ T.code teller.old }
     ensures grows { IfOk result (λ u. BookGrows book.old book.new) }
     ensures book { IfOk result (λ u. IsBook T.Explained (T.code teller.old) book.new) }
+    ensures cause { IfOk result (λ u. HasCause T.Explained (T.code teller.old) found.now book.new) }
     ensures told { IfOk result (λ u. book.new.cut ≡ false → AreLimitsTold (T.code teller.old) found.now book.new.told.items to) }
 {
     let mut at = from;
@@ -221,8 +233,10 @@ pub fn tell<T: Teller>(alloc: Global, teller: &mut T, found: &Found) -> Result<B
     requires led { AreLed (T.code teller.old) found.now.steps.items }
     requires states { AreStates found.now.steps.items found.now.states.items }
     requires stops { AreStops (T.code teller.old) found.now.steps.items found.now.limits.items }
-    requires few { length found.now.steps.items < most_in_schedule }
+    requires after { AreAfterStates found.now.states.items found.now.limits.items }
+    requires few { length found.now.steps.items ≤ MOST_STEPS }
     ensures book { IfOk result (IsBook T.Explained (T.code teller.old)) }
+    ensures cause { IfOk result (HasCause T.Explained (T.code teller.old) found.now) }
     ensures told { IfOk result (λ book. book.cut ≡ false → AreTold (T.code teller.old) found.now book.told.items) }
 {
     let mut book = Book {

@@ -1,11 +1,12 @@
-use Rattle.std.proofs.Common.{◌≡◌, ◌⊎◌, refl, sym, ap, subst, ◌∙◌, Bool, false, List, ◌∷◌, [], ◌++◌, ℕ, ◌+◌, arith}
+use Rattle.std.proofs.Common.{◌≡◌, ◌⊎◌, refl, sym, ap, subst, ◌∙◌, Bool, false, List, ◌∷◌, [], ◌++◌, length, ℕ, ◌+◌, arith}
 use Rattle.b67_segment.specs.declared.code.Code.{Code}
 use Rattle.b67_outcomes.specs.declared.found.Limit.{Limit}
-use Rattle.b67_outcomes.specs.Entering.{ProcessEnters}
+use Rattle.b67_outcomes.specs.Entering.{HasRoom, ProcessEnters}
 use Rattle.b67_outcomes.specs.Finding.{History, IsAfter, IsArrived, IsFollowed, IsSearched}
 use Rattle.b67_outcomes.specs.Kept.{IsSame, IsReady, IsHeld, IsTree}
 use Rattle.b67_outcomes.proofs.Histories.{after_more, after_none, at_history, ok_map, ok_both}
-use Rattle.b67_outcomes.proofs.Keeping.{noted_grows, noted_searched, noted_followed, followed_arrived}
+use Rattle.b67_outcomes.proofs.Rooms.{for_one, after_one}
+use Rattle.b67_outcomes.proofs.Keeping.{number_few, noted_grows, noted_searched, noted_followed, followed_arrived}
 use Rattle.b67_outcomes.proofs.Trees.{kept_same, kept_next}
 use Rattle.b67_outcomes.proofs.follow.find.Goals as goal
 
@@ -19,7 +20,7 @@ returns-then-not-entered-clause-searched g c =
     let l : Limit = record { state = c.args.number; process = c.args.process } in
     let here = c.requires.stands in
     noted_searched (g.W.Walker.code c.args.walker.now) c.args.most c.args.found.now _ l here.history (g.W.Walker.image c.args.walker.now)
-    (g.W.Walker.image c.enter.new.self) c.requires.searched refl refl c.in_ok-push.ensures.items refl here.is here.leads c.requires.may
+    (g.W.Walker.image c.enter.new.self) c.requires.searched refl refl c.in_ok-push.ensures.items refl c.requires.state here.is here.leads c.requires.may
     (subst (λ (b : Bool). ProcessEnters (g.W.Walker.code c.args.walker.now) c.args.process (g.W.Walker.image c.args.walker.now) b (g.W.Walker.image c.enter.new.self))
     c.if-not-entered.true c.in_ok-entered.ensures.entered)
 
@@ -35,7 +36,28 @@ returns-then-not-entered-clause-followed g c = λ history is.
 
 -- some run leads to where the machine stands
 pub enter-requires : goal.enter-requires
-enter-requires g c = record { may = c.requires.may; reached = (c.requires.stands.history, c.requires.stands.leads) }
+enter-requires g c =
+    record {
+      may = c.requires.may;
+      known = c.requires.known;
+      reached = (c.requires.stands.history, c.requires.stands.leads);
+      room =
+          let few = number_few (g.W.Walker.code c.args.walker.now) c.args.most c.args.number c.args.found.now c.requires.stands.history c.requires.searched c.requires.stands.is in
+          for_one (g.W.Walker.Room c.args.walker.now) c.args.number (omega (arith, few)) c.requires.room;
+    }
+
+pub arrive-requires-clause-room : goal.arrive-requires-clause-room
+arrive-requires-clause-room g c =
+    let few = number_few (g.W.Walker.code c.args.walker.now) c.args.most c.args.number c.args.found.now c.requires.stands.history c.requires.searched c.requires.stands.is in
+    let path : c.push-2.new.self.items ≡ c.args.process ∷ [] = c.in_ok-push-2.ensures.items ∙ ap (λ (z : List ℕ). z ++ c.args.process ∷ []) c.clear.ensures.items in
+    subst (λ (z : List ℕ). HasRoom (g.W.Walker.Room c.enter.new.self) (c.args.number + length z)) (sym path)
+    (after_one (g.W.Walker.Room c.args.walker.now) (g.W.Walker.Room c.enter.new.self) c.args.number (omega (arith, few)) c.requires.room
+    (c.in_ok-entered.ensures.room c.if-not-entered.false))
+
+pub arrive-requires-clause-short : goal.arrive-requires-clause-short
+arrive-requires-clause-short g c =
+    let path : c.push-2.new.self.items ≡ c.args.process ∷ [] = c.in_ok-push-2.ensures.items ∙ ap (λ (z : List ℕ). z ++ c.args.process ∷ []) c.clear.ensures.items in
+    omega (arith, ap (λ (z : List ℕ). length z) path)
 
 pub arrive-requires-clause-stands : goal.arrive-requires-clause-stands
 arrive-requires-clause-stands g c =

@@ -3,7 +3,7 @@ use Rattle.b67_segment.specs.declared.code.Code.{Code}
 use Rattle.b67_outcomes.specs.declared.found.Step.{Step}
 use Rattle.b67_outcomes.specs.Finding.{NumberIsAt, IsLed}
 use Rattle.b67_outcomes.proofs.Histories.{at_led, at_stays, at_history, ok_map}
-use Rattle.b67_outcomes.proofs.Keeping.{grown_none, followed_idle}
+use Rattle.b67_outcomes.proofs.Keeping.{number_few, grown_none, followed_idle}
 use Rattle.b67_outcomes.proofs.Trees.{kept_same}
 use Rattle.b67_outcomes.proofs.follow.follow.Goals as goal
 
@@ -28,10 +28,12 @@ walk-requires g c =
     let here = g.W.Walker.image c.args.walker.now in
     let grows = c.in_ok-find.ensures.grows in
     record {
+      known = subst (λ (k : Code). g.W.Walker.Known k) (sym c.find.ensures.code) c.requires.known;
       led = subst (λ (k : Code). IsLed k c.as_slice.result.now c.args.number) (sym c.find.ensures.code)
           (subst (λ (xs : List Step). IsLed code xs c.args.number) (sym c.as_slice.ensures.value)
           (at_led code c.find.new.found.steps.items c.args.number here
           (at_stays code c.args.found.now.steps.items grows.more c.find.new.found.steps.items c.args.number here grows.steps c.requires.stands)));
+      short = let few = number_few code c.args.most c.args.number c.args.found.now c.requires.stands.history c.requires.searched c.requires.stands.is in omega (arith, few);
     }
 
 pub returns-clause-stands : goal.returns-clause-stands

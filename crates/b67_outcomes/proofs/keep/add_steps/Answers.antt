@@ -7,7 +7,7 @@ use Rattle.b67_outcomes.proofs.Histories.{held_none, held_next}
 use Rattle.b67_outcomes.proofs.keep.add_steps.Goals as goal
 
 pub entries-init : goal.entries-init
-entries-init c = (omega arith, held_none c.args.steps.now.items c.args.number c.requires.short)
+entries-init c = (omega arith, held_none c.args.steps.now.items c.args.number)
 
 pub entries-preserved : goal.entries-preserved
 entries-preserved c =
@@ -17,8 +17,7 @@ entries-preserved c =
     let s : Step = record { before = c.entries.at; process = get_or path c.entries.done 0 } in
     let items = c.in_ok-push.ensures.items in
     let next =
-    held_next c.args.steps.now.items c.entries.steps.items c.push.new.self.items c.args.number c.entries.at (take c.entries.done path) s i.1 refl items
-    (omega (arith, c.if-len-ge-MOST_STEPS.false, c.len.ensures)) in
+    held_next c.args.steps.now.items c.entries.steps.items c.push.new.self.items c.args.number c.entries.at (take c.entries.done path) s i.1 refl items in
     let size : length c.push.new.self.items ≡ length c.entries.steps.items + 1 =
     ap (λ (z : List Step). length z) items ∙ length_push c.entries.steps.items s in
     let at : suc (length c.entries.steps.items) ≡ c.len-at.result = omega (arith, size, c.len-at.ensures) in

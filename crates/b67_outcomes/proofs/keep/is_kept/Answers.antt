@@ -11,6 +11,8 @@ walk-requires g c =
     let s : State = get_or c.args.states.now (c.older.at - 1) none in
     let there = slice_get-get_or c.args.states.now (c.older.at - 1) none (omega (arith, c.older-test.true, c.if-at-states.true)) in
     record {
+      known = subst (λ (k : Code). g.W.Walker.Known k) (sym (c.older.invariant ∙ c.requires.codes)) c.requires.known;
       led = subst (λ (k : Code). IsLed k c.args.steps.now s.number) (sym (c.older.invariant ∙ c.requires.codes))
           (c.requires.led s.number (c.requires.states (c.older.at - 1) s there));
+      short = let within = c.requires.states (c.older.at - 1) s there in omega (arith, within, c.requires.short);
     }

@@ -1,10 +1,11 @@
-use Rattle.std.proofs.Common.{◌⊎◌, sym, subst, ◌≤◌, [], length}
+use Rattle.std.proofs.Common.{◌⊎◌, sym, ap, subst, ℕ, ◌≤◌, List, [], length, arith}
 use Rattle.b67_segment.specs.declared.code.Code.{Code}
 use Rattle.b67_table.specs.Image.{Image}
 use Rattle.b67_outcomes.specs.Entering.{HistoryLeadsTo}
 use Rattle.b67_outcomes.specs.Finding.{first, IsSearched}
 use Rattle.b67_outcomes.specs.Kept.{IsSame, AreNotExpanded, IsHeld, IsTree}
 use Rattle.b67_outcomes.proofs.Histories.{led_none, after_none, ok_both}
+use Rattle.b67_outcomes.proofs.Rooms.{begun}
 use Rattle.b67_outcomes.proofs.Trees.{first_kept}
 use Rattle.b67_outcomes.proofs.search.begin.Goals as goal
 
@@ -14,6 +15,12 @@ arrive-requires-clause-stands g c =
     let here = g.W.Walker.image c.restart.new.self in
     after_none code c.args.found.now.steps.items 0 c.args.path.now.items here c.requires.empty
     (record { history = []; is = first; leads = subst (λ (x : Image). HistoryLeadsTo code [] x) (sym c.in_ok-restart.ensures.first) (led_none code) })
+
+pub arrive-requires-clause-room : goal.arrive-requires-clause-room
+arrive-requires-clause-room g c = begun (g.W.Walker.Room c.restart.new.self) _ c.in_ok-restart.ensures.room
+
+pub arrive-requires-clause-short : goal.arrive-requires-clause-short
+arrive-requires-clause-short g c = omega (arith, ap (λ (z : List ℕ). length z) c.requires.empty)
 
 pub returns-clause-tree : goal.returns-clause-tree
 returns-clause-tree g c =

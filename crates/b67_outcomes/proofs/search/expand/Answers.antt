@@ -7,7 +7,7 @@ use Rattle.b67_outcomes.specs.declared.found.Step.{Step}
 use Rattle.b67_outcomes.specs.Finding.{History, FoundGrows, NumberIsAt, IsLed, IsSearched, IsFollowed, IsExpanded, IsLastAble}
 use Rattle.b67_outcomes.specs.Kept.{AreOpen, IsReady, IsTree}
 use Rattle.b67_outcomes.proofs.Histories.{at_one, at_stays, ok_map, ok_both}
-use Rattle.b67_outcomes.proofs.Keeping.{same_grows, same_searched, grown_history, grown_more, followed_idle}
+use Rattle.b67_outcomes.proofs.Keeping.{steps_few, same_grows, same_searched, grown_history, grown_more, followed_idle}
 use Rattle.b67_outcomes.proofs.Closing.{followed_next, expanded_by}
 use Rattle.b67_outcomes.proofs.Trees.{kept_same, kept_open, state_stays}
 use Rattle.b67_outcomes.proofs.search.expand.Goals as goal
@@ -16,8 +16,11 @@ pub stand-requires : goal.stand-requires
 stand-requires g c =
     let code = g.W.Walker.code c.args.walker.now in
     record {
+      known = c.requires.known;
       led = subst (λ (xs : List Step). IsLed code xs c.args.number) (sym c.as_slice.ensures.value) (c.requires.searched.led c.args.number c.requires.there);
       there = subst (λ (xs : List Step). IfSome c.args.at (λ n. NumberIsAt code xs n (g.W.Walker.image c.args.walker.now))) (sym c.as_slice.ensures.value) c.requires.stands;
+      room = c.requires.room;
+      short = let few = steps_few code c.args.most c.args.found.now c.requires.searched in omega (arith, few, c.requires.there);
     }
 
 pub processes-init : goal.processes-init
@@ -33,6 +36,7 @@ processes-init g c = (
       1 (omega arith),
   let able = subst (λ (o : Option ℕ). IsLastAble (g.W.Walker.image c.stand.new.walker) o) c.in-Some.is c.last_able-able.ensures in
       (able.1 c.in-Some.last able.0).0,
+  c.in_ok-stand.ensures.room,
 )
 
 pub follow-requires-clause-tree : goal.follow-requires-clause-tree
@@ -61,6 +65,7 @@ processes-preserved g c =
           (c.in_ok-follow.ensures.followed history (grown_history c.args.found.now old c.args.number history i.2 is))),
       subst (λ (k : Code). IsTree k (g.W.Walker.Local k) new × IsReady new c.args.number (c.processes.process + 1)) i.0 c.in_ok-follow.ensures.tree,
       omega (arith, c.processes-test.true),
+      c.in_ok-follow.ensures.room,
     )
 
 pub returns-in_default-clause-grows : goal.returns-in_default-clause-grows

@@ -1,4 +1,5 @@
 use Rattle.std.proofs.Common.{◌≡◌, ℕ, List, ◌-◌, ◌<◌, ◌≤◌}
+use Rattle.b67_outcomes.specs.Entering.{HasRoom}
 use Rattle.b67_outcomes.specs.Finding.{History, FoundGrows, NumberIsAt, IsSearched, IsFollowed}
 use Rattle.b67_outcomes.specs.Kept.{IsReady, IsTree}
 use Rattle.b67_outcomes.proofs.search.expand.Given as goal
@@ -12,7 +13,7 @@ invariant-processes g l =
     × ((history : List ℕ) → History l.fn.found.steps.items l.number history → (p : ℕ) → 1 ≤ p → p < l.process
     → IsFollowed (g.W.Walker.code l.fn.walker) (g.W.Walker.Local (g.W.Walker.code l.fn.walker)) l.found l.number history p)
     × (IsTree (g.W.Walker.code l.fn.walker) (g.W.Walker.Local (g.W.Walker.code l.fn.walker)) l.found × IsReady l.found l.number l.process)
-    × (l.process ≤ l.last)
+    × (l.process ≤ l.last) × HasRoom (g.W.Walker.Room l.walker) l.number
 
 abbrev pub decreases-processes : goal.decreases-processes
 decreases-processes g l = l.last - l.process

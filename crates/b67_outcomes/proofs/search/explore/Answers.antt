@@ -6,13 +6,13 @@ use Rattle.b67_outcomes.specs.declared.found.State.{State}
 use Rattle.b67_outcomes.specs.Finding.{NumberIsAt, IsSearched, IsExpanded}
 use Rattle.b67_outcomes.specs.Kept.{AreOpen, IsReady, IsTree}
 use Rattle.b67_outcomes.proofs.Keeping.{arrived_stays}
-use Rattle.b67_outcomes.proofs.Closing.{begun_searched, expanded_next, all_noted, closure}
+use Rattle.b67_outcomes.proofs.Closing.{begun_searched, expanded_next, all_noted, closed, closure}
 use Rattle.b67_outcomes.proofs.Trees.{ready_next, expanded_open, some_stay}
 use Rattle.b67_outcomes.proofs.search.explore.Goals as goal
 
 pub begin-requires-clause-searched : goal.begin-requires-clause-searched
 begin-requires-clause-searched g c =
-    begun_searched (g.W.Walker.code c.args.walker.now) c.args.most _ c.new.ensures.items c.new-2.ensures.items c.new-3.ensures.items refl
+    begun_searched (g.W.Walker.code c.args.walker.now) c.args.most _ c.requires.few c.new.ensures.items c.new-2.ensures.items c.new-3.ensures.items refl
 
 pub expand-requires-clause-there : goal.expand-requires-clause-there
 expand-requires-clause-there g c =
@@ -59,6 +59,7 @@ states-preserved g c =
       tree.0,
       expanded_open code (g.W.Walker.Local code) c.states.found c.expand.new.found c.states.done s grows tree.0 tree.1 there,
       some_stay c.states.found c.expand.new.found grows i.8,
+      c.in_ok-at-2.ensures.room,
     )
 
 pub returns-clause-kept : goal.returns-clause-kept
@@ -69,6 +70,15 @@ returns-clause-noted g c =
     let i = c.states.invariant in
     let code = g.W.Walker.code c.args.walker.now in
     all_noted code (g.W.Walker.Local code) c.states.found
+    (λ k s there.
+    let within = slice_get_within c.states.found.states.items k s there in
+    i.4 k s (omega (arith, within, c.states-test.false, c.states.found.states.ok.0)) there)
+
+pub returns-clause-closed : goal.returns-clause-closed
+returns-clause-closed g c = λ e.
+    let i = c.states.invariant in
+    let code = g.W.Walker.code c.args.walker.now in
+    closed code (g.W.Walker.Local code) c.states.found e (i.3 e)
     (λ k s there.
     let within = slice_get_within c.states.found.states.items k s there in
     i.4 k s (omega (arith, within, c.states-test.false, c.states.found.states.ok.0)) there)

@@ -1,34 +1,62 @@
-use Rattle.std.proofs.Common.{◌≡◌, refl, sym, ap, subst, ◌∙◌, Bool, true, Option, List, [], ◌∷◌, ◌++◌, append-nil, append_assoc, ℕ}
+use Rattle.std.proofs.Common.{◌≡◌, refl, sym, ap, subst, ◌∙◌, Bool, true, Option, List, [], ◌∷◌, ◌++◌, append-nil, append_assoc, length, ℕ, ◌+◌, ◌≤◌, arith}
 use Rattle.std.specs.Prelude.{IfSome, reverse}
-use Rattle.std.proofs.lemmas.List.{reverse-append}
+use Rattle.std.proofs.lemmas.List.{reverse-append, length_push}
 use Rattle.b67_segment.specs.declared.code.Code.{Code}
 use Rattle.b67_table.specs.Image.{Image}
-use Rattle.b67_outcomes.specs.Entering.{ProcessEnters, IsReached}
+use Rattle.b67_outcomes.specs.Entering.{HasRoom, ProcessEnters, IsReached}
 use Rattle.b67_outcomes.specs.Finding.{IsAfter}
 use Rattle.b67_outcomes.specs.Settling.{CanSettle, ImageSettles, rest, settle}
 use Rattle.b67_outcomes.proofs.Histories.{after_more, after_one, ok_map}
+use Rattle.b67_outcomes.proofs.Rooms.{for_one, the_same}
+use Rattle.b67_outcomes.proofs.Rooms.{after_one as room_after_one}
 use Rattle.b67_outcomes.proofs.settling.settle.Goals as goal
 
 pub entries-init : goal.entries-init
-entries-init g c = (refl, c.requires.stands, ([], sym (append-nil c.args.path.now.items), rest))
+entries-init g c =
+    (refl, c.requires.stands, ([], sym (append-nil c.args.path.now.items), rest), c.requires.room, omega arith, omega arith)
 
 -- some run leads to where the machine stands
 pub next_settled-requires : goal.next_settled-requires
 next_settled-requires g c =
     let i = c.entries.invariant in
-    record { reached = subst (λ (k : Code). IsReached k (g.W.Walker.image c.entries.walker)) (sym i.0) (reverse c.entries.path.items ++ i.1.history, i.1.leads) }
+    record {
+      reached = subst (λ (k : Code). IsReached k (g.W.Walker.image c.entries.walker)) (sym i.0) (reverse c.entries.path.items ++ i.1.history, i.1.leads);
+      room = (i.3.left, i.3.is);
+    }
+
+pub enter-requires-clause-room : goal.enter-requires-clause-room
+enter-requires-clause-room g c =
+    let i = c.entries.invariant in
+    let here = c.args.number + length c.entries.path.items in
+    for_one (g.W.Walker.Room c.next_settled.new.walker) here (omega (arith, i.4, c.entries-test.true, c.requires.short))
+    (the_same (g.W.Walker.Room c.entries.walker) (g.W.Walker.Room c.next_settled.new.walker) here i.3 c.next_settled.ensures.room)
 
 pub walk_on-requires : goal.walk_on-requires
 walk_on-requires g c =
     let i = c.entries.invariant in
     let same = c.enter.ensures.code ∙ c.next_settled.ensures.code ∙ i.0 in
     record {
+      known = subst (λ (k : Code). g.W.Walker.Known k) (sym same) c.requires.known;
       leads = (
         g.W.Walker.image c.entries.walker,
         subst (λ (k : Code). IsAfter k c.args.steps.now c.args.number c.as_slice.result.now (g.W.Walker.image c.entries.walker)) (sym same)
             (subst (λ (z : List ℕ). IsAfter (g.W.Walker.code c.args.walker.now) c.args.steps.now c.args.number z (g.W.Walker.image c.entries.walker)) (sym c.as_slice.ensures.value) i.1),
       );
+      short = let same = ap (λ (z : List ℕ). length z) c.as_slice.ensures.value in omega (arith, i.4, i.5, same, c.requires.short);
     }
+
+pub returns-then-not-entered-clause-room : goal.returns-then-not-entered-clause-room
+returns-then-not-entered-clause-room g c =
+    let Room = g.W.Walker.Room c.walk_on.new.walker in
+    ok_map c.walk_on.result (λ u. HasRoom Room (c.args.number + length c.as_slice.result.now)) (λ u. HasRoom Room (c.args.number + length c.entries.path.items))
+    (λ u r. subst (λ (z : List ℕ). HasRoom Room (c.args.number + length z)) c.as_slice.ensures.value r) c.walk_on.ensures.room
+
+pub returns-then-not-entered-clause-short : goal.returns-then-not-entered-clause-short
+returns-then-not-entered-clause-short g c =
+    let i = c.entries.invariant in
+    let few : length c.entries.path.items ≤ length c.args.path.now.items + c.args.most = omega (arith, i.4, i.5) in
+    ok_map c.walk_on.result (λ u. IsAfter (g.W.Walker.code c.enter.new.self) c.args.steps.now c.args.number c.as_slice.result.now (g.W.Walker.image c.walk_on.new.walker))
+    (λ u. length c.entries.path.items ≤ length c.args.path.now.items + c.args.most) (λ u a. few) c.walk_on.ensures.after
 
 pub returns-then-not-entered-clause-settles : goal.returns-then-not-entered-clause-settles
 returns-then-not-entered-clause-settles g c =
@@ -73,4 +101,14 @@ entries-preserved g c =
         subst (λ (z : List ℕ). ImageSettles code (g.W.Walker.Local code) (g.W.Walker.image c.args.walker.now) z there) (sym (reverse-append i.2.0 (p ∷ [])))
             (settle i.2.2 can entered.1),
       ),
+      let here = c.args.number + length c.entries.path.items in
+          let longer = ap (λ (z : List ℕ). length z) c.in_ok-push.ensures.items ∙ length_push c.entries.path.items p in
+          let next : here + 1 ≡ c.args.number + length c.push.new.self.items = omega (arith, longer) in
+          subst (λ (n : ℕ). HasRoom (g.W.Walker.Room c.enter.new.self) n) next
+          (room_after_one (g.W.Walker.Room c.next_settled.new.walker) (g.W.Walker.Room c.enter.new.self) here
+          (omega (arith, i.4, c.entries-test.true, c.requires.short))
+          (the_same (g.W.Walker.Room c.entries.walker) (g.W.Walker.Room c.next_settled.new.walker) here i.3 c.next_settled.ensures.room)
+          (c.in_ok-entered.ensures.room c.if-not-entered.false)),
+      let longer = ap (λ (z : List ℕ). length z) c.in_ok-push.ensures.items ∙ length_push c.entries.path.items p in omega (arith, longer, i.4),
+      omega (arith, c.entries-test.true),
     )

@@ -1,11 +1,11 @@
-use Rattle.std.proofs.Common.{refl, sym, subst, Bool, true≢false}
+use Rattle.std.proofs.Common.{refl, sym, subst, ◌∙◌, Bool, true≢false}
 use Rattle.b67_schedule.specs.Giving.{given_entries}
 use Rattle.b67_told.specs.declared.Outcome.{Outcome}
 use Rattle.b67_told.specs.declared.Told.{Told}
 use Rattle.b67_told.specs.Telling.{OutcomeIsTold}
 use Rattle.b67_teller.specs.Following.{IsOutcomeEnd}
 use Rattle.b67_teller.specs.Books.{IsAdded}
-use Rattle.b67_teller.proofs.Booking.{same_grows, added_grows, left_out, book_added, book_spent, now_told}
+use Rattle.b67_teller.proofs.Booking.{same_grows, added_grows, book_same, full_out, long_out, book_added, now_told}
 use Rattle.b67_teller.proofs.Replays.{own_outcome, long_run, same_one}
 use Rattle.b67_teller.proofs.book.note.Goals as goal
 
@@ -17,7 +17,8 @@ returns-in-BudgetSpent g c =
     record {
       code = c.replay.ensures.code;
       grows = same_grows c.args.book.now _ refl (λ e. absurd (true≢false e));
-      book = book_spent g.T.Teller.Explained (g.T.Walker.code c.args.teller.now) c.args.book.now _ (given_entries c.args.given) c.requires.book refl refl h long;
+      book = book_same g.T.Teller.Explained (g.T.Walker.code c.args.teller.now) c.args.book.now _ c.requires.book refl refl;
+      cause = λ e. long_out g.T.Teller.Explained (g.T.Walker.code c.args.teller.now) c.args.book.now.told.items (given_entries c.args.given) h long;
       told = λ e. absurd (true≢false e);
     }
 
@@ -34,7 +35,9 @@ returns-then-not-added g c =
     record {
       code = c.replay.ensures.code;
       grows = same_grows c.args.book.now _ a.0 (λ e. absurd (true≢false e));
-      book = left_out g.T.Teller.Explained (g.T.Walker.code c.args.teller.now) c.args.book.now _ item c.requires.book
+      book = book_same g.T.Teller.Explained (g.T.Walker.code c.args.teller.now) c.args.book.now _ c.requires.book a.0 a.1;
+      cause = λ e.
+          full_out g.T.Teller.Explained (g.T.Walker.code c.args.teller.now) c.args.book.now c.add.new.told.items c.add.new.text.items item c.requires.book
           (record { explained = c.in_ok-outcome.ensures.explained; own = own }) (λ t. h.other (subst (λ (o : Outcome). OutcomeIsTold c.args.book.now.told.items o) one t)) a;
       told = λ e. absurd (true≢false e);
     }
@@ -52,8 +55,9 @@ returns-else-not-added g c =
     record {
       code = c.replay.ensures.code;
       grows = added_grows c.args.book.now _ item a.0 refl;
-      book = book_added g.T.Teller.Explained (g.T.Walker.code c.args.teller.now) c.args.book.now _ item c.requires.book a.0 a.1 a.2 c.requires.open
+      book = book_added g.T.Teller.Explained (g.T.Walker.code c.args.teller.now) c.args.book.now _ item c.requires.book a.0 a.1 a.2
           (record { explained = c.in_ok-outcome.ensures.explained; own = own }) (λ t. h.other (subst (λ (o : Outcome). OutcomeIsTold c.args.book.now.told.items o) one t));
+      cause = λ e. absurd (true≢false (sym e ∙ c.requires.open));
       told = λ e o has.
           subst (λ (y : Outcome). OutcomeIsTold c.add.new.told.items y)
           (same_one (g.T.Walker.code c.args.teller.now) (given_entries c.args.given) x o has c.in_ok-outcome.ensures.followed c.in_default.not-BudgetSpent)

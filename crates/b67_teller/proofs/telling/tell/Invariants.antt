@@ -1,5 +1,5 @@
 use Rattle.std.proofs.Common.{◌≡◌, ◌≤◌, ◌-◌, length, false}
-use Rattle.b67_teller.specs.Books.{IsBook, AreLimitsTold}
+use Rattle.b67_teller.specs.Books.{IsBook, HasCause, AreLimitsTold}
 use Rattle.b67_teller.proofs.Booking.{AreStatesTold}
 use Rattle.b67_teller.proofs.telling.tell.Given as goal
 
@@ -10,6 +10,7 @@ invariant-states g l =
     × IsBook g.T.Teller.Explained (g.T.Walker.code l.fn.teller) l.book
     × (l.book.cut ≡ false → AreLimitsTold (g.T.Walker.code l.fn.teller) l.found l.book.told.items l.at)
     × (l.book.cut ≡ false → AreStatesTold (g.T.Walker.code l.fn.teller) l.found l.book.told.items l.place)
+    × HasCause g.T.Teller.Explained (g.T.Walker.code l.fn.teller) l.found l.book
 
 abbrev pub decreases-states : goal.decreases-states
 decreases-states g l = length l.found.states.items - l.place

@@ -1,4 +1,4 @@
-use Rattle.std.proofs.Common.{◌≡◌, sym, ap, subst, ◌∙◌, ℕ, ◌≤◌, false, List, ◌∷◌, length, reverse}
+use Rattle.std.proofs.Common.{◌≡◌, sym, ap, subst, ◌∙◌, ℕ, ◌≤◌, true, false, List, ◌∷◌, length, reverse, arith}
 use Rattle.b67_segment.specs.declared.code.Code.{Code}
 use Rattle.b67_schedule.specs.Giving.{given_entries}
 use Rattle.b67_schedule.specs.Schedules.{most_in_schedule}
@@ -7,10 +7,11 @@ use Rattle.b67_told.specs.Telling.{OutcomeIsTold}
 use Rattle.b67_outcomes.specs.declared.found.Step.{Step}
 use Rattle.b67_outcomes.specs.Entering.{HistoryLeads, HistoryLeadsTo}
 use Rattle.b67_outcomes.specs.Finding.{History}
-use Rattle.b67_outcomes.proofs.Histories.{history_one, led_leads}
+use Rattle.b67_outcomes.proofs.Histories.{history_one, history_short, history_within, led_leads}
 use Rattle.b67_teller.specs.Following.{HasOutcome, stopped_outcome}
-use Rattle.b67_teller.specs.Books.{IsLimitTold, IsHistoryWith, HasOther}
-use Rattle.b67_teller.proofs.States.{ok_map, limit_may, limit_has, limit_shown, limit_told, short_with, told_here, told_back}
+use Rattle.b67_teller.specs.Books.{IsLeftOut, HasCause, IsLimitTold, IsHistoryWith, HasOther}
+use Rattle.b67_teller.proofs.Booking.{limit_schedule}
+use Rattle.b67_teller.proofs.States.{ok_map, limit_may, limit_stops, limit_has, limit_shown, limit_told, short_with, told_here, told_back}
 use Rattle.b67_teller.proofs.telling.tell_limit.Goals as goal
 
 pub words_at-requires-clause-leads : goal.words_at-requires-clause-leads
@@ -74,6 +75,39 @@ note-requires-clause-other g c =
           (sym (limit_shown (g.T.Walker.code c.args.teller.now) c.args.found.now.steps.items c.args.limit c.in_ok-before.before.items here c.in_ok-words.words s is leads has))
           t));
     })
+
+pub words_at-requires-clause-short : goal.words_at-requires-clause-short
+words_at-requires-clause-short g c =
+    let is = subst (λ (xs : List Step). History xs c.args.limit.state c.in_ok-before.before.items) c.as_slice-steps.ensures.value c.in_ok-before.ensures in
+    let short = history_short c.args.found.now.steps.items c.args.limit.state c.in_ok-before.before.items is in
+    let within = history_within c.args.found.now.steps.items c.args.limit.state c.in_ok-before.before.items is in
+    let same = ap (λ (h : List ℕ). length h) c.as_slice-entries.ensures.value in
+    omega (arith, short, within, same, c.requires.few)
+
+pub words_at-requires-clause-stops : goal.words_at-requires-clause-stops
+words_at-requires-clause-stops g c = λ img leads.
+    let is = subst (λ (xs : List Step). History xs c.args.limit.state c.in_ok-before.before.items) c.as_slice-steps.ensures.value c.in_ok-before.ensures in
+    limit_stops (g.T.Walker.code c.args.teller.now) c.args.found.now.steps.items c.args.limit c.in_ok-before.before.items img c.requires.stop is
+    (subst (λ (h : List ℕ). HistoryLeadsTo (g.T.Walker.code c.args.teller.now) h img) c.as_slice-entries.ensures.value leads)
+
+pub returns-clause-cause : goal.returns-clause-cause
+returns-clause-cause g c =
+    let is = subst (λ (xs : List Step). History xs c.args.limit.state c.in_ok-before.before.items) c.as_slice-steps.ensures.value c.in_ok-before.ensures in
+    let with : IsHistoryWith c.args.found.now.steps.items c.args.limit c.in_ok-history.history.items =
+    (c.in_ok-before.before.items, is, c.in_ok-history.ensures.is ∙ ap (λ (z : List ℕ). c.args.limit.process ∷ z) c.as_slice-entries.ensures.value) in
+    let schedule = given_entries c.in_ok-given.given in
+    let of_found =
+    limit_schedule c.args.found.now c.args.limit c.in_ok-history.history.items schedule c.requires.state with
+    (c.in_ok-given.ensures.entries ∙ ap reverse c.as_slice.ensures.value) in
+    ok_map c.note.result (λ u. c.note.new.book.cut ≡ true → IsLeftOut g.T.Teller.Explained (g.T.Walker.code c.words_at.new.teller) c.note.new.book.told.items schedule)
+    (λ u. HasCause g.T.Teller.Explained (g.T.Walker.code c.args.teller.now) c.args.found.now c.note.new.book)
+    (λ u x e.
+    record {
+      schedule = schedule;
+      of_found = of_found;
+      left = subst (λ (k : Code). IsLeftOut g.T.Teller.Explained k c.note.new.book.told.items schedule) c.words_at.ensures.code (x e);
+    })
+    c.note.ensures.cause
 
 pub returns-clause-told : goal.returns-clause-told
 returns-clause-told g c =

@@ -1,4 +1,4 @@
-use Rattle.std.proofs.Common.{◌≡◌, sym, ap, subst, ◌∙◌, ℕ, ◌≤◌, false, List, length, reverse, Some}
+use Rattle.std.proofs.Common.{◌≡◌, sym, ap, subst, ◌∙◌, ℕ, ◌≤◌, true, false, List, length, reverse, Some, arith}
 use Rattle.std.specs.Prelude.{slice_get}
 use Rattle.b67_segment.specs.declared.code.Code.{Code}
 use Rattle.b67_schedule.specs.Giving.{given_entries}
@@ -9,9 +9,10 @@ use Rattle.b67_told.specs.Telling.{OutcomeIsTold}
 use Rattle.b67_outcomes.specs.declared.found.Step.{Step}
 use Rattle.b67_outcomes.specs.Entering.{HistoryLeads, HistoryLeadsTo}
 use Rattle.b67_outcomes.specs.Finding.{History}
-use Rattle.b67_outcomes.proofs.Histories.{led_leads}
+use Rattle.b67_outcomes.proofs.Histories.{history_short, led_leads}
 use Rattle.b67_teller.specs.Following.{HasOutcome}
-use Rattle.b67_teller.specs.Books.{IsSettled, IsOpen, HasOther, IsStateTold}
+use Rattle.b67_teller.specs.Books.{IsSettled, IsOpen, IsLeftOut, HasCause, HasOther, IsStateTold}
+use Rattle.b67_teller.proofs.Booking.{state_schedule}
 use Rattle.b67_teller.proofs.States.{ok_map, open_end, state_settled, state_told, state_has, state_other, short_of, followed_told}
 use Rattle.b67_teller.proofs.telling.tell_state.Goals as goal
 
@@ -31,8 +32,13 @@ perform-requires g c =
     let led = c.requires.led c.args.number c.requires.there in
     let is = subst (λ (xs : List Step). History xs c.args.number c.in_ok-history.history.items) c.as_slice-steps.ensures.value c.in_ok-history.ensures in
     record {
+      known = c.requires.known;
       leads = subst (λ (h : List ℕ). HistoryLeads (g.T.Walker.code c.args.teller.now) h) (sym c.as_slice-entries.ensures.value)
           (led_leads (g.T.Walker.code c.args.teller.now) c.args.found.now.steps.items c.args.number c.in_ok-history.history.items led is);
+      short =
+          let short = history_short c.args.found.now.steps.items c.args.number c.in_ok-history.history.items is in
+          let same = ap (λ (h : List ℕ). length h) c.as_slice-entries.ensures.value in
+          omega (arith, short, same, c.requires.there, c.requires.few);
     }
 
 pub returns-then-is_settled-clause-told : goal.returns-then-is_settled-clause-told
@@ -64,6 +70,23 @@ note-requires-clause-other g c =
     (subst (λ (z : List Told). IsOpen z here.output c.end-end.result) c.as_slice-told.ensures.value
     (subst (λ (z : List (List ℕ)). IsOpen c.as_slice-told.result.now z c.end-end.result) c.output-output.ensures
     (c.is_settled.ensures.no c.if-is_settled.false))))
+
+pub returns-clause-cause : goal.returns-clause-cause
+returns-clause-cause g c =
+    let is = subst (λ (xs : List Step). History xs c.args.number c.in_ok-history.history.items) c.as_slice-steps.ensures.value c.in_ok-history.ensures in
+    let schedule = given_entries c.in_ok-given.given in
+    let of_found =
+    state_schedule c.args.found.now c.args.number c.in_ok-history.history.items schedule c.requires.state is
+    (c.in_ok-given.ensures.entries ∙ ap reverse c.as_slice-entries.ensures.value) in
+    ok_map c.note.result (λ u. c.note.new.book.cut ≡ true → IsLeftOut g.T.Teller.Explained (g.T.Walker.code c.perform.new.walker) c.note.new.book.told.items schedule)
+    (λ u. HasCause g.T.Teller.Explained (g.T.Walker.code c.args.teller.now) c.args.found.now c.note.new.book)
+    (λ u x e.
+    record {
+      schedule = schedule;
+      of_found = of_found;
+      left = subst (λ (k : Code). IsLeftOut g.T.Teller.Explained k c.note.new.book.told.items schedule) c.perform.ensures.code (x e);
+    })
+    c.note.ensures.cause
 
 pub returns-clause-told : goal.returns-clause-told
 returns-clause-told g c =
