@@ -1,8 +1,8 @@
 BEGIN
-  % Two eaters and two forks. Each needs both, and takes them in another
-  % order: where each has one, both wait for ever. This is a deadlock.
+  % Two dining philosophers and two forks. Each needs both, and takes
+  % them in another order: where each has one, both wait: a deadlock.
   % Look at the end, ALL WAITING, and at the last entries of the
-  % schedule. Under the rule lifo the same program ends well.
+  % schedule. Under lifo it ends well; outcomes 1000 tells all ends.
   FILE LINE; EVENT LEFT, RIGHT; TASK T, U;
 
   PROCEDURE EAT(K, ONE, OTHER); VALUE K; INTEGER K; EVENT ONE, OTHER;
